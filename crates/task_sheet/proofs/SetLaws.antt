@@ -1,0 +1,120 @@
+-- Sheets and the first that repeats a name; sheets sorted by rank are a set.
+use Rattle.std.proofs.Common.{◌≡◌, ℕ, suc, ◌+◌, ◌<◌, ◌≤◌, Bool, true, false, cond, ◌||◌, List, [], ◌∷◌, ◌++◌, length, get_or, take, drop, Option, Some, None, Ordering, Less, Equal, Greater, refl, sym, ◌∙◌, ap, subst, arith, rules}
+use Rattle.std.specs.List.{list_any, AllByRecursion, All}
+use Rattle.std.specs.List.Sorted.{IsPermutation, IsSortedBy, IsStrictlySortedBy}
+use Rattle.std.specs.Ordering.{nat_cmp, is_lt, is_eq, ordering_then, ordering_reverse}
+use Rattle.std.specs.Cmp.{IsTotalOrder, IsStrictWeakOrder, then_total, on_total, nat_cmp_total}
+use Rattle.std.specs.Cmp.Lexicographic.{slice_cmp, nat_list_cmp_total, nat_list_eq_equiv, texts_ties}
+use Rattle.std.proofs.lemmas.Bool.{false≢true}
+use Rattle.std.proofs.lemmas.List.{drop_more, take_more}
+use Rattle.std.proofs.lemmas.List.Elements.{recursion_from_All}
+use Rattle.std.proofs.lemmas.List.Sorted.{All-permutation, length_permutation, ranks_by, sorted_far}
+use Rattle.task_sheet.specs.Sheet.{Task, IsValidSheet}
+use Rattle.task_sheet.specs.TaskSet.{first_repeat, same_name, rank_cmp, AreDistinct, IsTaskSet}
+use Rattle.task_sheet.proofs.Distinct.{AreDistinct-permutation}
+
+-- one more sheet, whose name is taken or new
+pub repeat_step : (xs : List Task) (i : ℕ) (d : Task) (b : Bool) → i < length xs → d ≡ get_or xs i d → b ≡ list_any (λ y. same_name y d) (take i xs)
+    → first_repeat (take i xs) (i + 1) (drop i xs) ≡ cond b (Some (i + 1)) (first_repeat (take (i + 1) xs) ((i + 1) + 1) (drop (i + 1) xs))
+repeat_step xs i d b h same e = rw (drop_more xs i d h, take_more xs i d h, ← same, e)
+
+-- ---- the order
+
+same_own : (x : Task) → same_name x x ≡ true
+same_own x = nat_list_eq_equiv.refl x.name
+
+same_turned : (x y : Task) → same_name x y ≡ same_name y x
+same_turned x y = nat_list_eq_equiv.symm x.name y.name
+
+rank_total : IsTotalOrder rank_cmp
+rank_total = then_total (on_total (λ x. x.weight) nat_cmp_total) (on_total (λ x. x.name) nat_list_cmp_total)
+
+tied_names : (x y : Task) → rank_cmp x y ≡ Equal → same_name x y ≡ true
+tied_names x y e = texts_ties x.name y.name ∙ second (nat_cmp x.weight y.weight) (slice_cmp nat_cmp x.name y.name) e
+  where
+    second : (o p : Ordering) → ordering_then o p ≡ Equal → is_eq p ≡ true
+    second Less p e = cc
+    second Equal p e = rw e
+    second Greater p e = cc
+
+-- what is not after another, and has another name, is before it
+below : (x y : Task) → is_lt (rank_cmp y x) ≡ false → same_name x y ≡ false → rank_cmp x y ≡ Less
+below x y h apart = by (rank_cmp x y) refl
+  where
+    by : (o : Ordering) → rank_cmp x y ≡ o → o ≡ Less
+    by Less e = refl
+    by Equal e = absurd (false≢true (sym apart ∙ tied_names x y e))
+    by Greater e = absurd (false≢true (sym h ∙ ap is_lt (rank_total.antisymm y x ∙ ap ordering_reverse e)))
+
+-- each element is not after a later one
+abbrev AreInOrder : List Task → Type 0
+AreInOrder [] = Unit {0}
+AreInOrder (x ∷ xs) = AllByRecursion (λ y. is_lt (rank_cmp y x) ≡ false) xs × AreInOrder xs
+
+in_order : (xs : List Task) → IsSortedBy (λ x y. is_lt (rank_cmp x y)) xs → AreInOrder xs
+in_order [] up = tt
+in_order (x ∷ xs) up =
+    let P : Task → Type 0 = λ y. is_lt (rank_cmp y x) ≡ false in
+    let weak : IsStrictWeakOrder (λ x y. is_lt (rank_cmp x y)) = ranks_by rank_total (λ s. s) in
+    let far : All P xs = λ k d h. sorted_far (λ x y. is_lt (rank_cmp x y)) weak (x ∷ xs) up 0 (suc k) d (omega arith) (omega arith) in (
+      recursion_from_All P xs far,
+      in_order xs (λ k d l h.
+          let e : suc k + 1 ≡ suc (k + 1) = omega arith in
+          let Q : ℕ → Type 0 = λ n. is_lt (rank_cmp (get_or (x ∷ xs) n d) (get_or xs k d)) ≡ false in
+          subst Q e (up (suc k) d (omega arith) (omega arith))),
+    )
+
+strictly : (xs : List Task) → AreInOrder xs → AreDistinct same_name xs → IsStrictlySortedBy rank_cmp xs
+unfolding IsStrictlySortedBy
+strictly [] up apart = tt
+strictly (x ∷ xs) up apart = (each xs up.0 apart.0, strictly xs up.1 apart.1)
+  where
+    each : (ys : List Task) → AllByRecursion (λ y. is_lt (rank_cmp y x) ≡ false) ys → AllByRecursion (λ y. same_name x y ≡ false) ys → AllByRecursion (λ y. rank_cmp x y ≡ Less) ys
+    each [] a b = tt
+    each (y ∷ ys) a b = (below x y a.0 b.0, each ys a.1 b.1)
+
+-- ---- no repeat
+
+any_last : (p : Task → Bool) (xs : List Task) (x : Task) → list_any p (xs ++ x ∷ []) ≡ false → (list_any p xs ≡ false) × (p x ≡ false)
+any_last p [] x h = (refl, grind arith)
+any_last p (y ∷ ys) x h =
+    elim (p y) as (λ b. (b || list_any p (ys ++ x ∷ [])) ≡ false → ((b || list_any p ys) ≡ false) × (p x ≡ false)) [
+      | true ↦ λ e. absurd (false≢true (sym e))
+      | false ↦ λ e. any_last p ys x e
+    ] h
+
+-- no element of some has the name of one that is seen
+abbrev Unseen : List Task → List Task → Type 0
+Unseen seen xs = AllByRecursion (λ x. list_any (λ y. same_name y x) seen ≡ false) xs
+
+unseen_less : (seen : List Task) (x : Task) (xs : List Task) → Unseen (seen ++ x ∷ []) xs → Unseen seen xs × AllByRecursion (λ y. same_name x y ≡ false) xs
+unseen_less seen x [] h = (tt, tt)
+unseen_less seen x (y ∷ ys) h =
+    let here = any_last (λ z. same_name z y) seen x h.0 in
+    let more = unseen_less seen x ys h.1 in
+    ((here.0, more.0), (here.1, more.1))
+
+no_repeat : (seen : List Task) (place : ℕ) (xs : List Task) → first_repeat seen place xs ≡ None → Unseen seen xs × AreDistinct same_name xs
+no_repeat seen place [] h = (tt, tt)
+no_repeat seen place (x ∷ xs) h =
+    elim (list_any (λ y. same_name y x) seen) as (λ b. list_any (λ y. same_name y x) seen ≡ b
+    → cond b (Some place) (first_repeat (seen ++ x ∷ []) (place + 1) xs) ≡ None → Unseen seen (x ∷ xs) × AreDistinct same_name (x ∷ xs)) [
+      | true ↦ λ e g. cc
+      | false ↦ λ e g.
+          let more = no_repeat (seen ++ x ∷ []) (place + 1) xs g in
+          let less = unseen_less seen x xs more.0 in
+          ((e, less.0), (less.1, more.1))
+    ] refl h
+
+-- ---- the set of some sheets
+
+pub sorted_set : (xs ys : List Task) → All IsValidSheet xs → first_repeat [] 1 xs ≡ None → length xs ≤ 32 → IsPermutation xs ys
+    → IsSortedBy (λ x y. is_lt (rank_cmp x y)) ys → IsTaskSet ys
+sorted_set xs ys valid new few p up =
+    let apart = AreDistinct-permutation same_name same_own same_turned xs ys p ((no_repeat [] 1 xs new).1) in
+    record {
+      valid = All-permutation IsValidSheet xs ys p valid;
+      ranked = strictly ys (in_order ys up) apart;
+      distinct = apart;
+      few = omega (arith, length_permutation xs ys p);
+    }

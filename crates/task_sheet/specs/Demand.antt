@@ -1,0 +1,61 @@
+-- Blocking and demand of a task i of the set U, with the tasks H above it.
+use Rattle.std.specs.Prelude.{◌≡◌, ◌<◌, false, true, Contains, ℕ, ◌+◌, ◌-◌, ◌*◌, Bool, ◌&&◌, max, nat_le, List, [], ◌∷◌, length, if◌then◌else◌}
+use Rattle.std.specs.Int.{div_ceil}
+use Rattle.task_sheet.specs.Sheet.{Task, CriticalSection, task_at}
+use Rattle.task_sheet.specs.Indexes.{Indexes, with_index, sum_below, greatest_below, some_below}
+use Rattle.task_sheet.specs.Locks.{reaches}
+use Rattle.task_sheet.specs.Responses.{Covers}
+
+-- ---- the two words that say what a task releases and how long it may take
+-- how many jobs of a task are released within a window of this length
+abbrev pub releases_within : Task → ℕ → ℕ
+releases_within t time = div_ceil time t.period
+
+-- the longest time that serves a task: its deadline
+abbrev pub limit_of : Task → ℕ
+limit_of t = t.deadline
+
+-- ---- blocking (Sha, Rajkumar, Lehoczky 1990)
+-- the greatest value of the elements, and 0 of none
+abbrev pub greatest_of : {X : Type 0} → (X → ℕ) → List X → ℕ
+greatest_of f [] = 0
+greatest_of f (x ∷ xs) = max (f x) (greatest_of f xs)
+
+-- the longest section of a task that the tasks X reach
+abbrev pub longest_reached : List Task → Indexes → Task → ℕ
+longest_reached U X t = greatest_of (λ s. if reaches U X s then s.len else 0) t.sections
+
+-- the longest section of a task outside H and other than i that H with i reaches; 0 if there is none
+unfoldable pub blocking_of : List Task → ℕ → Indexes → ℕ
+blocking_of U i H =
+    greatest_below (length U) (λ k. if with_index H i k then 0 else longest_reached U (with_index H i) (task_at U k))
+
+-- a section that can block: one of a task outside H and other than i, reached by H with i
+pub record Blocks (U : List Task) (i : ℕ) (H : Indexes) (s : CriticalSection) : Type 0 where
+  pub task : ℕ
+  pub in_set : task < length U
+  pub outside : with_index H i task ≡ false
+  pub section : Contains (task_at U task).sections s
+  pub reached : reaches U (with_index H i) s ≡ true
+
+-- ---- demand (Audsley et al. 1993)
+-- what a task's jobs of a window can execute
+abbrev pub interference_of : Task → ℕ → ℕ
+interference_of t time = releases_within t time * t.cost
+
+-- cost, blocking, and the interference of the tasks above
+unfoldable pub demand_of : List Task → ℕ → Indexes → ℕ → ℕ
+demand_of U i H time =
+    (task_at U i).cost + blocking_of U i H + sum_below (length U) (λ h. if H h then interference_of (task_at U h) time else 0)
+
+-- task i passes with the tasks H above it: some time from 1 to its limit covers its demand
+abbrev pub Passes : List Task → ℕ → Indexes → Type 0
+Passes U i H = Covers (demand_of U i H) (limit_of (task_at U i))
+
+-- the same as a test
+unfoldable pub does_pass : List Task → ℕ → Indexes → Bool
+does_pass U i H = some_below (limit_of (task_at U i) + 1) (λ t. nat_le 1 t && nat_le (demand_of U i H t) t)
+
+-- two more than how often a task of H is released within the limit after its first release
+abbrev pub evaluation_bound : List Task → Indexes → ℕ → ℕ
+evaluation_bound U H limit = 2 + sum_below (length U) (λ h. if H h then releases_within (task_at U h) limit - 1 else 0)

@@ -1,0 +1,11 @@
+-- How a `TaskSet` keeps its sheets.
+use Rattle.std.specs.Prelude.{List}
+use Rattle.task_sheet.specs.Sheet.{Task}
+use Rattle.task_sheet.specs.TaskSet.{IsTaskSet}
+use Rattle.task_sheet.specs.declared.set.TaskSet.TheInside.{Inside}
+
+abbrev pub sheets_of : Inside → List Task
+sheets_of a = a.sheets.items
+
+abbrev pub IsKept : Inside → Type 0
+IsKept a = IsTaskSet (sheets_of a)

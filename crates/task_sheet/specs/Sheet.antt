@@ -1,0 +1,78 @@
+-- What a task's sheet says, and which sheets are valid.
+use Rattle.std.specs.Prelude.{◌≡◌, ℕ, ◌+◌, ◌<◌, ◌≤◌, Bool, false, ◌||◌, ◌&&◌, nat_eq, List, [], ◌∷◌, length, slice_index_or, All}
+use Rattle.std.specs.List.{list_any}
+use Rattle.std.specs.Cmp.Lexicographic.{pointwise}
+
+-- a critical section: the locks that it holds, where it begins, and how long it is
+pub record CriticalSection : Type 0 where
+  pub locks : List (List ℕ)
+  pub at : ℕ
+  pub len : ℕ
+
+pub record Task : Type 0 where
+  pub name : List ℕ
+  pub weight : ℕ
+  pub period : ℕ
+  pub deadline : ℕ
+  pub cost : ℕ
+  pub sections : List CriticalSection
+
+abbrev pub same_bytes : List ℕ → List ℕ → Bool
+same_bytes = pointwise nat_eq
+
+-- some name stands twice
+abbrev pub repeats : List (List ℕ) → Bool
+repeats [] = false
+repeats (n ∷ ns) = list_any (λ m. same_bytes m n) ns || repeats ns
+
+-- a section that begins at `from` or after it, and ends within the cost
+pub record IsSection (from cost : ℕ) (x : CriticalSection) : Type 0 where
+  pub some : 0 < length x.locks
+  pub few : length x.locks ≤ 4
+  pub distinct : repeats x.locks ≡ false
+  pub runs : 0 < x.len
+  pub apart : from ≤ x.at
+  pub within : x.at + x.len ≤ cost
+
+-- the sections stand one after the other
+abbrev pub AreSections : ℕ → ℕ → List CriticalSection → Type 0
+AreSections from cost [] = Unit {0}
+AreSections from cost (x ∷ xs) = IsSection from cost x × AreSections (x.at + x.len) cost xs
+
+-- a sheet within the limits
+pub record IsValidSheet (s : Task) : Type 0 where
+  pub weight : s.weight ≤ 1000
+  pub period_from : 1000 ≤ s.period
+  pub period_to : s.period ≤ 10000000
+  pub deadline_from : 0 < s.deadline
+  pub deadline_to : s.deadline ≤ s.period
+  pub cost_from : 0 < s.cost
+  pub cost_to : s.cost ≤ s.period
+  pub few : length s.sections ≤ 8
+  pub sections : AreSections 0 s.cost s.sections
+
+abbrev pub same_section : CriticalSection → CriticalSection → Bool
+same_section x y = pointwise same_bytes x.locks y.locks && (nat_eq x.at y.at && nat_eq x.len y.len)
+
+-- what the laws of the analysis need of a task
+pub record IsTask (t : Task) : Type 0 where
+  pub period : 0 < t.period
+  pub deadline : 0 < t.deadline
+  pub cost : 0 < t.cost
+  pub within : All (λ s. s.at + s.len ≤ t.cost) t.sections
+
+abbrev pub AllTasks : List Task → Type 0
+AllTasks U = All IsTask U
+
+-- stands past the end of a set
+abbrev pub no_task : Task
+no_task = record { name = []; weight = 0; period = 1; deadline = 0; cost = 0; sections = [] }
+
+-- the task at an index, which is its rank
+abbrev pub task_at : List Task → ℕ → Task
+task_at U k = slice_index_or U k no_task
+
+-- the two say the same
+abbrev pub same_sheet : Task → Task → Bool
+same_sheet x y = same_bytes x.name y.name && nat_eq x.weight y.weight && nat_eq x.period y.period && nat_eq x.deadline y.deadline
+    && nat_eq x.cost y.cost && pointwise same_section x.sections y.sections

@@ -1,0 +1,35 @@
+-- The first reason why data are no sheet.
+use Rattle.std.specs.Prelude.{ℕ, ◌+◌, ◌||◌, Bool, nat_lt, ◌==◌, List, [], ◌∷◌, length, Option, Some, None, if◌then◌else◌}
+use Rattle.std.specs.Option.{option_or}
+use Rattle.task_sheet.specs.Sheet.{CriticalSection, Task, repeats}
+use Rattle.task_sheet.specs.declared.sheet.SheetCause.{SheetCause}
+use Rattle.task_sheet.specs.declared.sheet.SheetCause.TheVariants as cause
+
+-- the first fault of the section at a place, which may begin at `from`
+abbrev pub section_fault : (place from cost : ℕ) → CriticalSection → Option SheetCause
+section_fault place from cost x =
+    if length x.locks == 0 then Some (cause.NoLocks place)
+    else if nat_lt 4 (length x.locks) then Some (cause.TooManyLocks place)
+    else if repeats x.locks then Some (cause.LockTwice place)
+    else if x.len == 0 then Some (cause.LenZero place)
+    else if nat_lt x.at from then Some (cause.Overlap place)
+    else if nat_lt cost (x.at + x.len) then Some (cause.SectionPastCost place)
+    else None
+
+-- the first fault of sections, of which the first stands at a place and may begin at `from`
+abbrev pub sections_fault : (place from cost : ℕ) → List CriticalSection → Option SheetCause
+sections_fault place from cost [] = None
+sections_fault place from cost (x ∷ xs) =
+    option_or (section_fault place from cost x) (sections_fault (place + 1) (x.at + x.len) cost xs)
+
+-- the first fault of data
+abbrev pub sheet_fault : Task → Option SheetCause
+sheet_fault s =
+    if nat_lt 1000 s.weight then Some cause.BadWeight
+    else if nat_lt s.period 1000 || nat_lt 10000000 s.period then Some cause.BadPeriod
+    else if s.deadline == 0 then Some cause.DeadlineZero
+    else if nat_lt s.period s.deadline then Some cause.DeadlinePastPeriod
+    else if s.cost == 0 then Some cause.CostZero
+    else if nat_lt s.period s.cost then Some cause.CostPastPeriod
+    else if nat_lt 8 (length s.sections) then Some cause.TooManySections
+    else sections_fault 1 0 s.cost s.sections
