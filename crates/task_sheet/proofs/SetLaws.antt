@@ -1,20 +1,37 @@
 -- Sheets and the first that repeats a name; sheets sorted by rank are a set.
-use Rattle.std.proofs.Common.{◌≡◌, ℕ, suc, ◌+◌, ◌<◌, ◌≤◌, Bool, true, false, cond, ◌||◌, List, [], ◌∷◌, ◌++◌, length, get_or, take, drop, Option, Some, None, Ordering, Less, Equal, Greater, refl, sym, ◌∙◌, ap, subst, arith, rules}
-use Rattle.std.specs.List.{list_any, AllByRecursion, All}
+use Rattle.std.proofs.Common.{◌≡◌, ℕ, suc, ◌+◌, ◌<◌, ◌≤◌, Bool, true, false, cond, ◌||◌, List, [], ◌∷◌, ◌++◌, length, get_or, take, drop, Some, None, Ordering, Less, Equal, Greater, refl, sym, ◌∙◌, ap, subst, arith, not, length-append}
+use Rattle.std.specs.List.{list_any, filter, AllByRecursion, All}
 use Rattle.std.specs.List.Sorted.{IsPermutation, IsSortedBy, IsStrictlySortedBy}
 use Rattle.std.specs.Ordering.{nat_cmp, is_lt, is_eq, ordering_then, ordering_reverse}
 use Rattle.std.specs.Cmp.{IsTotalOrder, IsStrictWeakOrder, then_total, on_total, nat_cmp_total}
 use Rattle.std.specs.Cmp.Lexicographic.{slice_cmp, nat_list_cmp_total, nat_list_eq_equiv, texts_ties}
-use Rattle.std.proofs.lemmas.Bool.{false≢true}
+use Rattle.std.proofs.lemmas.Bool.{false≢true, or_parts}
 use Rattle.std.proofs.lemmas.List.{drop_more, take_more}
-use Rattle.std.proofs.lemmas.List.Elements.{recursion_from_All}
-use Rattle.std.proofs.lemmas.List.Sorted.{All-permutation, length_permutation, ranks_by, sorted_far}
-use Rattle.task_sheet.specs.Sheet.{Task, IsValidSheet}
-use Rattle.task_sheet.specs.TaskSet.{first_repeat, same_name, rank_cmp, AreDistinct, IsTaskSet}
+use Rattle.std.proofs.lemmas.List.Folds.{list_any-append}
+use Rattle.std.proofs.lemmas.List.Elements.{recursion_from_All, All-push, All-filter}
+use Rattle.std.proofs.lemmas.List.Sorted.{All-permutation, length_permutation, IsPermutation-sym, IsPermutation-trans, ranks_by, sorted_far}
+use Rattle.task_sheet.specs.Sheet.{Task, IsValidSheet, same_bytes}
+use Rattle.task_sheet.specs.TaskSet.{first_repeat, has_name, others_of, same_name, rank_cmp, AreDistinct, IsTaskSet, IsByRank}
 use Rattle.task_sheet.proofs.Distinct.{AreDistinct-permutation}
+use Rattle.task_sheet.proofs.Unique.{sorted_unique}
+use Rattle.std.proofs.lemmas.List.Kept.{IsStrictlySortedBy-filter}
 
--- one more sheet, whose name is taken or new
-pub repeat_step : (xs : List Task) (i : ℕ) (d : Task) (b : Bool) → i < length xs → d ≡ get_or xs i d → b ≡ list_any (λ y. same_name y d) (take i xs)
+-- ---- one more sheet
+
+same_either : (a b : Bool) → cond a true b ≡ (b || (a || false))
+same_either true true = refl
+same_either true false = refl
+same_either false true = refl
+same_either false false = refl
+
+-- its name is added to those that are seen
+pub names_step : (xs : List Task) (i : ℕ) (d : Task) (q : List ℕ) (b old : Bool) → i < length xs → d ≡ get_or xs i d → old ≡ has_name (take i xs) q
+    → b ≡ cond (is_eq (slice_cmp nat_cmp d.name q)) true old → b ≡ has_name (take (i + 1) xs) q
+names_step xs i d q b old h same e step =
+    step ∙ rw (take_more xs i d h, ← same, list_any-append (λ x. same_bytes x.name q) (take i xs) (d ∷ []), ← e, texts_ties d.name q) (same_either (is_eq (slice_cmp nat_cmp d.name q)) old)
+
+-- its name is taken or new
+pub repeat_step : (xs : List Task) (i : ℕ) (d : Task) (b : Bool) → i < length xs → d ≡ get_or xs i d → b ≡ has_name (take i xs) d.name
     → first_repeat (take i xs) (i + 1) (drop i xs) ≡ cond b (Some (i + 1)) (first_repeat (take (i + 1) xs) ((i + 1) + 1) (drop (i + 1) xs))
 repeat_step xs i d b h same e = rw (drop_more xs i d h, take_more xs i d h, ← same, e)
 
@@ -106,15 +123,75 @@ no_repeat seen place (x ∷ xs) h =
           ((e, less.0), (less.1, more.1))
     ] refl h
 
+pub distinct_new : (xs : List Task) → first_repeat [] 1 xs ≡ None → AreDistinct same_name xs
+distinct_new xs h = (no_repeat [] 1 xs h).1
+
 -- ---- the set of some sheets
 
-pub sorted_set : (xs ys : List Task) → All IsValidSheet xs → first_repeat [] 1 xs ≡ None → length xs ≤ 32 → IsPermutation xs ys
+pub sorted_set : (xs ys : List Task) → All IsValidSheet xs → AreDistinct same_name xs → length xs ≤ 32 → IsPermutation xs ys
     → IsSortedBy (λ x y. is_lt (rank_cmp x y)) ys → IsTaskSet ys
-sorted_set xs ys valid new few p up =
-    let apart = AreDistinct-permutation same_name same_own same_turned xs ys p ((no_repeat [] 1 xs new).1) in
+sorted_set xs ys valid distinct few p up =
+    let apart = AreDistinct-permutation same_name same_own same_turned xs ys p distinct in
     record {
       valid = All-permutation IsValidSheet xs ys p valid;
       ranked = strictly ys (in_order ys up) apart;
       distinct = apart;
       few = omega (arith, length_permutation xs ys p);
+    }
+
+-- the same sheets by rank are one list
+pub by_rank_one : (xs ys us vs : List Task) → IsPermutation xs ys → IsByRank xs us → IsByRank ys vs → us ≡ vs
+by_rank_one xs ys us vs p h g =
+    sorted_unique rank_total us vs h.ranked g.ranked
+    (IsPermutation-trans us xs vs (IsPermutation-sym xs us h.permutation) (IsPermutation-trans xs ys vs p g.permutation))
+
+-- ---- one sheet more, or one less
+
+distinct_more : (xs : List Task) (x : Task) → AreDistinct same_name xs → has_name xs x.name ≡ false → AreDistinct same_name (xs ++ x ∷ [])
+distinct_more [] x apart new = (tt, tt)
+distinct_more (y ∷ ys) x apart new =
+    let (here, more) = or_parts (same_name y x) (has_name ys x.name) new in
+    (last ys apart.0 here, distinct_more ys x apart.1 more)
+  where
+    last : (zs : List Task) → AllByRecursion (λ z. same_name y z ≡ false) zs → same_name y x ≡ false → AllByRecursion (λ z. same_name y z ≡ false) (zs ++ x ∷ [])
+    last [] a b = (b, tt)
+    last (z ∷ zs) a b = (a.0, last zs a.1 b)
+
+-- a set and one more sheet
+pub record AreSheets (xs : List Task) : Type 0 where
+  pub valid : All IsValidSheet xs
+  pub distinct : AreDistinct same_name xs
+  pub few : length xs ≤ 32
+
+pub sheets_more : (xs : List Task) (x : Task) → IsTaskSet xs → IsValidSheet x → has_name xs x.name ≡ false → length xs < 32 → AreSheets (xs ++ x ∷ [])
+sheets_more xs x set valid new room = record {
+  valid = All-push IsValidSheet xs x set.valid valid;
+  distinct = distinct_more xs x set.distinct new;
+  few = omega (arith, length-append xs (x ∷ []));
+}
+
+passing : (P : Task → Type 0) (p : Task → Bool) (xs : List Task) → AllByRecursion P xs → AllByRecursion P (filter p xs)
+passing P p [] h = tt
+passing P p (x ∷ xs) h = elim (p x) as (λ b. AllByRecursion P (cond b (x ∷ filter p xs) (filter p xs))) [ true ↦ (h.0, passing P p xs h.1) | false ↦ passing P p xs h.1 ]
+
+distinct_less : (p : Task → Bool) (xs : List Task) → AreDistinct same_name xs → AreDistinct same_name (filter p xs)
+distinct_less p [] h = tt
+distinct_less p (x ∷ xs) h =
+    elim (p x) as (λ b. AreDistinct same_name (cond b (x ∷ filter p xs) (filter p xs))) [
+      | true ↦ (passing (λ y. same_name x y ≡ false) p xs h.0, distinct_less p xs h.1)
+      | false ↦ distinct_less p xs h.1
+    ]
+
+shorter : (p : Task → Bool) (xs : List Task) → length (filter p xs) ≤ length xs
+shorter p [] = omega arith
+shorter p (x ∷ xs) = elim (p x) as (λ b. length (cond b (x ∷ filter p xs) (filter p xs)) ≤ length (x ∷ xs)) [ true ↦ omega (arith, shorter p xs) | false ↦ omega (arith, shorter p xs) ]
+
+pub set_less : (xs : List Task) (name : List ℕ) → IsTaskSet xs → IsTaskSet (others_of xs name)
+set_less xs name set =
+    let p : Task → Bool = λ x. not (same_bytes x.name name) in
+    record {
+      valid = All-filter p IsValidSheet xs set.valid;
+      ranked = IsStrictlySortedBy-filter rank_cmp p xs set.ranked;
+      distinct = distinct_less p xs set.distinct;
+      few = omega (arith, set.few, shorter p xs);
     }

@@ -1,36 +1,55 @@
--- Where there is no fault, a sheet is valid.
-use Rattle.std.proofs.Common.{◌≡◌, ℕ, ◌+◌, ◌<◌, ◌≤◌, cond, true, false, ◌||◌, List, [], ◌∷◌, length, get_or, drop, take, ◌-◌, sym, Option, Some, None, refl, rules, arith, nat_lt, nat_eq, Bool}
-use Rattle.std.proofs.lemmas.Bool.Decides.{nat_tests}
+-- Names that stand twice, and valid sheets.
+use Rattle.std.proofs.Common.{◌≡◌, refl, [], ◌∷◌, Some, None, ℕ, ◌+◌, ◌<◌, ◌||◌, List, length, get_or, drop, take, ◌-◌, arith, Bool}
 use Rattle.std.proofs.lemmas.List.{drop_more, take_all, length-drop}
 use Rattle.std.specs.List.{list_any}
-use Rattle.std.specs.Option.{option_or}
+use Rattle.std.proofs.lemmas.Bool.Decides.{nat_tests}
 use Rattle.task_sheet.specs.Sheet.{CriticalSection, Task, IsSection, AreSections, IsValidSheet, repeats, same_bytes}
-use Rattle.task_sheet.specs.SheetFault.{section_fault, sections_fault, sheet_fault}
+use Rattle.task_sheet.specs.SheetFault.{section_fault, sections_fault, numbers_fault, list_fault, sheet_fault}
 use Rattle.task_sheet.specs.declared.sheet.SheetCause.{SheetCause}
 
-section_none : (place from cost : ℕ) (x : CriticalSection) → section_fault place from cost x ≡ None → IsSection from cost x
-section_none place from cost x h = record {
-  some = grind (arith, nat_tests);
-  few = grind (arith, nat_tests);
-  distinct = grind (arith, nat_tests);
-  runs = grind (arith, nat_tests);
-  apart = grind (arith, nat_tests);
-  within = grind (arith, nat_tests);
-}
+-- one more name of a list, and whether one of the rest equals it
 
-both_none : {A : Type 0} (o p : Option A) → option_or o p ≡ None → (o ≡ None) × (p ≡ None)
-both_none None p h = (refl, h)
-both_none (Some x) p h = cc
-
-pub sections_none : (place from cost : ℕ) (xs : List CriticalSection) → sections_fault place from cost xs ≡ None → AreSections from cost xs
-sections_none place from cost [] h = tt
-sections_none place from cost (x ∷ xs) h =
-    let (here, more) = both_none (section_fault place from cost x) _ h in
-    (section_none place from cost x here, sections_none (place + 1) (x.at + x.len) cost xs more)
-
--- one more name of the list: the test of the names behind it, and the rest
 pub repeats_step : (xs : List (List ℕ)) (i : ℕ) (d : List ℕ) (b : Bool) → i < length xs → d ≡ get_or xs i d
     → b ≡ list_any (λ y. same_bytes y d) (take (length xs - (i + 1)) (drop (i + 1) xs)) → repeats (drop i xs) ≡ (b || repeats (drop (i + 1) xs))
 repeats_step xs i d b h same e =
     let all : take (length xs - (i + 1)) (drop (i + 1) xs) ≡ drop (i + 1) xs = take_all _ _ (omega (arith, length-drop (i + 1) xs)) in
     rw (drop_more xs i d h, ← same, e, all)
+
+-- ---- a valid sheet has no fault
+
+section_valid : (place from cost : ℕ) (x : CriticalSection) → IsSection from cost x → section_fault place from cost x ≡ None
+section_valid place from cost x h =
+    let distinct = h.distinct in
+    let some = h.some in
+    let few = h.few in
+    let runs = h.runs in
+    let apart = h.apart in
+    let within = h.within in
+    grind (arith, nat_tests)
+
+sections_valid : (place from cost : ℕ) (xs : List CriticalSection) → AreSections from cost xs → sections_fault place from cost xs ≡ None
+sections_valid place from cost [] h = refl
+sections_valid place from cost (x ∷ xs) h = rw (section_valid place from cost x h.0) (sections_valid (place + 1) (x.at + x.len) cost xs h.1)
+
+numbers_valid : (s : Task) → IsValidSheet s → numbers_fault s.weight s.period s.deadline s.cost ≡ None
+numbers_valid s h =
+    let weight = h.weight in
+    let period_from = h.period_from in
+    let period_to = h.period_to in
+    let deadline_from = h.deadline_from in
+    let deadline_to = h.deadline_to in
+    let cost_from = h.cost_from in
+    let cost_to = h.cost_to in
+    grind (arith, nat_tests)
+
+list_valid : (s : Task) → IsValidSheet s → list_fault s.cost s.sections ≡ None
+list_valid s h =
+    let few = h.few in
+    let none = sections_valid 1 0 s.cost s.sections h.sections in
+    grind (arith, nat_tests)
+
+pub sheet_valid : (s : Task) → IsValidSheet s → sheet_fault s ≡ None
+sheet_valid s h = rw (numbers_valid s h, list_valid s h)
+
+pub never_valid : (s : Task) (c : SheetCause) → sheet_fault s ≡ Some c → IsValidSheet s → ⊥
+never_valid s c h valid = let none = sheet_valid s valid in cc

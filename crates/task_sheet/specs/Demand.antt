@@ -56,6 +56,6 @@ Passes U i H = Covers (demand_of U i H) (limit_of (task_at U i))
 unfoldable pub does_pass : List Task → ℕ → Indexes → Bool
 does_pass U i H = some_below (limit_of (task_at U i) + 1) (λ t. nat_le 1 t && nat_le (demand_of U i H t) t)
 
--- two more than how often a task of H is released within the limit after its first release
+-- two more than how often the tasks of H are released within the limit after their first releases
 abbrev pub evaluation_bound : List Task → Indexes → ℕ → ℕ
 evaluation_bound U H limit = 2 + sum_below (length U) (λ h. if H h then releases_within (task_at U h) limit - 1 else 0)

@@ -8,6 +8,7 @@ use Rattle.std.specs.Ordering.{nat_cmp}
 abbrev pub Indexes : Type 0
 Indexes = ℕ → Bool
 
+-- no index
 abbrev pub no_index : Indexes
 no_index k = false
 
@@ -15,12 +16,15 @@ no_index k = false
 abbrev pub below : ℕ → Indexes
 below n k = nat_lt k n
 
+-- these indexes and i
 abbrev pub with_index : Indexes → ℕ → Indexes
 with_index H i k = (k == i) || H k
 
+-- these indexes without i
 abbrev pub without_index : Indexes → ℕ → Indexes
 without_index H i k = H k && not (k == i)
 
+-- the indexes of both
 abbrev pub either_of : Indexes → Indexes → Indexes
 either_of G H k = G k || H k
 
@@ -46,10 +50,16 @@ abbrev pub sum_below : ℕ → (ℕ → ℕ) → ℕ
 sum_below zero f = 0
 sum_below (suc n) f = sum_below n f + f n
 
+-- the greatest of the values below n, and 0 of none
 abbrev pub greatest_below : ℕ → (ℕ → ℕ) → ℕ
 greatest_below zero f = 0
 greatest_below (suc n) f = max (greatest_below n f) (f n)
 
+-- some number below n passes
 abbrev pub some_below : ℕ → (ℕ → Bool) → Bool
 some_below zero p = false
 some_below (suc n) p = some_below n p || p n
+
+-- the two have an index below 32 in common
+unfoldable pub meet : Indexes → Indexes → Bool
+meet G H = some_below 32 (λ k. G k && H k)

@@ -1,5 +1,5 @@
 -- Levels, from the lowest up, and sets that stand in the way of every order (Audsley 1991).
-use Rattle.std.specs.Prelude.{◌≡◌, ℕ, ◌<◌, List, [], ◌∷◌, IsTrue}
+use Rattle.std.specs.Prelude.{ℕ, ◌<◌, List, [], ◌∷◌, IsTrue}
 use Rattle.task_sheet.specs.Sheet.{Task}
 use Rattle.task_sheet.specs.Indexes.{Indexes, without_index, IsPart}
 use Rattle.task_sheet.specs.Orders.{all_of, Stands}

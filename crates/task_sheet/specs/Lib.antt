@@ -1,6 +1,7 @@
 pub mod Name
 pub mod NameFields
 pub mod Sheet
+pub mod SheetEquality
 pub mod SheetFields
 pub mod SheetFault
 pub mod Members

@@ -1,5 +1,5 @@
 -- Locks under the immediate ceiling protocol (Sha, Rajkumar, Lehoczky 1990; POSIX.1-2017, PTHREAD_PRIO_PROTECT).
-use Rattle.std.specs.Prelude.{ℕ, ◌+◌, Bool, ◌&&◌, List, [], ◌∷◌, length, Option, Some, None, if◌then◌else◌}
+use Rattle.std.specs.Prelude.{◌≡◌, ℕ, ◌+◌, ◌<◌, Bool, true, false, ◌&&◌, List, [], ◌∷◌, length, slice_index, Option, Some, None, if◌then◌else◌}
 use Rattle.std.specs.List.{list_any}
 use Rattle.std.specs.Option.{option_or}
 use Rattle.task_sheet.specs.Sheet.{Task, CriticalSection, same_bytes, task_at}
@@ -30,3 +30,9 @@ ceiling_from level U (i ∷ order) lock =
 -- the ceiling of a lock in an order, lowest first: the level of its highest user, from 1
 abbrev pub ceiling_of : List Task → List ℕ → List ℕ → Option ℕ
 ceiling_of U order lock = ceiling_from 1 U order lock
+
+-- the place of the highest user of a lock in an order, from 0: it uses the lock, and none after it does
+pub record IsHighestUser (U : List Task) (order : List ℕ) (lock : List ℕ) (place : ℕ) : Type 0 where
+  pub in_order : place < length order
+  pub user : uses (task_at U (slice_index order place)) lock ≡ true
+  pub none_above : (k : ℕ) → place < k → k < length order → uses (task_at U (slice_index order k)) lock ≡ false

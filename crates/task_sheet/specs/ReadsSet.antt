@@ -1,9 +1,8 @@
 -- What reading a task set answers.
-use Rattle.std.specs.Prelude.{◌≡◌, ◌≢◌, ℕ, List, Option, None, Some, Result, Ok, Err, IsUtf8}
-use Rattle.std.specs.List.Sorted.{IsPermutation}
+use Rattle.std.specs.Prelude.{◌≡◌, ℕ, List, None, Some, Result, Ok, Err, IsUtf8}
 use Rattle.toml.specs.Data.{Members}
 use Rattle.toml.specs.Parse.{parse_document}
-use Rattle.task_sheet.specs.Sheet.{Task}
+use Rattle.task_sheet.specs.TaskSet.{IsByRank}
 use Rattle.task_sheet.specs.Tree.{tree_sheets}
 use Rattle.task_sheet.specs.TreeFault.{tree_fault}
 use Rattle.task_sheet.specs.declared.set.TaskSet.{TaskSet}
@@ -15,8 +14,10 @@ pub record IsDocument (text : List ℕ) (tree : Members) : Type 0 where
   pub utf8 : IsUtf8 text
   pub parsed : parse_document text ≡ Some tree
 
+-- a set: the tree's sheets by rank, where the tree has no fault; Syntax: there is no tree; any other
+-- fault but want of memory: the tree's first
 abbrev pub ReadsSet : List ℕ → Result TaskSet SetFault → Type 0
-ReadsSet text (Ok set) = (tree : Members) × IsDocument text tree × (tree_fault tree ≡ None) × IsPermutation (tree_sheets tree) set
+ReadsSet text (Ok set) = (tree : Members) × IsDocument text tree × (tree_fault tree ≡ None) × IsByRank (tree_sheets tree) set
 ReadsSet text (Err fault.OutOfMemory) = Unit {0}
 ReadsSet text (Err fault.Syntax) = (tree : Members) → IsDocument text tree → ⊥
 ReadsSet text (Err e) = (tree : Members) × IsDocument text tree × (tree_fault tree ≡ Some e)

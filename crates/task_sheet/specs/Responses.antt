@@ -28,6 +28,7 @@ abbrev pub FullFrom : (ℕ → ℕ) → ℕ → List ℕ → Type 0
 FullFrom W a [] = Unit {0}
 FullFrom W a (b ∷ bs) = (b ≡ W a) × FullFrom W b bs
 
+-- each number after the first is the demand of the one before it
 abbrev pub IsFull : (ℕ → ℕ) → List ℕ → Type 0
 IsFull W [] = Unit {0}
 IsFull W (a ∷ bs) = FullFrom W a bs

@@ -2,6 +2,7 @@
 use Rattle.std.specs.Prelude.{◌≡◌, ℕ, ◌+◌, ◌<◌, ◌≤◌, Bool, false, ◌||◌, ◌&&◌, nat_eq, List, [], ◌∷◌, length, slice_index_or, All}
 use Rattle.std.specs.List.{list_any}
 use Rattle.std.specs.Cmp.Lexicographic.{pointwise}
+use Rattle.task_sheet.specs.Name.{IsName}
 
 -- a critical section: the locks that it holds, where it begins, and how long it is
 pub record CriticalSection : Type 0 where
@@ -9,6 +10,7 @@ pub record CriticalSection : Type 0 where
   pub at : ℕ
   pub len : ℕ
 
+-- a task, as its sheet says; times in microseconds
 pub record Task : Type 0 where
   pub name : List ℕ
   pub weight : ℕ
@@ -17,6 +19,12 @@ pub record Task : Type 0 where
   pub cost : ℕ
   pub sections : List CriticalSection
 
+-- the task of these values
+abbrev pub task_of : (name : List ℕ) (weight period deadline cost : ℕ) (sections : List CriticalSection) → Task
+task_of name weight period deadline cost sections =
+    record { name = name; weight = weight; period = period; deadline = deadline; cost = cost; sections = sections }
+
+-- the bytes are the same, as a test
 abbrev pub same_bytes : List ℕ → List ℕ → Bool
 same_bytes = pointwise nat_eq
 
@@ -25,8 +33,9 @@ abbrev pub repeats : List (List ℕ) → Bool
 repeats [] = false
 repeats (n ∷ ns) = list_any (λ m. same_bytes m n) ns || repeats ns
 
--- a section that begins at `from` or after it, and ends within the cost
+-- a section of 1 to 4 distinct locks that begins at `from` or after it, and ends within the cost
 pub record IsSection (from cost : ℕ) (x : CriticalSection) : Type 0 where
+  pub named : All IsName x.locks
   pub some : 0 < length x.locks
   pub few : length x.locks ≤ 4
   pub distinct : repeats x.locks ≡ false
@@ -39,8 +48,9 @@ abbrev pub AreSections : ℕ → ℕ → List CriticalSection → Type 0
 AreSections from cost [] = Unit {0}
 AreSections from cost (x ∷ xs) = IsSection from cost x × AreSections (x.at + x.len) cost xs
 
--- a sheet within the limits
+-- a valid sheet: its names are names, and its numbers and sections are within the limits
 pub record IsValidSheet (s : Task) : Type 0 where
+  pub named : IsName s.name
   pub weight : s.weight ≤ 1000
   pub period_from : 1000 ≤ s.period
   pub period_to : s.period ≤ 10000000
@@ -51,6 +61,7 @@ pub record IsValidSheet (s : Task) : Type 0 where
   pub few : length s.sections ≤ 8
   pub sections : AreSections 0 s.cost s.sections
 
+-- the two sections say the same
 abbrev pub same_section : CriticalSection → CriticalSection → Bool
 same_section x y = pointwise same_bytes x.locks y.locks && (nat_eq x.at y.at && nat_eq x.len y.len)
 
@@ -61,6 +72,7 @@ pub record IsTask (t : Task) : Type 0 where
   pub cost : 0 < t.cost
   pub within : All (λ s. s.at + s.len ≤ t.cost) t.sections
 
+-- the laws of the analysis hold of such lists
 abbrev pub AllTasks : List Task → Type 0
 AllTasks U = All IsTask U
 
@@ -72,7 +84,7 @@ no_task = record { name = []; weight = 0; period = 1; deadline = 0; cost = 0; se
 abbrev pub task_at : List Task → ℕ → Task
 task_at U k = slice_index_or U k no_task
 
--- the two say the same
+-- the two sheets say the same
 abbrev pub same_sheet : Task → Task → Bool
-same_sheet x y = same_bytes x.name y.name && nat_eq x.weight y.weight && nat_eq x.period y.period && nat_eq x.deadline y.deadline
-    && nat_eq x.cost y.cost && pointwise same_section x.sections y.sections
+same_sheet x y = same_bytes x.name y.name && (nat_eq x.weight y.weight && (nat_eq x.period y.period && (nat_eq x.deadline y.deadline
+    && (nat_eq x.cost y.cost && pointwise same_section x.sections y.sections))))

@@ -1,5 +1,5 @@
--- The first reason why data are no sheet.
-use Rattle.std.specs.Prelude.{ℕ, ◌+◌, ◌||◌, Bool, nat_lt, ◌==◌, List, [], ◌∷◌, length, Option, Some, None, if◌then◌else◌}
+-- Why values are no sheet: the first reason, in the order of the tests.
+use Rattle.std.specs.Prelude.{ℕ, ◌+◌, ◌||◌, nat_lt, ◌==◌, List, [], ◌∷◌, length, Option, Some, None, if◌then◌else◌}
 use Rattle.std.specs.Option.{option_or}
 use Rattle.task_sheet.specs.Sheet.{CriticalSection, Task, repeats}
 use Rattle.task_sheet.specs.declared.sheet.SheetCause.{SheetCause}
@@ -22,14 +22,21 @@ sections_fault place from cost [] = None
 sections_fault place from cost (x ∷ xs) =
     option_or (section_fault place from cost x) (sections_fault (place + 1) (x.at + x.len) cost xs)
 
--- the first fault of data
+-- the first fault of the numbers
+abbrev pub numbers_fault : (weight period deadline cost : ℕ) → Option SheetCause
+numbers_fault weight period deadline cost =
+    if nat_lt 1000 weight then Some cause.BadWeight
+    else if nat_lt period 1000 || nat_lt 10000000 period then Some cause.BadPeriod
+    else if deadline == 0 then Some cause.DeadlineZero
+    else if nat_lt period deadline then Some cause.DeadlinePastPeriod
+    else if cost == 0 then Some cause.CostZero
+    else if nat_lt period cost then Some cause.CostPastPeriod
+    else None
+
+-- the first fault of the list of sections
+abbrev pub list_fault : (cost : ℕ) → List CriticalSection → Option SheetCause
+list_fault cost xs = if nat_lt 8 (length xs) then Some cause.TooManySections else sections_fault 1 0 cost xs
+
+-- the first reason why the values are no sheet
 abbrev pub sheet_fault : Task → Option SheetCause
-sheet_fault s =
-    if nat_lt 1000 s.weight then Some cause.BadWeight
-    else if nat_lt s.period 1000 || nat_lt 10000000 s.period then Some cause.BadPeriod
-    else if s.deadline == 0 then Some cause.DeadlineZero
-    else if nat_lt s.period s.deadline then Some cause.DeadlinePastPeriod
-    else if s.cost == 0 then Some cause.CostZero
-    else if nat_lt s.period s.cost then Some cause.CostPastPeriod
-    else if nat_lt 8 (length s.sections) then Some cause.TooManySections
-    else sections_fault 1 0 s.cost s.sections
+sheet_fault s = option_or (numbers_fault s.weight s.period s.deadline s.cost) (list_fault s.cost s.sections)

@@ -1,8 +1,8 @@
 -- How a `Section` and a `Sheet` keep their data.
-use Rattle.std.specs.Prelude.{ℕ}
-use Rattle.task_sheet.specs.Sheet.{CriticalSection, Task, IsValidSheet}
+use Rattle.task_sheet.specs.Sheet.{Task, IsValidSheet}
 use Rattle.task_sheet.specs.declared.sheet.Sheet.TheInside.{Inside}
 
+-- what callers see of a sheet
 abbrev pub sheet_of : Inside → Task
 sheet_of a = record {
   name = a.name;
@@ -13,5 +13,6 @@ sheet_of a = record {
   sections = a.sections.items;
 }
 
+-- it is a valid sheet
 abbrev pub IsKept : Inside → Type 0
 IsKept a = IsValidSheet (sheet_of a)

@@ -1,67 +1,153 @@
 -- What a document's tree says of tasks.
-use Rattle.std.specs.Prelude.{◌≡◌, ℕ, ◌+◌, Bool, true, false, ◌&&◌, ◌||◌, List, [], ◌∷◌, Option, Some, None, option_and_then, unwrap_or, codes, pos, nat_eq}
-use Rattle.std.specs.Cmp.Lexicographic.{pointwise}
-use Rattle.toml.specs.Data.{Data, string, integer, float, boolean, datetime, array, table, Items, no_items, item, Members, no_members, member, get_member, as_str, as_array}
-use Rattle.task_sheet.specs.Sheet.{Task, same_bytes}
+use Rattle.std.specs.Prelude.{◌≡◌, ℕ, Bool, true, false, ◌&&◌, List, [], ◌∷◌, map, Option, Some, None, option_and_then, unwrap_or, is_some, codes, pos, if◌then◌else◌}
+use Rattle.std.specs.List.{list_any}
+use Rattle.toml.specs.Data.{Data, string, integer, array, table, Items, no_items, item, Members, no_members, member, get_member, as_str}
+use Rattle.task_sheet.specs.Sheet.{CriticalSection, Task, same_bytes}
+use Rattle.task_sheet.specs.declared.read.Key.{Key}
+use Rattle.task_sheet.specs.declared.read.Key.TheVariants as key
 
-abbrev pub is_task_key : List ℕ → Bool
-is_task_key k = same_bytes k (codes "name") || same_bytes k (codes "weight") || same_bytes k (codes "period") || same_bytes k (codes "deadline") || same_bytes k (codes "cost")
+-- ---- keys
 
-abbrev pub only_task_keys : Members → Bool
-only_task_keys no_members = true
-only_task_keys (member k d ms) = is_task_key k && only_task_keys ms
+-- how a key is written
+abbrev pub word_of : Key → List ℕ
+word_of key.Task = codes "task"
+word_of key.Name = codes "name"
+word_of key.Weight = codes "weight"
+word_of key.Period = codes "period"
+word_of key.Deadline = codes "deadline"
+word_of key.Cost = codes "cost"
+word_of key.Section = codes "section"
+word_of key.Locks = codes "locks"
+word_of key.At = codes "at"
+word_of key.Len = codes "len"
 
-abbrev pub only_root_key : Members → Bool
-only_root_key no_members = true
-only_root_key (member k d ms) = same_bytes k (codes "task") && only_root_key ms
+-- the keys that may stand in the root, in a task's table and in a section's, and those that a task needs
+abbrev pub root_keys : List Key
+root_keys = key.Task ∷ []
 
--- a whole number that is not negative
+-- the keys of a task's table
+abbrev pub task_keys : List Key
+task_keys = key.Name ∷ key.Weight ∷ key.Period ∷ key.Deadline ∷ key.Cost ∷ key.Section ∷ []
+
+-- those that it needs
+abbrev pub needed_keys : List Key
+needed_keys = key.Name ∷ key.Period ∷ key.Deadline ∷ key.Cost ∷ []
+
+-- the keys of a section's table, all of them needed
+abbrev pub section_keys : List Key
+section_keys = key.Locks ∷ key.At ∷ key.Len ∷ []
+
+-- the text is the word of one of these keys
+abbrev pub is_word_of : List Key → List ℕ → Bool
+is_word_of keys text = list_any (λ k. same_bytes (word_of k) text) keys
+
+-- a table has these keys alone
+abbrev pub only_keys : List Key → Members → Bool
+only_keys keys no_members = true
+only_keys keys (member k d ms) = is_word_of keys k && only_keys keys ms
+
+-- the value at a key
+abbrev pub value_at : Key → Members → Option Data
+value_at k ms = get_member (word_of k) ms
+
+-- the first of these keys that a table lacks
+abbrev pub first_missing : List Key → Members → Option Key
+first_missing [] ms = None
+first_missing (k ∷ ks) ms = if is_some (value_at k ms) then first_missing ks ms else Some k
+
+-- ---- values of the right kind
+
+-- a number: an integer that is not negative
 abbrev pub number_of : Data → Option ℕ
 number_of (integer (pos n)) = Some n
 number_of _ = None
 
-abbrev pub number_at : List ℕ → Members → Option ℕ
-number_at k ms = option_and_then number_of (get_member k ms)
+-- the number at a key
+abbrev pub number_at : Key → Members → Option ℕ
+number_at k ms = option_and_then number_of (value_at k ms)
 
-abbrev pub text_at : List ℕ → Members → Option (List ℕ)
-text_at k ms = option_and_then as_str (get_member k ms)
+-- the number of a key that may be absent, and is 0 then
+abbrev pub number_or_zero : Option Data → Option ℕ
+number_or_zero None = Some 0
+number_or_zero (Some d) = number_of d
 
-abbrev pub weight_in : Option Data → Option ℕ
-weight_in None = Some 0
-weight_in (Some d) = number_of d
+-- the string at a key
+abbrev pub text_at : Key → Members → Option (List ℕ)
+text_at k ms = option_and_then as_str (value_at k ms)
 
-abbrev pub weight_at : Members → Option ℕ
-weight_at ms = weight_in (get_member (codes "weight") ms)
+-- all of the items are strings
+abbrev pub all_strings : Items → Bool
+all_strings no_items = true
+all_strings (item (string s) ds) = all_strings ds
+all_strings (item _ ds) = false
 
--- the sheet of a task's table
-abbrev pub sheet_at : Members → Task
-sheet_at ms = record {
-  name = unwrap_or (text_at (codes "name") ms) [];
-  weight = unwrap_or (weight_at ms) 0;
-  period = unwrap_or (number_at (codes "period") ms) 0;
-  deadline = unwrap_or (number_at (codes "deadline") ms) 0;
-  cost = unwrap_or (number_at (codes "cost") ms) 0;
-  sections = [];
-}
+-- the strings among some items
+abbrev pub strings_in : Items → List (List ℕ)
+strings_in no_items = []
+strings_in (item (string s) ds) = s ∷ strings_in ds
+strings_in (item _ ds) = strings_in ds
 
+-- an array of strings
+abbrev pub strings_of : Data → Option (List (List ℕ))
+strings_of (array ds) = if all_strings ds then Some (strings_in ds) else None
+strings_of _ = None
+
+-- the array of strings at a key
+abbrev pub strings_at : Key → Members → Option (List (List ℕ))
+strings_at k ms = option_and_then strings_of (value_at k ms)
+
+-- all of the items are tables
 abbrev pub all_tables : Items → Bool
 all_tables no_items = true
 all_tables (item (table ms) ds) = all_tables ds
 all_tables (item _ ds) = false
 
-abbrev pub sheets_at : Items → List Task
-sheets_at no_items = []
-sheets_at (item (table ms) ds) = sheet_at ms ∷ sheets_at ds
-sheets_at (item _ ds) = sheets_at ds
+-- the tables among some items
+abbrev pub tables_in : Items → List Members
+tables_in no_items = []
+tables_in (item (table ms) ds) = ms ∷ tables_in ds
+tables_in (item _ ds) = tables_in ds
 
--- the tasks of a document, if they are an array
-abbrev pub items_in : Option Data → Option Items
-items_in None = Some no_items
-items_in (Some d) = as_array d
+-- an array of tables, which may be absent, and is empty then
+abbrev pub tables_of : Option Data → Option (List Members)
+tables_of None = Some []
+tables_of (Some (array ds)) = if all_tables ds then Some (tables_in ds) else None
+tables_of (Some _) = None
 
-abbrev pub task_items : Members → Option Items
-task_items ms = items_in (get_member (codes "task") ms)
+-- the array of tables at a key, which may be absent
+abbrev pub tables_at : Key → Members → Option (List Members)
+tables_at k ms = tables_of (value_at k ms)
 
--- the sheets of a document, which has no fault
+-- ---- what tables of the right kinds say
+
+-- the section of a table
+abbrev pub section_at : Members → CriticalSection
+section_at ms = record {
+  locks = unwrap_or (strings_at key.Locks ms) [];
+  at = unwrap_or (number_at key.At ms) 0;
+  len = unwrap_or (number_at key.Len ms) 0;
+}
+
+-- the sheet of a task's table
+abbrev pub sheet_at : Members → Task
+sheet_at ms = record {
+  name = unwrap_or (text_at key.Name ms) [];
+  weight = unwrap_or (number_or_zero (value_at key.Weight ms)) 0;
+  period = unwrap_or (number_at key.Period ms) 0;
+  deadline = unwrap_or (number_at key.Deadline ms) 0;
+  cost = unwrap_or (number_at key.Cost ms) 0;
+  sections = map section_at (unwrap_or (tables_at key.Section ms) []);
+}
+
+-- the sheets of a document, in its order
 abbrev pub tree_sheets : Members → List Task
-tree_sheets ms = sheets_at (unwrap_or (task_items ms) no_items)
+tree_sheets ms = map sheet_at (unwrap_or (tables_at key.Task ms) [])
+
+-- a task's own values, each of the right kind
+pub record AreFields (ms : Members) (text : List ℕ) (w p d c : ℕ) (tables : List Members) : Type 0 where
+  pub name : text_at key.Name ms ≡ Some text
+  pub weight : number_or_zero (value_at key.Weight ms) ≡ Some w
+  pub period : number_at key.Period ms ≡ Some p
+  pub deadline : number_at key.Deadline ms ≡ Some d
+  pub cost : number_at key.Cost ms ≡ Some c
+  pub sections : tables_at key.Section ms ≡ Some tables

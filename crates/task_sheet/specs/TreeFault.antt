@@ -1,13 +1,13 @@
--- The first reason why a document's tree is no task set.
-use Rattle.std.specs.Prelude.{ℕ, ◌+◌, Bool, not, List, [], ◌∷◌, Option, Some, None, is_some, unwrap_or, codes, if◌then◌else◌}
-use Rattle.std.specs.Option.{option_or, option_map}
-use Rattle.toml.specs.Data.{Data, table, Items, no_items, item, Members, get_member}
+-- Why a document's tree is no task set: the first reason, in the order of the tests.
+use Rattle.std.specs.Prelude.{ℕ, ◌+◌, Bool, List, [], ◌∷◌, Option, Some, None, is_some, unwrap_or, option_map, if◌then◌else◌}
+use Rattle.std.specs.Option.{option_or}
+use Rattle.std.specs.List.{list_all}
+use Rattle.toml.specs.Data.{Members}
 use Rattle.task_sheet.specs.Name.{is_name}
-use Rattle.task_sheet.specs.Sheet.{Task}
+use Rattle.task_sheet.specs.Sheet.{CriticalSection, Task}
 use Rattle.task_sheet.specs.SheetFault.{sheet_fault}
 use Rattle.task_sheet.specs.SetFault.{set_fault}
-use Rattle.task_sheet.specs.Tree.{only_task_keys, only_root_key, number_at, text_at, weight_at, sheet_at, sheets_at, all_tables, task_items}
-use Rattle.task_sheet.specs.declared.sheet.SheetCause.{SheetCause}
+use Rattle.task_sheet.specs.Tree.{root_keys, task_keys, needed_keys, section_keys, only_keys, first_missing, value_at, number_at, number_or_zero, text_at, strings_at, tables_at, sheet_at, tree_sheets}
 use Rattle.task_sheet.specs.declared.set.SetCause.{SetCause}
 use Rattle.task_sheet.specs.declared.set.SetCause.TheVariants as cause
 use Rattle.task_sheet.specs.declared.read.Key.{Key}
@@ -24,55 +24,71 @@ abbrev pub first : List (Option SetFault) → Option SetFault
 first [] = None
 first (f ∷ fs) = option_or f (first fs)
 
--- a fault of a task's keys: one that is not known, and then each that is missing
-abbrev pub keys_fault : ℕ → Members → Option SetFault
-keys_fault task ms = first (
-    unless (only_task_keys ms) (fault.UnknownKey task 0)
-    ∷ unless (is_some (get_member (codes "name") ms)) (fault.MissingKey task 0 key.Name)
-    ∷ unless (is_some (get_member (codes "period") ms)) (fault.MissingKey task 0 key.Period)
-    ∷ unless (is_some (get_member (codes "deadline") ms)) (fault.MissingKey task 0 key.Deadline)
-    ∷ unless (is_some (get_member (codes "cost") ms)) (fault.MissingKey task 0 key.Cost)
+-- a key that is not known, and then the first that is missing
+abbrev pub keys_fault : (task section : ℕ) (known needed : List Key) → Members → Option SetFault
+keys_fault task section known needed ms =
+    option_or (unless (only_keys known ms) (fault.UnknownKey task section)) (option_map (fault.MissingKey task section) (first_missing needed ms))
+
+-- a section's keys, and then the kinds of their values
+abbrev pub section_table_fault : (task section : ℕ) → Members → Option SetFault
+section_table_fault task section ms = first (
+    keys_fault task section section_keys section_keys ms
+    ∷ unless (is_some (strings_at key.Locks ms)) (fault.WrongKind task section key.Locks)
+    ∷ unless (is_some (number_at key.At ms)) (fault.WrongKind task section key.At)
+    ∷ unless (is_some (number_at key.Len ms)) (fault.WrongKind task section key.Len)
     ∷ [])
 
-abbrev pub of_sheet : ℕ → Option SheetCause → Option SetFault
-of_sheet task None = None
-of_sheet task (Some c) = Some (fault.Sheet task c)
+-- the first fault of a task's sections, of which the first stands at a place
+abbrev pub section_tables_fault : (task place : ℕ) → List Members → Option SetFault
+section_tables_fault task place [] = None
+section_tables_fault task place (ms ∷ more) = option_or (section_table_fault task place ms) (section_tables_fault task (place + 1) more)
 
--- a fault of a task's table
+-- the place of the first section with a lock whose name is no name, where the first stands at a place
+abbrev pub bad_section : ℕ → List CriticalSection → Option ℕ
+bad_section place [] = None
+bad_section place (x ∷ xs) = if list_all is_name x.locks then bad_section (place + 1) xs else Some place
+
+-- where the first name is no name: 0 for the task's own, else the section's place
+abbrev pub bad_name : Task → Option ℕ
+bad_name s = if is_name s.name then bad_section 1 s.sections else Some 0
+
+-- the kinds of a task's own values
+abbrev pub kinds_fault : ℕ → Members → Option SetFault
+kinds_fault task ms = first (
+    unless (is_some (text_at key.Name ms)) (fault.WrongKind task 0 key.Name)
+    ∷ unless (is_some (number_or_zero (value_at key.Weight ms))) (fault.WrongKind task 0 key.Weight)
+    ∷ unless (is_some (number_at key.Period ms)) (fault.WrongKind task 0 key.Period)
+    ∷ unless (is_some (number_at key.Deadline ms)) (fault.WrongKind task 0 key.Deadline)
+    ∷ unless (is_some (number_at key.Cost ms)) (fault.WrongKind task 0 key.Cost)
+    ∷ unless (is_some (tables_at key.Section ms)) (fault.WrongKind task 0 key.Section)
+    ∷ [])
+
+-- a task's keys, the kinds of its values, its sections, its names, and then what `Sheet::new` refuses
 abbrev pub task_fault : ℕ → Members → Option SetFault
 task_fault task ms = first (
-    keys_fault task ms
-    ∷ unless (is_some (text_at (codes "name") ms)) (fault.WrongKind task 0 key.Name)
-    ∷ unless (is_some (weight_at ms)) (fault.WrongKind task 0 key.Weight)
-    ∷ unless (is_some (number_at (codes "period") ms)) (fault.WrongKind task 0 key.Period)
-    ∷ unless (is_some (number_at (codes "deadline") ms)) (fault.WrongKind task 0 key.Deadline)
-    ∷ unless (is_some (number_at (codes "cost") ms)) (fault.WrongKind task 0 key.Cost)
-    ∷ unless (is_name (sheet_at ms).name) (fault.BadName task 0)
-    ∷ of_sheet task (sheet_fault (sheet_at ms))
+    keys_fault task 0 task_keys needed_keys ms
+    ∷ kinds_fault task ms
+    ∷ section_tables_fault task 1 (unwrap_or (tables_at key.Section ms) [])
+    ∷ option_map (fault.BadName task) (bad_name (sheet_at ms))
+    ∷ option_map (fault.Sheet task) (sheet_fault (sheet_at ms))
     ∷ [])
 
 -- the first fault of tasks, of which the first stands at a place
-abbrev pub tasks_fault : ℕ → Items → Option SetFault
-tasks_fault place no_items = None
-tasks_fault place (item (table ms) ds) = option_or (task_fault place ms) (tasks_fault (place + 1) ds)
-tasks_fault place (item _ ds) = tasks_fault (place + 1) ds
+abbrev pub tasks_fault : ℕ → List Members → Option SetFault
+tasks_fault place [] = None
+tasks_fault place (ms ∷ more) = option_or (task_fault place ms) (tasks_fault (place + 1) more)
 
-abbrev pub of_set : Option SetCause → Option SetFault
-of_set None = None
-of_set (Some (cause.SameName task)) = Some (fault.SameName task)
-of_set (Some cause.TooManyTasks) = Some fault.TooManyTasks
+-- what `TaskSet::new` refuses, as a fault of a document
+abbrev pub of_set : SetCause → SetFault
+of_set (cause.SameName task) = fault.SameName task
+of_set cause.TooManyTasks = fault.TooManyTasks
+of_set cause.OutOfMemory = fault.OutOfMemory
 
-abbrev pub items_fault : Option Items → Option SetFault
-items_fault None = Some (fault.WrongKind 0 0 key.Task)
-items_fault (Some ds) = first (
-    unless (all_tables ds) (fault.WrongKind 0 0 key.Task)
-    ∷ tasks_fault 1 ds
-    ∷ of_set (set_fault (sheets_at ds))
-    ∷ [])
-
--- a fault of a document's tree
+-- the root's key and its kind, each task, and then what `TaskSet::new` refuses
 abbrev pub tree_fault : Members → Option SetFault
 tree_fault ms = first (
-    unless (only_root_key ms) (fault.UnknownKey 0 0)
-    ∷ items_fault (task_items ms)
+    unless (only_keys root_keys ms) (fault.UnknownKey 0 0)
+    ∷ unless (is_some (tables_at key.Task ms)) (fault.WrongKind 0 0 key.Task)
+    ∷ tasks_fault 1 (unwrap_or (tables_at key.Task ms) [])
+    ∷ option_map of_set (set_fault (tree_sheets ms))
     ∷ [])

@@ -18,14 +18,24 @@ pub record LevelData : Type 0 where
   pub response : ℕ
   pub fails : List FailureData
 
+-- a verdict: an order, level by level, or the members of an obstruction
 pub data VerdictData : Type 0 where
   Admitted : (levels : List LevelData) → VerdictData
   Infeasible : (members : List FailureData) → VerdictData
+
+-- the tasks that fail, and those of the levels from the lowest up
+abbrev pub tasks_of : List FailureData → List ℕ
+tasks_of fails = map (λ f. f.task) fails
+
+-- the tasks of levels, lowest first
+abbrev pub order_of : List LevelData → List ℕ
+order_of levels = map (λ l. l.task) levels
 
 -- the task fails below the others of L, by its full chain
 abbrev pub IsFailure : List Task → Indexes → FailureData → Type 0
 IsFailure U L f = IsFullChain (demand_of U f.task (without_index L f.task)) (limit_of (task_at U f.task)) f.chain
 
+-- each of these tasks fails below the others of L
 abbrev pub AllFailures : List Task → Indexes → List FailureData → Type 0
 AllFailures U L [] = Unit {0}
 AllFailures U L (f ∷ fails) = IsFailure U L f × AllFailures U L fails
@@ -33,24 +43,26 @@ AllFailures U L (f ∷ fails) = IsFailure U L f × AllFailures U L fails
 -- the level's response, and the failures of the tasks of L of smaller rank, by rank, and of no others
 pub record IsLevel (U : List Task) (L : Indexes) (level : LevelData) : Type 0 where
   pub response : IsResponse (demand_of U level.task (without_index L level.task)) level.response
-  pub lesser : map (λ f. f.task) level.fails ≡ listed_below level.task L
+  pub lesser : tasks_of level.fails ≡ listed_below level.task L
   pub fails : AllFailures U L level.fails
 
+-- each level is right, from the lowest up
 abbrev pub AllLevels : List Task → Indexes → List LevelData → Type 0
 AllLevels U L [] = Unit {0}
 AllLevels U L (level ∷ levels) = IsLevel U L level × AllLevels U (without_index L level.task) levels
 
 -- the best order, level by level
 pub record IsBestOrder (U : List Task) (levels : List LevelData) : Type 0 where
-  pub best : IsBest U (map (λ l. l.task) levels)
+  pub best : IsBest U (order_of levels)
   pub each : AllLevels U (all_of U) levels
 
 -- the members of the greatest obstruction by rank, each with its full chain below the others
 pub record IsStuck (U : List Task) (members : List FailureData) : Type 0 where
-  pub greatest : IsGreatestObstruction U (among (map (λ f. f.task) members))
-  pub ranked : map (λ f. f.task) members ≡ listed_below (length U) (among (map (λ f. f.task) members))
-  pub fails : AllFailures U (among (map (λ f. f.task) members)) members
+  pub greatest : IsGreatestObstruction U (among (tasks_of members))
+  pub ranked : tasks_of members ≡ listed_below (length U) (among (tasks_of members))
+  pub fails : AllFailures U (among (tasks_of members)) members
 
+-- the verdict of a set
 abbrev pub IsVerdictOf : List Task → VerdictData → Type 0
 IsVerdictOf U (Admitted levels) = IsBestOrder U levels
 IsVerdictOf U (Infeasible members) = IsStuck U members

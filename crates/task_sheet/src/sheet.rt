@@ -1,41 +1,94 @@
 //! What a task declares.
-ghost use Rattle.std.specs.Prelude.{◌≡◌, ℕ, ◌+◌, ◌<◌, ◌≤◌, length, Some, None, MatchResult};
-ghost use Rattle.task_sheet.specs.Sheet.{CriticalSection, Task, IsValidSheet, repeats, same_sheet};
-ghost use Rattle.task_sheet.specs.SheetFault.{section_fault, sections_fault, sheet_fault};
+ghost use Rattle.std.specs.Prelude.{◌≡◌, ◌↔◌, ℕ, ◌+◌, ◌<◌, ◌≤◌, length, All, IsTrue, Some, None, IfNone, IfOk, IfErr, OnOk, OnErr};
+ghost use Rattle.std.specs.Bool.{OnFalse};
+ghost use Rattle.task_sheet.specs.Name.{IsName};
+ghost use Rattle.task_sheet.specs.Sheet.{CriticalSection, Task, IsSection, AreSections, IsValidSheet, task_of, repeats, same_section, same_sheet};
+ghost use Rattle.task_sheet.specs.SheetFault.{section_fault, list_fault, numbers_fault, sheet_fault};
 
 use crate::name::Name;
+use std::alloc::{AllocError, Global};
 use std::marker::Model;
+use thiserror::Error;
+
+/// The greatest weight.
+pub const WEIGHT_LIMIT: u64 = 1000;
+
+/// The shortest period, in microseconds.
+pub const PERIOD_FROM: u64 = 1000;
+
+/// The longest period, in microseconds.
+pub const PERIOD_TO: u64 = 10_000_000;
+
+/// The most sections of a task.
+pub const SECTION_LIMIT: usize = 8;
+
+/// The most locks of a section.
+pub const LOCK_LIMIT: usize = 4;
 
 /// Why values are no sheet. A section is named by its place, from 1.
-#[derive(Clone, Copy, Debug, PartialEq, Eq)]
+#[derive(Clone, Copy, Debug, PartialEq, Eq, Error)]
 pub enum SheetCause {
+    /// The weight is above 1,000.
+    #[error("the weight is above 1000")]
     BadWeight,
+    /// The period isn't from 1,000 to 10,000,000 microseconds.
+    #[error("the period is not from 1000 to 10000000")]
     BadPeriod,
+    /// The deadline is 0.
+    #[error("the deadline is 0")]
     DeadlineZero,
+    /// The deadline is above the period.
+    #[error("the deadline is above the period")]
     DeadlinePastPeriod,
+    /// The cost is 0.
+    #[error("the cost is 0")]
     CostZero,
+    /// The cost is above the period.
+    #[error("the cost is above the period")]
     CostPastPeriod,
+    /// There are more than 8 sections.
+    #[error("more than 8 sections")]
     TooManySections,
+    /// The section names no lock.
+    #[error("section {section}: no locks")]
     NoLocks { section: usize },
+    /// The section names more than 4 locks.
+    #[error("section {section}: more than 4 locks")]
     TooManyLocks { section: usize },
+    /// The section names a lock twice.
+    #[error("section {section}: a lock twice")]
     LockTwice { section: usize },
+    /// The section's length is 0.
+    #[error("section {section}: its length is 0")]
     LenZero { section: usize },
+    /// The section begins before the end of the one before it.
+    #[error("section {section}: it begins before the end of the one before it")]
     Overlap { section: usize },
+    /// The section ends past the cost.
+    #[error("section {section}: it ends past the cost")]
     SectionPastCost { section: usize },
 }
 
-/// The values were refused; the sections are handed back.
-#[derive(Drop)]
+/// The values are no sheet. The sections are handed back.
+#[derive(Debug, Drop, Error)]
+#[error("{cause}")]
 pub struct SheetFault {
+    /// The first reason, in the order that `Sheet::new` gives.
     pub cause: SheetCause,
+    /// The sections as they were given.
     pub sections: Vec<Section>,
 }
 
-/// A critical section: the locks that it holds, when it begins in its job, and how long it runs.
-#[derive(Drop)]
+/// A critical section: while a job has executed from `at` to before `at + len` microseconds, it holds
+/// the locks. A nested section is written as one section that holds all its locks for its whole length
+/// (Sha, Rajkumar, Lehoczky 1990; `PTHREAD_PRIO_PROTECT` of POSIX.1-2017).
+#[derive(Debug, Drop)]
 pub struct Section {
+    /// The names of its locks: in a sheet 1 to 4, distinct.
     pub locks: Vec<Name>,
+    /// Where it begins, in microseconds of execution.
     pub at: u64,
+    /// How long it is, in microseconds: in a sheet above 0.
     pub len: u64,
 }
 
@@ -47,8 +100,23 @@ impl Model for Section {
     ghost view = { λ s. record { locks = s.locks.items; at = s.at; len = s.len } };
 }
 
-/// A task's sheet, within the limits.
-#[derive(Drop)]
+impl Section {
+    /// A section that says the same.
+    pub fn copy(&self, alloc: Global) -> Result<Section, AllocError>
+        ensures { IfOk result (λ s. s ≡ self.now) }
+    {
+        let locks = Vec::from_slice(alloc, &self.locks)?;
+        Ok(Section {
+            locks,
+            at: self.at,
+            len: self.len,
+        })
+    }
+}
+
+/// What a task declares, within the limits: a task whose deadline is at most its period (Audsley et al.
+/// 1993). Times are whole microseconds.
+#[derive(Debug, Drop)]
 pub struct Sheet {
     name: Name,
     weight: u64,
@@ -70,12 +138,24 @@ impl Model for Sheet {
     ghost invariant = { IsKept };
 }
 
+// Sections that say the same.
+fn copy_sections(alloc: Global, sections: &[Section]) -> Result<Vec<Section>, AllocError>
+    ensures { IfOk result (λ v. v.items ≡ sections.now) }
+{
+    let mut copies = Vec::with_capacity(alloc, sections.len())?;
+    for section in sections {
+        copies.push(section.copy(alloc)?)?;
+    }
+    Ok(copies)
+}
+
 // Some name stands twice.
 fn has_repeat(names: &[Name]) -> bool
-    ensures { result ≡ repeats names.now }
+    ensures value { result ≡ repeats names.now }
+    ensures named { OnFalse result (All IsName names.now) }
 {
     for (i, name) in names.iter().enumerate() {
-        if names[i + 1..].contains(name) {
+        if name.is_among(&names[i + 1..]) {
             return true;
         }
     }
@@ -84,12 +164,13 @@ fn has_repeat(names: &[Name]) -> bool
 
 // The first fault of the section at a place, which may begin at `from`.
 fn section_fault(section: &Section, place: usize, from: u64, cost: u64) -> Option<SheetCause>
-    ensures { result ≡ section_fault place from cost section.now }
+    ensures fault { result ≡ section_fault place from cost section.now }
+    ensures valid { IfNone result (IsSection from cost section.now) }
 {
     if section.locks.is_empty() {
         return Some(SheetCause::NoLocks { section: place });
     }
-    if section.locks.len() > 4 {
+    if section.locks.len() > LOCK_LIMIT {
         return Some(SheetCause::TooManyLocks { section: place });
     }
     if has_repeat(&section.locks) {
@@ -107,11 +188,15 @@ fn section_fault(section: &Section, place: usize, from: u64, cost: u64) -> Optio
     None
 }
 
-// The first fault of the sections.
-fn sections_fault(sections: &[Section], cost: u64) -> Option<SheetCause>
-    requires { length sections.now ≤ 8 }
-    ensures { result ≡ sections_fault 1 0 cost sections.now }
+// The first fault of the list of sections.
+fn list_fault(sections: &[Section], cost: u64) -> Option<SheetCause>
+    ensures fault { result ≡ list_fault cost sections.now }
+    ensures few { IfNone result (length sections.now ≤ 8) }
+    ensures valid { IfNone result (AreSections 0 cost sections.now) }
 {
+    if sections.len() > SECTION_LIMIT {
+        return Some(SheetCause::TooManySections);
+    }
     let mut from = 0;
     for (i, section) in sections.iter().enumerate() {
         if let Some(cause) = section_fault(section, i + 1, from, cost) {
@@ -122,8 +207,32 @@ fn sections_fault(sections: &[Section], cost: u64) -> Option<SheetCause>
     None
 }
 
+// The first fault of the numbers.
+fn numbers_fault(weight: u64, period: u64, deadline: u64, cost: u64) -> Option<SheetCause>
+    ensures { result ≡ numbers_fault weight period deadline cost }
+{
+    if weight > WEIGHT_LIMIT {
+        Some(SheetCause::BadWeight)
+    } else if !(PERIOD_FROM..=PERIOD_TO).contains(&period) {
+        Some(SheetCause::BadPeriod)
+    } else if deadline == 0 {
+        Some(SheetCause::DeadlineZero)
+    } else if deadline > period {
+        Some(SheetCause::DeadlinePastPeriod)
+    } else if cost == 0 {
+        Some(SheetCause::CostZero)
+    } else if cost > period {
+        Some(SheetCause::CostPastPeriod)
+    } else {
+        None
+    }
+}
+
 impl Sheet {
-    /// A sheet of the values, if they are within the limits.
+    /// The sheet of the values, if they are within the limits. Refused in this order: `BadWeight`,
+    /// `BadPeriod`, `DeadlineZero`, `DeadlinePastPeriod`, `CostZero`, `CostPastPeriod`, `TooManySections`;
+    /// then for each section in its order `NoLocks`, `TooManyLocks`, `LockTwice`, `LenZero`, `Overlap`,
+    /// `SectionPastCost`. Times are in microseconds.
     pub fn new(
         name: Name,
         weight: u64,
@@ -132,41 +241,33 @@ impl Sheet {
         cost: u64,
         sections: Vec<Section>,
     ) -> Result<Sheet, SheetFault>
-        ensures ok { let given : Task = record { name = name; weight = weight; period = period; deadline = deadline; cost = cost; sections = sections.items } in
-            MatchResult result (λ s. (s ≡ given) × IsValidSheet given) (λ e. (sheet_fault given ≡ Some e.cause) × (e.sections.items ≡ sections.items)) }
+        ensures ok { IfOk result (λ s. s ≡ task_of name weight period deadline cost sections.items) }
+        ensures valid { IfOk result IsValidSheet }
+        ensures none { OnOk result
+            (sheet_fault (task_of name weight period deadline cost sections.items) ≡ None) }
+        ensures err { IfErr result (λ e.
+            sheet_fault (task_of name weight period deadline cost sections.items) ≡ Some e.cause) }
+        ensures refused { OnErr result
+            (¬ IsValidSheet (task_of name weight period deadline cost sections.items)) }
+        ensures back { IfErr result (λ e. e.sections.items ≡ sections.items) }
     {
-        let cause = if weight > 1000 {
-            SheetCause::BadWeight
-        } else if period < 1000 || period > 10_000_000 {
-            SheetCause::BadPeriod
-        } else if deadline == 0 {
-            SheetCause::DeadlineZero
-        } else if deadline > period {
-            SheetCause::DeadlinePastPeriod
-        } else if cost == 0 {
-            SheetCause::CostZero
-        } else if cost > period {
-            SheetCause::CostPastPeriod
-        } else if sections.len() > 8 {
-            SheetCause::TooManySections
-        } else {
-            match sections_fault(&sections, cost) {
-                Some(cause) => cause,
-                None => {
-                    return Ok(Sheet {
-                        name,
-                        weight,
-                        period,
-                        deadline,
-                        cost,
-                        sections,
-                    });
-                }
-            }
-        };
-        Err(SheetFault { cause, sections })
+        if let Some(cause) = numbers_fault(weight, period, deadline, cost) {
+            return Err(SheetFault { cause, sections });
+        }
+        if let Some(cause) = list_fault(&sections, cost) {
+            return Err(SheetFault { cause, sections });
+        }
+        Ok(Sheet {
+            name,
+            weight,
+            period,
+            deadline,
+            cost,
+            sections,
+        })
     }
 
+    /// The task's name.
     pub fn name(&self) -> Name
         ensures same { result ≡ self.now.name }
         ensures valid { IsValidSheet self.now }
@@ -174,6 +275,7 @@ impl Sheet {
         self.name
     }
 
+    /// The weight, from 0 to 1,000: of the tasks that may stand at a level, one of less weight is wanted there.
     pub fn weight(&self) -> u64
         ensures same { result ≡ self.now.weight }
         ensures limit { result ≤ 1000 }
@@ -181,53 +283,80 @@ impl Sheet {
         self.weight
     }
 
+    /// The least time between two releases, in microseconds: from 1,000 to 10,000,000.
     pub fn period(&self) -> u64
         ensures { result ≡ self.now.period }
     {
         self.period
     }
 
+    /// How long after its release a job has to be done, in microseconds: at most the period.
     pub fn deadline(&self) -> u64
         ensures { result ≡ self.now.deadline }
     {
         self.deadline
     }
 
+    /// How long a job executes at most, in microseconds: at most the period.
     pub fn cost(&self) -> u64
         ensures { result ≡ self.now.cost }
     {
         self.cost
     }
 
+    /// The critical sections, by rising `at`: none begins before the end of the one before it, and each ends within
+    /// the cost.
     pub fn sections(&self) -> &[Section]
         ensures { result.now ≡ self.now.sections }
     {
         &self.sections
     }
+
+    /// A sheet that says the same.
+    pub fn copy(&self, alloc: Global) -> Result<Sheet, AllocError>
+        ensures { IfOk result (λ s. s ≡ self.now) }
+    {
+        let sections = copy_sections(alloc, &self.sections)?;
+        Ok(Sheet {
+            name: self.name,
+            weight: self.weight,
+            period: self.period,
+            deadline: self.deadline,
+            cost: self.cost,
+            sections,
+        })
+    }
 }
 
 impl PartialEq for Section {
-    ghost use Rattle.std.specs.Prelude.{◌&&◌, nat_eq};
-    ghost use Rattle.std.specs.Cmp.{and_per, on_per, partial_equiv_from_equiv, nat_eq_equiv};
-    ghost use Rattle.std.specs.Cmp.Lexicographic.{pointwise, lists_per, nat_list_eq_equiv};
-    ghost use Rattle.task_sheet.specs.Sheet.{same_bytes};
+    ghost use Rattle.task_sheet.specs.Sheet.{same_section};
+    ghost use Rattle.task_sheet.specs.SheetEquality.{same_section_laws};
 
-    ghost eq = { λ x y. pointwise same_bytes x.locks y.locks && (nat_eq x.at y.at && nat_eq x.len y.len) };
+    ghost eq = { same_section };
 
-    ghost laws = { and_per (on_per (λ s. s.locks) (lists_per (partial_equiv_from_equiv nat_list_eq_equiv)))
-        (and_per (on_per (λ s. s.at) (partial_equiv_from_equiv nat_eq_equiv)) (on_per (λ s. s.len) (partial_equiv_from_equiv nat_eq_equiv))) };
+    ghost laws = { same_section_laws };
 
-    fn eq(&self, other: &Section) -> bool {
+    fn eq(&self, other: &Section) -> bool
+        ensures value { result ≡ same_section self.now other.now }
+        ensures same { IsTrue result ↔ (self.now ≡ other.now) }
+    {
         self.locks.as_slice() == other.locks.as_slice()
             && self.at == other.at
             && self.len == other.len
     }
 }
 
-impl Sheet {
-    /// Whether two sheets say the same.
-    pub fn is_same(&self, other: &Sheet) -> bool
-        ensures { result ≡ same_sheet self.now other.now }
+impl PartialEq for Sheet {
+    ghost use Rattle.task_sheet.specs.Sheet.{same_sheet};
+    ghost use Rattle.task_sheet.specs.SheetEquality.{same_sheet_laws};
+
+    ghost eq = { same_sheet };
+
+    ghost laws = { same_sheet_laws };
+
+    fn eq(&self, other: &Sheet) -> bool
+        ensures value { result ≡ same_sheet self.now other.now }
+        ensures same { IsTrue result ↔ (self.now ≡ other.now) }
     {
         self.name == other.name
             && self.weight == other.weight

@@ -1,0 +1,30 @@
+-- The demand does not fall with time, nor with one task more above.
+use Rattle.std.proofs.Common.{ℕ, ◌<◌, ◌≤◌, inl, inr, List, length, arith}
+use Rattle.std.proofs.lemmas.Bool.{cases_Bool, or_right}
+use Rattle.task_sheet.specs.Sheet.{Task, AllTasks, no_task, task_at}
+use Rattle.task_sheet.specs.Indexes.{Indexes, with_index}
+use Rattle.task_sheet.specs.Demand.{demand_of}
+use Rattle.task_sheet.proofs.Below.{sum_below-le}
+use Rattle.task_sheet.proofs.Releases.{interference-mono}
+use Rattle.task_sheet.proofs.ResponseLaws.{DoesNotFall}
+use Rattle.task_sheet.proofs.Exchange.{term, demand-part}
+
+module _ (U : List Task) (valid : AllTasks U) where
+  pub demand-mono : (i : ℕ) (H : Indexes) (t s : ℕ) → t ≤ s → demand_of U i H t ≤ demand_of U i H s
+  unfolding demand_of
+  demand-mono i H t s le =
+      let terms = sum_below-le (length U) (term U t H) (term U s H) (λ h lt. elim (cases_Bool (H h)) [
+        | inl above ↦ rw above (interference-mono (task_at U h) t s (valid h no_task lt) le)
+        | inr below ↦ rw below (omega arith)
+      ]) in
+      omega arith
+
+  pub demand_does_not_fall : (i : ℕ) (H : Indexes) → i < length U → DoesNotFall (demand_of U i H)
+  unfolding demand_of
+  demand_does_not_fall i H lt = record {
+    positive = λ t. omega (arith, (valid i no_task lt).cost);
+    rises = demand-mono i H;
+  }
+
+  pub demand-with_index : (i j : ℕ) (H : Indexes) (t : ℕ) → 1 ≤ t → demand_of U i H t ≤ demand_of U i (with_index H j) t
+  demand-with_index i j H t pos = demand-part U valid i H (with_index H j) (λ k h. or_right _ _ h) t pos

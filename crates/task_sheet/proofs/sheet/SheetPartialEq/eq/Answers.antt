@@ -1,0 +1,6 @@
+use Rattle.std.proofs.Common.{rules}
+use Rattle.task_sheet.specs.SheetEquality.{same_sheet_told}
+use Rattle.task_sheet.proofs.sheet.SheetPartialEq.eq.Goals as goal
+
+pub returns-then-self-other-4-clause-same : goal.returns-then-self-other-4-clause-same
+returns-then-self-other-4-clause-same c = same_sheet_told c.args.self.now c.args.other.now _ (search rules)

@@ -1,0 +1,64 @@
+-- Equality of sections and of sheets as a test: an equivalence that holds of equal values alone.
+use Rattle.std.specs.Prelude.{◌≡◌, Bool, true, List}
+use Rattle.std.proofs.Common.{refl, subst, Decides, ◌↔◌, IsTrue}
+use Rattle.std.specs.Cmp.{IsPartialEquivalence, IsEquivalence, and_equiv, on_equiv, partial_equiv_from_equiv, nat_eq_equiv}
+use Rattle.std.specs.Cmp.Lexicographic.{pointwise, lists_equiv, nat_list_eq_equiv}
+use Rattle.std.proofs.lemmas.Bool.{and_parts}
+use Rattle.std.proofs.lemmas.Bool.Decides.{Decides-eqb}
+use Rattle.std.proofs.lemmas.Slice.Eq.{slice_eq-Decides, bytes_eq-Decides}
+use Rattle.task_sheet.specs.Sheet.{CriticalSection, Task, same_section, same_sheet}
+
+section_equiv : IsEquivalence same_section
+section_equiv = and_equiv (on_equiv (λ s. s.locks) (lists_equiv nat_list_eq_equiv))
+    (and_equiv (on_equiv (λ s. s.at) nat_eq_equiv) (on_equiv (λ s. s.len) nat_eq_equiv))
+
+sheet_equiv : IsEquivalence same_sheet
+sheet_equiv = and_equiv (on_equiv (λ s. s.name) nat_list_eq_equiv) (and_equiv (on_equiv (λ s. s.weight) nat_eq_equiv)
+    (and_equiv (on_equiv (λ s. s.period) nat_eq_equiv) (and_equiv (on_equiv (λ s. s.deadline) nat_eq_equiv)
+    (and_equiv (on_equiv (λ s. s.cost) nat_eq_equiv) (on_equiv (λ s. s.sections) (lists_equiv section_equiv))))))
+
+pub same_section_laws : IsPartialEquivalence same_section
+same_section_laws = partial_equiv_from_equiv section_equiv
+
+pub same_sheet_laws : IsPartialEquivalence same_sheet
+same_sheet_laws = partial_equiv_from_equiv sheet_equiv
+
+-- an equivalence whose answer true gives equality decides equality
+decides : {X : Type 0} (E : X → X → Bool) → IsEquivalence E → (x y : X) → (E x y ≡ true → x ≡ y) → Decides (E x y) (x ≡ y)
+decides {X} E e x y same = let P : X → Type 0 = λ z. E x z ≡ true in (same, λ q. subst P q (e.refl x))
+
+pub same_section-Decides : (x y : CriticalSection) → Decides (same_section x y) (x ≡ y)
+same_section-Decides x y = decides same_section section_equiv x y (λ h.
+    let all = and_parts _ _ h in
+    let times = and_parts _ _ all.1 in
+    let locks : x.locks ≡ y.locks = (slice_eq-Decides bytes_eq-Decides x.locks y.locks _ refl).0 all.0 in
+    let at : x.at ≡ y.at = (Decides-eqb x.at y.at).0 times.0 in
+    let len : x.len ≡ y.len = (Decides-eqb x.len y.len).0 times.1 in
+    λ i. record { locks = locks i; at = at i; len = len i })
+
+pub same_sheet-Decides : (x y : Task) → Decides (same_sheet x y) (x ≡ y)
+same_sheet-Decides x y = decides same_sheet sheet_equiv x y (λ h.
+    let a = and_parts _ _ h in
+    let b = and_parts _ _ a.1 in
+    let c = and_parts _ _ b.1 in
+    let d = and_parts _ _ c.1 in
+    let e = and_parts _ _ d.1 in
+    let name : x.name ≡ y.name = (bytes_eq-Decides x.name y.name).0 a.0 in
+    let weight : x.weight ≡ y.weight = (Decides-eqb x.weight y.weight).0 b.0 in
+    let period : x.period ≡ y.period = (Decides-eqb x.period y.period).0 c.0 in
+    let deadline : x.deadline ≡ y.deadline = (Decides-eqb x.deadline y.deadline).0 d.0 in
+    let cost : x.cost ≡ y.cost = (Decides-eqb x.cost y.cost).0 e.0 in
+    let sections : x.sections ≡ y.sections = (slice_eq-Decides same_section-Decides x.sections y.sections _ refl).0 e.1 in
+    λ i. record { name = name i; weight = weight i; period = period i; deadline = deadline i; cost = cost i; sections = sections i })
+
+-- ---- what an answer says
+
+-- of two lists of sheets
+pub same_sheets_told : (xs ys : List Task) (r : Bool) → r ≡ pointwise same_sheet xs ys → IsTrue r ↔ (xs ≡ ys)
+same_sheets_told xs ys r e = slice_eq-Decides same_sheet-Decides xs ys r e
+
+pub same_section_told : (x y : CriticalSection) (r : Bool) → r ≡ same_section x y → IsTrue r ↔ (x ≡ y)
+same_section_told x y r e = rw e (same_section-Decides x y)
+
+pub same_sheet_told : (x y : Task) (r : Bool) → r ≡ same_sheet x y → IsTrue r ↔ (x ≡ y)
+same_sheet_told x y r e = rw e (same_sheet-Decides x y)
