@@ -1,0 +1,15 @@
+use Rattle.std.proofs.Common.{arith, ◌≡◌, cond, max, ap}
+use Rattle.task_sheet.specs.Indexes.{indexes_of}
+use Rattle.task_sheet.proofs.Below.{ord_max-is}
+use Rattle.blocking.proofs.Longest.{longest_step}
+use Rattle.blocking.proofs.longest_reached.Goals as goal
+use Rattle.blocking.proofs.longest_reached.Goals.{then-reaches, else-reaches}
+
+pub loop-section-preserved : goal.loop-section-preserved
+loop-section-preserved c = λ U table.
+    let next : c.if-reaches.longest ≡ cond c.reaches.result (max c.loop-section.longest c.section-item.result.len) c.loop-section.longest = elim c.if-reaches.branch [
+      | then-reaches w ↦ rw (w.if-reaches.true) (omega (arith, w.longest-is, w.max-longest.ensures, ord_max-is, ap (λ s. s.len) c.section.view_is))
+      | else-reaches w ↦ rw (w.if-reaches.false) w.longest-is
+    ] in
+    longest_step U (indexes_of c.args.members) c.sections-section-items.result.now c.loop-section.section-index c.section-item.result c.reaches.result c.loop-section.longest c.if-reaches.longest
+    c.loop-section-test.true c.section-item.is (c.reaches.ensures.reaches U table) (c.loop-section.invariant U table) next

@@ -1,0 +1,5 @@
+pub mod Growth
+pub mod WholeTable
+pub mod Highest
+pub mod Reached
+pub mod OrderBounds

@@ -1,0 +1,29 @@
+-- The table of a set's locks.
+use Rattle.std.specs.Prelude.{◌≡◌, ℕ, ◌≤◌, List, [], ◌∷◌, ◌++◌, length, flat_map, fold, if◌then◌else◌}
+use Rattle.std.specs.List.{list_any}
+use Rattle.task_sheet.specs.Sheet.{Task, same_bytes, task_at}
+use Rattle.task_sheet.specs.Indexes.{indexes_of}
+use Rattle.task_sheet.specs.Locks.{uses}
+use Rattle.ceilings.specs.Table.{Table, locks_in, users_in}
+
+-- some names with one more, unless it is among them
+abbrev pub with_name : List (List ℕ) → List ℕ → List (List ℕ)
+with_name names name = if list_any (λ seen. same_bytes name seen) names then names else names ++ name ∷ []
+
+-- the names of some locks, each once, in the order of first sight
+abbrev pub first_sights : List (List ℕ) → List (List ℕ)
+first_sights names = fold with_name [] names
+
+-- each name of a lock in a set, in the order in which they are written: tasks by rank, sections in order, locks as written
+abbrev pub names_in : List Task → List (List ℕ)
+names_in U = flat_map (λ t. flat_map (λ s. s.locks) t.sections) U
+
+-- the locks of a set, in the order of first sight
+abbrev pub locks_of : List Task → List (List ℕ)
+locks_of U = first_sights (names_in U)
+
+-- the table has the set's locks in order, and the users of each lock are exactly the tasks that use it
+pub record IsTableOf (U : List Task) (table : Table) : Type 0 where
+  pub few : length U ≤ 32
+  pub locks : locks_in table ≡ locks_of U
+  pub users : (lock : List ℕ) (k : ℕ) → indexes_of (users_in table lock) k ≡ uses (task_at U k) lock

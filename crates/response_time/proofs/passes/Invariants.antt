@@ -1,0 +1,14 @@
+use Rattle.std.proofs.Common.{◌+◌, ◌-◌, ◌≤◌, ℕ}
+use Rattle.task_sheet.specs.Indexes.{indexes_of}
+use Rattle.task_sheet.specs.Demand.{demand_of}
+use Rattle.response_time.proofs.passes.Given as goal
+
+-- no time that covers its demand is below
+abbrev pub invariant-loop-window : goal.invariant-loop-window
+invariant-loop-window l = record {
+  positive : 1 ≤ l.window;
+  first : (s : ℕ) → 1 ≤ s → demand_of l.set l.task (indexes_of l.fn.above) s ≤ s → l.window ≤ s;
+}
+
+abbrev pub decreases-loop-window : goal.decreases-loop-window
+decreases-loop-window l = l.limit + 1 - l.window

@@ -1,0 +1,116 @@
+//! Demands and responses: whether a task meets its deadline below given others (Audsley et al. 1993). Times are whole
+//! microseconds.
+#![tactic(auto)]
+
+ghost use Rattle.std.specs.Prelude.{◌≡◌, ◌≤◌, ◌<◌, ◌↔◌, ℕ, List, length, IsTrue, IfOk};
+ghost use Rattle.task_sheet.specs.Sheet.{task_at};
+ghost use Rattle.task_sheet.specs.TaskSet.{IsTaskSet};
+ghost use Rattle.task_sheet.specs.Indexes.{indexes_of};
+ghost use Rattle.task_sheet.specs.Responses.{IsTrail};
+ghost use Rattle.task_sheet.specs.Demand.{demand_of, limit_of, Passes, evaluation_bound};
+ghost use Rattle.ceilings.specs.IsTableOf.{IsTableOf};
+ghost use Rattle.response_time.specs.Answers.{IsAnswer};
+
+mod workload;
+
+use crate::workload::Workload;
+use ceilings::LockTable;
+use std::alloc::{AllocError, Global};
+use task_sheet::{Members, TaskSet};
+
+/// Whether a task passes.
+#[derive(Drop)]
+pub enum Answer {
+    /// It does, with this response in microseconds: the least positive time that is its own demand.
+    Pass { response: u64 },
+    /// It does not: 1, then each demand of the number before it, up to the first that is past the deadline.
+    Fail { chain: Vec<u64> },
+}
+
+/// An answer, and how many different times up to the deadline led to it.
+#[derive(Drop)]
+pub struct Response {
+    pub answer: Answer,
+    pub evaluations: usize,
+}
+
+// The longest window that serves a task: its deadline, in microseconds.
+fn limit_of(set: &TaskSet, task: usize) -> u64
+    requires { task < length set.now }
+    ensures is { result ≡ limit_of (task_at set.now task) }
+    ensures some { 0 < result }
+    ensures short { result ≤ 10000000 }
+    ensures kept { IsTaskSet set.now }
+{
+    set.sheets()[task].deadline()
+}
+
+/// The work that falls due to a task within a window of `time` microseconds, with these above it: its cost, its blocking,
+/// and the cost of each job of these that is released within the window (Audsley et al. 1993). The table is that of the
+/// set.
+pub fn demand(set: &TaskSet, table: &LockTable, task: usize, above: Members, time: u64) -> u64
+    requires table { IsTableOf set.now table.now }
+    requires task { task < length set.now }
+    requires time { time ≤ 10000000 }
+    ensures { result ≡ demand_of set.now task (indexes_of above) time }
+{
+    Workload::new(set, table, task, above).within(time)
+}
+
+/// Whether a task passes with these above it: some window within its deadline covers its demand (Audsley et al. 1993).
+/// The table is that of the set.
+pub fn passes(set: &TaskSet, table: &LockTable, task: usize, above: Members) -> bool
+    requires table { IsTableOf set.now table.now }
+    requires task { task < length set.now }
+    ensures { IsTrue result ↔ Passes set.now task (indexes_of above) }
+{
+    let work = Workload::new(set, table, task, above);
+    let limit = limit_of(set, task);
+    let mut window = 1;
+    while window <= limit {
+        let next = work.within(window);
+        if next <= window {
+            return true;
+        }
+        window = next;
+    }
+    false
+}
+
+/// The response of a task with these above it, or the chain that shows that it has none in time (Audsley et al. 1993).
+/// The table is that of the set. The error is want of memory for the numbers.
+pub fn respond(
+    alloc: Global,
+    set: &TaskSet,
+    table: &LockTable,
+    task: usize,
+    above: Members,
+) -> Result<Response, AllocError>
+    requires table { IsTableOf set.now table.now }
+    requires task { task < length set.now }
+    ensures answer { IfOk result (λ r. IsAnswer (demand_of set.now task (indexes_of above)) (limit_of (task_at set.now task)) r.answer) }
+    ensures evaluations { IfOk result (λ r. (trail : List ℕ) × IsTrail (demand_of set.now task (indexes_of above)) (limit_of (task_at set.now task)) trail × (r.evaluations ≡ length trail)) }
+    ensures bound { IfOk result (λ r. r.evaluations ≤ evaluation_bound set.now (indexes_of above) (limit_of (task_at set.now task))) }
+{
+    let work = Workload::new(set, table, task, above);
+    let limit = limit_of(set, task);
+    let mut numbers = Vec::new(alloc);
+    let mut time = 1;
+    while time <= limit {
+        numbers.push(time)?;
+        let next = work.within(time);
+        if next == time {
+            return Ok(Response {
+                answer: Answer::Pass { response: time },
+                evaluations: numbers.len(),
+            });
+        }
+        time = next;
+    }
+    let evaluations = numbers.len();
+    numbers.push(time)?;
+    Ok(Response {
+        answer: Answer::Fail { chain: numbers },
+        evaluations,
+    })
+}
