@@ -1,0 +1,10 @@
+pub mod Kept
+pub mod Verdict
+pub mod Questions
+pub mod Levels
+pub mod Closes
+pub mod Takes
+pub mod LevelFields
+pub mod Climbs
+pub mod Climbing
+pub mod ClimbFields

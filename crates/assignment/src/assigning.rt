@@ -1,0 +1,88 @@
+//! The verdict of a set, on the caller's thread (Audsley 1991).
+ghost use Rattle.std.specs.Prelude.{◌≡◌, ◌<◌, length, IfOk, IsTrue};
+ghost use Rattle.std.specs.FinSet.{contains, len};
+ghost use Rattle.task_sheet.specs.Indexes.{indexes_of, IsPart};
+ghost use Rattle.task_sheet.specs.Orders.{all_of};
+ghost use Rattle.task_sheet.specs.Verdicts.{IsVerdictOf};
+ghost use Rattle.ceilings.specs.IsTableOf.{IsTableOf};
+ghost use Rattle.assignment.specs.Levels.{LevelState, IsDecided, with_finding};
+ghost use Rattle.assignment.specs.Verdict.{set_of, verdict_of};
+
+use crate::climb::Climb;
+use crate::level::Level;
+use crate::question::Question;
+use crate::verdict::Verdict;
+use ceilings::LockTable;
+use std::alloc::{AllocError, Global};
+use std::sync::Arc;
+use task_sheet::{Members, TaskSet};
+
+// Answers the question on a candidate, and takes the finding.
+fn ask(
+    alloc: Global,
+    set: &Arc<TaskSet>,
+    table: &LockTable,
+    level: &mut Level,
+    task: usize,
+) -> Result<(), AllocError>
+    requires same { level.old.set ≡ set.now.value }
+    requires table { IsTableOf set.now.value table.now }
+    requires candidate { IsTrue (contains level.old.left task) }
+    requires missing { IsTrue (contains level.old.missing task) }
+    ensures { IfOk result (λ _. level.new ≡ with_finding level.old task) }
+{
+    let question = Question::new(set.clone()?, level.left().without(task), task);
+    let Ok(finding) = question.answer_by(alloc, table) else {
+        return Err(AllocError);
+    };
+    match level.take(finding) {
+        Ok(()) => Ok(()),
+        Err(_) => unreachable!(),
+    }
+}
+
+// The level of these candidates, decided: they are asked by rank, up to the first that passes.
+fn decide(
+    alloc: Global,
+    set: &Arc<TaskSet>,
+    table: &LockTable,
+    left: Members,
+) -> Result<Level, AllocError>
+    requires table { IsTableOf set.now.value table.now }
+    requires part { IsPart (indexes_of left) (all_of set.now.value) }
+    requires some { 0 < len left }
+    ensures same { IfOk result (λ level. level.set ≡ set.now.value) }
+    ensures rest { IfOk result (λ level. level.left ≡ left) }
+    ensures decided { IfOk result (λ level. IsDecided level) }
+{
+    let mut level = Level::start(alloc, set.clone()?, left)?;
+    for task in 0..set.len() {
+        if left.has(task) {
+            ask(alloc, set, table, &mut level, task)?;
+            if level.decided() {
+                return Ok(level);
+            }
+        }
+    }
+    Ok(level)
+}
+
+/// The verdict of a set: its best order with what shows it best, or its greatest obstruction with what shows it stuck.
+/// The error is want of memory.
+pub fn assign(alloc: Global, set: Arc<TaskSet>) -> Result<Verdict, AllocError>
+    ensures of_set { IfOk result (λ verdict. set_of verdict ≡ set.value) }
+    ensures verdict { IfOk result (λ verdict. IsVerdictOf set.value (verdict_of verdict)) }
+{
+    let table = LockTable::new(alloc, &set)?;
+    let mut climb = Climb::start(alloc, set.clone()?)?;
+    while climb.is_unfinished() {
+        let level = decide(alloc, &set, &table, climb.left())?;
+        if climb.close(level).is_err() {
+            unreachable!();
+        }
+    }
+    match climb.finish() {
+        Ok(verdict) => Ok(verdict),
+        Err(_) => unreachable!(),
+    }
+}

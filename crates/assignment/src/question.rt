@@ -1,0 +1,158 @@
+//! Questions whether a task passes, and findings on them.
+ghost use Rattle.std.specs.Prelude.{◌≡◌, ◌<◌, length, IsFalse, IfOk, IfErr};
+ghost use Rattle.task_sheet.specs.Indexes.{indexes_of, IsPart};
+ghost use Rattle.task_sheet.specs.Orders.{all_of};
+ghost use Rattle.ceilings.specs.IsTableOf.{IsTableOf};
+ghost use Rattle.assignment.specs.Questions.{IsQuestion, IsRight};
+
+use ceilings::LockTable;
+use response_time::{Answer, respond};
+use std::alloc::{AllocError, Global};
+use std::marker::Model;
+use std::sync::Arc;
+use task_sheet::{Members, TaskSet};
+
+/// Whether a task of a set passes with some other tasks of the set above it.
+#[derive(Drop)]
+pub struct Question {
+    set: Arc<TaskSet>,
+    above: Members,
+    task: usize,
+}
+
+impl Model for Question {
+    ghost use Rattle.std.specs.Coded.{codes};
+    ghost use Rattle.task_sheet.specs.contracts.members.Members as members;
+    ghost use Rattle.assignment.specs.Questions.{QuestionData, IsQuestion};
+
+    ghost Value = { QuestionData };
+
+    ghost coded = { Prim.hlevel (codes, members.the_row.coded) };
+
+    ghost view = { λ q. record { set = q.set.value; above = q.above; task = q.task } };
+
+    ghost invariant = { λ q. IsQuestion (record { set = q.set.value; above = q.above; task = q.task }) };
+}
+
+/// A question with its answer: the response in microseconds, or the full chain that shows that there is none within the deadline
+/// (Audsley et al. 1993).
+#[derive(Drop)]
+pub struct Finding {
+    question: Question,
+    answer: Answer,
+}
+
+impl Model for Finding {
+    ghost use Rattle.std.specs.Coded.{codes};
+    ghost use Rattle.task_sheet.specs.contracts.members.Members as members;
+    ghost use Rattle.assignment.specs.Questions.{FindingData, IsRight};
+
+    ghost Value = { FindingData };
+
+    ghost coded = { Prim.hlevel (codes, members.the_row.coded) };
+
+    ghost view = { λ f. record { question = f.question; answer = f.answer } };
+
+    ghost invariant = { λ f. IsRight f.question f.answer };
+}
+
+/// Memory was wanting; the question is handed back.
+#[derive(Drop)]
+pub struct AnswerFault {
+    pub question: Question,
+}
+
+impl Question {
+    /// The question on a task, by its index, with some tasks above it.
+    pub fn new(set: Arc<TaskSet>, above: Members, task: usize) -> Question
+        requires task { task < length set.value }
+        requires above { IsPart (indexes_of above) (all_of set.value) }
+        requires apart { IsFalse (indexes_of above task) }
+        ensures { result ≡ record { set = set.value; above = above; task = task } }
+    {
+        Question { set, above, task }
+    }
+
+    /// The set of the task.
+    pub fn set(&self) -> &TaskSet
+        ensures { result.now ≡ self.now.set }
+    {
+        &self.set
+    }
+
+    /// The tasks above it.
+    pub fn above(&self) -> Members
+        ensures same { result ≡ self.now.above }
+        ensures kept { IsQuestion self.now }
+    {
+        self.above
+    }
+
+    /// The task's index.
+    pub fn task(&self) -> usize
+        ensures same { result ≡ self.now.task }
+        ensures kept { IsQuestion self.now }
+    {
+        self.task
+    }
+
+    /// The answer to the question. The fault is want of memory.
+    pub fn answer(self, alloc: Global) -> Result<Finding, AnswerFault>
+        ensures ok { IfOk result (λ finding. finding.question ≡ self) }
+        ensures err { IfErr result (λ fault. fault.question ≡ self) }
+    {
+        let Ok(table) = LockTable::new(alloc, &self.set) else {
+            return Err(AnswerFault { question: self });
+        };
+        self.answer_by(alloc, &table)
+    }
+
+    // The answer to the question, by the table of its set.
+    pub(crate) fn answer_by(self, alloc: Global, table: &LockTable) -> Result<Finding, AnswerFault>
+        requires { IsTableOf self.set table.now }
+        ensures ok { IfOk result (λ finding. finding.question ≡ self) }
+        ensures err { IfErr result (λ fault. fault.question ≡ self) }
+    {
+        match answer_to(alloc, &self, table) {
+            Ok(answer) => Ok(Finding {
+                question: self,
+                answer,
+            }),
+            Err(_) => Err(AnswerFault { question: self }),
+        }
+    }
+}
+
+// The right answer to a question.
+fn answer_to(alloc: Global, question: &Question, table: &LockTable) -> Result<Answer, AllocError>
+    requires { IsTableOf question.now.set table.now }
+    ensures { IfOk result (λ answer. IsRight question.now answer) }
+{
+    let response = respond(alloc, &question.set, table, question.task, question.above)?;
+    Ok(response.answer)
+}
+
+impl Finding {
+    /// The question.
+    pub fn question(&self) -> &Question
+        ensures { result.now ≡ self.now.question }
+    {
+        &self.question
+    }
+
+    /// The answer, which is right.
+    pub fn answer(&self) -> &Answer
+        ensures same { result.now ≡ self.now.answer }
+        ensures right { IsRight self.now.question self.now.answer }
+    {
+        &self.answer
+    }
+
+    // The answer, out of the finding.
+    pub(crate) fn into_answer(self) -> Answer
+        ensures same { result ≡ self.answer }
+        ensures right { IsRight self.question result }
+    {
+        self.answer
+    }
+}
