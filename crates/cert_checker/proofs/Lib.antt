@@ -1,0 +1,10 @@
+pub mod SeenSteps
+pub mod WorkSteps
+pub mod ChainSteps
+pub mod LevelSteps
+pub mod ChainTests
+pub mod LesserLaws
+pub mod NamedLaws
+pub mod ReadyLaws
+pub mod AnswerLaws
+pub mod AcceptedLaws

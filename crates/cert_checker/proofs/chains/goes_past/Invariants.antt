@@ -1,0 +1,8 @@
+use Rattle.std.proofs.Common.{◌≡◌, drop}
+use Rattle.task_sheet.specs.Indexes.{indexes_of}
+use Rattle.cert_checker.specs.Work.{work_within}
+use Rattle.cert_checker.specs.Chains.{goes_past}
+use Rattle.cert_checker.proofs.chains.goes_past.Given as goal
+
+abbrev pub invariant-loop-number : goal.invariant-loop-number
+invariant-loop-number l = goes_past (work_within l.set (indexes_of l.above) l.once) l.limit l.last (drop l.number-index l.numbers) ≡ goes_past (work_within l.set (indexes_of l.above) l.once) l.limit l.first l.numbers

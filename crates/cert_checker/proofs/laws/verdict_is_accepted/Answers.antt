@@ -1,0 +1,5 @@
+use Rattle.cert_checker.proofs.AcceptedLaws.{verdict-accepted}
+use Rattle.cert_checker.proofs.laws.verdict_is_accepted.Goals as goal
+
+pub returns : goal.returns
+returns c = λ U v set h. verdict-accepted U set v h

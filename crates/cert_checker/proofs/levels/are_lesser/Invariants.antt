@@ -1,0 +1,9 @@
+use Rattle.std.proofs.Common.{◌≡◌, drop}
+use Rattle.task_sheet.specs.Indexes.{indexes_of}
+use Rattle.task_sheet.specs.Verdicts.{tasks_of}
+use Rattle.cert_checker.specs.Naming.{failures_of}
+use Rattle.cert_checker.specs.Faults.{are_lesser}
+use Rattle.cert_checker.proofs.levels.are_lesser.Given as goal
+
+abbrev pub invariant-loop-chain : goal.invariant-loop-chain
+invariant-loop-chain l = are_lesser (indexes_of l.left) l.from l.chosen (tasks_of (failures_of l.set (drop l.chain-index l.fails))) ≡ are_lesser (indexes_of l.left) 0 l.chosen (tasks_of (failures_of l.set l.fails))

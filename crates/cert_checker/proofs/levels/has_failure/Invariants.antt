@@ -1,0 +1,8 @@
+use Rattle.std.proofs.Common.{◌≡◌, drop}
+use Rattle.task_sheet.specs.Indexes.{among}
+use Rattle.task_sheet.specs.Verdicts.{tasks_of}
+use Rattle.cert_checker.specs.Naming.{failures_of}
+use Rattle.cert_checker.proofs.levels.has_failure.Given as goal
+
+abbrev pub invariant-loop-chain : goal.invariant-loop-chain
+invariant-loop-chain l = among (tasks_of (failures_of l.set (drop l.chain-index l.fails))) l.task ≡ among (tasks_of (failures_of l.set l.fails)) l.task

@@ -1,0 +1,11 @@
+use Rattle.std.proofs.Common.{◌≡◌, ◌≤◌, ◌*◌, if◌then◌else◌}
+use Rattle.task_sheet.specs.Sheet.{task_at}
+use Rattle.task_sheet.specs.Indexes.{indexes_of, sum_below}
+use Rattle.task_sheet.specs.Demand.{interference_of}
+use Rattle.cert_checker.proofs.work.taken_within.Given as goal
+
+abbrev pub invariant-loop-h : goal.invariant-loop-h
+invariant-loop-h l = record {
+  sum : l.taken ≡ sum_below l.h (λ h. if indexes_of l.above h then interference_of (task_at l.sheet-items h) l.time else 0);
+  small : l.taken ≤ l.h * 20000000;
+}

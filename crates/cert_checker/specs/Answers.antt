@@ -1,0 +1,36 @@
+-- What the checker answers.
+use Rattle.std.specs.Prelude.{◌≡◌, ℕ, List, [], None, Ok}
+use Rattle.task_sheet.specs.Sheet.{Task}
+use Rattle.task_sheet.specs.Verdicts.{VerdictData, Admitted, Infeasible, order_of}
+use Rattle.certificate.specs.Body.{Body, HasSpelling}
+use Rattle.certificate.specs.Body as says
+use Rattle.certificate.specs.Spelling.{spelling}
+use Rattle.certificate.specs.Lines.{certificate_in}
+use Rattle.certificate.specs.CertificateOf.{certificate_of}
+use Rattle.cert_checker.specs.Naming.{levels_of, IsReady}
+use Rattle.cert_checker.specs.Faults.{check_fault}
+use Rattle.cert_checker.specs.declared.checking.Checked.{Checked}
+use Rattle.cert_checker.specs.declared.checking.Checked.TheVariants.{Best, NoOrder}
+
+-- what a ready certificate shows
+abbrev pub kind_of : Body → Checked
+kind_of (says.Best levels) = Best
+kind_of (says.NoOrder members) = NoOrder
+
+-- the order that a certificate names, lowest first
+abbrev pub order_in : List Task → Body → List ℕ
+order_in U (says.Best levels) = order_of (levels_of U levels)
+order_in U (says.NoOrder members) = []
+
+-- what the certificate of a verdict shows
+abbrev pub kind_of_verdict : VerdictData → Checked
+kind_of_verdict (Admitted levels) = Best
+kind_of_verdict (Infeasible members) = NoOrder
+
+-- the certificate of a verdict can be written, reads back, is ready, has no fault and shows what the verdict says
+pub record IsAccepted (U : List Task) (v : VerdictData) : Type 0 where
+  pub spelled : HasSpelling (certificate_of U v)
+  pub read_back : certificate_in (spelling (certificate_of U v)) ≡ Ok (certificate_of U v)
+  pub ready : IsReady U (certificate_of U v)
+  pub faultless : check_fault U (certificate_of U v) ≡ None
+  pub kind : kind_of (certificate_of U v) ≡ kind_of_verdict v

@@ -1,0 +1,5 @@
+pub mod Naming
+pub mod Chains
+pub mod Faults
+pub mod Work
+pub mod Answers

@@ -1,0 +1,19 @@
+//! Laws of the checker. Each is the contract of a function that does nothing.
+ghost use Rattle.std.specs.Prelude.{◌≡◌, List, None, ◌↔◌};
+ghost use Rattle.task_sheet.specs.Sheet.{Task};
+ghost use Rattle.task_sheet.specs.TaskSet.{IsTaskSet};
+ghost use Rattle.task_sheet.specs.Verdicts.{VerdictData, IsVerdictOf};
+ghost use Rattle.certificate.specs.Body.{Body};
+ghost use Rattle.cert_checker.specs.Naming.{IsReady};
+ghost use Rattle.cert_checker.specs.Faults.{check_fault};
+ghost use Rattle.cert_checker.specs.Answers.{IsAccepted};
+
+/// A certificate has no fault exactly where it is ready.
+pub fn faultless_is_ready()
+    ensures { (U : List Task) (b : Body) → (check_fault U b ≡ None) ↔ IsReady U b }
+{}
+
+/// The certificate of each verdict is written, read back and accepted.
+pub fn verdict_is_accepted()
+    ensures { (U : List Task) (v : VerdictData) → IsTaskSet U → IsVerdictOf U v → IsAccepted U v }
+{}

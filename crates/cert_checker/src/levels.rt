@@ -1,0 +1,136 @@
+//! The checks of the levels.
+ghost use Rattle.std.specs.Prelude.{◌≡◌, ◌<◌, ◌≤◌, ◌&&◌, ◌+◌, nat_le, nat_lt, length, All, IfSome};
+ghost use Rattle.task_sheet.specs.Sheet.{task_at};
+ghost use Rattle.task_sheet.specs.Indexes.{indexes_of, without_index, among};
+ghost use Rattle.task_sheet.specs.Orders.{all_of};
+ghost use Rattle.task_sheet.specs.Verdicts.{tasks_of};
+ghost use Rattle.certificate.specs.Body.{Level};
+ghost use Rattle.cert_checker.specs.Naming.{task_of, failures_of};
+ghost use Rattle.cert_checker.specs.Faults.{unless, are_lesser, first_missing, missing_at, level_fault, levels_fault};
+
+use crate::chains::{bad_chain, does_pass};
+use crate::fault::CheckFault;
+use crate::naming::task_of;
+use certificate::{CertChain, CertLevel};
+use task_sheet::{Members, Name, TaskSet};
+
+/// What is asked of each level.
+#[derive(Clone, Copy)]
+pub enum Asked {
+    Tasks,
+    Pass,
+    Chains,
+    Missing,
+}
+
+// Whether the task is left, below the chosen one, and no less than the first that may come.
+fn is_lesser(left: Members, from: usize, chosen: usize, task: usize) -> bool
+    requires { chosen ≤ 32 }
+    ensures { result ≡ (nat_le from task && nat_lt task chosen && indexes_of left task) }
+{
+    from <= task && task < chosen && left.has(task)
+}
+
+// Whether the failures are of tasks that are left and lie below the chosen one, by rank.
+fn are_lesser(set: &TaskSet, left: Members, chosen: usize, fails: &[CertChain]) -> bool
+    requires { chosen ≤ 32 }
+    ensures { result ≡ are_lesser (indexes_of left) 0 chosen (tasks_of (failures_of set.now fails.now)) }
+{
+    let mut from = 0;
+    for chain in fails {
+        let task = task_of(set, chain.name);
+        if !is_lesser(left, from, chosen, task) {
+            return false;
+        }
+        from = task + 1;
+    }
+    true
+}
+
+// Whether some failure is of the task.
+fn has_failure(set: &TaskSet, fails: &[CertChain], task: usize) -> bool
+    ensures { result ≡ among (tasks_of (failures_of set.now fails.now)) task }
+{
+    for chain in fails {
+        if task_of(set, chain.name) == task {
+            return true;
+        }
+    }
+    false
+}
+
+// The least task that is left, lies below the chosen one and has no failure.
+fn first_missing(set: &TaskSet, left: Members, chosen: usize, fails: &[CertChain]) -> Option<usize>
+    requires { chosen ≤ 32 }
+    ensures is { result ≡ first_missing (indexes_of left) (tasks_of (failures_of set.now fails.now)) chosen }
+    ensures below { IfSome result (λ k. k < chosen) }
+{
+    for k in 0..chosen {
+        if left.has(k) && !has_failure(set, fails, k) {
+            return Some(k);
+        }
+    }
+    None
+}
+
+// The failure that is missing at a level.
+fn missing_at(set: &TaskSet, place: usize, missing: Option<usize>) -> Option<CheckFault>
+    requires { IfSome missing (λ k. k < length set.now) }
+    ensures { result ≡ missing_at set.now place missing }
+{
+    let task = missing?;
+    Some(CheckFault::MissingFail {
+        level: place,
+        name: set.sheets()[task].name(),
+    })
+}
+
+// The fault, where the test fails.
+fn unless(is_met: bool, fault: CheckFault) -> Option<CheckFault>
+    ensures { result ≡ unless is_met fault }
+{
+    if is_met { None } else { Some(fault) }
+}
+
+// The fault of a level's task, time and failures.
+fn level_fault(
+    set: &TaskSet,
+    asked: Asked,
+    level: usize,
+    left: Members,
+    name: Name,
+    time: u64,
+    fails: &[CertChain],
+) -> Option<CheckFault>
+    requires { task_of set.now name < length set.now }
+    ensures { let l : Level = record { name = name; time = time; fails = fails.now } in result ≡ level_fault set.now asked level (indexes_of left) l }
+{
+    let task = task_of(set, name);
+    match asked {
+        Asked::Tasks => unless(
+            are_lesser(set, left, task, fails),
+            CheckFault::WrongTasks { level },
+        ),
+        Asked::Pass => unless(
+            does_pass(set, left, task, time),
+            CheckFault::BadPass { level },
+        ),
+        Asked::Chains => bad_chain(set, level, left, fails),
+        Asked::Missing => missing_at(set, level, first_missing(set, left, task, fails)),
+    }
+}
+
+/// The first fault of the levels, which name tasks of the set.
+pub fn levels_fault(set: &TaskSet, asked: Asked, levels: &[CertLevel]) -> Option<CheckFault>
+    requires { All (λ (l : Level). task_of set.now l.name < length set.now) levels.now }
+    ensures { result ≡ levels_fault set.now asked 1 (all_of set.now) levels.now }
+{
+    let mut left = Members::all(set.len());
+    for (i, level) in levels.iter().enumerate() {
+        match level_fault(set, asked, i + 1, left, level.name, level.t, &level.fails) {
+            Some(fault) => return Some(fault),
+            None => left = left.without(task_of(set, level.name)),
+        }
+    }
+    None
+}

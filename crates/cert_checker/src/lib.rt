@@ -1,0 +1,13 @@
+//! Whether a certificate shows what it says, by arithmetic of its own.
+#![tactic(auto)]
+
+mod chains;
+mod checking;
+mod fault;
+pub mod laws;
+mod levels;
+mod naming;
+mod work;
+
+pub use checking::{Checked, check};
+pub use fault::CheckFault;

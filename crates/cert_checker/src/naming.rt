@@ -1,0 +1,82 @@
+//! The tasks that names are.
+ghost use Rattle.std.specs.Prelude.{◌≡◌, ◌<◌, ◌≤◌, ◌&&◌, not, nat_lt, true, false, length, MatchOption};
+ghost use Rattle.task_sheet.specs.Indexes.{indexes_of, no_index, with_index, among};
+ghost use Rattle.task_sheet.specs.Verdicts.{tasks_of, order_of};
+ghost use Rattle.cert_checker.specs.Naming.{task_of, failures_of, levels_of};
+ghost use Rattle.cert_checker.specs.Faults.{are_new, has_all};
+
+use certificate::{CertChain, CertLevel};
+use task_sheet::{Members, Name, TaskSet};
+
+/// The index of the task with a name; a name that no task has gets the number of the tasks.
+pub fn task_of(set: &TaskSet, name: Name) -> usize
+    ensures is { result ≡ task_of set.now name }
+    ensures few { length set.now ≤ 32 }
+{
+    set.find(name).unwrap_or(set.len())
+}
+
+// The tasks that were seen, and one more, if it is one and was not seen.
+fn see(set: &TaskSet, seen: Members, name: Name) -> Option<Members>
+    ensures { MatchOption result ((nat_lt (task_of set.now name) (length set.now) && not (indexes_of seen (task_of set.now name))) ≡ false)
+        (λ m. ((nat_lt (task_of set.now name) (length set.now) && not (indexes_of seen (task_of set.now name))) ≡ true) × (indexes_of m ≡ with_index (indexes_of seen) (task_of set.now name))) }
+{
+    let task = task_of(set, name);
+    if task < set.len() && !seen.has(task) {
+        Some(seen.with(task))
+    } else {
+        None
+    }
+}
+
+/// The tasks of chains, where each is one and none is named twice.
+pub fn tasks_of(set: &TaskSet, chains: &[CertChain]) -> Option<Members>
+    ensures { MatchOption result (are_new (length set.now) no_index (tasks_of (failures_of set.now chains.now)) ≡ false)
+        (λ m. (are_new (length set.now) no_index (tasks_of (failures_of set.now chains.now)) ≡ true) × (indexes_of m ≡ among (tasks_of (failures_of set.now chains.now)))) }
+{
+    let mut seen = Members::empty();
+    for chain in chains {
+        match see(set, seen, chain.name) {
+            Some(more) => seen = more,
+            None => return None,
+        }
+    }
+    Some(seen)
+}
+
+// The tasks of levels, where each is one and none is named twice.
+fn order_of(set: &TaskSet, levels: &[CertLevel]) -> Option<Members>
+    ensures { MatchOption result (are_new (length set.now) no_index (order_of (levels_of set.now levels.now)) ≡ false)
+        (λ m. (are_new (length set.now) no_index (order_of (levels_of set.now levels.now)) ≡ true) × (indexes_of m ≡ among (order_of (levels_of set.now levels.now)))) }
+{
+    let mut seen = Members::empty();
+    for level in levels {
+        match see(set, seen, level.name) {
+            Some(more) => seen = more,
+            None => return None,
+        }
+    }
+    Some(seen)
+}
+
+// Whether all tasks of the set were seen.
+fn has_all(set: &TaskSet, seen: Members) -> bool
+    ensures { result ≡ has_all (length set.now) (indexes_of seen) }
+{
+    for k in 0..set.len() {
+        if !seen.has(k) {
+            return false;
+        }
+    }
+    true
+}
+
+/// Whether the levels name each task of the set once, and nothing else.
+pub fn is_order(set: &TaskSet, levels: &[CertLevel]) -> bool
+    ensures { result ≡ (are_new (length set.now) no_index (order_of (levels_of set.now levels.now)) && has_all (length set.now) (among (order_of (levels_of set.now levels.now)))) }
+{
+    match order_of(set, levels) {
+        Some(seen) => has_all(set, seen),
+        None => false,
+    }
+}

@@ -1,0 +1,120 @@
+//! The work that falls due to a task within a window, in microseconds.
+ghost use Rattle.std.specs.Prelude.{◌≡◌, ◌+◌, ◌*◌, ◌<◌, ◌≤◌, ℕ, length};
+ghost use Rattle.task_sheet.specs.Sheet.{task_at};
+ghost use Rattle.task_sheet.specs.TaskSet.{IsTaskSet};
+ghost use Rattle.task_sheet.specs.Indexes.{indexes_of};
+ghost use Rattle.task_sheet.specs.Locks.{names_lock, uses, shares_lock, reaches};
+ghost use Rattle.task_sheet.specs.Demand.{releases_within, limit_of, longest_reached, blocking_of, interference_of};
+ghost use Rattle.cert_checker.specs.Work.{taken_within, work_within};
+
+use task_sheet::{Members, Name, Section, Sheet, TaskSet};
+
+/// The longest time that serves a task: its deadline.
+pub fn limit_of(sheet: &Sheet) -> u64
+    ensures { result ≡ limit_of sheet.now }
+{
+    sheet.deadline()
+}
+
+// How many jobs of a task are released within a window.
+fn releases_within(sheet: &Sheet, time: u64) -> u64
+    requires { 0 < sheet.now.period }
+    ensures { result ≡ releases_within sheet.now time }
+{
+    time.div_ceil(sheet.period())
+}
+
+// Whether a section names a lock.
+fn names(section: &Section, lock: Name) -> bool
+    ensures { result ≡ names_lock section.now lock }
+{
+    section.locks.iter().any(|name| *name == lock)
+}
+
+// Whether some section of a task names a lock.
+fn uses(sheet: &Sheet, lock: Name) -> bool
+    ensures { result ≡ uses sheet.now lock }
+{
+    sheet.sections().iter().any(|section| names(section, lock))
+}
+
+// Whether a task uses one of the section's locks.
+fn shares(sheet: &Sheet, section: &Section) -> bool
+    ensures { result ≡ shares_lock sheet.now section.now }
+{
+    section.locks.iter().any(|lock| uses(sheet, *lock))
+}
+
+// Whether one of the members uses one of the section's locks.
+fn reaches(set: &TaskSet, section: &Section, members: Members) -> bool
+    ensures { result ≡ reaches set.now (indexes_of members) section.now }
+{
+    for (k, sheet) in set.sheets().iter().enumerate() {
+        if members.has(k) && shares(sheet, section) {
+            return true;
+        }
+    }
+    false
+}
+
+// The longest section of a task that the members reach.
+fn longest(set: &TaskSet, sheet: &Sheet, members: Members) -> u64
+    ensures { result ≡ longest_reached set.now (indexes_of members) sheet.now }
+{
+    let mut longest = 0;
+    for section in sheet.sections() {
+        if reaches(set, section, members) {
+            longest = longest.max(section.len);
+        }
+    }
+    longest
+}
+
+// The longest section of a task that is neither `task` nor above it, which these reach (Sha, Rajkumar, Lehoczky 1990).
+fn blocking(set: &TaskSet, task: usize, above: Members) -> u64
+    requires { task < length set.now }
+    ensures { result ≡ blocking_of set.now task (indexes_of above) }
+{
+    let sheets = set.sheets();
+    let members = above.with(task);
+    let mut longest = 0;
+    for (k, sheet) in sheets.iter().enumerate() {
+        if !members.has(k) {
+            longest = longest.max(self::longest(set, sheet, members));
+        }
+    }
+    longest
+}
+
+/// What falls due once: the task's cost and its blocking.
+pub fn due_once(set: &TaskSet, task: usize, above: Members) -> u64
+    requires { task < length set.now }
+    ensures is { result ≡ (task_at set.now task).cost + blocking_of set.now task (indexes_of above) }
+    ensures fits { result ≤ 20000000 }
+{
+    set.sheets()[task].cost() + blocking(set, task, above)
+}
+
+// What the tasks above take within a window (Audsley et al. 1993).
+fn taken_within(set: &TaskSet, above: Members, time: u64) -> u64
+    requires { time ≤ 10000000 }
+    ensures is { result ≡ taken_within set.now (indexes_of above) time }
+    ensures fits { result ≤ 640000000 }
+{
+    let mut taken = 0;
+    for (h, sheet) in set.sheets().iter().enumerate() {
+        if above.has(h) {
+            taken += releases_within(sheet, time) * sheet.cost();
+        }
+    }
+    taken
+}
+
+/// What falls due within a window.
+pub fn work_within(set: &TaskSet, above: Members, once: u64, time: u64) -> u64
+    requires once { once ≤ 20000000 }
+    requires time { time ≤ 10000000 }
+    ensures { result ≡ work_within set.now (indexes_of above) once time }
+{
+    once + taken_within(set, above, time)
+}

@@ -1,0 +1,16 @@
+pub mod Cuts
+pub mod Numbers
+pub mod Lists
+pub mod Chains
+pub mod WordLaws
+pub mod ChainLaws
+pub mod Loops
+pub mod LevelLoops
+pub mod LevelSteps
+pub mod LineLaws
+pub mod MemberLaws
+pub mod LevelLaws
+pub mod ReadingLaws
+pub mod DigitSteps
+pub mod Sent
+pub mod VerdictSpelling

@@ -1,0 +1,119 @@
+-- Lines: what is read, and what is read of what is spelled.
+use Rattle.std.proofs.Common.{◌≡◌, ℕ, ◌+◌, ◌≤◌, ◌==◌, Bool, true, false, cond, List, [], ◌∷◌, ◌++◌, length, All, Option, Some, None, Result, Ok, Err, refl, sym, ap, ◌∙◌, subst, append_assoc, arith}
+use Rattle.std.specs.Prelude.{bytes_eq, codes, nat_le}
+use Rattle.std.specs.List.{join_with_byte}
+use Rattle.std.specs.Fmt.{decimal}
+use Rattle.std.proofs.lemmas.Bool.{le-leb, leb-true, eqb-true}
+use Rattle.std.proofs.lemmas.Slice.Eq.{bytes_eq-Decides}
+use Rattle.std.proofs.lemmas.List.{nil_from_length}
+use Rattle.std.proofs.lemmas.List.Elements.{All-from_recursion}
+use Rattle.std.proofs.lemmas.List.Splits.{slice_split_at, slice_split_none, join_with_byte-slice_split}
+use Rattle.certificate.specs.Body.{Chain}
+use Rattle.certificate.specs.Spelling.{chain_line}
+use Rattle.certificate.specs.Words.{words, parts, number_in}
+use Rattle.certificate.specs.Lines.{◌>>=◌, At, line_from, wanted, count_in, few, at_most_32, end_at, is_over}
+use Rattle.certificate.specs.declared.fault.CertFault.{CertFault}
+use Rattle.certificate.specs.declared.fault.CertFault.TheVariants.{BadHead, BadLine, Trailing}
+use Rattle.certificate.proofs.WordLaws.{guard_some, number_takes, number_again}
+use Rattle.certificate.proofs.Loops.{parts_some, line_is, over_is}
+use Rattle.certificate.proofs.ChainLaws.{chain_text, decimal_lacks}
+
+-- the bytes that are left
+abbrev pub left : At → List ℕ
+left a = join_with_byte 10 a.parts
+
+pub bind_ok : {A B : Type 0} (r : Result A CertFault) (f : A → Result B CertFault) (y : B) → (r >>= f) ≡ Ok y → (x : A) × (r ≡ Ok x) × (f x ≡ Ok y)
+bind_ok (Ok x) f y e = (x, refl, e)
+bind_ok (Err d) f y e = absurd cc
+
+abbrev done : {A : Type 0} → A → Result A CertFault
+done x = Ok x
+
+pub ok_is : {A : Type 0} (x y : A) → done x ≡ done y → x ≡ y
+ok_is x y e = cc
+
+pub wanted_ok : {A : Type 0} (line : ℕ) (o : Option A) (y : A) → wanted line o ≡ Ok y → o ≡ Some y
+wanted_ok line None y e = absurd cc
+wanted_ok line (Some x) y e = cc
+
+-- a line that is read, its end, and what is left
+pub line_takes : (xs : List (List ℕ)) (n : ℕ) (x : List ℕ × At) → line_from xs n ≡ Ok x → join_with_byte 10 xs ≡ x.0 ++ 10 ∷ left x.1
+unfolding line_from
+line_takes [] n x e = absurd cc
+line_takes (l ∷ []) n x e = absurd cc
+line_takes (l ∷ m ∷ ms) n x e =
+    let made : List ℕ × At = (l, record { parts = m ∷ ms; line = n + 1 }) in
+    subst (λ (y : List ℕ × At). l ++ 10 ∷ join_with_byte 10 (m ∷ ms) ≡ y.0 ++ 10 ∷ left y.1) (ok_is made x e) refl
+
+pub line_end : (word : List ℕ) (c : Chain) (rest : List ℕ) → chain_text word c ++ 10 ∷ rest ≡ chain_line word c ++ rest
+line_end word c rest = simp append_assoc
+
+pub line_again : (l rest : List ℕ) (n : ℕ) → All (λ x. (x == 10) ≡ false) l → line_from (parts (l ++ 10 ∷ rest)) n ≡ Ok (l, record { parts = parts rest; line = n + 1 })
+line_again l rest n plain = rw (slice_split_at (λ b. b == 10) l 10 rest plain refl) (line_is l (parts rest) n (parts_some rest))
+
+-- ---- the line with the count
+some_number : (x y : ℕ) → Some x ≡ Some y → x ≡ y
+some_number x y e = cc
+
+few_takes : (o : Option ℕ) (n : ℕ) → at_most_32 o ≡ Some n → (o ≡ Some n) × (n ≤ 32)
+few_takes None n e = absurd cc
+few_takes (Some m) n e =
+    let g = guard_some (nat_le m 32) m n e in
+    (ap (λ (x : ℕ). Some x) g.1, omega (arith, leb-true m 32 g.0, g.1))
+
+guard_number : (b : Bool) (x : Option ℕ) (y : ℕ) → cond b x None ≡ Some y → (b ≡ true) × (x ≡ Some y)
+guard_number true x y e = (refl, e)
+guard_number false x y e = absurd cc
+
+take_count : (word : List ℕ) (ws : List (List ℕ)) (n : ℕ) → count_in word ws ≡ Some n → (join_with_byte 32 ws ≡ word ++ 32 ∷ decimal n) × (n ≤ 32)
+take_count word [] n e = absurd cc
+take_count word (w ∷ []) n e = absurd cc
+take_count word (w ∷ m ∷ x ∷ xs) n e = absurd cc
+take_count word (w ∷ m ∷ []) n e =
+    let g = guard_number (bytes_eq w word) (few m) n e in
+    let f = few_takes (number_in m) n g.1 in
+    let t = number_takes m n f.0 in
+    (ap (λ (y : List ℕ). y ++ 32 ∷ m) ((bytes_eq-Decides w word).0 g.0) ∙ ap (λ (y : List ℕ). word ++ 32 ∷ y) t.0, f.1)
+
+pub count_takes : (word line : List ℕ) (n : ℕ) → count_in word (words line) ≡ Some n → (line ≡ word ++ 32 ∷ decimal n) × (n ≤ 32)
+count_takes word line n e =
+    let t = take_count word (words line) n e in
+    (sym (join_with_byte-slice_split 32 line) ∙ t.0, t.1)
+
+pub count_again : (word : List ℕ) (n : ℕ) → All (λ x. (x == 32) ≡ false) word → n ≤ 32 → count_in word (words (word ++ 32 ∷ decimal n)) ≡ Some n
+count_again word n plain small =
+    let two : words (word ++ 32 ∷ decimal n) ≡ word ∷ decimal n ∷ [] = slice_split_at (λ b. b == 32) word 32 (decimal n) plain refl ∙ ap (λ (y : List (List ℕ)). word ∷ y) (slice_split_none (λ b. b == 32) (decimal n) (decimal_lacks 32 n (omega arith) (omega arith))) in
+    ap (count_in word) two ∙ rw ((bytes_eq-Decides word word).1 refl, number_again n (omega arith), le-leb n 32 small) refl
+
+-- ---- the end
+guard_end : (b c : Bool) (x y : Unit {0}) (line : ℕ) → cond b (cond c (Ok x) (Err Trailing)) (Err (BadLine line)) ≡ Ok y → (b ≡ true) × (c ≡ true)
+guard_end true true x y line e = (refl, refl)
+guard_end true false x y line e = absurd cc
+guard_end false c x y line e = absurd cc
+
+pub end_takes : (a : At) → end_at a ≡ Ok tt → left a ≡ codes "end\n"
+unfolding end_at
+end_takes a e =
+    let l = bind_ok (line_from a.parts a.line) (λ l. cond (bytes_eq l.0 (codes "end")) (cond (is_over l.1.parts) (Ok tt) (Err Trailing)) (Err (BadLine a.line))) tt e in
+    let g = guard_end (bytes_eq l.0.0 (codes "end")) (is_over l.0.1.parts) tt tt a.line l.2 in
+    let over : left l.0.1 ≡ [] = nil_from_length (left l.0.1) (eqb-true (length (left l.0.1)) 0 g.1) in
+    line_takes a.parts a.line l.0 l.1 ∙ ap (λ (y : List ℕ). y ++ 10 ∷ left l.0.1) ((bytes_eq-Decides l.0.0 (codes "end")).0 g.0) ∙ ap (λ (y : List ℕ). codes "end" ++ 10 ∷ y) over
+
+-- what is wanted, where nothing follows
+abbrev pub closed : {A : Type 0} → Bool → A → Result A CertFault
+closed over x = cond over (Ok x) (Err Trailing)
+
+pub end_again : (rest : List ℕ) (n : ℕ) → end_at (record { parts = parts (codes "end\n" ++ rest); line = n }) ≡ closed (length rest == 0) tt
+unfolding end_at
+end_again rest n =
+    let plain : All (λ x. (x == 10) ≡ false) (codes "end") = All-from_recursion (λ x. (x == 10) ≡ false) (codes "end") (refl, (refl, (refl, tt))) in
+    rw (line_again (codes "end") rest n plain, over_is rest) refl
+
+pub closed_bind : {A B : Type 0} (over : Bool) (x : A) (y : B) → (closed over x >>= λ z. Ok y) ≡ closed over y
+closed_bind true x y = refl
+closed_bind false x y = refl
+
+-- ---- the head
+pub guard_head : {A : Type 0} (b : Bool) (r : Result A CertFault) (y : A) → cond b r (Err BadHead) ≡ Ok y → (b ≡ true) × (r ≡ Ok y)
+guard_head true r y e = (refl, e)
+guard_head false r y e = absurd cc

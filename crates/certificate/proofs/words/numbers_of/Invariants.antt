@@ -1,0 +1,9 @@
+use Rattle.std.proofs.Common.{◌≡◌, length}
+use Rattle.certificate.specs.Words.{words, numbers_in, before}
+use Rattle.certificate.proofs.words.numbers_of.Given as goal
+
+abbrev pub invariant-loop-word : goal.invariant-loop-word
+invariant-loop-word l = before l.numbers.items (numbers_in (words l.rest)) ≡ numbers_in (words l.text)
+
+abbrev pub decreases-loop-word : goal.decreases-loop-word
+decreases-loop-word l = length l.rest

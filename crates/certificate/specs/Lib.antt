@@ -1,0 +1,9 @@
+pub mod Body
+pub mod Spelling
+pub mod Words
+pub mod Lines
+pub mod BodyOf
+pub mod Sending
+pub mod Fields
+pub mod CertificateOf
+pub mod Watching

@@ -1,0 +1,160 @@
+-- Reading line after line.
+use Rattle.std.specs.Prelude.{◌≡◌, ℕ, zero, suc, ◌+◌, List, [], ◌∷◌, length, Bool, ◌&&◌, ◌==◌, nat_le, bytes_eq, Option, Some, None, Result, Ok, Err, if◌then◌else◌, codes}
+use Rattle.std.specs.List.{join_with_byte}
+use Rattle.task_sheet.specs.Name.{is_name}
+use Rattle.certificate.specs.Body.{Chain, Level, Body, Best, NoOrder}
+use Rattle.certificate.specs.Words.{words, parts, number_in, chain_in}
+use Rattle.certificate.specs.declared.fault.CertFault.{CertFault}
+use Rattle.certificate.specs.declared.fault.CertFault.TheVariants.{BadHead, BadLine, Truncated, Trailing, OutOfMemory}
+use Rattle.certificate.specs.declared.place.Place.{Place}
+
+-- the parts that are left, of which the last is no complete line, and the number of the next line
+pub record At : Type 0 where
+  pub parts : List (List ℕ)
+  pub line : ℕ
+
+-- what is left to read, and the number of the last line
+abbrev pub at_place : Place → At
+at_place p = record { parts = parts p.rest.now; line = p.line }
+
+infixl 10 ◌>>=◌
+-- goes on where there is no fault
+abbrev pub ◌>>=◌ : {A B : Type 0} → Result A CertFault → (A → Result B CertFault) → Result B CertFault
+(Ok x) >>= f = f x
+(Err e) >>= f = Err e
+
+-- what a function returned, seen by view, is what reading gives, unless memory ran out
+abbrev pub Fails : {Y : Type 0} → CertFault → Result Y CertFault → Type 0
+Fails OutOfMemory read = Unit {0}
+Fails e read = read ≡ Err e
+
+-- a result is that of the definition, or want of memory
+abbrev pub Gives : {X Y : Type 0} → (X → Y) → Result X CertFault → Result Y CertFault → Type 0
+Gives view (Ok x) read = read ≡ Ok (view x)
+Gives view (Err e) read = Fails e read
+
+-- what a line gives, where it is one that is wanted
+abbrev pub wanted : {A : Type 0} → ℕ → Option A → Result A CertFault
+wanted line None = Err (BadLine line)
+wanted line (Some x) = Ok x
+
+-- the next of some parts as a line, if it is complete
+unfoldable pub line_from : List (List ℕ) → ℕ → Result (List ℕ × At) CertFault
+line_from [] line = Err Truncated
+line_from (l ∷ []) line = Err Truncated
+line_from (l ∷ x ∷ xs) line = Ok (l, record { parts = x ∷ xs; line = line + 1 })
+
+-- the next line
+abbrev pub line_at : At → Result (List ℕ × At) CertFault
+line_at a = line_from a.parts a.line
+
+-- the next line as a member
+unfoldable pub member_at : At → Result (Chain × At) CertFault
+member_at a = do
+  x ← line_at a
+  c ← wanted a.line (chain_in (codes "member") (words x.0))
+  Ok (c, x.1)
+
+-- the next n lines as members
+unfoldable pub members_at : ℕ → At → Result (List Chain × At) CertFault
+members_at zero a = Ok ([], a)
+members_at (suc n) a = do
+  first ← member_at a
+  others ← members_at n first.1
+  Ok (first.0 ∷ others.0, others.1)
+
+-- no byte is left
+abbrev pub is_over : List (List ℕ) → Bool
+is_over xs = length (join_with_byte 10 xs) == 0
+
+-- the last line, and nothing behind it
+unfoldable pub end_at : At → Result (Unit {0}) CertFault
+end_at a = do
+  x ← line_at a
+  if bytes_eq x.0 (codes "end") then (if is_over x.1.parts then Ok tt else Err Trailing) else Err (BadLine a.line)
+
+-- the number, if it is at most 32
+abbrev pub at_most_32 : Option ℕ → Option ℕ
+at_most_32 None = None
+at_most_32 (Some n) = if nat_le n 32 then Some n else None
+
+-- a number up to 32
+abbrev pub few : List ℕ → Option ℕ
+few text = at_most_32 (number_in text)
+
+-- how many members there are
+abbrev pub count_in : List ℕ → List (List ℕ) → Option ℕ
+count_in word [] = None
+count_in word (w ∷ []) = None
+count_in word (w ∷ n ∷ []) = if bytes_eq w word then few n else None
+count_in word (w ∷ n ∷ x ∷ xs) = None
+
+-- ---- levels
+abbrev pub level_of : ℕ → List ℕ → Option ℕ → Option ℕ → Option (List ℕ × ℕ)
+level_of k name None time = None
+level_of k name (Some m) None = None
+level_of k name (Some m) (Some n) = if (m == k) && is_name name then Some (name, n) else None
+
+-- the word, the level's number, a name, and a number
+abbrev pub level_in : ℕ → List (List ℕ) → Option (List ℕ × ℕ)
+level_in k [] = None
+level_in k (w ∷ []) = None
+level_in k (w ∷ m ∷ []) = None
+level_in k (w ∷ m ∷ name ∷ []) = None
+level_in k (w ∷ m ∷ name ∷ n ∷ []) = if bytes_eq w (codes "level") then level_of k name (number_in m) (number_in n) else None
+level_in k (w ∷ m ∷ name ∷ n ∷ x ∷ xs) = None
+
+-- one failure more, or the end of them
+abbrev pub fails_case : Option Chain → At → List Chain × At → List Chain × At
+fails_case None here rest = ([], here)
+fails_case (Some c) here rest = (c ∷ rest.0, rest.1)
+
+-- the lines of failures at the front, and what follows them
+unfoldable pub fails_from : List (List ℕ) → ℕ → List Chain × At
+fails_from [] line = ([], record { parts = []; line = line })
+fails_from (l ∷ []) line = ([], record { parts = l ∷ []; line = line })
+fails_from (l ∷ x ∷ xs) line = fails_case (chain_in (codes "fails") (words l)) (record { parts = l ∷ x ∷ xs; line = line }) (fails_from (x ∷ xs) (line + 1))
+
+-- the next lines as level k with its failures
+unfoldable pub level_at : ℕ → At → Result (Level × At) CertFault
+level_at k a = do
+  x ← line_at a
+  h ← wanted a.line (level_in k (words x.0))
+  Ok (record { name = h.0; time = h.1; fails = (fails_from x.1.parts x.1.line).0 }, (fails_from x.1.parts x.1.line).1)
+
+-- n levels, of which the first has the number k
+unfoldable pub levels_at : ℕ → ℕ → At → Result (List Level × At) CertFault
+levels_at zero k a = Ok ([], a)
+levels_at (suc n) k a = do
+  first ← level_at k a
+  others ← levels_at n (k + 1) first.1
+  Ok (first.0 ∷ others.0, others.1)
+
+-- the next lines as n levels
+unfoldable pub best_of : ℕ → At → Result Body CertFault
+best_of n a = do
+  ls ← levels_at n 1 a
+  end ← end_at ls.1
+  Ok (Best ls.0)
+
+-- the next lines as n members
+unfoldable pub members_of : ℕ → At → Result Body CertFault
+members_of n a = do
+  ms ← members_at n a
+  end ← end_at ms.1
+  Ok (NoOrder ms.0)
+
+-- the rest as levels or as members, by the count that was read
+abbrev pub body_case : Option ℕ → Option ℕ → At → Result Body CertFault
+body_case (Some n) other a = best_of n a
+body_case None (Some n) a = members_of n a
+body_case None None a = Err (BadLine 2)
+
+-- the certificate that the bytes are, or the first fault
+unfoldable pub certificate_in : List ℕ → Result Body CertFault
+certificate_in bytes = do
+  head ← line_at (record { parts = parts bytes; line = 1 })
+  if bytes_eq head.0 (codes "desk-certificate 1") then (do
+    second ← line_at head.1
+    body_case (count_in (codes "best") (words second.0)) (count_in (codes "none") (words second.0)) second.1
+    ) else Err BadHead

@@ -1,0 +1,79 @@
+//! Certificates.
+ghost use Rattle.std.specs.Prelude.{◌≡◌, ◌++◌, true, Ok, IfOk, OnOk, OnErr};
+ghost use Rattle.std.specs.Io.KnownBytes.{Appends};
+ghost use Rattle.certificate.specs.Body.{Body, HasSpelling};
+ghost use Rattle.certificate.specs.BodyOf.{body_of};
+ghost use Rattle.certificate.specs.CertificateOf.{certificate_of};
+ghost use Rattle.assignment.specs.Verdict.{set_of, verdict_of};
+ghost use Rattle.certificate.specs.Spelling.{spelling};
+ghost use Rattle.certificate.specs.Lines.{Gives, certificate_in};
+
+use crate::body::{CertBody, certificate_in};
+use crate::fault::CertFault;
+use crate::held::{Held, send};
+use crate::naming::body_of;
+use crate::watched::{Watched, WriteFailed};
+use crate::writing::put_body;
+use assignment::Verdict;
+use std::alloc::{AllocError, Global};
+use std::io::Write;
+use std::marker::Model;
+
+/// Reasons for a verdict, which anybody can check against the set: `of` and `read` alone make them.
+#[derive(Drop)]
+pub struct Certificate {
+    body: CertBody,
+}
+
+impl Model for Certificate {
+    ghost use Rattle.certificate.specs.Body.{Body};
+
+    ghost Value = { Body };
+
+    ghost use Rattle.certificate.specs.Fields.{body_in, IsKept};
+
+    ghost view = { body_in };
+
+    ghost invariant = { IsKept };
+}
+
+impl Certificate {
+    /// The certificate of a verdict: its numbers, with the names of the tasks.
+    pub fn of(alloc: Global, verdict: &Verdict) -> Result<Certificate, AllocError>
+        ensures { IfOk result (λ c. c ≡ certificate_of (set_of verdict.now) (verdict_of verdict.now)) }
+    {
+        let body = body_of(alloc, verdict)?;
+        Ok(Certificate { body })
+    }
+
+    /// What the certificate says.
+    pub fn body(&self) -> &CertBody
+        ensures same { body_of result.now ≡ self.now }
+        ensures spelled { HasSpelling self.now }
+    {
+        &self.body
+    }
+
+    /// Writes the spelling, through a buffer of 4096 bytes, and takes no memory.
+    pub fn write<W: Write + Drop>(&self, out: &mut Watched<W>) -> Result<(), WriteFailed>
+        ensures written { OnOk result (Appends (W.contents out.old.inner) (W.contents out.new.inner) (spelling self.now)) }
+        ensures ok { OnOk result (out.new.has_failed ≡ out.old.has_failed) }
+        ensures failed { OnErr result (out.new.has_failed ≡ true) }
+    {
+        let mut held = Held::new();
+        put_body(&self.body, &mut held, out)?;
+        send(&mut held, out)
+    }
+}
+
+/// Reads a certificate. Lines end with LF, the last one too; a fault is that of the first line that shows one.
+pub fn read(alloc: Global, bytes: &[u8]) -> Result<Certificate, CertFault>
+    ensures found { IfOk result (λ c. (bytes.now ≡ spelling c) × HasSpelling c) }
+    ensures only { (c : Body) → HasSpelling c → bytes.now ≡ spelling c → Gives (λ x. x) result (Ok c) }
+    ensures exact { Gives (λ c. c) result (certificate_in bytes.now) }
+{
+    match certificate_in(alloc, bytes) {
+        Ok(body) => Ok(Certificate { body }),
+        Err(fault) => Err(fault),
+    }
+}

@@ -1,0 +1,85 @@
+//! Reading levels.
+ghost use Rattle.std.specs.Prelude.{◌≡◌, ◌+◌, ◌<◌, ◌≤◌, ◌^◌, ℕ, Ok, IfOk, length};
+ghost use Rattle.certificate.specs.Body.{Chain, Level, Body};
+ghost use Rattle.certificate.specs.Words.{words, parts};
+ghost use Rattle.certificate.specs.Lines.{Gives, at_place, level_in, level_of, fails_from, level_at, levels_at};
+
+use crate::fault::CertFault;
+use crate::lines::{is_word, line_of, next_line};
+use crate::place::Place;
+use crate::value::{CertChain, CertLevel};
+use crate::words::{chain_of, cut, number_of};
+use std::alloc::{AllocError, Global};
+use task_sheet::Name;
+
+fn fails<'a>(alloc: Global, at: Place<'a>) -> Result<(Vec<CertChain>, Place<'a>), AllocError>
+    ensures { IfOk result (λ x. (x.0.items, at_place x.1) ≡ fails_from (at_place at.entry).parts at.entry.line) }
+{
+    let mut fails = Vec::new(alloc);
+    let mut at = at;
+    loop {
+        let Some((line, after)) = line_of(at) else {
+            return Ok((fails, at));
+        };
+        let Some(chain) = chain_of(alloc, b"fails", line)? else {
+            return Ok((fails, at));
+        };
+        fails.push(chain)?;
+        at = after;
+    }
+}
+
+fn level_of(k: u64, name: &[u8], number: Option<u64>, time: Option<u64>) -> Option<(Name, u64)>
+    ensures { result ≡ level_of k name.now number time }
+{
+    match (number, time) {
+        (Some(number), Some(time)) if number == k => match Name::read(name) {
+            Ok(name) => Some((name, time)),
+            Err(_) => None,
+        },
+        _ => None,
+    }
+}
+
+fn level_in(k: u64, line: &[u8]) -> Option<(Name, u64)>
+    ensures { result ≡ level_in k (words line.now) }
+{
+    let (word, rest) = cut(line, b' ')?;
+    let (number, rest) = cut(rest, b' ')?;
+    let (name, rest) = cut(rest, b' ')?;
+    match cut(rest, b' ') {
+        Some((_time, _more)) => None,
+        None if is_word(word, b"level") => level_of(k, name, number_of(number), number_of(rest)),
+        None => None,
+    }
+}
+
+#[tactic(auto, unfolding(crate::specs::Lines::level_at))]
+fn level<'a>(alloc: Global, k: u64, at: Place<'a>) -> Result<(CertLevel, Place<'a>), CertFault>
+    ensures { Gives (λ x. (x.0, at_place x.1)) result (level_at k (at_place at.entry)) }
+{
+    let (line, after) = next_line(at)?;
+    let Some((name, t)) = level_in(k, line) else {
+        return Err(CertFault::BadLine { line: at.line });
+    };
+    let (fails, after) = fails(alloc, after)?;
+    Ok((CertLevel { name, t, fails }, after))
+}
+
+pub fn levels<'a>(
+    alloc: Global,
+    count: u64,
+    at: Place<'a>,
+) -> Result<(Vec<CertLevel>, Place<'a>), CertFault>
+    requires { count ≤ 32 }
+    ensures { Gives (λ x. (x.0.items, at_place x.1)) result (levels_at count 1 (at_place at.entry)) }
+{
+    let mut levels = Vec::new(alloc);
+    let mut at = at;
+    for i in 0..count {
+        let (level, after) = level(alloc, i + 1, at)?;
+        levels.push(level)?;
+        at = after;
+    }
+    Ok((levels, at))
+}

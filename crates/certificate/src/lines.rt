@@ -1,0 +1,113 @@
+//! Reading line after line.
+ghost use Rattle.std.specs.Prelude.{◌≡◌, ◌+◌, ◌<◌, ◌≤◌, ℕ, Ok, IfOk, IfSome, MatchOption, ◌∷◌, [], length, bytes_eq};
+ghost use Rattle.certificate.specs.Body.{Chain};
+ghost use Rattle.certificate.specs.Words.{words, parts};
+ghost use Rattle.certificate.specs.Lines.{Gives, at_place, line_at, member_at, members_at, end_at, count_in, few};
+
+use crate::fault::CertFault;
+use crate::place::Place;
+use crate::value::CertChain;
+use crate::words::{chain_of, cut, number_of};
+use std::alloc::Global;
+
+/// The next complete line, and the place behind it.
+pub fn line_of<'a>(at: Place<'a>) -> Option<(&'a [u8], Place<'a>)>
+    ensures line { MatchOption result (parts at.entry.rest.now ≡ at.entry.rest.now ∷ []) (λ x. (parts at.entry.rest.now ≡ x.0.now ∷ parts x.1.rest.now) × (x.1.line ≡ at.entry.line + 1)) }
+    ensures less { IfSome result (λ x. length x.1.rest.now < length at.entry.rest.now) }
+{
+    let (line, rest) = cut(at.rest, b'\n')?;
+    Some((
+        line,
+        Place {
+            rest,
+            line: at.line + 1,
+        },
+    ))
+}
+
+pub fn next_line<'a>(at: Place<'a>) -> Result<(&'a [u8], Place<'a>), CertFault>
+    ensures line { Gives (λ x. (x.0.now, at_place x.1)) result (line_at (at_place at.entry)) }
+    ensures less { IfOk result (λ x. length x.1.rest.now < length at.entry.rest.now) }
+{
+    match cut(at.rest, b'\n') {
+        None => Err(CertFault::Truncated),
+        Some((line, rest)) => Ok((
+            line,
+            Place {
+                rest,
+                line: at.line + 1,
+            },
+        )),
+    }
+}
+
+#[tactic(auto, unfolding(crate::specs::Lines::member_at))]
+fn member<'a>(alloc: Global, at: Place<'a>) -> Result<(CertChain, Place<'a>), CertFault>
+    ensures { Gives (λ x. (x.0, at_place x.1)) result (member_at (at_place at.entry)) }
+{
+    let (line, after) = next_line(at)?;
+    match chain_of(alloc, b"member", line)? {
+        None => Err(CertFault::BadLine { line: at.line }),
+        Some(chain) => Ok((chain, after)),
+    }
+}
+
+pub fn members<'a>(
+    alloc: Global,
+    count: u64,
+    at: Place<'a>,
+) -> Result<(Vec<CertChain>, Place<'a>), CertFault>
+    ensures { Gives (λ x. (x.0.items, at_place x.1)) result (members_at count (at_place at.entry)) }
+{
+    let mut members = Vec::new(alloc);
+    let mut at = at;
+    for _ in 0..count {
+        let (chain, after) = member(alloc, at)?;
+        members.push(chain)?;
+        at = after;
+    }
+    Ok((members, at))
+}
+
+#[tactic(auto, using(crate::proofs::Loops::over_is), unfolding(crate::specs::Lines::end_at))]
+pub fn end<'a>(at: Place<'a>) -> Result<(), CertFault>
+    ensures { Gives (λ x. x) result (end_at (at_place at.entry)) }
+{
+    let (line, after) = next_line(at)?;
+    if line != b"end".as_slice() {
+        return Err(CertFault::BadLine { line: at.line });
+    }
+    if !after.rest.is_empty() {
+        return Err(CertFault::Trailing);
+    }
+    Ok(())
+}
+
+pub fn is_word(text: &[u8], word: &[u8]) -> bool
+    ensures { result ≡ bytes_eq text.now word.now }
+{
+    text == word
+}
+
+fn few(text: &[u8]) -> Option<u64>
+    ensures is { result ≡ few text.now }
+    ensures small { IfSome result (λ n. n ≤ 32) }
+{
+    match number_of(text) {
+        Some(number) if number <= 32 => Some(number),
+        _ => None,
+    }
+}
+
+/// The number behind a word.
+pub fn count_of(word: &[u8], line: &[u8]) -> Option<u64>
+    ensures is { result ≡ count_in word.now (words line.now) }
+    ensures small { IfSome result (λ n. n ≤ 32) }
+{
+    let (first, rest) = cut(line, b' ')?;
+    match cut(rest, b' ') {
+        Some((_number, _more)) => None,
+        None if is_word(first, word) => few(rest),
+        None => None,
+    }
+}
