@@ -1,0 +1,296 @@
+-- The first refusal of a release list, and what holds where there is none.
+use Rattle.std.proofs.Common.{ℕ, zero, suc, ◌+◌, ◌-◌, ◌<◌, ◌≤◌, ◌≡◌, ◌⊎◌, inl, inr, refl, sym, ap, ap₂, ◌∙◌, subst, arith, List, [], ◌∷◌, ◌++◌, length, get_or, map, take, set, replicate, get_or-set_same, get_or-set_other, length-set, Option, Some, None, Bool, true, false, ◌&&◌, ◌||◌, ◌==◌, nat_lt, is_none, unwrap_or, position, slice_index_or}
+use Rattle.std.specs.Option.{option_or, option_map}
+use Rattle.std.proofs.lemmas.Bool.{cases_eq, cases_lt, cases_Bool, true≢false, lt-ltb, le-ltb, eq-eqb, ne_eqb}
+use Rattle.std.proofs.lemmas.List.{map_more, get_or_default, get_or-replicate, length-replicate, get_or_past}
+use Rattle.std.proofs.lemmas.List.Quantifiers.{position-Some}
+use Rattle.task_sheet.specs.Sheet.{Task, no_task, same_bytes, task_at}
+use Rattle.task_sheet.specs.Indexes.{some_below}
+use Rattle.ceiling_kernel.specs.declared.trace.Release.{Release}
+use Rattle.ceiling_kernel.specs.declared.trace.RunFault.{RunFault}
+use Rattle.ceiling_kernel.specs.declared.trace.RunFault.TheVariants as fault
+use Rattle.ceiling_kernel.specs.Tick.{Node, job_at}
+use Rattle.ceiling_kernel.specs.Waits.{IsNode}
+use Rattle.ceiling_kernel.specs.Releases.{task_named, task_number, job_of, jobs_of, first_or, first_where, no_release, release_at, is_unsorted, is_unknown, is_soon_job, is_too_soon, is_past, refuse_if, refusal_of}
+use Rattle.ceiling_kernel.specs.Runs.{IsRunnable, soon_after}
+use Rattle.ceiling_kernel.proofs.BoundLaws.{some_below-at}
+use Rattle.ceiling_kernel.proofs.RunLaws.{job_is}
+
+-- ---- the first that passes a test
+first_step : (test : ℕ → Bool) (n : ℕ) → first_where test (suc n) ≡ first_or (first_where test n) (test n) n
+unfolding first_where
+first_step test n = refl
+
+pub first_start : (test : ℕ → Bool) → first_where test 0 ≡ None
+unfolding first_where
+first_start test = refl
+
+first_or-none : (o : Option ℕ) (b : Bool) (n : ℕ) → first_or o b n ≡ None → (o ≡ None) × (b ≡ false)
+first_or-none (Some k) b n e = absurd (cc)
+first_or-none None true n e = absurd (cc)
+first_or-none None false n e = (refl, refl)
+
+pub first_none : (test : ℕ → Bool) (n : ℕ) → first_where test n ≡ None → (k : ℕ) → k < n → test k ≡ false
+first_none test zero e k lt = absurd (omega arith)
+first_none test (suc n) e k lt =
+    let p : (first_where test n ≡ None) × (test n ≡ false) = first_or-none (first_where test n) (test n) n (sym (first_step test n) ∙ e) in
+    elim (cases_eq k n) [ inl same ↦ ap test same ∙ p.1 | inr ne ↦ first_none test n p.0 k (omega arith) ]
+
+-- one more that doesn't pass
+pub first_more : (test : ℕ → Bool) (n : ℕ) → first_where test n ≡ None → test n ≡ false → first_where test (n + 1) ≡ None
+first_more test n e f = (let one : n + 1 ≡ suc n = omega arith in ap (first_where test) one ∙ (first_step test n ∙ rw (e, f)))
+
+first_kept : (test : ℕ → Bool) (n k d : ℕ) → first_where test n ≡ Some k → first_where test (n + d) ≡ Some k
+first_kept test n k zero e = (let z : n + 0 ≡ n = omega arith in ap (first_where test) z ∙ e)
+first_kept test n k (suc d) e =
+    let s : n + suc d ≡ suc (n + d) = omega arith in
+    ap (first_where test) s ∙ (first_step test (n + d) ∙ rw (first_kept test n k d e))
+
+-- the first that passes is the first of all
+pub first_found : (test : ℕ → Bool) (n k : ℕ) → first_where test k ≡ None → test k ≡ true → k < n → first_where test n ≡ Some k
+first_found test n k e t lt =
+    let here : first_where test (suc k) ≡ Some k = first_step test k ∙ rw (e, t) in
+    let s : suc k + (n - suc k) ≡ n = omega arith in
+    sym (ap (first_where test) s) ∙ first_kept test (suc k) k (n - suc k) here
+
+-- ---- where nothing is refused
+or_none : (a b : Option RunFault) → option_or a b ≡ None → (a ≡ None) × (b ≡ None)
+or_none None b e = (refl, e)
+or_none (Some x) b e = absurd (cc)
+
+map_none : (f : ℕ → RunFault) (o : Option ℕ) → option_map f o ≡ None → o ≡ None
+map_none f None e = refl
+map_none f (Some k) e = absurd (cc)
+
+if_none : (b : Bool) (r : RunFault) → refuse_if b r ≡ None → b ≡ false
+if_none true r e = absurd (cc)
+if_none false r e = refl
+
+or_false_parts : (x y : Bool) → (x || y) ≡ false → (x ≡ false) × (y ≡ false)
+or_false_parts true y e = absurd (true≢false e)
+or_false_parts false y e = (refl, e)
+
+pub record IsAccepted (U : List Task) (rs : List Release) (until : ℕ) : Type 0 where
+  pub sorted : first_where (is_unsorted rs) (length rs) ≡ None
+  pub known : first_where (is_unknown U rs) (length rs) ≡ None
+  pub spaced : first_where (is_too_soon U (jobs_of U rs)) (length rs) ≡ None
+  pub before : some_below (length rs) (is_past rs until) ≡ false
+
+pub accepted : (U : List Task) (rs : List Release) (until : ℕ) → refusal_of U rs until ≡ None → IsAccepted U rs until
+accepted U rs until e =
+    let a = or_none (option_map (λ k. fault.Unsorted (k + 1)) (first_where (is_unsorted rs) (length rs))) _ e in
+    let b = or_none (option_map (λ k. fault.UnknownTask (k + 1)) (first_where (is_unknown U rs) (length rs))) _ a.1 in
+    let c = or_none (option_map (λ k. fault.TooSoon (k + 1)) (first_where (is_too_soon U (jobs_of U rs)) (length rs))) _ b.1 in
+    let d = or_none (refuse_if (nat_lt 60000000 until || some_below (length rs) (is_past rs until)) fault.PastHorizon) _ c.1 in
+    record {
+      sorted = map_none (λ k. fault.Unsorted (k + 1)) (first_where (is_unsorted rs) (length rs)) a.0;
+      known = map_none (λ k. fault.UnknownTask (k + 1)) (first_where (is_unknown U rs) (length rs)) b.0;
+      spaced = map_none (λ k. fault.TooSoon (k + 1)) (first_where (is_too_soon U (jobs_of U rs)) (length rs)) c.0;
+      before = (or_false_parts (nat_lt 60000000 until) (some_below (length rs) (is_past rs until)) (if_none (nat_lt 60000000 until || some_below (length rs) (is_past rs until)) fault.PastHorizon d.0)).1;
+    }
+
+-- ---- sorted lists
+pub not_lt : (a b : ℕ) → nat_lt a b ≡ false → b ≤ a
+not_lt a b f = elim (cases_lt a b) [ inl lt ↦ absurd (true≢false (sym (lt-ltb a b lt) ∙ f)) | inr ge ↦ ge ]
+
+sorted_by : (rs : List Release) → ((k : ℕ) → k < length rs → is_unsorted rs k ≡ false) → (i d : ℕ) → i + d < length rs → (release_at rs i).time ≤ (release_at rs (i + d)).time
+sorted_by rs h i zero lt = (let z : (release_at rs (i + 0)).time ≡ (release_at rs i).time = ap (λ k. (release_at rs k).time) (omega arith) in omega arith)
+sorted_by rs h i (suc d) lt =
+    let before : (release_at rs i).time ≤ (release_at rs (i + d)).time = sorted_by rs h i d (omega arith) in
+    let f : nat_lt (release_at rs (suc (i + d))).time (release_at rs (i + d)).time ≡ false = h (suc (i + d)) (omega arith) in
+    let step : (release_at rs (i + d)).time ≤ (release_at rs (suc (i + d))).time = not_lt (release_at rs (suc (i + d))).time (release_at rs (i + d)).time f in
+    let z : (release_at rs (i + suc d)).time ≡ (release_at rs (suc (i + d))).time = ap (λ k. (release_at rs k).time) (omega arith) in
+    omega arith
+
+pub sorted_from : (rs : List Release) → first_where (is_unsorted rs) (length rs) ≡ None → (i j : ℕ) → i ≤ j → j < length rs → (release_at rs i).time ≤ (release_at rs j).time
+sorted_from rs e i j le lt =
+    let to : i + (j - i) ≡ j = omega arith in
+    let h : (release_at rs i).time ≤ (release_at rs (i + (j - i))).time = sorted_by rs (first_none (is_unsorted rs) (length rs) e) i (j - i) (omega arith) in
+    subst (λ k. (release_at rs i).time ≤ (release_at rs k).time) to h
+
+-- ---- known tasks
+position_below : (p : Task → Bool) (xs : List Task) → is_none (position p xs) ≡ false → unwrap_or (position p xs) (length xs) < length xs
+position_below p xs h =
+    elim (position p xs) as (λ o. position p xs ≡ o → is_none o ≡ false → unwrap_or o (length xs) < length xs) [
+      | None ↦ λ e f. absurd (true≢false f)
+      | Some i ↦ λ e f. (position-Some p xs i no_task e).0
+    ] refl h
+
+pub known_from : (U : List Task) (rs : List Release) → first_where (is_unknown U rs) (length rs) ≡ None → (j : ℕ) → j < length rs → task_number U (release_at rs j) < length U
+known_from U rs e j lt = position_below (λ t. same_bytes t.name (release_at rs j).name) U (first_none (is_unknown U rs) (length rs) e j lt)
+
+pub runnable_from : (node : Node) (rs : List Release) (until : ℕ) → IsNode node → refusal_of node.tasks rs until ≡ None → IsRunnable node rs
+runnable_from node rs until ok e =
+    let a : IsAccepted node.tasks rs until = accepted node.tasks rs until e in
+    record { of_node = ok; known = known_from node.tasks rs a.known; sorted = sorted_from rs a.sorted }
+
+-- ---- the tests that the code makes
+pub unsorted_is : (rs : List Release) (k : ℕ) → 0 < k → is_unsorted rs k ≡ nat_lt (release_at rs k).time (release_at rs (k - 1)).time
+unsorted_is rs zero some = absurd (omega arith)
+unsorted_is rs (suc k) some = (let e : suc k - 1 ≡ k = omega arith in ap (λ n. nat_lt (release_at rs (suc k)).time (release_at rs n).time) (sym e))
+
+pub unsorted_first : (rs : List Release) (k : ℕ) → k ≡ 0 → is_unsorted rs k ≡ false
+unsorted_first rs k e = ap (is_unsorted rs) e
+
+some_below-none : (n : ℕ) (p : ℕ → Bool) → ((k : ℕ) → k < n → p k ≡ false) → some_below n p ≡ false
+some_below-none zero p h = refl
+some_below-none (suc n) p h = rw (some_below-none n p (λ k lt. h k (omega arith)), h n (omega arith))
+
+pub some_more : (n : ℕ) (p : ℕ → Bool) → some_below n p ≡ false → p n ≡ false → some_below (n + 1) p ≡ false
+some_more n p a b = (let one : n + 1 ≡ suc n = omega arith in ap (λ m. some_below m p) one ∙ rw (a, b))
+
+-- ---- the last release of each task
+pub record AreLast (U : List Task) (rs : List Release) (n : ℕ) (last : List (Option ℕ)) : Type 0 where
+  pub count : length last ≡ 32
+  pub known : (j : ℕ) → j < n → (l : ℕ) × (slice_index_or last (task_number U (release_at rs j)) None ≡ Some l) × ((release_at rs j).time ≤ l)
+  pub some : (i l : ℕ) → slice_index_or last i None ≡ Some l → (j : ℕ) × (j < n) × (task_number U (release_at rs j) ≡ i) × ((release_at rs j).time ≡ l)
+
+abbrev none_of : Option ℕ
+none_of = None
+
+no_time : (l : ℕ) → ◌≡◌ {A = Option ℕ} None (Some l) → ⊥
+no_time l e = cc
+
+pub last_start : (U : List Task) (rs : List Release) → AreLast U rs 0 (replicate 32 None)
+last_start U rs = record {
+  count = length-replicate 32 none_of;
+  known = λ j lt. absurd (omega arith);
+  some = λ i l e. elim (cases_lt i 32) [
+    | inl lt ↦ absurd (no_time l (sym (get_or-replicate 32 i none_of None lt) ∙ e))
+    | inr ge ↦ (let n : length (replicate 32 none_of) ≡ 32 = length-replicate 32 none_of in absurd (no_time l (sym (get_or_past (replicate 32 none_of) i None (omega arith)) ∙ e)))
+  ];
+}
+
+module _ (U : List Task) (rs : List Release) (sorted : (i j : ℕ) → i ≤ j → j < length rs → (release_at rs i).time ≤ (release_at rs j).time) (k : ℕ) (lt : k < length rs) (last : List (Option ℕ)) (are : AreLast U rs k last) where
+  abbrev task_no : ℕ → ℕ
+  task_no j = task_number U (release_at rs j)
+
+  abbrev time_of : ℕ → ℕ
+  time_of j = (release_at rs j).time
+
+  -- the last time of its task isn't after it
+  pub last_before : (l : ℕ) → slice_index_or last (task_no k) None ≡ Some l → l ≤ time_of k
+  last_before l e =
+      let w : (j : ℕ) × (j < k) × (task_no j ≡ task_no k) × (time_of j ≡ l) = are.some (task_no k) l e in
+      let s : time_of w.0 ≤ time_of k = sorted w.0 k (omega (arith, w.1)) lt in
+      omega (arith, w.3)
+
+  pub last_more : task_no k < 32 → AreLast U rs (k + 1) (set last (task_no k) (Some (time_of k)))
+  last_more small =
+      let c : length last ≡ 32 = are.count in
+      let inside : task_no k < length last = omega arith in
+      record {
+        count = length-set last (task_no k) (Some (time_of k)) ∙ are.count;
+        known = λ j below. elim (cases_eq (task_no j) (task_no k)) [
+          | inl same ↦ (time_of k, subst (λ x. slice_index_or (set last (task_no k) (Some (time_of k))) x None ≡ Some (time_of k)) (sym same) (get_or-set_same last (task_no k) (Some (time_of k)) None inside), sorted j k (omega arith) lt)
+          | inr other ↦
+              let before : j < k = elim (cases_eq j k) [ inl e ↦ absurd (other (ap task_no e)) | inr ne ↦ omega arith ] in
+              let w : (l : ℕ) × (slice_index_or last (task_no j) None ≡ Some l) × (time_of j ≤ l) = are.known j before in
+              (w.0, get_or-set_other last (task_no k) (task_no j) (Some (time_of k)) None other ∙ w.1, w.2)
+        ];
+        some = λ i l e. elim (cases_eq i (task_no k)) [
+          | inl same ↦
+              let here : slice_index_or (set last (task_no k) (Some (time_of k))) (task_no k) None ≡ Some l = subst (λ x. slice_index_or (set last (task_no k) (Some (time_of k))) x None ≡ Some l) same e in
+              let is : ◌≡◌ {A = Option ℕ} (Some (time_of k)) (Some l) = sym (get_or-set_same last (task_no k) (Some (time_of k)) None inside) ∙ here in
+              (k, omega arith, sym same, cc (is))
+          | inr other ↦
+              let w : (j : ℕ) × (j < k) × (task_no j ≡ i) × (time_of j ≡ l) = are.some i l (sym (get_or-set_other last (task_no k) i (Some (time_of k)) None other) ∙ e) in
+              (w.0, omega (arith, w.1), w.2, w.3)
+        ];
+      }
+
+  too_soon_job : (j : ℕ) → j < k → is_soon_job U (jobs_of U rs) k j ≡ ((task_no j == task_no k) && nat_lt (time_of k) (time_of j + (task_at U (task_no k)).period))
+  too_soon_job j before =
+      let ej : job_at (jobs_of U rs) j ≡ job_of U (release_at rs j) = job_is U rs j (omega arith) in
+      let ek : job_at (jobs_of U rs) k ≡ job_of U (release_at rs k) = job_is U rs k lt in
+      ap₂ (λ x y. (x.task == y.task) && nat_lt y.arrival (x.arrival + (task_at U y.task).period)) ej ek
+
+  pub too_soon_is : is_too_soon U (jobs_of U rs) k ≡ soon_after (slice_index_or last (task_no k) None) (time_of k) (task_at U (task_no k)).period
+  too_soon_is =
+      elim (slice_index_or last (task_no k) None) as (λ o. slice_index_or last (task_no k) None ≡ o → is_too_soon U (jobs_of U rs) k ≡ soon_after o (time_of k) (task_at U (task_no k)).period) [
+        | None ↦ λ e. some_below-none k (is_soon_job U (jobs_of U rs) k) (λ j before. too_soon_job j before ∙ elim (cases_eq (task_no j) (task_no k)) [
+          | inl same ↦
+              let w : (l : ℕ) × (slice_index_or last (task_no j) None ≡ Some l) × (time_of j ≤ l) = are.known j before in
+              absurd (no_time w.0 (sym e ∙ subst (λ x. slice_index_or last x None ≡ Some w.0) same w.1))
+          | inr other ↦ (let f : (task_no j == task_no k) ≡ false = ne_eqb (task_no j) (task_no k) other in rw f)
+        ])
+        | Some l ↦ λ e.
+            let w : (j : ℕ) × (j < k) × (task_no j ≡ task_no k) × (time_of j ≡ l) = are.some (task_no k) l e in
+            elim (cases_lt (time_of k) (l + (task_at U (task_no k)).period)) [
+              | inl soon ↦
+                  let s : (task_no w.0 == task_no k) ≡ true = eq-eqb (task_no w.0) (task_no k) w.2 in
+                  let t : nat_lt (time_of k) (time_of w.0 + (task_at U (task_no k)).period) ≡ true = lt-ltb (time_of k) (time_of w.0 + (task_at U (task_no k)).period) (omega (arith, w.3)) in
+                  let r : nat_lt (time_of k) (l + (task_at U (task_no k)).period) ≡ true = lt-ltb (time_of k) (l + (task_at U (task_no k)).period) soon in
+                  some_below-at k (is_soon_job U (jobs_of U rs) k) w.0 w.1 (too_soon_job w.0 w.1 ∙ rw (s, t)) ∙ sym r
+              | inr late ↦
+                  let r : nat_lt (time_of k) (l + (task_at U (task_no k)).period) ≡ false = le-ltb (time_of k) (l + (task_at U (task_no k)).period) late in
+                  some_below-none k (is_soon_job U (jobs_of U rs) k) (λ j before. too_soon_job j before ∙ elim (cases_eq (task_no j) (task_no k)) [
+                    | inl same ↦
+                        let v : (m : ℕ) × (slice_index_or last (task_no j) None ≡ Some m) × (time_of j ≤ m) = are.known j before in
+                        let v' : slice_index_or last (task_no k) None ≡ Some v.0 = subst (λ x. slice_index_or last x None ≡ Some v.0) same v.1 in
+                        let one : v.0 ≡ l = cc (e, v') in
+                        let s : (task_no j == task_no k) ≡ true = eq-eqb (task_no j) (task_no k) same in
+                        let f : nat_lt (time_of k) (time_of j + (task_at U (task_no k)).period) ≡ false = le-ltb (time_of k) (time_of j + (task_at U (task_no k)).period) (omega (arith, v.2)) in
+                        rw (s, f)
+                    | inr other ↦ (let f : (task_no j == task_no k) ≡ false = ne_eqb (task_no j) (task_no k) other in rw f)
+                  ]) ∙ sym r
+            ]
+      ] refl
+
+  pub too_soon_at : (i time period : ℕ) (b : Bool) → i ≡ task_no k → time ≡ time_of k → period ≡ (task_at U (task_no k)).period → b ≡ soon_after (slice_index_or last i None) time period
+      → is_too_soon U (jobs_of U rs) k ≡ b
+  too_soon_at i time period b ei et ep eb =
+      let a : soon_after (slice_index_or last i None) time period ≡ soon_after (slice_index_or last (task_no k) None) (time_of k) (task_at U (task_no k)).period =
+      ap (λ x. soon_after (slice_index_or last x None) time period) ei ∙ ap₂ (λ x y. soon_after (slice_index_or last (task_no k) None) x y) et ep in
+      too_soon_is ∙ (sym a ∙ sym eb)
+
+  pub last_next : (i time : ℕ) → i ≡ task_no k → time ≡ time_of k → task_no k < 32 → AreLast U rs (k + 1) (set last i (Some time))
+  last_next i time ei et small = subst (λ x. AreLast U rs (k + 1) (set last x (Some time))) (sym ei) (subst (λ x. AreLast U rs (k + 1) (set last (task_no k) (Some x))) (sym et) (last_more small))
+
+-- ---- the tasks of the releases
+pub unknown_at : (U : List Task) (rs : List Release) (k : ℕ) (r : Release) (o : Option ℕ) → k < length rs → o ≡ task_named U (get_or rs k r).name → is_unknown U rs k ≡ is_none o
+unknown_at U rs k r o lt eo = ap (λ x. is_none (task_named U x.name)) (get_or_default rs k no_release r lt) ∙ ap is_none (sym eo)
+
+pub numbers-next : (U : List Task) (rs : List Release) (places : List ℕ) (k task : ℕ) (r : Release) → k < length rs → Some task ≡ task_named U (get_or rs k r).name → places ≡ map (task_number U) (take k rs)
+    → places ++ task ∷ [] ≡ map (task_number U) (take (k + 1) rs)
+numbers-next U rs places k task r lt et ep =
+    let e : task ≡ task_number U (get_or rs k r) = ap (λ o. unwrap_or o (length U)) et in
+    ap₂ (λ x y. x ++ y ∷ []) ep e ∙ sym (map_more (task_number U) rs k r lt)
+
+-- ---- the refusals
+pub refused_unsorted : (U : List Task) (rs : List Release) (until k : ℕ) → first_where (is_unsorted rs) (length rs) ≡ Some k → refusal_of U rs until ≡ Some (fault.Unsorted (k + 1))
+refused_unsorted U rs until k e = rw e
+
+pub refused_unknown : (U : List Task) (rs : List Release) (until k : ℕ) → first_where (is_unsorted rs) (length rs) ≡ None → first_where (is_unknown U rs) (length rs) ≡ Some k → refusal_of U rs until ≡ Some (fault.UnknownTask (k + 1))
+refused_unknown U rs until k a e = rw (a, e)
+
+pub refused_soon : (U : List Task) (rs : List Release) (until k : ℕ) → first_where (is_unsorted rs) (length rs) ≡ None → first_where (is_unknown U rs) (length rs) ≡ None
+    → first_where (is_too_soon U (jobs_of U rs)) (length rs) ≡ Some k → refusal_of U rs until ≡ Some (fault.TooSoon (k + 1))
+refused_soon U rs until k a b e = rw (a, b, e)
+
+pub refused_past : (U : List Task) (rs : List Release) (until : ℕ) → first_where (is_unsorted rs) (length rs) ≡ None → first_where (is_unknown U rs) (length rs) ≡ None
+    → first_where (is_too_soon U (jobs_of U rs)) (length rs) ≡ None → (nat_lt 60000000 until || some_below (length rs) (is_past rs until)) ≡ true → refusal_of U rs until ≡ Some fault.PastHorizon
+refused_past U rs until a b c e = rw (a, b, c, e)
+
+pub refused_many : (U : List Task) (rs : List Release) (until : ℕ) → first_where (is_unsorted rs) (length rs) ≡ None → first_where (is_unknown U rs) (length rs) ≡ None
+    → first_where (is_too_soon U (jobs_of U rs)) (length rs) ≡ None → (nat_lt 60000000 until || some_below (length rs) (is_past rs until)) ≡ false → 10000 < length rs → refusal_of U rs until ≡ Some fault.TooMany
+refused_many U rs until a b c e h = (let t : nat_lt 10000 (length rs) ≡ true = lt-ltb 10000 (length rs) h in rw (a, b, c, e, t))
+
+pub not_refused : (U : List Task) (rs : List Release) (until : ℕ) → first_where (is_unsorted rs) (length rs) ≡ None → first_where (is_unknown U rs) (length rs) ≡ None
+    → first_where (is_too_soon U (jobs_of U rs)) (length rs) ≡ None → (nat_lt 60000000 until || some_below (length rs) (is_past rs until)) ≡ false → length rs ≤ 10000 → refusal_of U rs until ≡ None
+not_refused U rs until a b c e h = (let t : nat_lt 10000 (length rs) ≡ false = le-ltb 10000 (length rs) h in rw (a, b, c, e, t))
+
+pub past_or : (a b : Bool) → (a ≡ true) ⊎ (b ≡ true) → (a || b) ≡ true
+past_or a b h = elim h [ inl t ↦ rw t | inr t ↦ elim (cases_Bool a) [ inl s ↦ rw s | inr s ↦ rw (s, t) ] ]
+
+pub past_none : (until : ℕ) (b : Bool) → until ≤ 60000000 → b ≡ false → (nat_lt 60000000 until || b) ≡ false
+past_none until b h e = (let f : nat_lt 60000000 until ≡ false = le-ltb 60000000 until h in rw (f, e))
+
+pub past_horizon : (until : ℕ) (b : Bool) → 60000000 < until → (nat_lt 60000000 until || b) ≡ true
+past_horizon until b h = (let t : nat_lt 60000000 until ≡ true = lt-ltb 60000000 until h in rw t)
+
+pub none_below : (n : ℕ) (p : ℕ → Bool) → some_below n p ≡ false → (k : ℕ) → k < n → p k ≡ false
+none_below zero p h k lt = absurd (omega arith)
+none_below (suc n) p h k lt =
+    let q : (some_below n p ≡ false) × (p n ≡ false) = or_false_parts (some_below n p) (p n) h in
+    elim (cases_eq k n) [ inl e ↦ ap p e ∙ q.1 | inr ne ↦ none_below n p q.0 k (omega arith) ]

@@ -1,0 +1,315 @@
+-- Each job of a task that passes finishes by its bound.
+use Rattle.std.proofs.Common.{ℕ, zero, suc, ◌+◌, ◌-◌, ◌*◌, ◌/◌, ◌<◌, ◌≤◌, ◌≡◌, inl, inr, refl, sym, ap, ◌∙◌, subst, arith, if◌then◌else◌, Bool, true, false, ◌==◌, ◌&&◌, ◌||◌, cond, List, [], ◌∷◌, length, nat_le, nat_lt, eqb}
+use Rattle.std.proofs.lemmas.Bool.{cases_eq, cases_lt, cases_Bool, lt-ltb, le-leb, lt-leb, leb-true, ltb-true, and_parts, eq-eqb, eqb-true, ne_eqb, le-ltb}
+use Rattle.std.proofs.lemmas.List.{get_or_past}
+use Rattle.std.proofs.Math.Nat.{mul-le-mul_right, div-lt_iff_lt-mul}
+use Rattle.std.proofs.Math.Nat.{div-eq_of_lt-le}
+use Rattle.std.proofs.lemmas.Grind.{div_ceil_times}
+use Rattle.std.specs.Int.{div_ceil}
+use Rattle.std.specs.List.{list_any}
+use Rattle.task_sheet.specs.Sheet.{Task, CriticalSection, no_task, task_at}
+use Rattle.task_sheet.specs.Indexes.{Indexes, with_index, greatest_below, some_below}
+use Rattle.task_sheet.specs.Locks.{uses, shares_lock, reaches}
+use Rattle.task_sheet.specs.Demand.{releases_within, longest_reached, blocking_of, interference_of, demand_of}
+use Rattle.task_sheet.specs.Orders.{Stands, IsPassingOrder}
+use Rattle.ceiling_kernel.specs.Tick.{Node, Job, job_at, task_of, level_at, level_of, executed_before, picked, ceiling, top_ceiling}
+use Rattle.ceiling_kernel.specs.Waits.{IsNode, IsLegal, lateness_of, NoOverrun}
+use Rattle.ceiling_kernel.specs.Bounds.{above_of, PassesBy, BoundHolds}
+use Rattle.ceiling_kernel.proofs.NodeLaws.{AreApart, IsSoundTask, IsSound, sound, top_user, stands_above}
+use Rattle.ceiling_kernel.proofs.SumLaws.{total, total-sum, total-le, total-add, total-same, total-single, total-zero}
+use Rattle.ceiling_kernel.proofs.WindowLaws.{of_task, most_in_window, by_tasks}
+use Rattle.ceiling_kernel.proofs.SectionLaws.{rest_of, rest-le}
+use Rattle.ceiling_kernel.proofs.MachineLaws.{machine, is_high, rest_at}
+use Rattle.ceiling_kernel.proofs.Busy.{work, finishes, done_later}
+
+greatest_below-at : (n : ℕ) (f : ℕ → ℕ) (k : ℕ) → k < n → f k ≤ greatest_below n f
+greatest_below-at zero f k lt = absurd (omega arith)
+greatest_below-at (suc n) f k lt =
+    elim (cases_eq k n) [
+      | inl e ↦ (let same : f k ≡ f n = ap f e in omega arith)
+      | inr ne ↦ (let ih : f k ≤ greatest_below n f = greatest_below-at n f k (omega arith) in omega arith)
+    ]
+
+pub some_below-at : (n : ℕ) (p : ℕ → Bool) (k : ℕ) → k < n → p k ≡ true → some_below n p ≡ true
+some_below-at zero p k lt h = absurd (omega arith)
+some_below-at (suc n) p k lt h =
+    elim (cases_eq k n) [
+      | inl e ↦ (let same : p n ≡ true = sym (ap p e) ∙ h in or_right (some_below n p) (p n) same)
+      | inr ne ↦ (let ih : some_below n p ≡ true = some_below-at n p k (omega arith) h in rw ih)
+    ]
+  where
+    or_right : (x y : Bool) → y ≡ true → (x || y) ≡ true
+    or_right x y e = elim (cases_Bool x) [ inl t ↦ rw t | inr f ↦ rw (f, e) ]
+
+-- how many jobs of a task become ready in a window of t ticks at most, by its period and how late they may be
+abbrev most_jobs : Task → ℕ → ℕ
+most_jobs task t = ((t + lateness_of task) + task.period - 1) / task.period
+
+-- that is what the analysis counts
+most_jobs-releases : (task : Task) (t : ℕ) → 0 < task.period → most_jobs task t ≡ releases_within task t
+most_jobs-releases task t some =
+    let b : (t ≤ div_ceil t task.period * task.period) × (div_ceil t task.period * task.period < t + task.period) = div_ceil_times t task.period some in
+    div-eq_of_lt-le task.period (omega (arith, b.1)) (omega (arith, b.0))
+
+-- a task of a level or above that uses one of some locks
+abbrev IsTopOf : Node → ℕ → List (List ℕ) → Type 0
+IsTopOf node level locks = (h : ℕ) × (h < length node.tasks) × (level ≤ level_at node h) × (list_any (λ lock. uses (task_at node.tasks h) lock) locks ≡ true)
+
+-- where the highest ceiling reaches the level, there is one
+top_of : (node : Node) → IsNode node → (level : ℕ) (locks : List (List ℕ)) → 0 < level → level ≤ top_ceiling node locks → IsTopOf node level locks
+top_of node ok level [] some h = absurd (omega arith)
+top_of node ok level (r ∷ rs) some h =
+    elim (cases_lt (ceiling node r) level) [
+      | inr here ↦
+          let u : (h : ℕ) × (h < length node.tasks) × (level ≤ level_at node h) × (uses (task_at node.tasks h) r ≡ true) = top_user node ok r level some here in
+          (u.0, u.1, u.2, rw u.3)
+      | inl low ↦
+          let ih : IsTopOf node level rs = top_of node ok level rs some (omega arith) in
+          (ih.0, ih.1, ih.2, elim (cases_Bool (uses (task_at node.tasks ih.0) r)) [ inl t ↦ rw t | inr f ↦ rw (f, ih.3) ])
+    ]
+
+module _ (node : Node) (jobs : List Job) (is_node : IsNode node) (legal : IsLegal node jobs) where
+  valid : IsSound node
+  valid = sound node is_node
+
+  apart_at : (i : ℕ) → AreApart 0 (task_at node.tasks i).sections (task_at node.tasks i).cost
+  apart_at i =
+      elim (cases_lt i (length node.tasks)) [
+        | inl known ↦ (let v : IsSoundTask node i = valid.each i known in v.apart)
+        | inr past ↦
+            let none : task_at node.tasks i ≡ no_task = get_or_past node.tasks i no_task past in
+            subst (λ x. AreApart 0 x.sections x.cost) (sym none) (omega arith)
+      ]
+
+  module _ (i t : ℕ) (is : i < length node.tasks) (passes : PassesBy node i t) where
+    abbrev level : ℕ
+    level = level_at node i
+
+    level_some : 0 < level
+    level_some = (let v : IsSoundTask node i = valid.each i is in v.level_from_one)
+
+    -- the tasks of this level or above
+    abbrev upper : Indexes
+    upper = with_index (above_of node i) i
+
+    abbrev blocking : ℕ
+    blocking = blocking_of node.tasks i (above_of node i)
+
+    upper-high : (h : ℕ) → h < length node.tasks → level ≤ level_at node h → upper h ≡ true
+    upper-high h lt le =
+        elim (cases_eq h i) [
+          | inl e ↦ (let t : eqb h i ≡ true = eq-eqb h i e in rw t)
+          | inr ne ↦
+              let f : eqb h i ≡ false = ne_eqb h i ne in
+              elim (cases_eq level (level_at node h)) [
+                | inl same ↦ absurd (ne (valid.levels_differ h i lt is (sym same)))
+                | inr differ ↦ (let t : nat_lt level (level_at node h) ≡ true = lt-ltb level (level_at node h) (omega arith) in rw (f, t))
+              ]
+        ]
+
+    upper-low : (h : ℕ) → level_at node h < level → upper h ≡ false
+    upper-low h low =
+        let f : eqb h i ≡ false = ne_eqb h i (λ e. (let same : level_at node h ≡ level = ap (level_at node) e in absurd (omega arith))) in
+        let g : nat_lt level (level_at node h) ≡ false = le-ltb level (level_at node h) (omega arith) in
+        rw (f, g)
+
+    reached : (s : CriticalSection) → level ≤ top_ceiling node s.locks → reaches node.tasks upper s ≡ true
+    reached s le =
+        let u : IsTopOf node level s.locks = top_of node is_node level s.locks level_some le in
+        (let up : upper u.0 ≡ true = upper-high u.0 u.1 u.2 in some_below-at (length node.tasks) (λ k. upper k && shares_lock (task_at node.tasks k) s) u.0 u.1 (rw (up, u.3)))
+
+    -- the rest of a section of a lower task is at most the blocking
+    rest_most : (j e : ℕ) → rest_at node jobs level level_some (λ k. apart_at (job_at jobs k).task) j e ≤ blocking
+    unfolding blocking_of
+    rest_most j e =
+        let k : ℕ = (job_at jobs j).task in
+        elim (cases_lt (level_of node jobs j) level) [
+          | inr ge ↦
+              let high : nat_le level (level_of node jobs j) ≡ true = le-leb level (level_of node jobs j) ge in
+              rw high (omega arith)
+          | inl low ↦
+              let not_high : nat_le level (level_of node jobs j) ≡ false = lt-leb level (level_of node jobs j) low in
+              let a : rest_of node level (task_of node jobs j).sections e ≤ longest_reached node.tasks upper (task_of node jobs j) = rest-le node level upper reached (task_of node jobs j).sections e in
+              elim (cases_lt k (length node.tasks)) [
+                | inl lt ↦
+                    let out : upper k ≡ false = upper-low k low in
+                    let b : (if upper k then 0 else longest_reached node.tasks upper (task_at node.tasks k)) ≤ greatest_below (length node.tasks) (λ k. if upper k then 0 else longest_reached node.tasks upper (task_at node.tasks k)) =
+                    greatest_below-at (length node.tasks) (λ k. if upper k then 0 else longest_reached node.tasks upper (task_at node.tasks k)) k lt in
+                    let b' : longest_reached node.tasks upper (task_at node.tasks k) ≤ greatest_below (length node.tasks) (λ k. if upper k then 0 else longest_reached node.tasks upper (task_at node.tasks k)) = rw out at b in
+                    rw not_high (omega arith)
+                | inr past ↦
+                    let none : task_at node.tasks k ≡ no_task = get_or_past node.tasks k no_task past in
+                    let z : rest_of node level (task_at node.tasks k).sections e ≡ 0 = ap (λ x. rest_of node level x.sections e) none in
+                    rw not_high (omega arith)
+              ]
+        ]
+
+    abbrev ready_of : ℕ → ℕ
+    ready_of j = (job_at jobs j).ready
+
+    abbrev cost_of : ℕ → ℕ
+    cost_of j = (task_of node jobs j).cost
+
+    -- job j is high, and becomes ready in the window of t ticks from a
+    abbrev counts : ℕ → ℕ → Bool
+    counts a j = nat_le level (level_of node jobs j) && (nat_le a (ready_of j) && nat_lt (ready_of j) (a + t))
+
+    counts_parts : (a j : ℕ) → counts a j ≡ true → (level ≤ level_of node jobs j) × (a ≤ ready_of j) × (ready_of j < a + t)
+    counts_parts a j h =
+        let p : (nat_le level (level_of node jobs j) ≡ true) × ((nat_le a (ready_of j) && nat_lt (ready_of j) (a + t)) ≡ true) = and_parts (nat_le level (level_of node jobs j)) (nat_le a (ready_of j) && nat_lt (ready_of j) (a + t)) h in
+        let q : (nat_le a (ready_of j) ≡ true) × (nat_lt (ready_of j) (a + t) ≡ true) = and_parts (nat_le a (ready_of j)) (nat_lt (ready_of j) (a + t)) p.1 in
+        (leb-true level (level_of node jobs j) p.0, leb-true a (ready_of j) q.0, ltb-true (ready_of j) (a + t) q.1)
+
+    -- how many of task h
+    abbrev number : ℕ → ℕ → ℕ
+    number a h = total (of_task (λ j. (job_at jobs j).task) (λ j. (job_at jobs j).arrival) (counts a) h) (length jobs)
+
+    number-le : (a h : ℕ) → h < length node.tasks → number a h ≤ most_jobs (task_at node.tasks h) t
+    number-le a h lt =
+        let v : IsSoundTask node h = valid.each h lt in
+        most_in_window (λ j. (job_at jobs j).task) (λ j. (job_at jobs j).arrival) (counts a) h (a - lateness_of (task_at node.tasks h)) (t + lateness_of (task_at node.tasks h)) (task_at node.tasks h).period (length jobs)
+        v.period_from_one
+        (let one : 0 < t = passes.from_one in omega arith)
+        (λ j below c e.
+        let p : (level ≤ level_of node jobs j) × (a ≤ ready_of j) × (ready_of j < a + t) = counts_parts a j c in
+        let l : ready_of j ≤ (job_at jobs j).arrival + lateness_of (task_of node jobs j) = legal.not_late j below in
+        let same : lateness_of (task_of node jobs j) ≡ lateness_of (task_at node.tasks h) = ap (λ x. lateness_of (task_at node.tasks x)) e in
+        omega arith)
+        (λ j k jk below c ej ek.
+        let s : (job_at jobs j).arrival + (task_of node jobs k).period ≤ (job_at jobs k).arrival = legal.spaced j k jk below (ej ∙ sym ek) in
+        let same : (task_of node jobs k).period ≡ (task_at node.tasks h).period = ap (λ x. (task_at node.tasks x).period) ek in
+        omega arith)
+        (λ j below c e.
+        let p : (level ≤ level_of node jobs j) × (a ≤ ready_of j) × (ready_of j < a + t) = counts_parts a j c in
+        let l : (job_at jobs j).arrival ≤ ready_of j = legal.not_early j below in
+        omega arith)
+
+    number-zero : (a h : ℕ) → level_at node h < level → number a h ≡ 0
+    number-zero a h low =
+        total-zero (of_task (λ j. (job_at jobs j).task) (λ j. (job_at jobs j).arrival) (counts a) h) (length jobs) (λ j lt.
+        elim (cases_Bool (counts a j && ((job_at jobs j).task == h))) [
+          | inr out ↦ rw out
+          | inl both ↦
+              let p : (counts a j ≡ true) × (((job_at jobs j).task == h) ≡ true) = and_parts (counts a j) ((job_at jobs j).task == h) both in
+              let e : (job_at jobs j).task ≡ h = eqb-true (job_at jobs j).task h p.1 in
+              let c : (level ≤ level_of node jobs j) × (a ≤ ready_of j) × (ready_of j < a + t) = counts_parts a j p.0 in
+              let same : level_of node jobs j ≡ level_at node h = ap (λ x. level_at node x) e in
+              absurd (omega arith)
+        ])
+
+    -- one term of the bound
+    abbrev own_term : ℕ → ℕ
+    own_term h = if i == h then (task_at node.tasks h).cost else 0
+
+    abbrev higher_term : ℕ → ℕ
+    higher_term h = if nat_lt level (level_at node h) then interference_of (task_at node.tasks h) t else 0
+
+    term-le_bound : (a h : ℕ) → h < length node.tasks → number a h * (task_at node.tasks h).cost ≤ own_term h + higher_term h
+    term-le_bound a h lt =
+        elim (cases_lt (level_at node h) level) [
+          | inl low ↦ (let none : number a h ≡ 0 = number-zero a h low in rw none (omega arith))
+          | inr at_least ↦
+              let most : number a h ≤ most_jobs (task_at node.tasks h) t = number-le a h lt in
+              elim (cases_eq i h) [
+                | inl e ↦
+                    let own : eqb i h ≡ true = eq-eqb i h e in
+                    let v : IsSoundTask node h = valid.each h lt in
+                    let p : t ≤ (task_at node.tasks i).deadline = passes.in_time in
+                    let ph : t ≤ (task_at node.tasks h).deadline = subst (λ x. t ≤ (task_at node.tasks x).deadline) e p in
+                    let within : (task_at node.tasks h).deadline ≤ (task_at node.tasks h).period = v.deadline_within in
+                    let two : most_jobs (task_at node.tasks h) t < 2 = (div-lt_iff_lt-mul v.period_from_one).1 (let some : 0 < (task_at node.tasks h).period = v.period_from_one in omega arith) in
+                    let one : number a h ≤ 1 = omega arith in
+                    let product : number a h * (task_at node.tasks h).cost ≤ 1 * (task_at node.tasks h).cost = mul-le-mul_right (task_at node.tasks h).cost one in
+                    rw own (omega arith)
+                | inr ne ↦
+                    elim (cases_eq (level_at node i) (level_at node h)) [
+                      | inl same ↦ absurd (ne (valid.levels_differ i h is lt same))
+                      | inr differ ↦
+                          let above : nat_lt level (level_at node h) ≡ true = lt-ltb level (level_at node h) (omega arith) in
+                          let v : IsSoundTask node h = valid.each h lt in
+                          let counted : most_jobs (task_at node.tasks h) t ≡ releases_within (task_at node.tasks h) t = most_jobs-releases (task_at node.tasks h) t v.period_from_one in
+                          let most' : number a h ≤ releases_within (task_at node.tasks h) t = rw counted at most in
+                          let product : number a h * (task_at node.tasks h).cost ≤ releases_within (task_at node.tasks h) t * (task_at node.tasks h).cost = mul-le-mul_right (task_at node.tasks h).cost most' in
+                          rw above (omega arith)
+                    ]
+              ]
+        ]
+
+    abbrev work_of : ℕ → ℕ → ℕ
+    work_of a j = work (length jobs) ready_of cost_of (is_high node jobs level level_some (λ k. apart_at (job_at jobs k).task)) (rest_at node jobs level level_some (λ k. apart_at (job_at jobs k).task)) (executed_before node jobs) (picked node jobs) (machine node jobs level level_some (λ k. apart_at (job_at jobs k).task)) a (a + t) j
+
+    work-counts : (a j : ℕ) → work_of a j ≡ cond (counts a j) (cost_of j) 0
+    work-counts a j =
+        elim (cases_Bool (nat_le level (level_of node jobs j))) [ inl high ↦ rw high | inr low ↦ rw low ]
+
+    -- the demand, with its sum as the laws have it
+    demand_is : demand_of node.tasks i (above_of node i) t ≡ (task_at node.tasks i).cost + blocking + total higher_term (length node.tasks)
+    unfolding demand_of
+    demand_is = ap (λ x. (task_at node.tasks i).cost + blocking + x) (sym (total-sum higher_term (length node.tasks)))
+
+    fits : (a : ℕ) → total (work_of a) (length jobs) + blocking ≤ t
+    fits a =
+        let same : total (work_of a) (length jobs) ≡ total (λ j. if counts a j then cost_of j else 0) (length jobs) =
+        total-same (work_of a) (λ j. if counts a j then cost_of j else 0) (length jobs) (λ j lt. work-counts a j) in
+        let tasks_first : total (λ j. if counts a j then cost_of j else 0) (length jobs) ≡ total (λ h. number a h * (task_at node.tasks h).cost) (length node.tasks) =
+        by_tasks (λ j. (job_at jobs j).task) (λ j. (job_at jobs j).arrival) (counts a) (λ h. (task_at node.tasks h).cost) (length node.tasks) (length jobs) (λ j lt c. legal.known j lt) in
+        let each : total (λ h. number a h * (task_at node.tasks h).cost) (length node.tasks) ≤ total (λ h. own_term h + higher_term h) (length node.tasks) =
+        total-le (λ h. number a h * (task_at node.tasks h).cost) (λ h. own_term h + higher_term h) (length node.tasks) (λ h lt. term-le_bound a h lt) in
+        let split : total (λ h. own_term h + higher_term h) (length node.tasks) ≡ total own_term (length node.tasks) + total higher_term (length node.tasks) =
+        total-add own_term higher_term (length node.tasks) in
+        let own : total own_term (length node.tasks) ≡ (task_at node.tasks i).cost = total-single (λ h. (task_at node.tasks h).cost) (length node.tasks) i is in
+        let enough : demand_of node.tasks i (above_of node i) t ≤ t = passes.enough in
+        let d : demand_of node.tasks i (above_of node i) t ≡ (task_at node.tasks i).cost + blocking + total higher_term (length node.tasks) = demand_is in
+        omega arith
+
+    -- THE BOUND: a job of the task finishes within t ticks after it is ready
+    pub within_bound : (j : ℕ) → j < length jobs → (job_at jobs j).task ≡ i → cost_of j ≤ executed_before node jobs (ready_of j + t) j
+    within_bound j lt mine =
+        let same : level_of node jobs j ≡ level = ap (λ x. level_at node x) mine in
+        finishes (length jobs) ready_of cost_of (is_high node jobs level level_some (λ k. apart_at (job_at jobs k).task)) (rest_at node jobs level level_some (λ k. apart_at (job_at jobs k).task)) (executed_before node jobs) (picked node jobs) (machine node jobs level level_some (λ k. apart_at (job_at jobs k).task))
+        t blocking passes.from_one rest_most fits j lt (le-leb level (level_of node jobs j) (omega arith))
+
+executed_later : (node : Node) (jobs : List Job) (valid : IsNode node) (legal : IsLegal node jobs) (s u j : ℕ) → s ≤ u → executed_before node jobs s j ≤ executed_before node jobs u j
+executed_later node jobs valid legal s u j le =
+    let one : 0 < 1 = omega arith in
+    let apart : (k : ℕ) → AreApart 0 (task_of node jobs k).sections (task_of node jobs k).cost = λ k. apart_at node jobs valid legal (job_at jobs k).task in
+    done_later (length jobs) (λ k. (job_at jobs k).ready) (λ k. (task_of node jobs k).cost) (is_high node jobs 1 one apart) (rest_at node jobs 1 one apart) (executed_before node jobs) (picked node jobs) (machine node jobs 1 one apart) s u j le
+
+pub bound_law : (node : Node) (jobs : List Job) → IsNode node → IsLegal node jobs → BoundHolds node jobs
+bound_law node jobs valid legal j t lt passes =
+    let i : ℕ = (job_at jobs j).task in
+    let late : ℕ = lateness_of (task_of node jobs j) in
+    let fin : (task_of node jobs j).cost ≤ executed_before node jobs ((job_at jobs j).ready + t) j = within_bound node jobs valid legal i t (legal.known j lt) passes j lt refl in
+    let by : (job_at jobs j).ready ≤ (job_at jobs j).arrival + lateness_of (task_of node jobs j) = legal.not_late j lt in
+    let later : executed_before node jobs ((job_at jobs j).ready + t) j ≤ executed_before node jobs ((job_at jobs j).arrival + (lateness_of (task_of node jobs j) + t)) j =
+    executed_later node jobs valid legal ((job_at jobs j).ready + t) ((job_at jobs j).arrival + (lateness_of (task_of node jobs j) + t)) j (omega arith) in
+    omega arith
+
+-- where each task passes by some time, no job overruns the one before it
+no_overrun_if : (node : Node) (jobs : List Job) → IsNode node → IsLegal node jobs → ((i : ℕ) → i < length node.tasks → (t : ℕ) × PassesBy node i t) → NoOverrun node jobs
+no_overrun_if node jobs valid legal pass k lt over =
+    let j : ℕ = over.0 in
+    let below : j < length jobs = omega (arith, over.1) in
+    let i : ℕ = (job_at jobs j).task in
+    let is : i < length node.tasks = legal.known j below in
+    let p : (t : ℕ) × PassesBy node i t = pass i is in
+    let in_time : p.0 ≤ (task_at node.tasks i).deadline = p.1.in_time in
+    let v : IsSoundTask node i = (let s : IsSound node = sound node valid in s.each i is) in
+    let within : (task_at node.tasks i).deadline ≤ (task_at node.tasks i).period = v.deadline_within in
+    let gap : (job_at jobs j).arrival + (task_of node jobs k).period ≤ (job_at jobs k).arrival = legal.spaced j k over.1 lt over.2 in
+    let same : (task_of node jobs k).period ≡ (task_at node.tasks i).period = ap (λ x. (task_at node.tasks x).period) (sym over.2) in
+    let early : (job_at jobs k).arrival ≤ (job_at jobs k).ready = legal.not_early k lt in
+    let fin : (task_of node jobs j).cost ≤ executed_before node jobs ((job_at jobs j).arrival + (lateness_of (task_at node.tasks i) + p.0)) j = bound_law node jobs valid legal j p.0 below p.1 in
+    let later : executed_before node jobs ((job_at jobs j).arrival + (lateness_of (task_at node.tasks i) + p.0)) j ≤ executed_before node jobs (job_at jobs k).ready j =
+    executed_later node jobs valid legal ((job_at jobs j).arrival + (lateness_of (task_at node.tasks i) + p.0)) (job_at jobs k).ready j (omega arith) in
+    let open_ : executed_before node jobs (job_at jobs k).ready j < (task_of node jobs j).cost = over.3 in
+    omega arith
+
+-- in a passing order each task passes by some time
+passes_in : (node : Node) → IsNode node → IsPassingOrder node.tasks node.order → (i : ℕ) → i < length node.tasks → (t : ℕ) × PassesBy node i t
+passes_in node valid order i lt =
+    let p : Stands node.tasks i (above_of node i) = stands_above node valid order.each_stands i lt in
+    (p.0, record { from_one = omega (arith, p.1); in_time = p.2; enough = p.3 })
+
+pub no_overrun_law : (node : Node) (jobs : List Job) → IsNode node → IsLegal node jobs → IsPassingOrder node.tasks node.order → NoOverrun node jobs
+no_overrun_law node jobs valid legal order = no_overrun_if node jobs valid legal (passes_in node valid order)

@@ -1,0 +1,126 @@
+-- What a run has shown at its end.
+use Rattle.std.proofs.Common.{ℕ, zero, suc, ◌+◌, ◌-◌, ◌<◌, ◌≤◌, ◌≡◌, inl, inr, refl, sym, ap, ◌∙◌, subst, arith, List, [], ◌∷◌, length, slice_index_or, Option, None, Some, false, true, cond, nat_le, nat_lt, eqb}
+use Rattle.std.proofs.lemmas.Bool.{cases_lt, cases_Bool, true≢false, le-leb, eq-eqb}
+use Rattle.task_sheet.specs.Orders.{IsPassingOrder}
+use Rattle.ceiling_kernel.specs.declared.trace.Release.{Release}
+use Rattle.ceiling_kernel.specs.declared.trace.JobRecord.{JobRecord}
+use Rattle.ceiling_kernel.specs.declared.trace.Trace.{Trace}
+use Rattle.ceiling_kernel.specs.declared.trace.RunFault.{RunFault}
+use Rattle.ceiling_kernel.specs.declared.trace.RunFault.TheVariants as fault
+use Rattle.ceiling_kernel.specs.declared.run.Pending.{Pending}
+use Rattle.ceiling_kernel.specs.Tick.{Node, Job, job_at, task_of, executed_before}
+use Rattle.ceiling_kernel.specs.Trace.{finish_before}
+use Rattle.ceiling_kernel.specs.Waits.{IsNode, IsLegal, NoOverrun, EachIsGranted}
+use Rattle.ceiling_kernel.specs.Bounds.{PassesBy}
+use Rattle.ceiling_kernel.specs.Releases.{task_number, jobs_of, job_of, release_at, is_soon_job, is_too_soon, is_past, refusal_of, IsFirstOverrun, IsOverrun, record_of, no_record, records_from, MeetsBounds, IsNoOverrun}
+use Rattle.ceiling_kernel.specs.Runs.{Kept, IsStop}
+use Rattle.ceiling_kernel.proofs.LockLaws.{nobody_waits_law}
+use Rattle.ceiling_kernel.proofs.BoundLaws.{bound_law, no_overrun_law}
+use Rattle.ceiling_kernel.proofs.FinishLaws.{finish_start, finish_step, finish_some, finish_later}
+use Rattle.ceiling_kernel.proofs.RunLaws.{job_is, jobs_length, cost_some}
+use Rattle.ceiling_kernel.proofs.AcceptLaws.{IsAccepted, accepted, first_none, none_below, not_lt, known_from, runnable_from}
+
+-- no release of an accepted list stands at the end or after it
+before_end : (node : Node) (rs : List Release) (until k : ℕ) → IsAccepted node.tasks rs until → k < length rs → (job_at (jobs_of node.tasks rs) k).ready < until
+before_end node rs until k a lt =
+    let f : is_past rs until k ≡ false = none_below (length rs) (is_past rs until) a.before k lt in
+    let r : (job_at (jobs_of node.tasks rs) k).ready ≡ (release_at rs k).time = ap (λ x. x.ready) (job_is node.tasks rs k lt) in
+    elim (cases_lt (release_at rs k).time until) [
+      | inl before ↦ omega arith
+      | inr past ↦ absurd (true≢false (sym (le-leb until (release_at rs k).time past) ∙ f))
+    ]
+
+pub no_overrun_then : (node : Node) (rs : List Release) (until t next : ℕ) (slots : List (Option Pending)) → refusal_of node.tasks rs until ≡ None → Kept node (jobs_of node.tasks rs) t next slots → until ≤ t → NoOverrun node (jobs_of node.tasks rs)
+no_overrun_then node rs until t next slots e kept le k lt over =
+    let l : length (jobs_of node.tasks rs) ≡ length rs = jobs_length node.tasks rs in
+    elim (cases_lt k next) [
+      | inl below ↦ kept.no_overrun k below over
+      | inr above ↦
+          let r : t ≤ (job_at (jobs_of node.tasks rs) k).ready = kept.to_come k above lt in
+          let b : (job_at (jobs_of node.tasks rs) k).ready < until = before_end node rs until k (accepted node.tasks rs until e) (omega arith) in
+          omega arith
+    ]
+
+-- the jobs of an accepted list are legal
+pub legal_from : (node : Node) (rs : List Release) (until : ℕ) → refusal_of node.tasks rs until ≡ None → IsLegal node (jobs_of node.tasks rs)
+legal_from node rs until e =
+    let a : IsAccepted node.tasks rs until = accepted node.tasks rs until e in
+    let l : length (jobs_of node.tasks rs) ≡ length rs = jobs_length node.tasks rs in
+    record {
+      known = λ j lt.
+          let k : task_number node.tasks (release_at rs j) < length node.tasks = known_from node.tasks rs a.known j (omega arith) in
+          let t : (job_at (jobs_of node.tasks rs) j).task ≡ task_number node.tasks (release_at rs j) = ap (λ x. x.task) (job_is node.tasks rs j (omega arith)) in
+          omega arith;
+      not_early = λ j lt. (let r : job_at (jobs_of node.tasks rs) j ≡ job_of node.tasks (release_at rs j) = job_is node.tasks rs j (omega arith) in rw r (omega arith));
+      not_late = λ j lt. (let r : job_at (jobs_of node.tasks rs) j ≡ job_of node.tasks (release_at rs j) = job_is node.tasks rs j (omega arith) in rw r (omega arith));
+      spaced = λ j k jk lt same.
+          let soon : is_too_soon node.tasks (jobs_of node.tasks rs) k ≡ false = first_none (is_too_soon node.tasks (jobs_of node.tasks rs)) (length rs) a.spaced k (omega arith) in
+          let one : is_soon_job node.tasks (jobs_of node.tasks rs) k j ≡ false = none_below k (is_soon_job node.tasks (jobs_of node.tasks rs) k) soon j jk in
+          let t : eqb (job_at (jobs_of node.tasks rs) j).task (job_at (jobs_of node.tasks rs) k).task ≡ true = eq-eqb (job_at (jobs_of node.tasks rs) j).task (job_at (jobs_of node.tasks rs) k).task same in
+          let f : nat_lt (job_at (jobs_of node.tasks rs) k).arrival ((job_at (jobs_of node.tasks rs) j).arrival + (task_of node (jobs_of node.tasks rs) k).period) ≡ false = rw t at one in
+          not_lt (job_at (jobs_of node.tasks rs) k).arrival ((job_at (jobs_of node.tasks rs) j).arrival + (task_of node (jobs_of node.tasks rs) k).period) f;
+    }
+
+-- where no job overruns, each that asks for a lock gets it
+pub each_granted : (node : Node) (rs : List Release) (until : ℕ) → IsNode node → refusal_of node.tasks rs until ≡ None → NoOverrun node (jobs_of node.tasks rs) → EachIsGranted node (jobs_of node.tasks rs)
+each_granted node rs until ok e none t p lock pick asks = nobody_waits_law node (jobs_of node.tasks rs) ok (legal_from node rs until e) t p lock (λ k lt le. none k lt) pick asks
+
+-- ---- the bound
+finish_within : (node : Node) (jobs : List Job) (j t f : ℕ) → finish_before node jobs t j ≡ Some f → f ≤ t
+finish_within node jobs j zero f e = absurd (no_finish f (sym (finish_start node jobs j) ∙ e))
+  where
+    no_finish : (f : ℕ) → ◌≡◌ {A = Option ℕ} None (Some f) → ⊥
+    no_finish f e = cc
+finish_within node jobs j (suc t) f e =
+    elim (finish_before node jobs t j) as (λ o. finish_before node jobs t j ≡ o → f ≤ suc t) [
+      | Some g ↦ λ is.
+          let later : finish_before node jobs (suc t) j ≡ Some g = finish_step node jobs j t ∙ rw is in
+          let both : ◌≡◌ {A = Option ℕ} (Some g) (Some f) = sym later ∙ e in
+          let same : g ≡ f = cc (both) in
+          let before : g ≤ t = finish_within node jobs j t g is in
+          omega arith
+      | None ↦ λ is.
+          let now : cond (nat_le (task_of node jobs j).cost (executed_before node jobs (suc t) j)) (Some (suc t)) None ≡ Some f = sym (finish_step node jobs j t ∙ rw is) ∙ e in
+          elim (cases_Bool (nat_le (task_of node jobs j).cost (executed_before node jobs (suc t) j))) [
+            | inl y ↦ (let n : ◌≡◌ {A = Option ℕ} (Some (suc t)) (Some f) = rw y at now in let same : suc t ≡ f = cc (n) in omega arith)
+            | inr n ↦ (let m : ◌≡◌ {A = Option ℕ} None (Some f) = rw n at now in absurd (cc (m)))
+          ]
+    ] refl
+
+records_at : (node : Node) (jobs : List Job) (t k : ℕ) (rs : List Release) (j : ℕ) → j < length rs → slice_index_or (records_from node jobs t k rs) j no_record ≡ record_of node jobs t (k + j) (release_at rs j)
+records_at node jobs t k [] j lt = absurd (omega arith)
+records_at node jobs t k (r ∷ rs) zero lt = (let e : k + 0 ≡ k = omega arith in ap (λ n. record_of node jobs t n r) (sym e))
+records_at node jobs t k (r ∷ rs) (suc j) lt = (let e : k + 1 + j ≡ k + suc j = omega arith in records_at node jobs t (k + 1) rs j (omega arith) ∙ ap (λ n. record_of node jobs t n (release_at rs j)) e)
+
+pub bounded_trace : (node : Node) (rs : List Release) (until : ℕ) (trace : Trace) → IsNode node → refusal_of node.tasks rs until ≡ None → trace.jobs.items ≡ records_from node (jobs_of node.tasks rs) until 0 rs → MeetsBounds node rs until trace
+bounded_trace node rs until trace ok e jobs_are j t lt passes in_run =
+    let jobs : List Job = jobs_of node.tasks rs in
+    let l : length (jobs_of node.tasks rs) ≡ length rs = jobs_length node.tasks rs in
+    let is : job_at (jobs_of node.tasks rs) j ≡ job_of node.tasks (release_at rs j) = job_is node.tasks rs j lt in
+    let legal : IsLegal node (jobs_of node.tasks rs) = legal_from node rs until e in
+    let passes' : PassesBy node (job_at (jobs_of node.tasks rs) j).task t = subst (λ x. PassesBy node x.task t) (sym is) passes in
+    let done : (task_of node (jobs_of node.tasks rs) j).cost ≤ executed_before node (jobs_of node.tasks rs) ((job_at (jobs_of node.tasks rs) j).arrival + (0 + t)) j = bound_law node (jobs_of node.tasks rs) ok legal j t (omega arith) passes' in
+    let at_time : (job_at (jobs_of node.tasks rs) j).arrival + (0 + t) ≡ (release_at rs j).time + t = (let a : (job_at (jobs_of node.tasks rs) j).arrival ≡ (release_at rs j).time = ap (λ x. x.arrival) is in omega arith) in
+    let done' : (task_of node (jobs_of node.tasks rs) j).cost ≤ executed_before node (jobs_of node.tasks rs) ((release_at rs j).time + t) j = subst (λ x. (task_of node (jobs_of node.tasks rs) j).cost ≤ executed_before node (jobs_of node.tasks rs) x j) at_time done in
+    let some : 0 < (task_of node (jobs_of node.tasks rs) j).cost = cost_some node rs (runnable_from node rs until ok e) j lt in
+    let f : (f : ℕ) × (finish_before node (jobs_of node.tasks rs) ((release_at rs j).time + t) j ≡ Some f) = finish_some node (jobs_of node.tasks rs) j ((release_at rs j).time + t) some done' in
+    let to : (release_at rs j).time + t + (until - ((release_at rs j).time + t)) ≡ until = omega arith in
+    let then : finish_before node (jobs_of node.tasks rs) until j ≡ Some f.0 = subst (λ x. finish_before node (jobs_of node.tasks rs) x j ≡ Some f.0) to (finish_later node (jobs_of node.tasks rs) j ((release_at rs j).time + t) (until - ((release_at rs j).time + t)) f.0 f.1) in
+    let row : slice_index_or trace.jobs.items j no_record ≡ record_of node (jobs_of node.tasks rs) until j (release_at rs j) =
+    ap (λ (x : List JobRecord). slice_index_or x j no_record) jobs_are ∙ (records_at node (jobs_of node.tasks rs) until 0 rs j lt ∙ ap (λ n. record_of node (jobs_of node.tasks rs) until n (release_at rs j)) (let z : 0 + j ≡ j = omega arith in z)) in
+    (f.0, ap (λ x. x.finish) row ∙ then, finish_within node (jobs_of node.tasks rs) j ((release_at rs j).time + t) f.0 f.1)
+
+pub never_overruns : (node : Node) (rs : List Release) (until : ℕ) (name : List ℕ) (time : ℕ) → IsNode node → refusal_of node.tasks rs until ≡ None → IsOverrun node rs name time → IsPassingOrder node.tasks node.order → ⊥
+never_overruns node rs until name time ok e over order =
+    let first : IsFirstOverrun node (jobs_of node.tasks rs) over.place = over.first in
+    no_overrun_law node (jobs_of node.tasks rs) ok (legal_from node rs until e) order over.place first.is_job first.overruns
+
+-- why a run of a set with a passing order stops
+pub stop_without : (node : Node) (rs : List Release) (until : ℕ) (e : RunFault) → IsNode node → refusal_of node.tasks rs until ≡ None → IsStop node rs e → IsPassingOrder node.tasks node.order → IsNoOverrun e
+stop_without node rs until fault.OutOfMemory ok r stop order = tt
+stop_without node rs until (fault.Overrun name time) ok r stop order = never_overruns node rs until name time ok r stop order
+stop_without node rs until (fault.Unsorted place) ok r stop order = absurd stop
+stop_without node rs until (fault.UnknownTask place) ok r stop order = absurd stop
+stop_without node rs until (fault.TooSoon place) ok r stop order = absurd stop
+stop_without node rs until fault.PastHorizon ok r stop order = absurd stop
+stop_without node rs until fault.TooMany ok r stop order = absurd stop

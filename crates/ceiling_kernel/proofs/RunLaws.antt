@@ -1,0 +1,392 @@
+-- The steps of a run, over the code's own lists.
+use Rattle.std.proofs.Common.{ℕ, zero, suc, ◌+◌, ◌-◌, ◌<◌, ◌≤◌, ◌≡◌, ◌≢◌, ◌⊎◌, inl, inr, refl, sym, ap, ap₂, ◌∙◌, subst, arith, List, [], ◌∷◌, ◌++◌, length, set, get_or, map, take, replicate, Option, Some, None, true, false, is_some, slice_index_or, get_or-set_same, get_or-set_other, length-set}
+use Rattle.std.proofs.lemmas.Bool.{cases_eq, cases_lt, true≢false}
+use Rattle.std.proofs.lemmas.List.{length-map, length-take, take_more, get_or_default, get_or-replicate, length-replicate}
+use Rattle.std.proofs.lemmas.List.Elements.{All-get_or}
+use Rattle.task_sheet.specs.Sheet.{Task, IsValidSheet, no_task, task_at}
+use Rattle.task_sheet.specs.TaskSet.{IsTaskSet}
+use Rattle.ceiling_kernel.specs.declared.trace.Release.{Release}
+use Rattle.ceiling_kernel.specs.declared.tasks.NodeTask.{NodeTask}
+use Rattle.ceiling_kernel.specs.declared.run.Pending.{Pending}
+use Rattle.ceiling_kernel.specs.Tick.{Node, Job, job_at, task_of, level_at, executed_before, picked}
+use Rattle.ceiling_kernel.specs.Trace.{with_run, slices_before, finish_before}
+use Rattle.ceiling_kernel.specs.Jumps.{change_after, NoneReadyBetween}
+use Rattle.ceiling_kernel.specs.Waits.{IsNode, Overruns}
+use Rattle.ceiling_kernel.specs.Releases.{task_number, job_of, jobs_of, release_at, IsOverrun, record_of, records_from}
+use Rattle.ceiling_kernel.specs.NodeTasks.{IsTaskOf}
+use Rattle.ceiling_kernel.specs.Runs.{active_at, best_slot, next_change, IsRunnable, IsPending, Kept, AreFinishes}
+use Rattle.ceiling_kernel.specs.Lists.{list_at, with_tail, without_head, moved_to, Queues, IsAlone}
+use Rattle.ceiling_kernel.proofs.NodeLaws.{AreApart, IsSoundTask, IsSound, sound}
+use Rattle.ceiling_kernel.proofs.MachineLaws.{picked_is, IsPick}
+use Rattle.ceiling_kernel.proofs.JumpLaws as jump
+use Rattle.ceiling_kernel.proofs.SlotLaws.{IsBestSlot, slot_some}
+use Rattle.ceiling_kernel.proofs.FinishLaws.{finish_stays, finish_now}
+use Rattle.ceiling_kernel.proofs.TaskLaws.{next_change-is}
+use Rattle.ceiling_kernel.proofs.KeptLaws as laws
+use Rattle.ceiling_kernel.proofs.MoveLaws as move
+
+-- ---- releases and jobs
+pub job_is : (U : List Task) (rs : List Release) (j : ℕ) → j < length rs → job_at (jobs_of U rs) j ≡ job_of U (release_at rs j)
+job_is U [] j lt = absurd (omega arith)
+job_is U (r ∷ rs) zero lt = refl
+job_is U (r ∷ rs) (suc j) lt = job_is U rs j (omega arith)
+
+pub jobs_length : (U : List Task) (rs : List Release) → length (jobs_of U rs) ≡ length rs
+jobs_length U rs = length-map rs (job_of U)
+
+numbers_at : (U : List Task) (rs : List Release) (j : ℕ) → j < length rs → get_or (map (task_number U) rs) j 0 ≡ task_number U (release_at rs j)
+numbers_at U [] j lt = absurd (omega arith)
+numbers_at U (r ∷ rs) zero lt = refl
+numbers_at U (r ∷ rs) (suc j) lt = numbers_at U rs j (omega arith)
+
+-- the kept index of a release's task
+pub place_is : (U : List Task) (rs : List Release) (places : List ℕ) (j : ℕ) → places ≡ map (task_number U) rs → j < length rs → get_or places j 0 ≡ task_number U (release_at rs j)
+place_is U rs places j e lt = ap (λ x. get_or x j 0) e ∙ numbers_at U rs j lt
+
+-- what `v[i]` reads, at another default
+pub read_at : {X : Type 0} (xs : List X) (i : ℕ) (x d : X) → i < length xs → x ≡ slice_index_or xs i x → slice_index_or xs i d ≡ x
+read_at xs i x d lt e = get_or_default xs i d x lt ∙ sym e
+
+pub some_from : (o : Option Pending) → true ≡ is_some o → (q : Pending) × (o ≡ Some q)
+some_from None e = absurd (true≢false e)
+some_from (Some q) e = (q, refl)
+
+pub none_from : (o : Option Pending) → false ≡ is_some o → o ≡ None
+none_from None e = refl
+none_from (Some q) e = absurd (true≢false (sym e))
+
+pub no_slices : (run : ℕ → Option ℕ) → [] ≡ slices_before run 0
+unfolding slices_before
+no_slices run = refl
+
+finish_first : (node : Node) (jobs : List Job) (j : ℕ) → finish_before node jobs 0 j ≡ None
+unfolding finish_before
+finish_first node jobs j = refl
+
+-- ---- records
+records-more : (node : Node) (jobs : List Job) (t k : ℕ) (rs : List Release) (r : Release) → records_from node jobs t k (rs ++ r ∷ []) ≡ records_from node jobs t k rs ++ record_of node jobs t (k + length rs) r ∷ []
+records-more node jobs t k [] r = (let e : k + 0 ≡ k = omega arith in ap (λ x. record_of node jobs t x r ∷ []) (sym e))
+records-more node jobs t k (s ∷ rs) r =
+    let e : k + 1 + length rs ≡ k + suc (length rs) = omega arith in
+    ap (λ x. record_of node jobs t k s ∷ x) (records-more node jobs t (k + 1) rs r ∙ ap (λ x. records_from node jobs t (k + 1) rs ++ record_of node jobs t x r ∷ []) e)
+
+pub records-next : (node : Node) (jobs : List Job) (t : ℕ) (rs : List Release) (k : ℕ) (r : Release) → k < length rs → r ≡ get_or rs k r →
+    records_from node jobs t 0 (take (k + 1) rs) ≡ records_from node jobs t 0 (take k rs) ++ record_of node jobs t k r ∷ []
+records-next node jobs t rs k r lt same =
+    let n : 0 + length (take k rs) ≡ k = omega (arith, length-take k rs) in
+    ap (records_from node jobs t 0) (take_more rs k r lt)
+    ∙ (records-more node jobs t 0 (take k rs) (get_or rs k r)
+    ∙ ap₂ (λ m x. records_from node jobs t 0 (take k rs) ++ record_of node jobs t m x ∷ []) n (sym same))
+
+-- ---- a run
+module _ (node : Node) (rs : List Release) (runnable : IsRunnable node rs) where
+  ok : IsNode node
+  ok = runnable.of_node
+
+  abbrev jobs : List Job
+  jobs = jobs_of node.tasks rs
+
+  abbrev task_no : ℕ → ℕ
+  task_no j = (job_at jobs j).task
+
+  is_sound : IsSound node
+  is_sound = sound node ok
+
+  pub known_of : (j : ℕ) → j < length jobs → task_no j < length node.tasks
+  known_of j lt =
+      let l : length jobs ≡ length rs = jobs_length node.tasks rs in
+      let lt' : j < length rs = omega arith in
+      let e : task_no j ≡ task_number node.tasks (release_at rs j) = ap (λ x. x.task) (job_is node.tasks rs j lt') in
+      let k : task_number node.tasks (release_at rs j) < length node.tasks = runnable.known j lt' in
+      omega arith
+
+  ready_is : (j : ℕ) → j < length rs → (job_at jobs j).ready ≡ (release_at rs j).time
+  ready_is j lt = ap (λ x. x.ready) (job_is node.tasks rs j lt)
+
+  valid_cost : (i : ℕ) → i < length node.tasks → (0 < (task_at node.tasks i).cost) × ((task_at node.tasks i).cost ≤ 10000000)
+  valid_cost i lt =
+      let n : IsNode node = ok in let s : IsTaskSet node.tasks = n.tasks in
+      let v : IsValidSheet (task_at node.tasks i) = All-get_or IsValidSheet node.tasks i no_task lt s.valid in
+      let c : (task_at node.tasks i).cost ≤ (task_at node.tasks i).period = v.cost_to in
+      let p : (task_at node.tasks i).period ≤ 10000000 = v.period_to in
+      (v.cost_from, omega arith)
+
+  pub few_tasks : length node.tasks ≤ 32
+  few_tasks = (let n : IsNode node = ok in let s : IsTaskSet node.tasks = n.tasks in s.few)
+
+  pub cost_some : (j : ℕ) → j < length rs → 0 < (task_of node jobs j).cost
+  cost_some j lt = (let l : length jobs ≡ length rs = jobs_length node.tasks rs in (valid_cost (task_no j) (known_of j (omega arith))).0)
+
+  -- before the first tick
+  pub kept_start : Kept node jobs 0 0 (replicate (length node.tasks) None)
+  kept_start = laws.kept_start node jobs is_sound known_of
+
+  pub finishes_start : AreFinishes node rs 0 (replicate (length rs) None)
+  finishes_start = record {
+    count = length-replicate (length rs) none_of;
+    each = λ j lt. get_or-replicate (length rs) j none_of None lt ∙ sym (finish_first node jobs j);
+  }
+    where
+      none_of : Option ℕ
+      none_of = None
+
+  module _ (t next : ℕ) (slots : List (Option Pending)) (kept : Kept node jobs t next slots) where
+    abbrev slot_of : ℕ → Option Pending
+    slot_of i = slice_index_or slots i None
+
+    -- ---- the next release
+    module _ (lt : next < length rs) (ready : (release_at rs next).time ≤ t) where
+      next_below : next < length jobs
+      next_below = (let l : length jobs ≡ length rs = jobs_length node.tasks rs in omega arith)
+
+      next_ready : (job_at jobs next).ready ≤ t
+      next_ready = (let r : (job_at jobs next).ready ≡ (release_at rs next).time = ready_is next lt in omega arith)
+
+      next_task : task_number node.tasks (release_at rs next) ≡ task_no next
+      next_task = sym (ap (λ x. x.task) (job_is node.tasks rs next lt))
+
+      -- what the code reads of its slot
+      pub slot_read : (places : List ℕ) (x : Option Pending) → places ≡ map (task_number node.tasks) rs → x ≡ slice_index_or slots (get_or places next 0) x → slot_of (task_number node.tasks (release_at rs next)) ≡ x
+      slot_read places x e read =
+          let i : get_or places next 0 ≡ task_number node.tasks (release_at rs next) = place_is node.tasks rs places next e lt in
+          let k : task_number node.tasks (release_at rs next) < length node.tasks = runnable.known next lt in
+          let c : length slots ≡ length node.tasks = kept.slot_count in
+          subst (λ z. slot_of z ≡ x) i (read_at slots (get_or places next 0) x None (omega arith) read)
+
+      pub admit : (p : Pending) → p.job ≡ next → p.task ≡ task_number node.tasks (release_at rs next) → p.level ≡ level_at node (task_number node.tasks (release_at rs next)) → p.executed ≡ 0
+          → p.active ≡ level_at node (task_number node.tasks (release_at rs next)) → slot_of (task_number node.tasks (release_at rs next)) ≡ None
+          → Kept node jobs t (suc next) (set slots (task_number node.tasks (release_at rs next)) (Some p))
+      admit p job task level executed active free =
+          subst (λ x. Kept node jobs t (suc next) (set slots x (Some p))) (sym next_task)
+          (laws.kept_admit node jobs is_sound known_of t next slots kept p next_below next_ready job (task ∙ next_task) (level ∙ ap (level_at node) next_task) executed (active ∙ ap (level_at node) next_task)
+          (subst (λ x. slot_of x ≡ None) next_task free))
+
+      -- its task comes to the tail of the list of its own level
+      pub admit_lists : (lists : List (List ℕ)) → Queues (λ k. slice_index_or slots k None) (list_at lists) → length lists ≡ length node.tasks + 1 → (p : Pending) → p.level ≡ level_at node (task_number node.tasks (release_at rs next))
+          → p.active ≡ level_at node (task_number node.tasks (release_at rs next)) → slot_of (task_number node.tasks (release_at rs next)) ≡ None
+          → Queues (λ k. slice_index_or (set slots (task_number node.tasks (release_at rs next)) (Some p)) k None) (list_at (with_tail lists p.active (task_number node.tasks (release_at rs next))))
+      admit_lists lists queues count p level active free =
+          move.queues_admit node jobs is_sound t next slots kept lists queues ok p (task_number node.tasks (release_at rs next)) (runnable.known next lt) count level active free
+
+      pub admit_alone : (lists : List (List ℕ)) → Queues (λ k. slice_index_or slots k None) (list_at lists) → IsAlone slot_of → (p : Pending) → p.level ≡ level_at node (task_number node.tasks (release_at rs next)) → p.active ≡ level_at node (task_number node.tasks (release_at rs next))
+          → IsAlone (λ k. slice_index_or (set slots (task_number node.tasks (release_at rs next)) (Some p)) k None)
+      admit_alone lists queues alone p level active = move.alone_admit node jobs is_sound t next slots kept lists queues alone p (task_number node.tasks (release_at rs next)) (runnable.known next lt) level active
+
+      pub overrun : (q : Pending) → slot_of (task_number node.tasks (release_at rs next)) ≡ Some q → (r : Release) → release_at rs next ≡ r → IsOverrun node rs r.name r.time
+      overrun q taken r e =
+          let l : length jobs ≡ length rs = jobs_length node.tasks rs in
+          let over : Overruns node jobs next = laws.overruns_now node jobs is_sound known_of t next slots kept next_below next_ready q (subst (λ x. slot_of x ≡ Some q) next_task taken) in
+          record {
+            place = next;
+            first = record {
+              is_job = next_below;
+              overruns = over;
+              earliest = λ j below other. elim (cases_lt j next) [
+                | inl before ↦ absurd (kept.no_overrun j before other)
+                | inr above ↦
+                    let order : (release_at rs next).time ≤ (release_at rs j).time = runnable.sorted next j above (omega arith) in
+                    let rn : (job_at jobs next).ready ≡ (release_at rs next).time = ready_is next lt in
+                    let rj : (job_at jobs j).ready ≡ (release_at rs j).time = ready_is j (omega arith) in
+                    omega arith
+              ];
+              first = λ j before other. absurd (kept.no_overrun j before other);
+            };
+            name_is = ap (λ x. x.name) (sym e);
+            time_is = ap (λ x. x.time) (sym e);
+          }
+
+    -- ---- up to a limit, at which the next release stands at the earliest
+    module _ (limit : ℕ) (after : t < limit) (before_next : next < length rs → limit ≤ (release_at rs next).time) where
+      all_later : (j : ℕ) → next ≤ j → j < length jobs → limit ≤ (job_at jobs j).ready
+      all_later j above lt =
+          let l : length jobs ≡ length rs = jobs_length node.tasks rs in
+          let first : limit ≤ (release_at rs next).time = before_next (omega arith) in
+          let order : (release_at rs next).time ≤ (release_at rs j).time = runnable.sorted next j above (omega arith) in
+          let r : (job_at jobs j).ready ≡ (release_at rs j).time = ready_is j (omega arith) in
+          omega arith
+
+      later : (j : ℕ) → next ≤ j → j < length jobs → t < (job_at jobs j).ready
+      later j above lt = (let l : limit ≤ (job_at jobs j).ready = all_later j above lt in omega arith)
+
+      later_by : (k : ℕ) → t + k ≤ limit → (j : ℕ) → next ≤ j → j < length jobs → t + k ≤ (job_at jobs j).ready
+      later_by k le j above lt = (let l : limit ≤ (job_at jobs j).ready = all_later j above lt in omega arith)
+
+      -- nothing is pending
+      module _ (none : best_slot slots None ≡ None) where
+        idle_now : picked node jobs t ≡ None
+        idle_now = laws.idle_is node jobs is_sound known_of t next slots kept later none
+
+        to_limit : t + (limit - t) ≡ limit
+        to_limit = omega arith
+
+        pub idle_kept : Kept node jobs limit next slots
+        idle_kept = subst (λ x. Kept node jobs x next slots) to_limit (laws.kept_idle node jobs is_sound known_of t next slots kept (limit - t) (later_by (limit - t) (omega arith)) idle_now)
+
+        none_between : NoneReadyBetween jobs t (t + (limit - t))
+        none_between = laws.none_between node jobs is_sound known_of t next slots kept (limit - t) (later_by (limit - t) (omega arith))
+
+        pub idle_slices : slices_before (picked node jobs) limit ≡ slices_before (picked node jobs) t
+        idle_slices =
+            subst (λ x. slices_before (picked node jobs) x ≡ slices_before (picked node jobs) t) to_limit
+            (jump.slices_idle (picked node jobs) t (limit - t) (jump.idle_stays node jobs t (limit - t) idle_now none_between))
+
+        pub idle_finishes : (fs : List (Option ℕ)) → AreFinishes node rs t fs → AreFinishes node rs limit fs
+        idle_finishes fs are = record {
+          count = are.count;
+          each = λ j lt.
+              let same : executed_before node jobs (t + (limit - t)) j ≡ executed_before node jobs t j = laws.idle_same node jobs is_sound known_of t next slots kept (limit - t) (later_by (limit - t) (omega arith)) idle_now j in
+              let stays : finish_before node jobs (t + (limit - t)) j ≡ finish_before node jobs t j = finish_stays node jobs j t (limit - t) (cost_some j lt) (inl same) in
+              are.each j lt ∙ (sym stays ∙ ap (λ x. finish_before node jobs x j) to_limit);
+        }
+
+      -- the pending job p goes first
+      module _ (p : Pending) (best : best_slot slots None ≡ Some p) where
+        abbrev cost : ℕ
+        cost = (task_at node.tasks p.task).cost
+
+        place : (i : ℕ) × (slot_of i ≡ Some p)
+        place = (let s : IsBestSlot slots None p = slot_some slots None p best in elim s.from [ inl no_one ↦ absurd (laws.no_some p no_one) | inr found ↦ found ])
+
+        pub slot : slot_of p.task ≡ Some p
+        slot = (let m : IsPending node jobs t next place.0 p = kept.pending place.0 p place.1 in subst (λ x. slot_of x ≡ Some p) (sym m.task) place.1)
+
+        is_p : IsPending node jobs t next p.task p
+        is_p = kept.pending p.task p slot
+
+        picks_now : picked node jobs t ≡ Some p.job
+        picks_now = laws.pick_is node jobs is_sound known_of t next slots kept later p best
+
+        job_below : p.job < length jobs
+        job_below = (let is : IsPick node jobs t p.job = picked_is node jobs t p.job picks_now in is.below)
+
+        pub job_in : p.job < length rs
+        job_in = (let l : length jobs ≡ length rs = jobs_length node.tasks rs in let b : p.job < length jobs = job_below in omega arith)
+
+        pub task_in : p.task < length node.tasks
+        task_in = (let m : IsPending node jobs t next p.task p = is_p in let k : task_no p.job < length node.tasks = known_of p.job job_below in let e : task_no p.job ≡ p.task = m.own in omega arith)
+
+        pub task_in_slots : p.task < length slots
+        task_in_slots = (let c : length slots ≡ length node.tasks = kept.slot_count in let l : p.task < length node.tasks = task_in in omega arith)
+
+        apart : AreApart 0 (task_at node.tasks p.task).sections cost
+        apart = (let s : IsSound node = is_sound in let v : IsSoundTask node p.task = s.each p.task task_in in v.apart)
+
+        pub small : cost ≤ 10000000
+        small = (valid_cost p.task task_in).1
+
+        pub list_is : (lists : List (List ℕ)) → Queues (λ k. slice_index_or slots k None) (list_at lists) → p.active < length lists
+        list_is lists queues = move.list_in slots lists queues p.active 0 p.task (move.stands_first slots lists queues p p.task best slot)
+
+        pub finish_lists : (lists : List (List ℕ)) → Queues (λ k. slice_index_or slots k None) (list_at lists) → Queues (λ k. slice_index_or (set slots p.task None) k None) (list_at (without_head lists p.active))
+        finish_lists lists queues = move.queues_finish slots lists queues p p.task task_in_slots best slot
+
+        pub finish_alone : (lists : List (List ℕ)) → Queues (λ k. slice_index_or slots k None) (list_at lists) → IsAlone slot_of → IsAlone (λ k. slice_index_or (set slots p.task None) k None)
+        finish_alone lists queues alone = move.alone_finish node jobs is_sound t next slots kept lists queues alone p.task task_in_slots
+
+        -- of what is kept of its task
+        module _ (x : NodeTask) (is_x : IsTaskOf node p.task x) where
+          change_is : next_change x.sections.items p.executed x.cost ≡ change_after (task_at node.tasks p.task).sections p.executed cost
+          change_is = ap (λ z. next_change x.sections.items p.executed z) is_x.cost ∙ next_change-is node (task_at node.tasks p.task).sections x.sections.items p.executed cost is_x.sections
+
+          pub ahead : (p.executed < next_change x.sections.items p.executed x.cost) × (next_change x.sections.items p.executed x.cost ≤ x.cost)
+          ahead =
+              let m : IsPending node jobs t next p.task p = is_p in
+              let b : (p.executed < change_after (task_at node.tasks p.task).sections p.executed cost) × (change_after (task_at node.tasks p.task).sections p.executed cost ≤ cost) = jump.change_above 0 cost (task_at node.tasks p.task).sections p.executed apart m.unfinished in
+              let e : next_change x.sections.items p.executed x.cost ≡ change_after (task_at node.tasks p.task).sections p.executed cost = change_is in
+              let c : x.cost ≡ cost = is_x.cost in
+              (omega arith, omega arith)
+
+          module _ (stop : ℕ) (runs : t < stop) (in_limit : stop ≤ limit) (within : p.executed + (stop - t) ≤ next_change x.sections.items p.executed x.cost) where
+            within_p : p.executed + (stop - t) ≤ change_after (task_at node.tasks p.task).sections p.executed cost
+            within_p = (let e : next_change x.sections.items p.executed x.cost ≡ change_after (task_at node.tasks p.task).sections p.executed cost = change_is in omega arith)
+
+            to_stop : t + (stop - t) ≡ stop
+            to_stop = omega arith
+
+            by_stop : (j : ℕ) → next ≤ j → j < length jobs → t + (stop - t) ≤ (job_at jobs j).ready
+            by_stop = later_by (stop - t) (omega arith)
+
+            own : executed_before node jobs (t + (stop - t)) p.job ≡ p.executed + (stop - t)
+            own = laws.own_then node jobs is_sound known_of t next slots kept (stop - t) by_stop p.task p slot picks_now within_p
+
+            others : (j : ℕ) → j ≢ p.job → executed_before node jobs (t + (stop - t)) j ≡ executed_before node jobs t j
+            others = laws.others_then node jobs is_sound known_of t next slots kept (stop - t) by_stop p.task p slot picks_now within_p
+
+            cost_p : (task_of node jobs p.job).cost ≡ cost
+            cost_p = (let m : IsPending node jobs t next p.task p = is_p in ap (λ z. (task_at node.tasks z).cost) m.own)
+
+            pub run_slices : slices_before (picked node jobs) stop ≡ with_run (slices_before (picked node jobs) t) p.job t stop
+            run_slices =
+                let more : t + suc (stop - t - 1) ≡ stop = omega arith in
+                let stays : (d : ℕ) → d < stop - t → picked node jobs (t + d) ≡ Some p.job = laws.picks node jobs is_sound known_of t next slots kept (stop - t) by_stop p.task p slot picks_now within_p in
+                subst (λ y. slices_before (picked node jobs) y ≡ with_run (slices_before (picked node jobs) t) p.job t y) more
+                (jump.slices_run (picked node jobs) t (stop - t - 1) p.job (λ d lt. stays d (omega arith)))
+
+            pub run_kept : (p' : Pending) → p'.job ≡ p.job → p'.task ≡ p.task → p'.level ≡ p.level → p'.executed ≡ p.executed + (stop - t) → p'.active ≡ active_at node p.task p'.executed → p.executed + (stop - t) < cost
+                → Kept node jobs stop next (set slots p.task (Some p'))
+            run_kept p' job task level executed active open_ =
+                subst (λ y. Kept node jobs y next (set slots p.task (Some p'))) to_stop
+                (laws.kept_run node jobs is_sound known_of t next slots kept (stop - t) by_stop p.task p slot picks_now within_p p' job task level executed active open_)
+
+            -- its next active priority
+            next_is : (active : ℕ) → active ≡ active_at node p.task (p.executed + (stop - t)) → (active ≡ level_at node p.task) ⊎ (p.active ≤ active)
+            next_is active e =
+                let m : IsPending node jobs t next p.task p = is_p in
+                let was : p.active ≡ active_at node p.task p.executed = m.active in
+                elim (move.active_next node p.task p.executed (p.executed + (stop - t)) apart (omega arith) within_p) [ inl own_level ↦ inl (e ∙ own_level) | inr more ↦ inr (omega arith) ]
+
+            pub run_lists : (lists : List (List ℕ)) → Queues (λ k. slice_index_or slots k None) (list_at lists) → IsAlone slot_of → length lists ≡ length node.tasks + 1 → (p' : Pending) → p'.level ≡ p.level → p'.active ≡ active_at node p.task (p.executed + (stop - t))
+                → Queues (λ k. slice_index_or (set slots p.task (Some p')) k None) (list_at (moved_to lists p.active p'.active p.task))
+            run_lists lists queues alone count p' level active =
+                let most : active_at node p.task (p.executed + (stop - t)) ≤ length node.tasks = move.active_within node ok p.task (p.executed + (stop - t)) in
+                move.queues_run node jobs is_sound t next slots kept lists queues alone p p' p.task task_in best slot level (omega arith) (next_is p'.active active)
+
+            pub run_alone : (lists : List (List ℕ)) → Queues (λ k. slice_index_or slots k None) (list_at lists) → IsAlone slot_of → (p' : Pending) → p'.level ≡ p.level → p'.active ≡ active_at node p.task (p.executed + (stop - t))
+                → IsAlone (λ k. slice_index_or (set slots p.task (Some p')) k None)
+            run_alone lists queues alone p' level active = move.alone_run node jobs is_sound t next slots kept lists queues alone p p' p.task task_in best slot level (next_is p'.active active)
+
+            pub finish_kept : p.executed + (stop - t) ≡ cost → Kept node jobs stop next (set slots p.task None)
+            finish_kept full =
+                subst (λ y. Kept node jobs y next (set slots p.task None)) to_stop
+                (laws.kept_finish node jobs is_sound known_of t next slots kept (stop - t) by_stop p.task p slot picks_now within_p full)
+
+            -- what is known of another job's finish stays
+            other_finish : (j : ℕ) → j < length rs → j ≢ p.job → finish_before node jobs t j ≡ finish_before node jobs stop j
+            other_finish j lt ne =
+                let stays : finish_before node jobs (t + (stop - t)) j ≡ finish_before node jobs t j = finish_stays node jobs j t (stop - t) (cost_some j lt) (inl (others j ne)) in
+                sym stays ∙ ap (λ y. finish_before node jobs y j) to_stop
+
+            pub run_finishes : p.executed + (stop - t) < cost → (fs : List (Option ℕ)) → AreFinishes node rs t fs → AreFinishes node rs stop fs
+            run_finishes open_ fs are = record {
+              count = are.count;
+              each = λ j lt. are.each j lt ∙ elim (cases_eq j p.job) [
+                | inl same ↦
+                    let o : executed_before node jobs (t + (stop - t)) p.job ≡ p.executed + (stop - t) = own in
+                    let c : (task_of node jobs p.job).cost ≡ cost = cost_p in
+                    let stays : finish_before node jobs (t + (stop - t)) p.job ≡ finish_before node jobs t p.job = finish_stays node jobs p.job t (stop - t) (cost_some p.job job_in) (inr (omega arith)) in
+                    subst (λ z. finish_before node jobs t z ≡ finish_before node jobs stop z) (sym same) (sym stays ∙ ap (λ y. finish_before node jobs y p.job) to_stop)
+                | inr ne ↦ other_finish j lt ne
+              ];
+            }
+
+            pub finish_finishes : p.executed + (stop - t) ≡ cost → (fs : List (Option ℕ)) → AreFinishes node rs t fs → AreFinishes node rs stop (set fs p.job (Some stop))
+            finish_finishes full fs are =
+                let c : (task_of node jobs p.job).cost ≡ cost = cost_p in
+                let last : t + suc (stop - t - 1) ≡ stop = omega arith in
+                let short : executed_before node jobs (t + (stop - t - 1)) p.job < (task_of node jobs p.job).cost =
+                (let o : executed_before node jobs (t + (stop - t - 1)) p.job ≡ p.executed + (stop - t - 1) =
+                laws.own_then node jobs is_sound known_of t next slots kept (stop - t - 1) (later_by (stop - t - 1) (omega arith)) p.task p slot picks_now (let w : p.executed + (stop - t) ≤ change_after (task_at node.tasks p.task).sections p.executed cost = within_p in omega arith) in omega arith) in
+                let full_then : (task_of node jobs p.job).cost ≤ executed_before node jobs (t + suc (stop - t - 1)) p.job =
+                (let o : executed_before node jobs (t + (stop - t)) p.job ≡ p.executed + (stop - t) = own in
+                let e : t + (stop - t) ≡ t + suc (stop - t - 1) = omega arith in
+                subst (λ y. (task_of node jobs p.job).cost ≤ executed_before node jobs y p.job) e (omega arith)) in
+                let now : finish_before node jobs stop p.job ≡ Some stop = subst (λ y. finish_before node jobs y p.job ≡ Some y) last (finish_now node jobs p.job t (stop - t - 1) short full_then) in
+                let count : length fs ≡ length rs = are.count in
+                let in_fs : p.job < length fs = (let l : p.job < length rs = job_in in omega arith) in
+                record {
+                  count = length-set fs p.job (Some stop) ∙ are.count;
+                  each = λ j lt. elim (cases_eq j p.job) [
+                    | inl same ↦ subst (λ z. slice_index_or (set fs p.job (Some stop)) z None ≡ finish_before node jobs stop z) (sym same) (get_or-set_same fs p.job (Some stop) None in_fs ∙ sym now)
+                    | inr ne ↦ get_or-set_other fs p.job j (Some stop) None ne ∙ (are.each j lt ∙ other_finish j lt ne)
+                  ];
+                }

@@ -1,0 +1,130 @@
+-- What is left of the section that a job is inside of, where its ceiling reaches a level.
+use Rattle.std.proofs.Common.{ℕ, suc, ◌+◌, ◌-◌, ◌<◌, ◌≤◌, ◌≡◌, inl, inr, refl, arith, if◌then◌else◌, true, false, ◌&&◌, max, List, [], ◌∷◌, nat_le, nat_lt}
+use Rattle.std.proofs.lemmas.Bool.{cases_lt, cases_Bool, lt-ltb, le-ltb, le-leb, lt-leb, leb-true, ltb-true, and_parts, and_left, and_right, and_from}
+use Rattle.task_sheet.specs.Sheet.{CriticalSection}
+use Rattle.task_sheet.specs.Indexes.{Indexes}
+use Rattle.task_sheet.specs.Locks.{reaches}
+use Rattle.task_sheet.specs.Demand.{greatest_of}
+use Rattle.ceiling_kernel.specs.Tick.{Node, is_inside, top_ceiling, held_ceiling}
+use Rattle.ceiling_kernel.proofs.NodeLaws.{AreApart}
+
+pub inside_true : (s : CriticalSection) (e : ℕ) → is_inside s e ≡ true → (s.at < e) × (e < s.at + s.len)
+inside_true s e h =
+    let p : (nat_lt s.at e ≡ true) × (nat_lt e (s.at + s.len) ≡ true) = and_parts (nat_lt s.at e) (nat_lt e (s.at + s.len)) h in
+    (ltb-true s.at e p.0, ltb-true e (s.at + s.len) p.1)
+
+pub inside_from : (s : CriticalSection) (e : ℕ) → s.at < e → e < s.at + s.len → is_inside s e ≡ true
+inside_from s e lo hi = and_from (nat_lt s.at e) (nat_lt e (s.at + s.len)) (lt-ltb s.at e lo) (lt-ltb e (s.at + s.len) hi)
+
+pub outside_before : (s : CriticalSection) (e : ℕ) → e ≤ s.at → is_inside s e ≡ false
+outside_before s e h = and_left (nat_lt s.at e) (nat_lt e (s.at + s.len)) (le-ltb s.at e h)
+
+pub outside_after : (s : CriticalSection) (e : ℕ) → s.at + s.len ≤ e → is_inside s e ≡ false
+outside_after s e h = and_right (nat_lt s.at e) (nat_lt e (s.at + s.len)) (le-ltb e (s.at + s.len) h)
+
+module _ (node : Node) (level : ℕ) where
+  abbrev pub rest_of : List CriticalSection → ℕ → ℕ
+  rest_of [] e = 0
+  rest_of (s ∷ ss) e = if is_inside s e && nat_le level (top_ceiling node s.locks) then (s.at + s.len) - e else rest_of ss e
+
+  -- before the sections begin, none is left
+  pub rest_before : (begin cost : ℕ) (ss : List CriticalSection) (e : ℕ) → AreApart begin ss cost → e ≤ begin → rest_of ss e ≡ 0
+  rest_before begin cost [] e apart h = refl
+  rest_before begin cost (s ∷ ss) e apart h =
+      let out : is_inside s e ≡ false = outside_before s e (omega arith) in
+      rw out (rest_before (s.at + s.len) cost ss e apart.2 (omega arith))
+
+  pub rest_after : (begin cost : ℕ) (ss : List CriticalSection) (e : ℕ) → AreApart begin ss cost → 0 < rest_of ss e → (begin < e) × (e < cost)
+  rest_after begin cost [] e apart h = absurd (omega arith)
+  rest_after begin cost (s ∷ ss) e apart h =
+      elim (cases_Bool (is_inside s e && nat_le level (top_ceiling node s.locks))) [
+        | inl reaching ↦
+            let p : (is_inside s e ≡ true) × (nat_le level (top_ceiling node s.locks) ≡ true) = and_parts (is_inside s e) (nat_le level (top_ceiling node s.locks)) reaching in
+            let b : (s.at < e) × (e < s.at + s.len) = inside_true s e p.0 in
+            let c : s.at + s.len ≤ cost = end_within (s.at + s.len) cost ss apart.2 in
+            (omega arith, omega arith)
+        | inr not_it ↦
+            let later : 0 < rest_of ss e = rw not_it at h in
+            let r : (s.at + s.len < e) × (e < cost) = rest_after (s.at + s.len) cost ss e apart.2 later in
+            (omega arith, r.1)
+      ]
+    where
+      end_within : (begin cost : ℕ) (ss : List CriticalSection) → AreApart begin ss cost → begin ≤ cost
+      end_within begin cost [] apart = apart
+      end_within begin cost (s ∷ ss) apart = let c : s.at + s.len ≤ cost = end_within (s.at + s.len) cost ss apart.2 in omega arith
+
+  -- one tick takes one from it
+  pub rest_next_of : (begin cost : ℕ) (ss : List CriticalSection) (e : ℕ) → AreApart begin ss cost → 0 < rest_of ss e → rest_of ss e ≡ suc (rest_of ss (suc e))
+  rest_next_of begin cost [] e apart h = absurd (omega arith)
+  rest_next_of begin cost (s ∷ ss) e apart h =
+      elim (cases_Bool (is_inside s e && nat_le level (top_ceiling node s.locks))) [
+        | inl reaching ↦
+            let p : (is_inside s e ≡ true) × (nat_le level (top_ceiling node s.locks) ≡ true) = and_parts (is_inside s e) (nat_le level (top_ceiling node s.locks)) reaching in
+            let b : (s.at < e) × (e < s.at + s.len) = inside_true s e p.0 in
+            elim (cases_lt (suc e) (s.at + s.len)) [
+              | inl still ↦
+                  let still_in : is_inside s (suc e) ≡ true = inside_from s (suc e) (omega arith) still in
+                  rw (p.0, p.1, still_in) (omega arith)
+              | inr left ↦
+                  let out : is_inside s (suc e) ≡ false = outside_after s (suc e) left in
+                  let none : rest_of ss (suc e) ≡ 0 = rest_before (s.at + s.len) cost ss (suc e) apart.2 (omega arith) in
+                  rw (p.0, p.1, out, none) (omega arith)
+            ]
+        | inr not_it ↦
+            let later : 0 < rest_of ss e = rw not_it at h in
+            let r : (s.at + s.len < e) × (e < cost) = rest_after (s.at + s.len) cost ss e apart.2 later in
+            let out : is_inside s (suc e) ≡ false = outside_after s (suc e) (omega arith) in
+            let ih : rest_of ss e ≡ suc (rest_of ss (suc e)) = rest_next_of (s.at + s.len) cost ss e apart.2 later in
+            rw (not_it, out) ih
+      ]
+
+  -- it is at most the longest section that some tasks reach, where they reach each one whose ceiling reaches the level
+  pub rest-le : (X : Indexes) → ((s : CriticalSection) → level ≤ top_ceiling node s.locks → reaches node.tasks X s ≡ true) → (ss : List CriticalSection) (e : ℕ) → rest_of ss e ≤ greatest_of (λ s. if reaches node.tasks X s then s.len else 0) ss
+  rest-le X all [] e = omega arith
+  rest-le X all (s ∷ ss) e =
+      let ih : rest_of ss e ≤ greatest_of (λ s. if reaches node.tasks X s then s.len else 0) ss = rest-le X all ss e in
+      elim (cases_Bool (is_inside s e && nat_le level (top_ceiling node s.locks))) [
+        | inl reaching ↦
+            let p : (is_inside s e ≡ true) × (nat_le level (top_ceiling node s.locks) ≡ true) = and_parts (is_inside s e) (nat_le level (top_ceiling node s.locks)) reaching in
+            let b : (s.at < e) × (e < s.at + s.len) = inside_true s e p.0 in
+            let r : reaches node.tasks X s ≡ true = all s (leb-true level (top_ceiling node s.locks) p.1) in
+            rw (p.0, p.1, r) (omega arith)
+        | inr not_it ↦ rw not_it (omega arith)
+      ]
+
+  -- a section is left exactly where the held ceiling reaches the level
+  pub rest_from_held : (ss : List CriticalSection) (e : ℕ) → 0 < level → level ≤ held_ceiling node ss e → 0 < rest_of ss e
+  rest_from_held [] e some h = absurd (omega arith)
+  rest_from_held (s ∷ ss) e some h =
+      elim (cases_Bool (is_inside s e)) [
+        | inl inside ↦
+            let b : (s.at < e) × (e < s.at + s.len) = inside_true s e inside in
+            elim (cases_lt (top_ceiling node s.locks) level) [
+              | inr reaches ↦
+                  let t : nat_le level (top_ceiling node s.locks) ≡ true = le-leb level (top_ceiling node s.locks) reaches in
+                  rw (inside, t) (omega arith)
+              | inl low ↦
+                  let t : nat_le level (top_ceiling node s.locks) ≡ false = lt-leb level (top_ceiling node s.locks) low in
+                  let h' : level ≤ max (top_ceiling node s.locks) (held_ceiling node ss e) = rw inside at h in
+                  let ih : 0 < rest_of ss e = rest_from_held ss e some (omega arith) in
+                  rw (inside, t) ih
+            ]
+        | inr outside ↦
+            let h' : level ≤ max 0 (held_ceiling node ss e) = rw outside at h in
+            let ih : 0 < rest_of ss e = rest_from_held ss e some (omega arith) in
+            rw outside ih
+      ]
+
+  pub held_from_rest : (ss : List CriticalSection) (e : ℕ) → 0 < rest_of ss e → level ≤ held_ceiling node ss e
+  held_from_rest [] e h = absurd (omega arith)
+  held_from_rest (s ∷ ss) e h =
+      elim (cases_Bool (is_inside s e && nat_le level (top_ceiling node s.locks))) [
+        | inl reaching ↦
+            let p : (is_inside s e ≡ true) × (nat_le level (top_ceiling node s.locks) ≡ true) = and_parts (is_inside s e) (nat_le level (top_ceiling node s.locks)) reaching in
+            let t : level ≤ top_ceiling node s.locks = leb-true level (top_ceiling node s.locks) p.1 in
+            rw p.0 (omega arith)
+        | inr not_it ↦
+            let later : 0 < rest_of ss e = rw not_it at h in
+            let ih : level ≤ held_ceiling node ss e = held_from_rest ss e later in
+            omega arith
+      ]

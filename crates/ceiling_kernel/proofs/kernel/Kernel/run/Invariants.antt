@@ -1,0 +1,12 @@
+use Rattle.std.proofs.Common.{◌≤◌}
+use Rattle.ceiling_kernel.specs.Runs.{IsRunning, ahead_of}
+use Rattle.ceiling_kernel.proofs.kernel.Kernel.run.Given as goal
+
+abbrev pub invariant-loop-simulation : goal.invariant-loop-simulation
+invariant-loop-simulation l = record {
+  running : IsRunning l.self l.releases l.simulation;
+  bounded : l.simulation.now ≤ l.until;
+}
+
+abbrev pub decreases-loop-simulation : goal.decreases-loop-simulation
+decreases-loop-simulation l = ahead_of l.releases l.until l.simulation

@@ -1,0 +1,11 @@
+pub mod Tick
+pub mod Trace
+pub mod Waits
+pub mod Jumps
+pub mod Bounds
+pub mod Releases
+pub mod NodeTasks
+pub mod NodeFields
+pub mod Lists
+pub mod Runs
+pub mod Readings

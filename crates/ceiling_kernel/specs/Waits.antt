@@ -1,0 +1,68 @@
+-- Who holds what and who asks for it, and the law that no job waits.
+use Rattle.std.specs.Prelude.{◌≡◌, ℕ, ◌+◌, ◌<◌, ◌≤◌, Bool, true, false, ◌&&◌, ◌==◌, Some, List, length}
+use Rattle.std.specs.List.{list_any}
+use Rattle.task_sheet.specs.Sheet.{Task, CriticalSection}
+use Rattle.task_sheet.specs.TaskSet.{IsTaskSet}
+use Rattle.task_sheet.specs.Locks.{names_lock}
+use Rattle.task_sheet.specs.Orders.{IsOrder}
+use Rattle.ceiling_kernel.specs.Tick.{Node, Job, job_at, task_of, level_of, active_of, ceiling, is_inside, executed_before, picked}
+
+-- a node of a valid set, with each of its tasks once in the order
+pub record IsNode (node : Node) : Type 0 where
+  pub tasks : IsTaskSet node.tasks
+  pub order : IsOrder node.tasks node.order
+
+-- ---- the word that says how late jobs may be
+-- how long after its arrival a job of the task becomes ready at the latest
+abbrev pub lateness_of : Task → ℕ
+lateness_of t = 0
+
+-- jobs of the node's tasks, none too late, and those of one task at least its period apart
+pub record IsLegal (node : Node) (jobs : List Job) : Type 0 where
+  pub known : (j : ℕ) → j < length jobs → (job_at jobs j).task < length node.tasks
+  pub not_early : (j : ℕ) → j < length jobs → (job_at jobs j).arrival ≤ (job_at jobs j).ready
+  pub not_late : (j : ℕ) → j < length jobs → (job_at jobs j).ready ≤ (job_at jobs j).arrival + lateness_of (task_of node jobs j)
+  pub spaced : (j k : ℕ) → j < k → k < length jobs → (job_at jobs j).task ≡ (job_at jobs k).task
+      → (job_at jobs j).arrival + (task_of node jobs k).period ≤ (job_at jobs k).arrival
+
+-- job k overruns the job before it: that one, of the same task, isn't finished when k becomes ready
+abbrev pub Overruns : Node → List Job → ℕ → Type 0
+Overruns node jobs k =
+    (j : ℕ) × (j < k) × ((job_at jobs j).task ≡ (job_at jobs k).task) × (executed_before node jobs (job_at jobs k).ready j < (task_of node jobs j).cost)
+
+-- no job overruns the one before it
+abbrev pub NoOverrun : Node → List Job → Type 0
+NoOverrun node jobs = (k : ℕ) → k < length jobs → ¬ Overruns node jobs k
+
+-- no job that is ready by tick t overran the one before it
+abbrev pub NoOverrunBy : Node → List Job → ℕ → Type 0
+NoOverrunBy node jobs t = (k : ℕ) → k < length jobs → (job_at jobs k).ready ≤ t → ¬ Overruns node jobs k
+
+-- ---- locks
+-- after e ticks a job with these sections holds the lock
+abbrev pub holds_lock : List CriticalSection → ℕ → List ℕ → Bool
+holds_lock sections e lock = list_any (λ s. is_inside s e && names_lock s lock) sections
+
+-- picked after e ticks, it asks for the lock
+abbrev pub asks_lock : List CriticalSection → ℕ → List ℕ → Bool
+asks_lock sections e lock = list_any (λ s. (s.at == e) && names_lock s lock) sections
+
+-- Job p, which asks for a lock in tick t, holds none, and nobody holds that one; its priority is then its own level, at most the
+-- lock's ceiling: so it doesn't wait, and pthread_mutex_lock doesn't fail with EINVAL (POSIX.1-2017).
+pub record IsGranted (node : Node) (jobs : List Job) (t p : ℕ) (lock : List ℕ) : Type 0 where
+  pub holds_none : (other : List ℕ) → holds_lock (task_of node jobs p).sections (executed_before node jobs t p) other ≡ false
+  pub is_free : (k : ℕ) → k < length jobs → holds_lock (task_of node jobs k).sections (executed_before node jobs t k) lock ≡ false
+  pub at_own_level : active_of node jobs (executed_before node jobs t) p ≡ level_of node jobs p
+  pub within_ceiling : level_of node jobs p ≤ ceiling node lock
+
+-- whoever asks for a lock gets it
+abbrev pub EachIsGranted : Node → List Job → Type 0
+EachIsGranted node jobs =
+    (t p : ℕ) (lock : List ℕ) → picked node jobs t ≡ Some p
+    → asks_lock (task_of node jobs p).sections (executed_before node jobs t p) lock ≡ true → IsGranted node jobs t p lock
+
+-- as long as no job overruns, whoever asks for a lock gets it
+abbrev pub NobodyWaits : Node → List Job → Type 0
+NobodyWaits node jobs =
+    (t p : ℕ) (lock : List ℕ) → NoOverrunBy node jobs t → picked node jobs t ≡ Some p
+    → asks_lock (task_of node jobs p).sections (executed_before node jobs t p) lock ≡ true → IsGranted node jobs t p lock

@@ -1,0 +1,122 @@
+//! Which release lists a kernel runs.
+ghost use Rattle.std.specs.Prelude.{◌≡◌, ◌<◌, ◌≤◌, ◌+◌, ℕ, List, length, map, MatchResult, IfSome, Some, None};
+ghost use Rattle.task_sheet.specs.Sheet.{Task, task_at};
+ghost use Rattle.task_sheet.specs.Indexes.{some_below};
+ghost use Rattle.ceiling_kernel.specs.Releases.{task_number, jobs_of, first_where, is_unsorted, is_unknown, is_too_soon, is_past, refusal_of};
+ghost use Rattle.ceiling_kernel.specs.Runs.{IsRefusal, IsUnknown, soon_after};
+ghost use Rattle.std.specs.Option.{ForSome};
+
+use crate::trace::{Release, RunFault};
+use std::alloc::Global;
+use task_sheet::TaskSet;
+
+/// The last time at which a run may end, in microseconds.
+pub const HORIZON: u64 = 60_000_000;
+
+/// The most releases of a run.
+pub const RELEASE_LIMIT: usize = 10_000;
+
+// The release's time is below the one before.
+fn is_unsorted(releases: &[Release], k: usize) -> bool
+    requires { k < length releases.now }
+    ensures { result ≡ is_unsorted releases.now k }
+{
+    k > 0 && releases[k].time < releases[k - 1].time
+}
+
+// The place, from 0, of the first release whose time is below the one before.
+fn first_unsorted(releases: &[Release]) -> Option<usize>
+    ensures first { result ≡ first_where (is_unsorted releases.now) (length releases.now) }
+    ensures in_list { IfSome result (λ k. k < length releases.now) }
+{
+    for k in 0..releases.len() {
+        if is_unsorted(releases, k) {
+            return Some(k);
+        }
+    }
+    None
+}
+
+// The index of each release's task, or the place, from 0, of the first whose task is unknown.
+fn find_tasks(alloc: Global, set: &TaskSet, releases: &[Release]) -> Result<Vec<usize>, RunFault>
+    ensures { MatchResult result (λ places. (first_where (is_unknown set.now releases.now) (length releases.now) ≡ None) × (places.items ≡ map (task_number set.now) releases.now)) (IsUnknown set.now releases.now) }
+{
+    let mut places = Vec::new(alloc);
+    for k in 0..releases.len() {
+        let Some(task) = set.find(releases[k].name) else {
+            return Err(RunFault::UnknownTask { place: k + 1 });
+        };
+        places.push(task)?;
+    }
+    Ok(places)
+}
+
+// A time comes less than a period after another, if there is one.
+fn comes_soon(before: Option<u64>, time: u64, period: u64) -> bool
+    requires { ForSome before (λ b. b ≤ time) }
+    ensures { result ≡ soon_after before time period }
+{
+    match before {
+        Some(before) => time - before < period,
+        None => false,
+    }
+}
+
+// The place, from 0, of the first release that comes less than a period after its task's release before.
+fn first_too_soon(set: &TaskSet, releases: &[Release], places: &[usize]) -> Option<usize>
+    requires sorted { first_where (is_unsorted releases.now) (length releases.now) ≡ None }
+    requires known { first_where (is_unknown set.now releases.now) (length releases.now) ≡ None }
+    requires places { places.now ≡ map (task_number set.now) releases.now }
+    ensures first { result ≡ first_where (is_too_soon set.now (jobs_of set.now releases.now)) (length releases.now) }
+    ensures in_list { IfSome result (λ k. k < length releases.now) }
+{
+    let sheets = set.sheets();
+    let mut last: [Option<u64>; 32] = [None; 32];
+    for k in 0..releases.len() {
+        let task = places[k];
+        let time = releases[k].time;
+        let period = sheets[task].period();
+        if comes_soon(last[task], time, period) {
+            return Some(k);
+        }
+        last[task] = Some(time);
+    }
+    None
+}
+
+// Some release stands at the end or after it.
+fn is_past(releases: &[Release], until: u64) -> bool
+    ensures { result ≡ some_below (length releases.now) (is_past releases.now until) }
+{
+    for k in 0..releases.len() {
+        if until <= releases[k].time {
+            return true;
+        }
+    }
+    false
+}
+
+/// The index of each release's task, where the list isn't refused.
+pub fn accept(
+    alloc: Global,
+    set: &TaskSet,
+    releases: &[Release],
+    until: u64,
+) -> Result<Vec<usize>, RunFault>
+    ensures { MatchResult result (λ places. (refusal_of set.now releases.now until ≡ None) × (places.items ≡ map (task_number set.now) releases.now)) (λ e. IsRefusal e (refusal_of set.now releases.now until)) }
+{
+    if let Some(k) = first_unsorted(releases) {
+        return Err(RunFault::Unsorted { place: k + 1 });
+    }
+    let places = find_tasks(alloc, set, releases)?;
+    if let Some(k) = first_too_soon(set, releases, &places) {
+        return Err(RunFault::TooSoon { place: k + 1 });
+    }
+    if until > HORIZON || is_past(releases, until) {
+        return Err(RunFault::PastHorizon);
+    }
+    if releases.len() > RELEASE_LIMIT {
+        return Err(RunFault::TooMany);
+    }
+    Ok(places)
+}

@@ -1,0 +1,61 @@
+//! How a kernel's tasks are kept.
+ghost use Rattle.std.specs.Prelude.{◌≡◌, ◌<◌, ◌≤◌, ◌+◌, ◌^◌, ℕ, List, length, All, IfOk};
+ghost use Rattle.task_sheet.specs.Sheet.{Task};
+ghost use Rattle.task_sheet.specs.TaskSet.{IsTaskSet};
+ghost use Rattle.ceilings.specs.IsTableOf.{IsTableOf};
+ghost use Rattle.ceiling_kernel.specs.Tick.{node_in};
+ghost use Rattle.ceiling_kernel.specs.NodeTasks.{AreSectionsOf, HasTasks};
+
+use crate::levels::{level_of, top_of};
+use crate::tasks::{NodeSection, NodeTask};
+use ceilings::LockTable;
+use std::alloc::{AllocError, Global};
+use task_sheet::{Section, TaskSet};
+
+// What a kernel keeps of sections.
+fn sections_of(
+    alloc: Global,
+    table: &LockTable,
+    order: &[usize],
+    sections: &[Section],
+) -> Result<Vec<NodeSection>, AllocError>
+    requires within { All (λ index. index < 32) order.now }
+    requires few { length order.now ≤ 32 }
+    requires fit { All (λ s. s.at + s.len < 2 ^ 64) sections.now }
+    requires run { All (λ s. 0 < s.len) sections.now }
+    ensures { (U : List Task) → IsTableOf U table.now → IfOk result (λ kept. AreSectionsOf (node_in U order.now) sections.now kept.items) }
+{
+    let mut kept = Vec::new(alloc);
+    for section in sections {
+        kept.push(NodeSection {
+            at: section.at,
+            stop: section.at + section.len,
+            top: top_of(table, order, &section.locks),
+        })?;
+    }
+    Ok(kept)
+}
+
+// What a kernel keeps of tasks.
+pub fn tasks_of(
+    alloc: Global,
+    table: &LockTable,
+    order: &[usize],
+    set: &TaskSet,
+) -> Result<Vec<NodeTask>, AllocError>
+    requires table { IsTableOf set.now table.now }
+    requires within { All (λ index. index < 32) order.now }
+    requires few { length order.now ≤ 32 }
+    ensures tasks { IfOk result (λ kept. HasTasks (node_in set.now order.now) kept.items) }
+    ensures set { IsTaskSet set.now }
+{
+    let mut kept = Vec::new(alloc);
+    for (index, sheet) in set.sheets().iter().enumerate() {
+        kept.push(NodeTask {
+            level: level_of(order, index),
+            cost: sheet.cost(),
+            sections: sections_of(alloc, table, order, sheet.sections())?,
+        })?;
+    }
+    Ok(kept)
+}

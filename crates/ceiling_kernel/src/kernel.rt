@@ -1,0 +1,87 @@
+//! Kernels: a set's tasks at the levels of an order.
+ghost use Rattle.std.specs.Prelude.{◌≡◌, IfOk, IfErr};
+ghost use Rattle.task_sheet.specs.Orders.{IsOrder};
+ghost use Rattle.ceiling_kernel.specs.Tick.{node_in};
+ghost use Rattle.ceiling_kernel.specs.Waits.{IsNode};
+
+use crate::build::tasks_of;
+use crate::levels::is_order;
+use crate::tasks::NodeTask;
+use ceilings::LockTable;
+use std::alloc::{AllocError, Global};
+use std::marker::Model;
+use task_sheet::TaskSet;
+
+/// Why there is no kernel.
+#[derive(Clone, Copy, Debug, PartialEq, Eq)]
+pub enum KernelFault {
+    /// The order doesn't name each index of the set once.
+    WrongOrder,
+    /// Want of memory.
+    OutOfMemory,
+}
+
+impl From<AllocError> for KernelFault {
+    ghost use Rattle.std.specs.Prelude.{◌≡◌};
+    ghost use Rattle.ceiling_kernel.specs.declared.kernel.KernelFault.TheVariants.{OutOfMemory};
+
+    ghost from_gives = { λ _ fault. fault ≡ OutOfMemory };
+
+    fn from(_: AllocError) -> KernelFault {
+        KernelFault::OutOfMemory
+    }
+}
+
+/// A set's tasks, each at its level in an order.
+#[derive(Drop)]
+pub struct Kernel<'a> {
+    set: &'a TaskSet,
+    order: Vec<usize>,
+    tasks: Vec<NodeTask>,
+}
+
+impl<'a> Model for Kernel<'a> {
+    ghost use Rattle.ceiling_kernel.specs.Tick.{Node};
+
+    ghost Value = { Node };
+
+    ghost use Rattle.ceiling_kernel.specs.NodeFields.{node_of, IsKept};
+
+    ghost view = { node_of };
+
+    ghost invariant = { IsKept };
+}
+
+impl<'a> Kernel<'a> {
+    ghost use Rattle.ceiling_kernel.specs.NodeTasks.{HasTasks};
+    ghost use Rattle.ceiling_kernel.specs.declared.kernel.KernelFault.TheVariants.{WrongOrder};
+
+    /// The kernel of a set in an order of its indexes, lowest first.
+    pub fn new(alloc: Global, set: &'a TaskSet, order: &[usize]) -> Result<Kernel<'a>, KernelFault>
+        ensures ok { IfOk result (λ kernel. (kernel ≡ node_in set.now order.now) × IsOrder set.now order.now) }
+        ensures err { IfErr result (λ fault. fault ≡ WrongOrder → ¬ IsOrder set.now order.now) }
+    {
+        if !is_order(order, set.len()) {
+            return Err(KernelFault::WrongOrder);
+        }
+        let table = LockTable::new(alloc, set)?;
+        let tasks = tasks_of(alloc, &table, order, set)?;
+        let order = order.to_vec(alloc)?;
+        Ok(Kernel { set, order, tasks })
+    }
+
+    // The set.
+    pub(crate) fn set(&self) -> &TaskSet
+        ensures { result.now ≡ self.now.tasks }
+    {
+        self.set
+    }
+
+    // What is kept of its tasks.
+    pub(crate) fn tasks(&self) -> &[NodeTask]
+        ensures tasks { HasTasks self.now result.now }
+        ensures node { IsNode self.now }
+    {
+        &self.tasks
+    }
+}

@@ -1,0 +1,55 @@
+//! Laws of the tick rule, which speak of no body: each is the contract of a function that does nothing.
+
+ghost use Rattle.std.specs.Prelude.{◌≡◌, ◌<◌, ◌≤◌, ℕ, false, List, length, Some, None};
+ghost use Rattle.task_sheet.specs.Indexes.{among};
+ghost use Rattle.task_sheet.specs.Orders.{IsPassingOrder};
+ghost use Rattle.ceiling_kernel.specs.Tick.{Node, Job, task_of, is_pending, executed_before, picked};
+ghost use Rattle.ceiling_kernel.specs.Trace.{slices_of, finish_before};
+ghost use Rattle.ceiling_kernel.specs.Readings.{IsPicked, AreLongestRuns, IsFinishAt};
+ghost use Rattle.ceiling_kernel.specs.Waits.{IsNode, IsLegal, NobodyWaits, NoOverrun};
+ghost use Rattle.ceiling_kernel.specs.Jumps.{PickStays, IdleStays};
+ghost use Rattle.ceiling_kernel.specs.Bounds.{above_of, after_of, BoundHolds};
+
+/// The tick rule picks a pending job of greatest active priority, and among equals the one of lower own level; it picks none
+/// only where none is pending.
+pub fn picks_go_first()
+    ensures picked { (node : Node) (jobs : List Job) (t p : ℕ) → picked node jobs t ≡ Some p → IsPicked node jobs t p }
+    ensures idle { (node : Node) (jobs : List Job) (t k : ℕ) → picked node jobs t ≡ None → k < length jobs → is_pending node jobs (executed_before node jobs t) t k ≡ false }
+{}
+
+/// The slices of a trace are the longest runs of ticks of one job, by time, and leave out no tick that picks a job.
+pub fn slices_are_longest_runs()
+    ensures { (node : Node) (jobs : List Job) (until : ℕ) → AreLongestRuns (picked node jobs) 0 until (slices_of node jobs until) }
+{}
+
+/// A job's finish is the end of the tick in which it executes the last of its cost; without one by a time, it lacks some.
+pub fn finishes_are_ends()
+    ensures finished { (node : Node) (jobs : List Job) (until j f : ℕ) → 0 < (task_of node jobs j).cost → finish_before node jobs until j ≡ Some f → (f ≤ until) × IsFinishAt node jobs j f }
+    ensures unfinished { (node : Node) (jobs : List Job) (until j : ℕ) → 0 < (task_of node jobs j).cost → finish_before node jobs until j ≡ None → executed_before node jobs until j < (task_of node jobs j).cost }
+{}
+
+/// Whenever a job asks for locks it holds none and nobody holds any of them, and its priority, then its own level, is at
+/// most the ceiling of each: no job waits, and EINVAL can't occur. It holds for every order, passing or not, as long as
+/// no job overruns the one before it.
+pub fn nobody_waits()
+    ensures { (node : Node) (jobs : List Job) → IsNode node → IsLegal node jobs → NobodyWaits node jobs }
+{}
+
+/// From one event to the next the pick stays; events are that a job becomes ready, or that the job that runs reaches a
+/// boundary of its sections or its end.
+pub fn picks_stay()
+    ensures picked { (node : Node) (jobs : List Job) → IsNode node → PickStays node jobs }
+    ensures idle { (node : Node) (jobs : List Job) → IdleStays node jobs }
+{}
+
+/// The tasks at higher levels than a task are those that stand after it in the order: what the analysis has above it.
+pub fn levels_follow_the_order()
+    ensures { (node : Node) → IsNode node → (i h : ℕ) → i < length node.tasks → among (after_of node.order i) h ≡ above_of node i h }
+{}
+
+/// Each job of a task that passes finishes within its bound, and in a set with a passing order no job overruns the one
+/// before it (Audsley et al. 1993).
+pub fn bound_holds()
+    ensures bound { (node : Node) (jobs : List Job) → IsNode node → IsLegal node jobs → BoundHolds node jobs }
+    ensures no_overrun { (node : Node) (jobs : List Job) → IsNode node → IsLegal node jobs → IsPassingOrder node.tasks node.order → NoOverrun node jobs }
+{}

@@ -1,0 +1,72 @@
+//! Orders, and the levels and ceilings that they give.
+ghost use Rattle.std.specs.Prelude.{◌≡◌, ◌<◌, ◌≤◌, ℕ, List, length, count_by, ◌==◌, IsTrue, ◌↔◌, All};
+ghost use Rattle.task_sheet.specs.Sheet.{Task};
+ghost use Rattle.task_sheet.specs.Orders.{IsOrderOf};
+ghost use Rattle.task_sheet.specs.Indexes.{below};
+ghost use Rattle.ceilings.specs.IsTableOf.{IsTableOf};
+ghost use Rattle.ceiling_kernel.specs.Tick.{level_from, node_in, top_ceiling};
+
+use ceilings::LockTable;
+use task_sheet::Name;
+
+// The order names no index from `count` on.
+fn are_below(order: &[usize], count: usize) -> bool
+    ensures { IsTrue result ↔ All (λ index. index < count) order.now }
+{
+    order.iter().all(|index| *index < count)
+}
+
+// How often the order names the index.
+fn times(order: &[usize], index: usize) -> usize
+    ensures { result ≡ count_by (λ x. x == index) order.now }
+{
+    order.iter().filter(|other| **other == index).count()
+}
+
+// The order names each index below `count` once, and perhaps others.
+fn are_once(order: &[usize], count: usize) -> bool
+    ensures { IsTrue result ↔ ((index : ℕ) → index < count → count_by (λ x. x == index) order.now ≡ 1) }
+{
+    for index in 0..count {
+        if times(order, index) != 1 {
+            return false;
+        }
+    }
+    true
+}
+
+// The order names each index below `count` once, and no other.
+pub fn is_order(order: &[usize], count: usize) -> bool
+    ensures { IsTrue result ↔ IsOrderOf (below count) order.now }
+{
+    are_below(order, count) && are_once(order, count)
+}
+
+// The level of the task at an index: its place in the order, from 1.
+pub fn level_of(order: &[usize], index: usize) -> u32
+    requires { length order.now ≤ 32 }
+    ensures { result ≡ level_from 1 order.now index }
+{
+    for (place, other) in order.iter().enumerate() {
+        if *other == index {
+            return place as u32 + 1;
+        }
+    }
+    0
+}
+
+// The highest ceiling of some locks.
+pub fn top_of(table: &LockTable, order: &[usize], locks: &[Name]) -> u32
+    requires within { All (λ index. index < 32) order.now }
+    requires few { length order.now ≤ 32 }
+    ensures { (U : List Task) → IsTableOf U table.now → result ≡ top_ceiling (node_in U order.now) locks.now }
+{
+    let mut top = 0;
+    for lock in locks {
+        let ceiling = table.ceiling(*lock, order).unwrap_or(0);
+        if top < ceiling {
+            top = ceiling;
+        }
+    }
+    top
+}

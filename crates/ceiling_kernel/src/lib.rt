@@ -1,0 +1,15 @@
+//! The simulated kernel: one processor, SCHED_FIFO lists and PTHREAD_PRIO_PROTECT mutexes, in ticks of one microsecond.
+#![tactic(auto)]
+
+mod accept;
+mod build;
+pub mod kernel;
+pub mod laws;
+mod levels;
+mod lists;
+mod run;
+mod tasks;
+pub mod trace;
+
+pub use kernel::{Kernel, KernelFault};
+pub use trace::{JobRecord, Release, RunFault, Slice, Trace};
