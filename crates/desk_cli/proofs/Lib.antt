@@ -1,0 +1,5 @@
+pub mod Inputs
+pub mod Matches
+pub mod Help
+pub mod Commands
+pub mod LineLaws

@@ -1,0 +1,10 @@
+use Rattle.std.proofs.Common.{◌≡◌, ◌∙◌, Ok, ap₂, map, subst}
+use Rattle.ceiling_kernel.specs.Releases.{Runs}
+use Rattle.ceiling_kernel.specs.Tick.{node_in}
+use Rattle.desk_cli.proofs.simulation.run.Goals as goal
+
+pub returns-in-Ok-run : goal.returns-in-Ok-run
+returns-in-Ok-run c =
+    let node : c.in-Ok-new.kernel ≡ node_in c.args.assignment.now.set (map (λ l. l.task) c.args.assignment.now.levels) =
+    c.in-Ok-new.ensures.ok.0 ∙ ap₂ node_in c.set.ensures.same (c.deref.ensures.value ∙ c.in-Ok.ensures) in
+    subst (λ n. Runs n c.args.releases.now c.args.until (Ok c.in-Ok-run.trace)) node c.in-Ok-run.ensures.trace

@@ -1,0 +1,35 @@
+use Rattle.std.proofs.Common.{◌≡◌, codes, inl, inr}
+use Rattle.clap.specs.Words.{found_of}
+use Rattle.desk_cli.proofs.Matches.{is_other, is_word, named}
+use Rattle.desk_cli.proofs.words.call_named.Goals as goal
+
+pub returns-then-eq : goal.returns-then-eq
+returns-then-eq c = (
+  is_word c.args.name.now (codes "certify") c.eq.result c.eq.ensures c.if-eq.true,
+  named (codes "SET") (found_of c.args.found.now) c.input_at-set.result c.input_at-set.ensures,
+)
+
+pub returns-then-eq-2 : goal.returns-then-eq-2
+returns-then-eq-2 c = (
+  is_word c.args.name.now (codes "check") c.eq-2.result c.eq-2.ensures c.if-eq-2.true,
+  named (codes "SET") (found_of c.args.found.now) c.input_at-set.result c.input_at-set.ensures,
+  named (codes "CERT") (found_of c.args.found.now) c.input_at-certificate.result c.input_at-certificate.ensures,
+)
+
+pub returns-then-eq-3 : goal.returns-then-eq-3
+returns-then-eq-3 c = (
+  is_word c.args.name.now (codes "simulate") c.eq-3.result c.eq-3.ensures c.if-eq-3.true,
+  named (codes "SET") (found_of c.args.found.now) c.input_at-set.result c.input_at-set.ensures,
+  named (codes "RELEASES") (found_of c.args.found.now) c.input_at-releases.result c.input_at-releases.ensures,
+)
+
+pub returns : goal.returns
+returns c =
+    let admit : c.args.name.now ≡ codes "admit" =
+    elim c.requires [
+      | inl h ↦ h
+      | inr (inl h) ↦ absurd (is_other c.args.name.now (codes "certify") c.eq.result c.eq.ensures c.if-eq.false h)
+      | inr (inr (inl h)) ↦ absurd (is_other c.args.name.now (codes "check") c.eq-2.result c.eq-2.ensures c.if-eq-2.false h)
+      | inr (inr (inr h)) ↦ absurd (is_other c.args.name.now (codes "simulate") c.eq-3.result c.eq-3.ensures c.if-eq-3.false h)
+    ] in
+    (admit, named (codes "SET") (found_of c.args.found.now) c.input_at-set.result c.input_at-set.ensures)

@@ -1,0 +1,53 @@
+-- What `desk admit` answers and prints.
+use Rattle.std.specs.Prelude.{◌≡◌, ℕ, ◌<◌, List, length, Option, IfSome, Result, Ok, Err}
+use Rattle.std.specs.Io.KnownBytes.{Appends}
+use Rattle.task_sheet.specs.ReadsSet.{ReadsSet}
+use Rattle.task_sheet.specs.Verdicts.{IsVerdictOf}
+use Rattle.assignment.specs.Verdict.{set_of, verdict_of}
+use Rattle.assignment.specs.declared.verdict.Verdict.{Verdict}
+use Rattle.assignment.specs.declared.verdict.Verdict.TheVariants.{Admitted, Infeasible}
+use Rattle.desk_cli.specs.Inputs.{IsReadFrom}
+use Rattle.desk_cli.specs.Lines.{verdict_lines}
+use Rattle.desk_cli.specs.Refusals.{refusal_line, status_of}
+use Rattle.desk_cli.specs.declared.input.InputFault.TheVariants as input
+use Rattle.desk_cli.specs.declared.refusal.Refusal.{Refusal}
+use Rattle.desk_cli.specs.declared.refusal.Refusal.TheVariants as refusal
+use Rattle.desk_cli.specs.declared.status.Status.{Status}
+use Rattle.desk_cli.specs.declared.status.Status.TheVariants as status
+
+-- the answer on what a reader has: the verdict of the set that its bytes say, or the first fault of its bytes.
+-- Want of memory may come at any time, and the function's own clause says where a failed read is answered.
+abbrev pub Admits : Option (List ℕ) → Result Verdict Refusal → Type 0
+Admits known (Ok v) = (bytes : List ℕ) × IsReadFrom known bytes × ReadsSet bytes (Ok (set_of v)) × IsVerdictOf (set_of v) (verdict_of v)
+Admits known (Err (refusal.Set fault)) = (bytes : List ℕ) × IsReadFrom known bytes × ReadsSet bytes (Err fault)
+Admits known (Err (refusal.Input input.TooLong)) = IfSome known (λ all. 16777216 < length all)
+Admits known (Err (refusal.Input input.ReadFailed)) = Unit {0}
+Admits known (Err (refusal.Input input.OutOfMemory)) = Unit {0}
+Admits known (Err (refusal.Certificate fault)) = ⊥
+Admits known (Err (refusal.Check fault)) = ⊥
+Admits known (Err (refusal.Text fault)) = ⊥
+Admits known (Err (refusal.Run fault)) = ⊥
+Admits known (Err refusal.OutOfMemory) = Unit {0}
+
+-- the exit status of a verdict
+abbrev pub verdict_status : Verdict → Status
+verdict_status (Admitted a) = status.Done
+verdict_status (Infeasible o) = status.Infeasible
+
+-- what is printed of an answer, where a verdict has some lines
+abbrev pub said : (Verdict → List ℕ) → Result Verdict Refusal → List ℕ
+said lines (Ok v) = lines v
+said lines (Err r) = refusal_line r
+
+-- the exit status of an answer
+abbrev pub status_said : Result Verdict Refusal → Status
+status_said (Ok v) = verdict_status v
+status_said (Err r) = status_of r
+
+-- an answer on what the reader had is printed after what the writer held, and the status is the answer's
+abbrev pub Says : (Verdict → List ℕ) → Option (List ℕ) → Option (List ℕ) → Option (List ℕ) → Status → Type 0
+Says lines known before after s = (answer : Result Verdict Refusal) × Admits known answer × Appends before after (said lines answer) × (s ≡ status_said answer)
+
+-- the lines of a verdict
+abbrev pub lines_of : Verdict → List ℕ
+lines_of v = verdict_lines (set_of v) (verdict_of v)

@@ -1,0 +1,31 @@
+-- The command line of `desk`, as `clap` sees it.
+use Rattle.std.specs.Prelude.{Some, codes, true}
+use Rattle.clap.specs.Words.{App, Rule, Text, new_app, new_rule, with_rule, with_subcommand}
+use Rattle.clap.specs.declared.builder.ArgAction.TheVariants.{Set}
+
+-- an input that has to be named
+abbrev pub input_rule : Text → Rule
+input_rule name = record (new_rule name) { required = true; action = Some Set }
+
+-- a command whose first input is a task set
+abbrev pub set_app : Text → App
+set_app name = with_rule (new_app name) (input_rule (codes "SET"))
+
+-- the words are all arguments, and one of them names a command
+abbrev pub made_bare : App → App
+made_bare a = record a { top = record a.top { no_binary_name = true; subcommand_required = true } }
+
+-- the program without its commands
+abbrev pub bare_app : App
+bare_app = made_bare (new_app (codes "desk"))
+
+-- a command with a task set and a second input
+abbrev pub pair_app : Text → Text → App
+pair_app name second = with_rule (set_app name) (input_rule second)
+
+-- `admit SET`, `certify SET`, `check SET CERT` and `simulate SET RELEASES`
+abbrev pub desk_app : App
+desk_app =
+    with_subcommand
+    (with_subcommand (with_subcommand (with_subcommand bare_app (set_app (codes "admit")).top) (set_app (codes "certify")).top) (pair_app (codes "check") (codes "CERT")).top)
+    (pair_app (codes "simulate") (codes "RELEASES")).top

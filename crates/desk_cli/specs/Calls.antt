@@ -1,0 +1,90 @@
+-- The call that words name.
+use Rattle.std.specs.Prelude.{◌≡◌, ◌≢◌, ◌⊎◌, List, [], ◌∷◌, Option, Some, None, Bool, true, false, ◌&&◌, codes}
+use Rattle.clap.specs.Words.{HasKind, Row, Text, fault_of, first_of, kind_of, subcommand_of}
+use Rattle.clap.specs.declared.error.kind.ErrorKind.{ErrorKind}
+use Rattle.clap.specs.declared.error.kind.ErrorKind.TheVariants as kind
+use Rattle.desk_cli.specs.App.{desk_app}
+use Rattle.desk_cli.specs.declared.words.Input.{Input}
+use Rattle.desk_cli.specs.declared.words.Input.TheVariants.{Standard, File}
+use Rattle.desk_cli.specs.declared.words.Call.{Call}
+use Rattle.desk_cli.specs.declared.words.Call.TheVariants.{Admit, Certify, Check, Simulate}
+use Rattle.desk_cli.specs.declared.words.WordsFault.{WordsFault}
+use Rattle.desk_cli.specs.declared.words.WordsFault.TheVariants as fault
+use Rattle.desk_cli.specs.declared.status.Status.{Status}
+use Rattle.desk_cli.specs.declared.status.Status.TheVariants as status
+
+-- the input that a word names: `-` names standard input, as no word does
+abbrev pub Names : Option Text → Input → Type 0
+Names None input = input ≡ Standard
+Names (Some word) Standard = word ≡ codes "-"
+Names (Some word) (File path) = (path.now ≡ word) × (word ≢ codes "-")
+
+-- a command of the program is named
+abbrev pub IsCommand : Option (Text × List Row) → Type 0
+IsCommand None = ⊥
+IsCommand (Some found) = (found.0 ≡ codes "admit") ⊎ ((found.0 ≡ codes "certify") ⊎ ((found.0 ≡ codes "check") ⊎ (found.0 ≡ codes "simulate")))
+
+-- the call that a command names, with what was found of its arguments
+abbrev pub IsCall : Option (Text × List Row) → Call → Type 0
+IsCall None call = ⊥
+IsCall (Some found) (Admit set) = (found.0 ≡ codes "admit") × Names (first_of (codes "SET") found.1) set
+IsCall (Some found) (Certify set) = (found.0 ≡ codes "certify") × Names (first_of (codes "SET") found.1) set
+IsCall (Some found) (Check set certificate) =
+    (found.0 ≡ codes "check") × Names (first_of (codes "SET") found.1) set × Names (first_of (codes "CERT") found.1) certificate
+IsCall (Some found) (Simulate set releases) =
+    (found.0 ≡ codes "simulate") × Names (first_of (codes "SET") found.1) set × Names (first_of (codes "RELEASES") found.1) releases
+
+-- no words call `admit` of standard input; else they call what `clap`'s matches of them name
+abbrev pub Calls : List Text → Call → Type 0
+Calls [] call = call ≡ Admit Standard
+Calls (word ∷ words) call = IsCall (subcommand_of desk_app (word ∷ words)) call
+
+-- the input is standard input
+abbrev pub is_standard : Input → Bool
+is_standard Standard = true
+is_standard (File path) = false
+
+-- two inputs of the call are standard input
+abbrev pub is_twice : Call → Bool
+is_twice (Admit set) = false
+is_twice (Certify set) = false
+is_twice (Check set certificate) = is_standard set && is_standard certificate
+is_twice (Simulate set releases) = is_standard set && is_standard releases
+
+-- there are no words, or `clap` takes them
+abbrev pub IsTaken : List Text → Type 0
+IsTaken words = (words ≡ []) ⊎ (fault_of desk_app words ≡ [])
+
+-- `clap` gives an error of a kind that the words have, or for want of memory; or their call names standard input twice
+abbrev pub IsWordsFault : List Text → WordsFault → Type 0
+IsWordsFault words (fault.Clap error) = (words ≢ []) × HasKind (fault_of desk_app words) error
+IsWordsFault words fault.InputTwice = (call : Call) × Calls words call × (is_twice call ≡ true)
+
+-- help is no mistake
+abbrev pub kind_status : ErrorKind → Status
+kind_status kind.OutOfMemory = status.OutOfMemory
+kind_status kind.DisplayHelp = status.Done
+kind_status kind.DisplayVersion = status.Done
+kind_status _ = status.BadArguments
+
+-- the exit status of refused words
+abbrev pub fault_status : WordsFault → Status
+fault_status (fault.Clap error) = kind_status (kind_of error)
+fault_status fault.InputTwice = status.BadArguments
+
+-- help, and want of memory, are answered on the output; any mistake is answered on the errors
+abbrev pub kind_goes_out : ErrorKind → Bool
+kind_goes_out kind.OutOfMemory = true
+kind_goes_out kind.DisplayHelp = true
+kind_goes_out kind.DisplayVersion = true
+kind_goes_out _ = false
+
+-- the text of the fault goes to the output, and not to the errors
+abbrev pub goes_out : WordsFault → Bool
+goes_out (fault.Clap error) = kind_goes_out (kind_of error)
+goes_out fault.InputTwice = false
+
+-- memory was wanting
+abbrev pub IsMemory : WordsFault → Type 0
+IsMemory (fault.Clap error) = kind_of error ≡ kind.OutOfMemory
+IsMemory fault.InputTwice = ⊥

@@ -1,0 +1,14 @@
+pub mod Admit
+pub mod App
+pub mod Calls
+pub mod Certify
+pub mod Check
+pub mod Inputs
+pub mod Lines
+pub mod Refusals
+pub mod ReleasesText
+pub mod Simulate
+pub mod Statuses
+pub mod Text
+pub mod TextFaults
+pub mod TraceLines

@@ -1,0 +1,130 @@
+-- The line that a refused command prints: the name of the fault and then its fields, each after one space.
+-- A task or a section is its place, from 1; the root of a document is 0.
+use Rattle.std.specs.Prelude.{ℕ, List, ◌++◌, codes}
+use Rattle.std.specs.Fmt.{decimal}
+use Rattle.task_sheet.specs.declared.sheet.SheetCause.{SheetCause}
+use Rattle.task_sheet.specs.declared.sheet.SheetCause.TheVariants as cause
+use Rattle.task_sheet.specs.declared.read.Key.{Key}
+use Rattle.task_sheet.specs.Tree.{word_of}
+use Rattle.task_sheet.specs.declared.read.SetFault.{SetFault}
+use Rattle.task_sheet.specs.declared.read.SetFault.TheVariants as fault
+use Rattle.certificate.specs.declared.fault.CertFault.{CertFault}
+use Rattle.certificate.specs.declared.fault.CertFault.TheVariants as text
+use Rattle.cert_checker.specs.declared.fault.CheckFault.{CheckFault}
+use Rattle.cert_checker.specs.declared.fault.CheckFault.TheVariants as check
+use Rattle.ceiling_kernel.specs.declared.trace.RunFault.{RunFault}
+use Rattle.ceiling_kernel.specs.declared.trace.RunFault.TheVariants as run
+use Rattle.desk_cli.specs.declared.releases.TextFault.{TextFault}
+use Rattle.desk_cli.specs.declared.releases.TextFault.TheVariants as line
+use Rattle.desk_cli.specs.declared.input.InputFault.TheVariants as input
+use Rattle.desk_cli.specs.declared.refusal.Refusal.{Refusal}
+use Rattle.desk_cli.specs.declared.refusal.Refusal.TheVariants as refusal
+use Rattle.desk_cli.specs.declared.status.Status.{Status}
+use Rattle.desk_cli.specs.declared.status.Status.TheVariants as status
+
+-- a name and a place, a line or a level
+abbrev pub at_task : List ℕ → ℕ → List ℕ
+at_task name place = name ++ codes " " ++ decimal place
+
+-- a name and two places
+abbrev pub at_section : List ℕ → ℕ → ℕ → List ℕ
+at_section name task section = name ++ codes " " ++ decimal task ++ codes " " ++ decimal section
+
+-- a name, two places and a key
+abbrev pub at_key : List ℕ → ℕ → ℕ → Key → List ℕ
+at_key name task section key = name ++ codes " " ++ decimal task ++ codes " " ++ decimal section ++ codes " " ++ word_of key
+
+-- a name, a level and the name of a task
+abbrev pub at_name : List ℕ → ℕ → List ℕ → List ℕ
+at_name name level task = name ++ codes " " ++ decimal level ++ codes " " ++ task
+
+-- the fault of a task's sheet
+abbrev pub cause_words : ℕ → SheetCause → List ℕ
+cause_words task cause.BadWeight = at_task (codes "BadWeight") task
+cause_words task cause.BadPeriod = at_task (codes "BadPeriod") task
+cause_words task cause.DeadlineZero = at_task (codes "DeadlineZero") task
+cause_words task cause.DeadlinePastPeriod = at_task (codes "DeadlinePastPeriod") task
+cause_words task cause.CostZero = at_task (codes "CostZero") task
+cause_words task cause.CostPastPeriod = at_task (codes "CostPastPeriod") task
+cause_words task cause.TooManySections = at_task (codes "TooManySections") task
+cause_words task (cause.NoLocks section) = at_section (codes "NoLocks") task section
+cause_words task (cause.TooManyLocks section) = at_section (codes "TooManyLocks") task section
+cause_words task (cause.LockTwice section) = at_section (codes "LockTwice") task section
+cause_words task (cause.LenZero section) = at_section (codes "LenZero") task section
+cause_words task (cause.Overlap section) = at_section (codes "Overlap") task section
+cause_words task (cause.SectionPastCost section) = at_section (codes "SectionPastCost") task section
+
+-- the fault of a document
+abbrev pub fault_words : SetFault → List ℕ
+fault_words fault.Syntax = codes "Syntax"
+fault_words (fault.UnknownKey task section) = at_section (codes "UnknownKey") task section
+fault_words (fault.MissingKey task section key) = at_key (codes "MissingKey") task section key
+fault_words (fault.WrongKind task section key) = at_key (codes "WrongKind") task section key
+fault_words (fault.BadName task section) = at_section (codes "BadName") task section
+fault_words (fault.Sheet task cause) = cause_words task cause
+fault_words (fault.SameName task) = at_task (codes "SameName") task
+fault_words fault.TooManyTasks = codes "TooManyTasks"
+fault_words fault.OutOfMemory = codes "OutOfMemory"
+
+-- the fault of a certificate's text
+abbrev pub certificate_words : CertFault → List ℕ
+certificate_words text.BadHead = codes "BadHead"
+certificate_words (text.BadLine line) = at_task (codes "BadLine") line
+certificate_words text.Truncated = codes "Truncated"
+certificate_words text.Trailing = codes "Trailing"
+certificate_words text.OutOfMemory = codes "OutOfMemory"
+
+-- what a certificate fails to show
+abbrev pub check_words : CheckFault → List ℕ
+check_words (check.WrongTasks level) = at_task (codes "WrongTasks") level
+check_words (check.BadPass level) = at_task (codes "BadPass") level
+check_words (check.BadChain level name) = at_name (codes "BadChain") level name
+check_words (check.MissingFail level name) = at_name (codes "MissingFail") level name
+check_words check.EmptySet = codes "EmptySet"
+
+-- the fault of a text
+abbrev pub text_words : TextFault → List ℕ
+text_words (line.BadLine number) = at_task (codes "BadLine") number
+text_words line.OutOfMemory = codes "OutOfMemory"
+
+-- what stops a simulation
+abbrev pub run_words : RunFault → List ℕ
+run_words (run.Unsorted place) = at_task (codes "Unsorted") place
+run_words (run.UnknownTask place) = at_task (codes "UnknownTask") place
+run_words (run.TooSoon place) = at_task (codes "TooSoon") place
+run_words run.PastHorizon = codes "PastHorizon"
+run_words run.TooMany = codes "TooMany"
+run_words (run.Overrun name time) = codes "Overrun " ++ name ++ codes " " ++ decimal time
+run_words run.OutOfMemory = codes "OutOfMemory"
+
+-- the name of a refusal with its fields
+abbrev pub words_of : Refusal → List ℕ
+words_of (refusal.Input input.TooLong) = codes "InputTooLong"
+words_of (refusal.Input input.OutOfMemory) = codes "OutOfMemory"
+words_of (refusal.Input input.ReadFailed) = codes "ReadFailed"
+words_of (refusal.Set fault) = fault_words fault
+words_of (refusal.Certificate fault) = certificate_words fault
+words_of (refusal.Check fault) = check_words fault
+words_of (refusal.Text fault) = text_words fault
+words_of (refusal.Run fault) = run_words fault
+words_of refusal.OutOfMemory = codes "OutOfMemory"
+
+-- the line of a refusal
+abbrev pub refusal_line : Refusal → List ℕ
+refusal_line r = codes "refused: " ++ words_of r ++ codes "\n"
+
+-- the exit status of a refusal
+abbrev pub status_of : Refusal → Status
+status_of (refusal.Input input.TooLong) = status.BadInput
+status_of (refusal.Input input.OutOfMemory) = status.OutOfMemory
+status_of (refusal.Input input.ReadFailed) = status.InputOrOutputFailed
+status_of (refusal.Set fault.OutOfMemory) = status.OutOfMemory
+status_of (refusal.Set _) = status.BadInput
+status_of (refusal.Certificate text.OutOfMemory) = status.OutOfMemory
+status_of (refusal.Certificate _) = status.BadCertificate
+status_of (refusal.Check _) = status.BadCertificate
+status_of (refusal.Text line.OutOfMemory) = status.OutOfMemory
+status_of (refusal.Text _) = status.BadInput
+status_of (refusal.Run run.OutOfMemory) = status.OutOfMemory
+status_of (refusal.Run _) = status.BadInput
+status_of refusal.OutOfMemory = status.OutOfMemory

@@ -1,0 +1,93 @@
+-- What `desk simulate` answers and prints.
+use Rattle.std.specs.Prelude.{◌≡◌, ◌⊎◌, ℕ, List, map, Option, Result, Ok, Err}
+use Rattle.std.specs.Io.KnownBytes.{Appends}
+use Rattle.task_sheet.specs.Sheet.{Task}
+use Rattle.task_sheet.specs.ReadsSet.{ReadsSet}
+use Rattle.task_sheet.specs.Verdicts.{LevelData, IsBestOrder, IsStuck}
+use Rattle.ceiling_kernel.specs.Tick.{node_in}
+use Rattle.ceiling_kernel.specs.Releases.{Runs}
+use Rattle.ceiling_kernel.specs.declared.trace.Release.{Release}
+use Rattle.ceiling_kernel.specs.declared.trace.Trace.{Trace}
+use Rattle.desk_cli.specs.Check.{IsTooLong}
+use Rattle.desk_cli.specs.Inputs.{IsReadFrom}
+use Rattle.desk_cli.specs.Lines.{infeasible_line}
+use Rattle.desk_cli.specs.Refusals.{refusal_line, status_of}
+use Rattle.desk_cli.specs.ReleasesText.{list_in}
+use Rattle.desk_cli.specs.TextFaults.{IsFault}
+use Rattle.desk_cli.specs.TraceLines.{trace_lines}
+use Rattle.desk_cli.specs.declared.input.InputFault.TheVariants as input
+use Rattle.desk_cli.specs.declared.refusal.Refusal.{Refusal}
+use Rattle.desk_cli.specs.declared.refusal.Refusal.TheVariants as refusal
+use Rattle.desk_cli.specs.declared.simulation.Simulated.{Simulated}
+use Rattle.desk_cli.specs.declared.simulation.Simulated.TheVariants.{Infeasible, Ran}
+use Rattle.desk_cli.specs.declared.status.Status.{Status}
+use Rattle.desk_cli.specs.declared.status.Status.TheVariants as status
+
+-- the kernel's answer on the tasks at their levels
+abbrev pub RunsOrder : List Task → List LevelData → List Release → ℕ → Result Trace Refusal → Type 0
+RunsOrder U levels rs until (Ok trace) = Runs (node_in U (map (λ l. l.task) levels)) rs until (Ok trace)
+RunsOrder U levels rs until (Err (refusal.Run fault)) = Runs (node_in U (map (λ l. l.task) levels)) rs until (Err fault)
+RunsOrder U levels rs until (Err refusal.OutOfMemory) = Unit {0}
+RunsOrder U levels rs until (Err (refusal.Input fault)) = ⊥
+RunsOrder U levels rs until (Err (refusal.Set fault)) = ⊥
+RunsOrder U levels rs until (Err (refusal.Certificate fault)) = ⊥
+RunsOrder U levels rs until (Err (refusal.Check fault)) = ⊥
+RunsOrder U levels rs until (Err (refusal.Text fault)) = ⊥
+
+-- the bytes say a set with a best order, and a release list
+pub record IsRun (bytes text : List ℕ) (U : List Task) (levels : List LevelData) (until : ℕ) (rs : List Release) : Type 0 where
+  pub set : ReadsSet bytes (Ok U)
+  pub order : IsBestOrder U levels
+  pub releases : list_in text ≡ Ok (until, rs)
+
+-- the run's answer, in the best order
+abbrev pub RunsBest : List ℕ → List ℕ → Result Trace Refusal → Type 0
+RunsBest bytes text r = (U : List Task) × (levels : List LevelData) × (until : ℕ) × (rs : List Release)
+    × IsRun bytes text U levels until rs × RunsOrder U levels rs until r
+
+-- the answer on the bytes of a set and of a release list
+abbrev pub SimulatesBytes : List ℕ → List ℕ → Result Simulated Refusal → Type 0
+SimulatesBytes bytes text (Ok (Ran trace)) = RunsBest bytes text (Ok trace)
+SimulatesBytes bytes text (Ok (Infeasible o)) =
+    ReadsSet bytes (Ok o.set) × IsStuck o.set o.members × ((until : ℕ) × (rs : List Release) × (list_in text ≡ Ok (until, rs)))
+SimulatesBytes bytes text (Err (refusal.Set fault)) = ReadsSet bytes (Err fault)
+SimulatesBytes bytes text (Err (refusal.Text fault)) = (U : List Task) × ReadsSet bytes (Ok U) × IsFault fault (list_in text)
+SimulatesBytes bytes text (Err (refusal.Run fault)) = RunsBest bytes text (Err (refusal.Run fault))
+SimulatesBytes bytes text (Err refusal.OutOfMemory) = Unit {0}
+SimulatesBytes bytes text (Err (refusal.Input fault)) = ⊥
+SimulatesBytes bytes text (Err (refusal.Certificate fault)) = ⊥
+SimulatesBytes bytes text (Err (refusal.Check fault)) = ⊥
+
+-- the bytes are those that the readers had
+abbrev pub SimulatesRead : Option (List ℕ) → Option (List ℕ) → Result Simulated Refusal → Type 0
+SimulatesRead set releases r = (bytes : List ℕ) × (text : List ℕ) × IsReadFrom set bytes × IsReadFrom releases text × SimulatesBytes bytes text r
+
+-- the answer on what the readers have of a set and of a release list
+abbrev pub Simulates : Option (List ℕ) → Option (List ℕ) → Result Simulated Refusal → Type 0
+Simulates set releases (Err (refusal.Input input.TooLong)) = IsTooLong set ⊎ IsTooLong releases
+Simulates set releases (Err (refusal.Input input.ReadFailed)) = Unit {0}
+Simulates set releases (Err (refusal.Input input.OutOfMemory)) = Unit {0}
+Simulates set releases (Err refusal.OutOfMemory) = Unit {0}
+Simulates set releases (Err (refusal.Set fault)) = SimulatesRead set releases (Err (refusal.Set fault))
+Simulates set releases (Err (refusal.Text fault)) = SimulatesRead set releases (Err (refusal.Text fault))
+Simulates set releases (Err (refusal.Run fault)) = SimulatesRead set releases (Err (refusal.Run fault))
+Simulates set releases (Err (refusal.Certificate fault)) = ⊥
+Simulates set releases (Err (refusal.Check fault)) = ⊥
+Simulates set releases (Ok simulated) = SimulatesRead set releases (Ok simulated)
+
+-- what is printed of an answer
+abbrev pub simulated_said : Result Simulated Refusal → List ℕ
+simulated_said (Ok (Ran trace)) = trace_lines trace
+simulated_said (Ok (Infeasible o)) = infeasible_line o.set o.members
+simulated_said (Err r) = refusal_line r
+
+-- the exit status of an answer
+abbrev pub simulated_status : Result Simulated Refusal → Status
+simulated_status (Ok (Ran trace)) = status.Done
+simulated_status (Ok (Infeasible o)) = status.Infeasible
+simulated_status (Err r) = status_of r
+
+-- an answer on what the readers had is printed after what the writer held, and the status is the answer's
+abbrev pub SaysSimulated : Option (List ℕ) → Option (List ℕ) → Option (List ℕ) → Option (List ℕ) → Status → Type 0
+SaysSimulated set releases before after s =
+    (answer : Result Simulated Refusal) × Simulates set releases answer × Appends before after (simulated_said answer) × (s ≡ simulated_status answer)

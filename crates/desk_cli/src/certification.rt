@@ -1,0 +1,50 @@
+//! `desk certify`.
+ghost use Rattle.std.specs.Prelude.{◌≡◌, ◌⊎◌, true, false};
+ghost use Rattle.std.specs.Io.KnownBytes.{Appends};
+ghost use Rattle.certificate.specs.Spelling.{spelling};
+ghost use Rattle.desk_cli.specs.Admit.{Says};
+ghost use Rattle.desk_cli.specs.Certify.{certificate_lines};
+
+use crate::admission::{decide, status_of};
+use crate::output::refuse;
+use crate::refusal::Refusal;
+use crate::status::Status;
+use certificate::{Certificate, Watched};
+use std::alloc::Global;
+use std::io::{Read, Write};
+
+// Prints the certificate, and gives the status that belongs to it; where the writer fails, the status of that.
+fn print_certificate<W: Write + Drop>(
+    certificate: &Certificate,
+    status: Status,
+    output: &mut Watched<W>,
+) -> Status
+    ensures printed { output.new.has_failed ≡ false → Appends (W.contents output.old.inner) (W.contents output.new.inner) (spelling certificate.now) }
+    ensures status { output.new.has_failed ≡ false → result ≡ status }
+    ensures failed { result ≡ Status.InputOrOutputFailed → (status ≡ Status.InputOrOutputFailed) ⊎ (output.new.has_failed ≡ true) }
+    ensures unwritten { output.old.has_failed ≡ false → output.new.has_failed ≡ true → result ≡ Status.InputOrOutputFailed }
+{
+    match certificate.write(output) {
+        Ok(()) => status,
+        Err(_) => Status::InputOrOutputFailed,
+    }
+}
+
+/// `desk certify`: reads a task set, and prints the certificate of its verdict, or why the input was refused.
+pub fn certify<R: Read + Drop, W: Write + Drop>(
+    alloc: Global,
+    set: &mut Watched<R>,
+    output: &mut Watched<W>,
+) -> Status
+    ensures printed { output.new.has_failed ≡ false → Says certificate_lines (R.remaining set.old.inner) (W.contents output.old.inner) (W.contents output.new.inner) result }
+    ensures failed { result ≡ Status.InputOrOutputFailed → (set.new.has_failed ≡ true) ⊎ (output.new.has_failed ≡ true) }
+    ensures unwritten { output.old.has_failed ≡ false → output.new.has_failed ≡ true → result ≡ Status.InputOrOutputFailed }
+{
+    match decide(alloc, set) {
+        Ok(verdict) => match Certificate::of(alloc, &verdict) {
+            Ok(certificate) => print_certificate(&certificate, status_of(&verdict), output),
+            Err(_) => refuse(Refusal::OutOfMemory, output),
+        },
+        Err(refusal) => refuse(refusal, output),
+    }
+}

@@ -1,0 +1,81 @@
+//! `desk check`.
+ghost use Rattle.std.specs.Prelude.{◌≡◌, ◌⊎◌, true, false, codes, Err};
+ghost use Rattle.desk_cli.specs.Check.{Checks, ChecksBytes, SaysChecked, checked_line};
+
+use crate::input::{InputFault, read_input};
+use crate::output::{print, refuse};
+use crate::refusal::Refusal;
+use crate::status::Status;
+use cert_checker::{Checked, check};
+use certificate::{Watched, read};
+use std::alloc::Global;
+use std::io::{Read, Write};
+use task_sheet::read_set;
+
+// What a certificate's bytes show of a set's bytes.
+fn check_bytes(alloc: Global, bytes: &[u8], text: &[u8]) -> Result<Checked, Refusal>
+    ensures { ChecksBytes bytes.now text.now result }
+{
+    let tasks = match read_set(alloc, bytes) {
+        Ok(tasks) => tasks,
+        Err(fault) => return Err(Refusal::Set(fault)),
+    };
+    let certificate = match read(alloc, text) {
+        Ok(certificate) => certificate,
+        Err(fault) => return Err(Refusal::Certificate(fault)),
+    };
+    match check(&tasks, &certificate) {
+        Ok(checked) => Ok(checked),
+        Err(fault) => Err(Refusal::Check(fault)),
+    }
+}
+
+// What the certificate shows of the set, once both are read.
+fn checked<R: Read + Drop, S: Read + Drop>(
+    alloc: Global,
+    set: &mut Watched<R>,
+    certificate: &mut Watched<S>,
+) -> Result<Checked, Refusal>
+    ensures answer { Checks (R.remaining set.old.inner) (S.remaining certificate.old.inner) result }
+    ensures failed { result ≡ Err (Refusal.Input InputFault.ReadFailed) → (set.new.has_failed ≡ true) ⊎ (certificate.new.has_failed ≡ true) }
+{
+    let bytes = match read_input(alloc, set) {
+        Ok(bytes) => bytes,
+        Err(fault) => return Err(Refusal::Input(fault)),
+    };
+    let text = match read_input(alloc, certificate) {
+        Ok(text) => text,
+        Err(fault) => return Err(Refusal::Input(fault)),
+    };
+    check_bytes(alloc, &bytes, &text)
+}
+
+// The line that says what a certificate shows.
+fn line_of(checked: Checked) -> &'static [u8]
+    ensures { result.now ≡ checked_line checked }
+{
+    match checked {
+        Checked::Best => b"best\n",
+        Checked::NoOrder => b"no order\n",
+    }
+}
+
+/// `desk check`: reads a task set and a certificate, and prints what the certificate shows of the set,
+/// or why one of them was refused. Both are read before either is parsed.
+pub fn check_files<R: Read + Drop, S: Read + Drop, W: Write + Drop>(
+    alloc: Global,
+    set: &mut Watched<R>,
+    certificate: &mut Watched<S>,
+    output: &mut Watched<W>,
+) -> Status
+    ensures printed { output.new.has_failed ≡ false
+        → SaysChecked (R.remaining set.old.inner) (S.remaining certificate.old.inner) (W.contents output.old.inner) (W.contents output.new.inner) result }
+    ensures failed { result ≡ Status.InputOrOutputFailed
+        → (set.new.has_failed ≡ true) ⊎ ((certificate.new.has_failed ≡ true) ⊎ (output.new.has_failed ≡ true)) }
+    ensures unwritten { output.old.has_failed ≡ false → output.new.has_failed ≡ true → result ≡ Status.InputOrOutputFailed }
+{
+    match checked(alloc, set, certificate) {
+        Ok(checked) => print(line_of(checked), Status::Done, output),
+        Err(refusal) => refuse(refusal, output),
+    }
+}

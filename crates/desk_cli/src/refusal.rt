@@ -1,0 +1,184 @@
+//! Why a command was refused, and the line that says so.
+ghost use Rattle.std.specs.Prelude.{◌≡◌, Some};
+ghost use Rattle.std.specs.Fmt.{DisplaysOnOk};
+ghost use Rattle.desk_cli.specs.Refusals.{cause_words, certificate_words, check_words, fault_words, refusal_line, run_words, status_of, text_words, words_of};
+
+use crate::input::InputFault;
+use crate::releases::TextFault;
+use crate::status::Status;
+use ceiling_kernel::RunFault;
+use cert_checker::CheckFault;
+use certificate::CertFault;
+use std::fmt;
+use task_sheet::{SetFault, SheetCause};
+
+/// Why a command was refused. Its `Display` is the line that the command prints.
+#[derive(Clone, Copy)]
+pub enum Refusal {
+    /// An input was not read.
+    Input(InputFault),
+    /// The set's input is no set.
+    Set(SetFault),
+    /// The certificate's input is no certificate.
+    Certificate(CertFault),
+    /// The certificate does not show what it says.
+    Check(CheckFault),
+    /// The release list's input is no release list.
+    Text(TextFault),
+    /// The release list was not run, or a job overran.
+    Run(RunFault),
+    /// Memory ran out after the inputs were read.
+    OutOfMemory,
+}
+
+impl Refusal {
+    /// The exit status.
+    pub fn status(self) -> Status
+        ensures { result ≡ status_of self }
+    {
+        match self {
+            Refusal::Input(InputFault::TooLong) => Status::BadInput,
+            Refusal::Input(InputFault::OutOfMemory) => Status::OutOfMemory,
+            Refusal::Input(InputFault::ReadFailed) => Status::InputOrOutputFailed,
+            Refusal::Set(SetFault::OutOfMemory) => Status::OutOfMemory,
+            Refusal::Set(_) => Status::BadInput,
+            Refusal::Certificate(CertFault::OutOfMemory) => Status::OutOfMemory,
+            Refusal::Certificate(_) => Status::BadCertificate,
+            Refusal::Check(_) => Status::BadCertificate,
+            Refusal::Text(TextFault::OutOfMemory) => Status::OutOfMemory,
+            Refusal::Text(_) => Status::BadInput,
+            Refusal::Run(RunFault::OutOfMemory) => Status::OutOfMemory,
+            Refusal::Run(_) => Status::BadInput,
+            Refusal::OutOfMemory => Status::OutOfMemory,
+        }
+    }
+}
+
+// The name of a sheet's fault, with the places of the task and of the section.
+fn write_cause<W: fmt::Write>(
+    task: usize,
+    cause: SheetCause,
+    f: &mut fmt::Formatter<W>,
+) -> fmt::Result
+    ensures { DisplaysOnOk W.write_str_gives f.old result (Some (cause_words task cause)) f.new }
+{
+    match cause {
+        SheetCause::BadWeight => write!(f, "BadWeight {task}"),
+        SheetCause::BadPeriod => write!(f, "BadPeriod {task}"),
+        SheetCause::DeadlineZero => write!(f, "DeadlineZero {task}"),
+        SheetCause::DeadlinePastPeriod => write!(f, "DeadlinePastPeriod {task}"),
+        SheetCause::CostZero => write!(f, "CostZero {task}"),
+        SheetCause::CostPastPeriod => write!(f, "CostPastPeriod {task}"),
+        SheetCause::TooManySections => write!(f, "TooManySections {task}"),
+        SheetCause::NoLocks { section } => write!(f, "NoLocks {task} {section}"),
+        SheetCause::TooManyLocks { section } => write!(f, "TooManyLocks {task} {section}"),
+        SheetCause::LockTwice { section } => write!(f, "LockTwice {task} {section}"),
+        SheetCause::LenZero { section } => write!(f, "LenZero {task} {section}"),
+        SheetCause::Overlap { section } => write!(f, "Overlap {task} {section}"),
+        SheetCause::SectionPastCost { section } => write!(f, "SectionPastCost {task} {section}"),
+    }
+}
+
+// The name of a set's fault, with its fields.
+fn write_fault<W: fmt::Write>(fault: SetFault, f: &mut fmt::Formatter<W>) -> fmt::Result
+    ensures { DisplaysOnOk W.write_str_gives f.old result (Some (fault_words fault)) f.new }
+{
+    match fault {
+        SetFault::Syntax => f.write_str("Syntax"),
+        SetFault::UnknownKey { task, section } => write!(f, "UnknownKey {task} {section}"),
+        SetFault::MissingKey { task, section, key } => {
+            let word = key.word();
+            write!(f, "MissingKey {task} {section} {word}")
+        }
+        SetFault::WrongKind { task, section, key } => {
+            let word = key.word();
+            write!(f, "WrongKind {task} {section} {word}")
+        }
+        SetFault::BadName { task, section } => write!(f, "BadName {task} {section}"),
+        SetFault::Sheet { task, cause } => write_cause(task, cause, f),
+        SetFault::SameName { task } => write!(f, "SameName {task}"),
+        SetFault::TooManyTasks => f.write_str("TooManyTasks"),
+        SetFault::OutOfMemory => f.write_str("OutOfMemory"),
+    }
+}
+
+// The name of a fault of a certificate's text, with its line.
+fn write_certificate_fault<W: fmt::Write>(
+    fault: CertFault,
+    f: &mut fmt::Formatter<W>,
+) -> fmt::Result
+    ensures { DisplaysOnOk W.write_str_gives f.old result (Some (certificate_words fault)) f.new }
+{
+    match fault {
+        CertFault::BadHead => f.write_str("BadHead"),
+        CertFault::BadLine { line } => write!(f, "BadLine {line}"),
+        CertFault::Truncated => f.write_str("Truncated"),
+        CertFault::Trailing => f.write_str("Trailing"),
+        CertFault::OutOfMemory => f.write_str("OutOfMemory"),
+    }
+}
+
+// The name of what a certificate fails to show, with its fields.
+fn write_check_fault<W: fmt::Write>(fault: CheckFault, f: &mut fmt::Formatter<W>) -> fmt::Result
+    ensures { DisplaysOnOk W.write_str_gives f.old result (Some (check_words fault)) f.new }
+{
+    match fault {
+        CheckFault::WrongTasks { level } => write!(f, "WrongTasks {level}"),
+        CheckFault::BadPass { level } => write!(f, "BadPass {level}"),
+        CheckFault::BadChain { level, name } => write!(f, "BadChain {level} {name}"),
+        CheckFault::MissingFail { level, name } => write!(f, "MissingFail {level} {name}"),
+        CheckFault::EmptySet => f.write_str("EmptySet"),
+    }
+}
+
+// The name of a fault of a text, with its line.
+fn write_text_fault<W: fmt::Write>(fault: TextFault, f: &mut fmt::Formatter<W>) -> fmt::Result
+    ensures { DisplaysOnOk W.write_str_gives f.old result (Some (text_words fault)) f.new }
+{
+    match fault {
+        TextFault::BadLine { line } => write!(f, "BadLine {line}"),
+        TextFault::OutOfMemory => f.write_str("OutOfMemory"),
+    }
+}
+
+// The name of what stopped a simulation, with its fields.
+fn write_run_fault<W: fmt::Write>(fault: RunFault, f: &mut fmt::Formatter<W>) -> fmt::Result
+    ensures { DisplaysOnOk W.write_str_gives f.old result (Some (run_words fault)) f.new }
+{
+    match fault {
+        RunFault::Unsorted { place } => write!(f, "Unsorted {place}"),
+        RunFault::UnknownTask { place } => write!(f, "UnknownTask {place}"),
+        RunFault::TooSoon { place } => write!(f, "TooSoon {place}"),
+        RunFault::PastHorizon => f.write_str("PastHorizon"),
+        RunFault::TooMany => f.write_str("TooMany"),
+        RunFault::Overrun { name, time } => write!(f, "Overrun {name} {time}"),
+        RunFault::OutOfMemory => f.write_str("OutOfMemory"),
+    }
+}
+
+// The name of a refusal, with its fields.
+fn write_words<W: fmt::Write>(refusal: Refusal, f: &mut fmt::Formatter<W>) -> fmt::Result
+    ensures { DisplaysOnOk W.write_str_gives f.old result (Some (words_of refusal)) f.new }
+{
+    match refusal {
+        Refusal::Input(InputFault::TooLong) => f.write_str("InputTooLong"),
+        Refusal::Input(InputFault::OutOfMemory) => f.write_str("OutOfMemory"),
+        Refusal::Input(InputFault::ReadFailed) => f.write_str("ReadFailed"),
+        Refusal::Set(fault) => write_fault(fault, f),
+        Refusal::Certificate(fault) => write_certificate_fault(fault, f),
+        Refusal::Check(fault) => write_check_fault(fault, f),
+        Refusal::Text(fault) => write_text_fault(fault, f),
+        Refusal::Run(fault) => write_run_fault(fault, f),
+        Refusal::OutOfMemory => f.write_str("OutOfMemory"),
+    }
+}
+
+impl fmt::Display for Refusal {
+    ghost output = { λ refusal. Some (refusal_line refusal) };
+
+    fn fmt<W: fmt::Write>(&self, f: &mut fmt::Formatter<W>) -> fmt::Result {
+        f.write_str("refused: ")?;
+        write_words(*self, f)?;
+        f.write_str("\n")
+    }
+}

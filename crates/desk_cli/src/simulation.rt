@@ -1,0 +1,134 @@
+//! `desk simulate`.
+ghost use Rattle.std.specs.Prelude.{◌≡◌, ◌⊎◌, map, true, false, Err, IfOk};
+ghost use Rattle.desk_cli.specs.Simulate.{RunsOrder, SaysSimulated, Simulates, SimulatesBytes};
+
+use crate::answer::infeasible_text;
+use crate::input::{InputFault, read_input};
+use crate::output::{print, refuse};
+use crate::refusal::Refusal;
+use crate::releases::read_releases;
+use crate::status::Status;
+use crate::tracing::trace_text;
+use assignment::{Assignment, Obstruction, Verdict, assign};
+use ceiling_kernel::{Kernel, KernelFault, Release, Trace};
+use certificate::Watched;
+use std::alloc::{AllocError, Global};
+use std::io::{Read, Write};
+use std::sync::Arc;
+use task_sheet::read_set;
+
+/// What a simulation answers.
+#[derive(Drop)]
+pub enum Simulated {
+    /// No order of the set passes, and nothing was run.
+    Infeasible(Obstruction),
+    /// What happened.
+    Ran(Trace),
+}
+
+// The indexes of the tasks, the lowest level first.
+fn order_of(alloc: Global, assignment: &Assignment) -> Result<Vec<usize>, AllocError>
+    ensures { IfOk result (λ order. order.items ≡ map (λ l. l.task) assignment.now.levels) }
+{
+    assignment
+        .levels()
+        .iter()
+        .map(|level| level.task)
+        .collect(alloc)
+}
+
+// Runs the tasks at the levels of their best order.
+fn run(
+    alloc: Global,
+    assignment: &Assignment,
+    until: u64,
+    releases: &[Release],
+) -> Result<Trace, Refusal>
+    ensures { RunsOrder assignment.now.set assignment.now.levels releases.now until result }
+{
+    let Ok(order) = order_of(alloc, assignment) else {
+        return Err(Refusal::OutOfMemory);
+    };
+    let kernel = match Kernel::new(alloc, assignment.set(), &order) {
+        Ok(kernel) => kernel,
+        Err(KernelFault::OutOfMemory) => return Err(Refusal::OutOfMemory),
+        Err(KernelFault::WrongOrder) => unreachable!(),
+    };
+    match kernel.run(alloc, releases, until) {
+        Ok(trace) => Ok(trace),
+        Err(fault) => Err(Refusal::Run(fault)),
+    }
+}
+
+// What a set's bytes and a release list's bytes give.
+fn simulate_bytes(alloc: Global, bytes: &[u8], text: &[u8]) -> Result<Simulated, Refusal>
+    ensures { SimulatesBytes bytes.now text.now result }
+{
+    let tasks = match read_set(alloc, bytes) {
+        Ok(tasks) => tasks,
+        Err(fault) => return Err(Refusal::Set(fault)),
+    };
+    let (until, releases) = match read_releases(alloc, text) {
+        Ok(list) => list,
+        Err(fault) => return Err(Refusal::Text(fault)),
+    };
+    let Ok(tasks) = Arc::new(alloc, tasks) else {
+        return Err(Refusal::OutOfMemory);
+    };
+    match assign(alloc, tasks) {
+        Err(_) => Err(Refusal::OutOfMemory),
+        Ok(Verdict::Infeasible(obstruction)) => Ok(Simulated::Infeasible(obstruction)),
+        Ok(Verdict::Admitted(assignment)) => match run(alloc, &assignment, until, &releases) {
+            Ok(trace) => Ok(Simulated::Ran(trace)),
+            Err(refusal) => Err(refusal),
+        },
+    }
+}
+
+// What the release list gives on the set, once both are read.
+fn simulated_of<R: Read + Drop, S: Read + Drop>(
+    alloc: Global,
+    set: &mut Watched<R>,
+    releases: &mut Watched<S>,
+) -> Result<Simulated, Refusal>
+    ensures answer { Simulates (R.remaining set.old.inner) (S.remaining releases.old.inner) result }
+    ensures failed { result ≡ Err (Refusal.Input InputFault.ReadFailed) → (set.new.has_failed ≡ true) ⊎ (releases.new.has_failed ≡ true) }
+{
+    let bytes = match read_input(alloc, set) {
+        Ok(bytes) => bytes,
+        Err(fault) => return Err(Refusal::Input(fault)),
+    };
+    let text = match read_input(alloc, releases) {
+        Ok(text) => text,
+        Err(fault) => return Err(Refusal::Input(fault)),
+    };
+    simulate_bytes(alloc, &bytes, &text)
+}
+
+/// `desk simulate`: reads a task set and a release list, and prints what the simulated kernel does at the levels of
+/// the set's best order, in microseconds; or the tasks of its greatest obstruction; or why one of them was refused.
+/// Both are read before either is parsed.
+pub fn simulate<R: Read + Drop, S: Read + Drop, W: Write + Drop>(
+    alloc: Global,
+    set: &mut Watched<R>,
+    releases: &mut Watched<S>,
+    output: &mut Watched<W>,
+) -> Status
+    ensures printed { output.new.has_failed ≡ false
+        → SaysSimulated (R.remaining set.old.inner) (S.remaining releases.old.inner) (W.contents output.old.inner) (W.contents output.new.inner) result }
+    ensures failed { result ≡ Status.InputOrOutputFailed
+        → (set.new.has_failed ≡ true) ⊎ ((releases.new.has_failed ≡ true) ⊎ (output.new.has_failed ≡ true)) }
+    ensures unwritten { output.old.has_failed ≡ false → output.new.has_failed ≡ true → result ≡ Status.InputOrOutputFailed }
+{
+    match simulated_of(alloc, set, releases) {
+        Ok(Simulated::Ran(trace)) => match trace_text(alloc, &trace) {
+            Ok(text) => print(text.as_bytes(), Status::Done, output),
+            Err(_) => refuse(Refusal::OutOfMemory, output),
+        },
+        Ok(Simulated::Infeasible(obstruction)) => match infeasible_text(alloc, &obstruction) {
+            Ok(text) => print(text.as_bytes(), Status::Infeasible, output),
+            Err(_) => refuse(Refusal::OutOfMemory, output),
+        },
+        Err(refusal) => refuse(refusal, output),
+    }
+}

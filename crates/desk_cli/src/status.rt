@@ -1,0 +1,39 @@
+//! Exit statuses.
+ghost use Rattle.std.specs.Prelude.{◌≡◌};
+ghost use Rattle.desk_cli.specs.Statuses.{code_of};
+
+/// How a command ended.
+#[derive(Clone, Copy, Debug, PartialEq, Eq)]
+pub enum Status {
+    /// It did what was asked, or printed help.
+    Done,
+    /// The words of the command line were refused.
+    BadArguments,
+    /// No order of the set passes.
+    Infeasible,
+    /// An input was refused.
+    BadInput,
+    /// A certificate was refused, by its reading or by its check.
+    BadCertificate,
+    /// Memory ran out, or the system refused a thread.
+    OutOfMemory,
+    /// A file was not opened, or a read or a write failed.
+    InputOrOutputFailed,
+}
+
+impl Status {
+    /// The number that the process ends with.
+    pub fn code(self) -> u8
+        ensures { result ≡ code_of self }
+    {
+        match self {
+            Status::Done => 0,
+            Status::BadArguments => 2,
+            Status::Infeasible => 3,
+            Status::BadInput => 4,
+            Status::BadCertificate => 5,
+            Status::OutOfMemory => 6,
+            Status::InputOrOutputFailed => 7,
+        }
+    }
+}

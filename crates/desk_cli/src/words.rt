@@ -1,0 +1,299 @@
+//! The words of a command line.
+ghost use Rattle.std.specs.Prelude.{◌≡◌, ◌⊎◌, map, Ok, Some, Err, IfOk, IfErr, true, false, codes};
+ghost use Rattle.std.specs.Io.KnownBytes.{Appends};
+ghost use Rattle.clap.specs.Words.{FailsBy, app_of, fault_of, first_value, found_of, new_app, rows_of, rule_of, subcommand_of, subcommand_rows_of, with_subcommand};
+ghost use Rattle.clap.specs.declared.builder.command.Command.TheViews.{out-Command as fields_of};
+ghost use Rattle.desk_cli.specs.App.{bare_app, desk_app, input_rule, pair_app, set_app};
+ghost use Rattle.desk_cli.specs.Calls.{Calls, IsCall, IsCommand, IsTaken, IsMemory, IsWordsFault, Names, fault_status, goes_out, is_standard, is_twice};
+ghost use Rattle.desk_cli.specs.Refusals.{refusal_line};
+
+use crate::output::{print, refuse};
+use crate::refusal::Refusal;
+use crate::status::Status;
+use certificate::Watched;
+use clap::error::ErrorKind;
+use clap::{Arg, ArgAction, ArgMatches, Command, Error};
+use std::alloc::{AllocError, Global};
+use std::io::Write;
+
+/// An input that a word names.
+#[derive(Clone, Copy, Debug, PartialEq, Eq)]
+pub enum Input<'a> {
+    /// The word `-`.
+    Standard,
+    /// A path.
+    File(&'a str),
+}
+
+impl Input<'_> {
+    fn is_standard(&self) -> bool
+        ensures { result ≡ is_standard self.now }
+    {
+        matches!(self, Input::Standard)
+    }
+}
+
+/// A command with its inputs.
+#[derive(Clone, Copy, Debug, PartialEq, Eq)]
+pub enum Call<'a> {
+    /// `admit SET`
+    Admit {
+        set: Input<'a>,
+    },
+    /// `certify SET`
+    Certify {
+        set: Input<'a>,
+    },
+    /// `check SET CERT`
+    Check {
+        set: Input<'a>,
+        certificate: Input<'a>,
+    },
+    /// `simulate SET RELEASES`
+    Simulate {
+        set: Input<'a>,
+        releases: Input<'a>,
+    },
+}
+
+/// Why words are no call.
+#[derive(Debug, Drop)]
+pub enum WordsFault {
+    /// `clap`'s error, which help is too, or want of memory.
+    Clap(Error),
+    /// Standard input is named twice.
+    InputTwice,
+}
+
+const ADMIT_ABOUT: &str =
+    "Prints the best order with its responses, or the tasks that stand in the way of all";
+
+const CERTIFY_ABOUT: &str = "Prints a certificate of what admit answers";
+
+const CHECK_ABOUT: &str = "Checks a certificate against a task set, whoever wrote it";
+
+const CERT_HELP: &str = "A certificate: a path, or - for standard input";
+
+const SIMULATE_ABOUT: &str =
+    "Runs a release list in a simulated kernel, at the levels of the best order";
+
+const RELEASES_HELP: &str = "A release list: a path, or - for standard input";
+
+const SET_HELP: &str = "A task set in TOML: a path, or - for standard input";
+
+fn input_arg<'a>(alloc: Global, name: &'a str, help: &'a str) -> Arg<'a>
+    ensures rule { rule_of result ≡ input_rule name.entry.now }
+    ensures local { result.global ≡ false }
+{
+    Arg::new(alloc, name)
+        .required(true)
+        .action(ArgAction::Set)
+        .help(help)
+}
+
+fn new_command<'a>(alloc: Global, name: &'a str, about: &'a str) -> Command<'a>
+    ensures app { app_of result ≡ new_app name.entry.now }
+    ensures local { (fields_of result).has_globals ≡ false }
+{
+    Command::new(alloc, name).about(about)
+}
+
+// The program with no command yet.
+fn bare_command<'a>(alloc: Global) -> Result<Command<'a>, AllocError>
+    ensures app { IfOk result (λ c. app_of c ≡ bare_app) }
+    ensures local { IfOk result (λ c. (fields_of c).has_globals ≡ false) }
+{
+    let about = "An admission desk for the periodic tasks of one processor";
+    let bare = new_command(alloc, "desk", about)
+        .no_binary_name(true)
+        .subcommand_required(true);
+    let desk = bare.bin_name("desk")?;
+    Ok(desk)
+}
+
+// A command whose first input is a task set.
+fn set_command<'a>(alloc: Global, name: &'a str, about: &'a str) -> Result<Command<'a>, AllocError>
+    ensures app { IfOk result (λ c. app_of c ≡ set_app name.entry.now) }
+    ensures local { IfOk result (λ c. (fields_of c).has_globals ≡ false) }
+{
+    let set = input_arg(alloc, "SET", SET_HELP);
+    let command = new_command(alloc, name, about).arg(set)?;
+    Ok(command)
+}
+
+// A command with a task set and a second input.
+fn pair_command<'a>(
+    alloc: Global,
+    name: &'a str,
+    about: &'a str,
+    second: &'a str,
+    help: &'a str,
+) -> Result<Command<'a>, AllocError>
+    ensures app { IfOk result (λ c. app_of c ≡ pair_app name.entry.now second.entry.now) }
+    ensures local { IfOk result (λ c. (fields_of c).has_globals ≡ false) }
+{
+    let input = input_arg(alloc, second, help);
+    let first = set_command(alloc, name, about)?;
+    let command = first.arg(input)?;
+    Ok(command)
+}
+
+// The command with one more command below it.
+fn with_command<'a>(above: Command<'a>, command: Command<'a>) -> Result<Command<'a>, AllocError>
+    requires above { (fields_of above).has_globals ≡ false }
+    requires command { (fields_of command).has_globals ≡ false }
+    ensures app { IfOk result (λ c. app_of c ≡ with_subcommand (app_of above.entry) (app_of command.entry).top) }
+    ensures local { IfOk result (λ c. (fields_of c).has_globals ≡ false) }
+{
+    let both = above.subcommand(command)?;
+    Ok(both)
+}
+
+fn desk_command<'a>(alloc: Global) -> Result<Command<'a>, AllocError>
+    ensures app { IfOk result (λ c. app_of c ≡ desk_app) }
+    ensures local { IfOk result (λ c. (fields_of c).has_globals ≡ false) }
+{
+    let bare = bare_command(alloc)?;
+    let admit = set_command(alloc, "admit", ADMIT_ABOUT)?;
+    let first = with_command(bare, admit)?;
+    let certify = set_command(alloc, "certify", CERTIFY_ABOUT)?;
+    let second = with_command(first, certify)?;
+    let check = pair_command(alloc, "check", CHECK_ABOUT, "CERT", CERT_HELP)?;
+    let third = with_command(second, check)?;
+    let simulate = pair_command(alloc, "simulate", SIMULATE_ABOUT, "RELEASES", RELEASES_HELP)?;
+    let desk = with_command(third, simulate)?;
+    Ok(desk)
+}
+
+// What `clap` makes of the words.
+fn desk_matches<'a>(alloc: Global, words: &'a [&'a str]) -> Result<ArgMatches<'a>, Error>
+    ensures ok { IfOk result (λ m. subcommand_rows_of m ≡ subcommand_of desk_app (map (λ s. s.now) words.entry.now)) }
+    ensures command { IfOk result (λ m. IsCommand (subcommand_rows_of m)) }
+    ensures kinds { FailsBy (fault_of desk_app (map (λ s. s.now) words.entry.now)) result }
+{
+    let desk = desk_command(alloc)?;
+    desk.try_get_matches_from(words)
+}
+
+// The input that an argument names.
+fn input_at<'a>(matches: &ArgMatches<'a>, id: &str) -> Input<'a>
+    ensures { Names (first_value (found_of matches.now) id.now) result }
+{
+    match matches.get_str(id) {
+        None => Input::Standard,
+        Some("-") => Input::Standard,
+        Some(path) => Input::File(path),
+    }
+}
+
+// The call that a command names.
+fn call_named<'a>(name: &str, found: &ArgMatches<'a>) -> Call<'a>
+    requires { IsCommand (Some (name.now, rows_of (found_of found.now))) }
+    ensures { IsCall (Some (name.now, rows_of (found_of found.now))) result }
+{
+    let set = input_at(found, "SET");
+    if name == "certify" {
+        return Call::Certify { set };
+    }
+    if name == "check" {
+        let certificate = input_at(found, "CERT");
+        return Call::Check { set, certificate };
+    }
+    if name == "simulate" {
+        let releases = input_at(found, "RELEASES");
+        return Call::Simulate { set, releases };
+    }
+    Call::Admit { set }
+}
+
+// The call that the matches name.
+fn call_of<'a>(matches: &ArgMatches<'a>) -> Call<'a>
+    requires { IsCommand (subcommand_rows_of matches.now) }
+    ensures { IsCall (subcommand_rows_of matches.now) result }
+{
+    match matches.subcommand() {
+        None => Call::Admit {
+            set: Input::Standard,
+        },
+        Some((name, found)) => call_named(name, found),
+    }
+}
+
+impl Call<'_> {
+    // Two inputs of the call are standard input.
+    fn is_twice(&self) -> bool
+        ensures { result ≡ is_twice self.now }
+    {
+        match self {
+            Call::Admit { .. } => false,
+            Call::Certify { .. } => false,
+            Call::Check { set, certificate } => set.is_standard() && certificate.is_standard(),
+            Call::Simulate { set, releases } => set.is_standard() && releases.is_standard(),
+        }
+    }
+}
+
+/// Reads the words of a command line, the program's name left out. No words call `admit` of standard input.
+pub fn read_words<'a>(alloc: Global, words: &'a [&'a str]) -> Result<Call<'a>, WordsFault>
+    ensures call { IfOk result (Calls (map (λ s. s.now) words.entry.now)) }
+    ensures taken { IfOk result (λ _. IsTaken (map (λ s. s.now) words.entry.now)) }
+    ensures once { IfOk result (λ call. is_twice call ≡ false) }
+    ensures fault { IfErr result (IsWordsFault (map (λ s. s.now) words.entry.now)) }
+{
+    if words.is_empty() {
+        return Ok(Call::Admit {
+            set: Input::Standard,
+        });
+    }
+    let matches = match desk_matches(alloc, words) {
+        Ok(matches) => matches,
+        Err(error) => return Err(WordsFault::Clap(error)),
+    };
+    let call = call_of(&matches);
+    if call.is_twice() {
+        return Err(WordsFault::InputTwice);
+    }
+    Ok(call)
+}
+
+// Prints the text of `clap`'s error.
+fn show<W: Write + Drop>(error: &Error, status: Status, writer: &mut Watched<W>) -> Status
+    ensures status { writer.new.has_failed ≡ false → result ≡ status }
+    ensures unwritten { writer.old.has_failed ≡ false → writer.new.has_failed ≡ true → result ≡ Status.InputOrOutputFailed }
+{
+    match write!(writer, "{error}") {
+        Ok(()) => status,
+        Err(_) => Status::InputOrOutputFailed,
+    }
+}
+
+/// Prints why words were refused: help to the output, want of memory as each command prints it,
+/// and anything else to the errors.
+pub fn refuse_words<O: Write + Drop, E: Write + Drop>(
+    fault: &WordsFault,
+    output: &mut Watched<O>,
+    errors: &mut Watched<E>,
+) -> Status
+    ensures status { output.new.has_failed ≡ false → errors.new.has_failed ≡ false → result ≡ fault_status fault.now }
+    ensures twice { fault.now ≡ WordsFault.InputTwice → errors.new.has_failed ≡ false
+        → Appends (E.contents errors.old.inner) (E.contents errors.new.inner) (codes "standard input named twice\n") }
+    ensures memory { IsMemory fault.now → output.new.has_failed ≡ false
+        → Appends (O.contents output.old.inner) (O.contents output.new.inner) (refusal_line Refusal.OutOfMemory) }
+    ensures output_alone { goes_out fault.now ≡ true → errors.new ≡ errors.old }
+    ensures errors_alone { goes_out fault.now ≡ false → output.new ≡ output.old }
+    ensures unwritten { output.old.has_failed ≡ false → errors.old.has_failed ≡ false
+        → (output.new.has_failed ≡ true) ⊎ (errors.new.has_failed ≡ true) → result ≡ Status.InputOrOutputFailed }
+{
+    match fault {
+        WordsFault::InputTwice => print(
+            b"standard input named twice\n",
+            Status::BadArguments,
+            errors,
+        ),
+        WordsFault::Clap(error) => match error.kind() {
+            ErrorKind::OutOfMemory => refuse(Refusal::OutOfMemory, output),
+            ErrorKind::DisplayHelp | ErrorKind::DisplayVersion => show(error, Status::Done, output),
+            _ => show(error, Status::BadArguments, errors),
+        },
+    }
+}
