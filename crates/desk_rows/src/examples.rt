@@ -1,0 +1,187 @@
+//! The sets of the examples, as documents.
+use std::alloc::Global;
+use std::sync::Arc;
+use std::test::Fail;
+use task_sheet::{Name, TaskSet, read_set};
+
+pub const FILLS_ITS_PERIOD: &str = "
+task = [{ name = 'x', period = 1000, deadline = 1000, cost = 1000 }]
+";
+
+pub const DEMAND_OF_THE_DEADLINE: &str = "
+[[task]]
+name = 'p'
+period = 20000
+deadline = 11000
+cost = 4000
+[[task]]
+name = 'q'
+period = 10000
+deadline = 10000
+cost = 5000
+";
+
+pub const COST_PAST_THE_DEADLINE: &str = "
+task = [{ name = 'x', period = 10000, deadline = 2000, cost = 3000 }]
+";
+
+pub const OBSTRUCTION_OF_ONE: &str = "
+[[task]]
+name = 'x'
+period = 10000
+deadline = 2000
+cost = 3000
+[[task]]
+name = 'y'
+period = 100000
+deadline = 100000
+cost = 1000
+";
+
+pub const THREE_TASKS: &str = "
+[[task]]
+name = 'a'
+period = 7000
+deadline = 7000
+cost = 3000
+[[task]]
+name = 'b'
+period = 12000
+deadline = 12000
+cost = 3000
+[[task]]
+name = 'c'
+period = 20000
+deadline = 20000
+cost = 5000
+";
+
+pub const THREE_TASKS_WEIGHTED: &str = "
+[[task]]
+name = 'a'
+weight = 10
+period = 7000
+deadline = 7000
+cost = 3000
+[[task]]
+name = 'b'
+weight = 1
+period = 12000
+deadline = 12000
+cost = 3000
+[[task]]
+name = 'c'
+weight = 1
+period = 20000
+deadline = 20000
+cost = 5000
+";
+
+pub const THREE_TASKS_TOO_TIGHT: &str = "
+[[task]]
+name = 'a'
+period = 7000
+deadline = 7000
+cost = 3000
+[[task]]
+name = 'b'
+period = 12000
+deadline = 12000
+cost = 3000
+[[task]]
+name = 'c'
+period = 20000
+deadline = 19000
+cost = 5000
+";
+
+pub const SHARED_LOCK: &str = "
+[[task]]
+name = 'hi'
+weight = 2
+period = 10000
+deadline = 10000
+cost = 1000
+section = [{ locks = ['m'], at = 0, len = 200 }]
+[[task]]
+name = 'mid'
+weight = 1
+period = 20000
+deadline = 20000
+cost = 2000
+[[task]]
+name = 'lo'
+period = 100000
+deadline = 100000
+cost = 20000
+section = [{ locks = ['m'], at = 100, len = 4000 }]
+";
+
+pub const BLOCKED_OUT: &str = "
+[[task]]
+name = 'hi'
+period = 10000
+deadline = 4400
+cost = 2000
+section = [{ locks = ['m'], at = 0, len = 500 }]
+[[task]]
+name = 'lo'
+period = 50000
+deadline = 50000
+cost = 10000
+[[task.section]]
+locks = ['m']
+at = 1000
+len = 2500
+";
+
+pub const BLOCKED_OUT_REPAIRED: &str = "
+[[task]]
+name = 'hi'
+period = 10000
+deadline = 4500
+cost = 2000
+section = [{ locks = ['m'], at = 0, len = 500 }]
+[[task]]
+name = 'lo'
+period = 50000
+deadline = 50000
+cost = 10000
+[[task.section]]
+locks = ['m']
+at = 1000
+len = 2500
+";
+
+pub const EXCHANGE_WITH_EQUALITY: &str = "
+[[task]]
+name = 'x'
+period = 10000
+deadline = 10000
+cost = 1000
+section = [{ locks = ['m'], at = 0, len = 100 }]
+[[task]]
+name = 'y'
+period = 20000
+deadline = 20000
+cost = 2000
+section = [{ locks = ['m'], at = 0, len = 2000 }]
+";
+
+/// The set of a document.
+pub fn set_of(alloc: Global, text: &str) -> Result<TaskSet, Fail> {
+    let set = read_set(alloc, text.as_bytes())?;
+    Ok(set)
+}
+
+/// The set of a document, to be shared.
+pub fn shared_set(alloc: Global, text: &str) -> Result<Arc<TaskSet>, Fail> {
+    let set = set_of(alloc, text)?;
+    Ok(Arc::new(alloc, set)?)
+}
+
+/// The name that a text is.
+pub fn name(text: &str) -> Result<Name, Fail> {
+    let name = Name::read(text.as_bytes())?;
+    Ok(name)
+}

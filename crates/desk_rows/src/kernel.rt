@@ -1,0 +1,254 @@
+//! The simulated kernel.
+use crate::examples::{self, name, set_of};
+use ceiling_kernel::{Kernel, KernelFault, Release, RunFault, Trace};
+use std::alloc::{AllocError, Global};
+use std::test::Fail;
+
+// The releases of a list, each a time and a task's name.
+fn releases_of(alloc: Global, list: &[(u64, &str)]) -> Result<Vec<Release>, Fail> {
+    let mut releases = Vec::new(alloc);
+    for (time, task) in list {
+        releases.push(Release {
+            time: *time,
+            name: name(*task)?,
+        })?;
+    }
+    Ok(releases)
+}
+
+// Why a run was refused.
+fn push_fault(line: &mut String, fault: RunFault) -> Result<(), AllocError> {
+    match fault {
+        RunFault::Unsorted { place } => write!(line, "Unsorted {place}"),
+        RunFault::UnknownTask { place } => write!(line, "UnknownTask {place}"),
+        RunFault::TooSoon { place } => write!(line, "TooSoon {place}"),
+        RunFault::PastHorizon => write!(line, "PastHorizon"),
+        RunFault::TooMany => write!(line, "TooMany"),
+        RunFault::Overrun { name, time } => write!(line, "Overrun {name} {time}"),
+        RunFault::OutOfMemory => write!(line, "OutOfMemory"),
+    }
+}
+
+// Each slice as `START STOP JOB;`, a job by its place among the releases, and then each job's finish as ` FINISH`.
+fn push_trace(line: &mut String, trace: &Trace) -> Result<(), AllocError> {
+    for slice in &trace.slices {
+        let start = slice.start;
+        let stop = slice.stop;
+        let job = slice.job;
+        write!(line, "{start} {stop} {job};")?;
+    }
+    for job in &trace.jobs {
+        match job.finish {
+            Some(finish) => write!(line, " {finish}")?,
+            None => write!(line, " -")?,
+        }
+    }
+    Ok(())
+}
+
+// A run in a line: its trace, or why there is none.
+fn line_of(
+    alloc: Global,
+    document: &str,
+    order: &[usize],
+    list: &[(u64, &str)],
+    until: u64,
+) -> Result<String, Fail> {
+    let set = set_of(alloc, document)?;
+    let kernel = Kernel::new(alloc, &set, order).ok().ok_or("a wrong order")?;
+    let releases = releases_of(alloc, list)?;
+    let mut line = String::new(alloc);
+    match kernel.run(alloc, &releases, until) {
+        Ok(trace) => push_trace(&mut line, &trace)?,
+        Err(fault) => push_fault(&mut line, fault)?,
+    }
+    Ok(line)
+}
+
+const ONE: &str = "task = [{ name = 'x', period = 10000, deadline = 10000, cost = 1000 }]";
+
+// x below y, which both come every 1000.
+const OVERRUN: &str = "
+[[task]]
+name = 'x'
+period = 1000
+deadline = 1000
+cost = 600
+[[task]]
+name = 'y'
+period = 1000
+deadline = 1000
+cost = 600
+";
+
+const NO_OVERRUN: &str = "
+[[task]]
+name = 'x'
+period = 1000
+deadline = 1000
+cost = 600
+[[task]]
+name = 'y'
+period = 1000
+deadline = 1000
+cost = 400
+";
+
+// An example, an order of it, its releases, and until when it runs; then what comes of it.
+type Row = (
+    &'static str,
+    &'static [usize],
+    &'static [(u64, &'static str)],
+    u64,
+    &'static str,
+);
+
+const ROWS: [Row; 16] = [
+    (
+        examples::BLOCKED_OUT_REPAIRED,
+        &[1, 0],
+        &[(0, "lo"), (1001, "hi")],
+        20000,
+        "0 3500 0;3500 5500 1;5500 12000 0; 12000 5500",
+    ),
+    (
+        examples::BLOCKED_OUT_REPAIRED,
+        &[1, 0],
+        &[(0, "lo"), (1000, "hi")],
+        20000,
+        "0 1000 0;1000 3000 1;3000 12000 0; 12000 3000",
+    ),
+    (ONE, &[0], &[(0, "x"), (9999, "x")], 20000, "TooSoon 2"),
+    (
+        ONE,
+        &[0],
+        &[(0, "x"), (10000, "x")],
+        20000,
+        "0 1000 0;10000 11000 1; 1000 11000",
+    ),
+    (
+        OVERRUN,
+        &[0, 1],
+        &[(0, "x"), (0, "y"), (1000, "x"), (1000, "y")],
+        2000,
+        "Overrun x 1000",
+    ),
+    (
+        NO_OVERRUN,
+        &[0, 1],
+        &[(0, "x"), (0, "y"), (1000, "x"), (1000, "y")],
+        2000,
+        "0 400 1;400 1000 0;1000 1400 3;1400 2000 2; 1000 400 2000 1400",
+    ),
+    (
+        OVERRUN,
+        &[0, 1],
+        &[(0, "x"), (0, "y")],
+        1000,
+        "0 600 1;600 1000 0; - 600",
+    ),
+    (
+        examples::SHARED_LOCK,
+        &[0, 1, 2],
+        &[(0, "lo"), (200, "mid"), (300, "hi")],
+        100000,
+        "0 4100 0;4100 5100 2;5100 7100 1;7100 23000 0; 23000 7100 5100",
+    ),
+    (examples::THREE_TASKS, &[2, 0, 1], &[], 0, ""),
+    (
+        examples::BLOCKED_OUT_REPAIRED,
+        &[1, 0],
+        &[(0, "lo")],
+        60_000_001,
+        "PastHorizon",
+    ),
+    (
+        examples::BLOCKED_OUT_REPAIRED,
+        &[1, 0],
+        &[(20000, "lo")],
+        20000,
+        "PastHorizon",
+    ),
+    (
+        examples::BLOCKED_OUT_REPAIRED,
+        &[1, 0],
+        &[(0, "z")],
+        20000,
+        "UnknownTask 1",
+    ),
+    (
+        examples::BLOCKED_OUT_REPAIRED,
+        &[1, 0],
+        &[(5, "lo"), (4, "z")],
+        20000,
+        "Unsorted 2",
+    ),
+    (
+        examples::BLOCKED_OUT_REPAIRED,
+        &[1, 0],
+        &[(4, "lo"), (5, "z")],
+        4,
+        "UnknownTask 2",
+    ),
+    (
+        examples::BLOCKED_OUT_REPAIRED,
+        &[1, 0],
+        &[(4, "lo"), (5, "lo")],
+        4,
+        "TooSoon 2",
+    ),
+    (
+        examples::BLOCKED_OUT_REPAIRED,
+        &[0, 1],
+        &[(0, "lo"), (1000, "hi")],
+        20000,
+        "0 10000 0;10000 12000 1; 10000 12000",
+    ),
+];
+
+#[test]
+fn runs_of_the_examples(rt: HostRuntime) -> Result<(), Fail> {
+    for (document, order, list, until, want) in ROWS {
+        let line = line_of(rt.alloc(), document, order, list, until)?;
+        assert_eq!(rt; line.as_str(), want);
+    }
+    Ok(())
+}
+
+#[test]
+fn wrong_orders(rt: HostRuntime) -> Result<(), Fail> {
+    let set = set_of(rt.alloc(), examples::THREE_TASKS)?;
+    for order in [&[0, 1][..], &[0, 0, 1][..], &[0, 1, 2, 3][..]] {
+        let refused = Kernel::new(rt.alloc(), &set, order);
+        assert!(rt; matches!(&refused, Err(KernelFault::WrongOrder)));
+    }
+    Ok(())
+}
+
+#[test]
+fn ten_thousand_releases_and_one_more(rt: HostRuntime) -> Result<(), Fail> {
+    let document = "task = [{ name = 'x', period = 1000, deadline = 1000, cost = 1 }]";
+    let set = set_of(rt.alloc(), document)?;
+    let kernel = Kernel::new(rt.alloc(), &set, &[0])
+        .ok()
+        .ok_or("a wrong order")?;
+    let mut releases = Vec::new(rt.alloc());
+    for k in 0..10_000 {
+        releases.push(Release {
+            time: k * 1000,
+            name: name("x")?,
+        })?;
+    }
+    let trace = kernel
+        .run(rt.alloc(), &releases, 20_000_000)
+        .ok()
+        .ok_or("refused")?;
+    assert_eq!(rt; trace.slices.len(), 10_000);
+    releases.push(Release {
+        time: 10_000_000,
+        name: name("x")?,
+    })?;
+    let refused = kernel.run(rt.alloc(), &releases, 20_000_000);
+    assert!(rt; matches!(&refused, Err(RunFault::TooMany)));
+    Ok(())
+}
