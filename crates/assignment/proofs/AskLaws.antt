@@ -1,28 +1,21 @@
 -- A level whose candidates are asked by rank.
-use Rattle.std.proofs.Common.{◌≡◌, ℕ, ◌+◌, ◌<◌, ◌≤◌, inl, inr, false, List, length, IsTrue, IsFalse, sym, ◌∙◌, ap, refl, arith, below_more}
+use Rattle.std.proofs.Common.{◌≡◌, ℕ, ◌+◌, ◌<◌, ◌≤◌, inl, List, length, IsTrue, IsFalse, sym, ◌∙◌, ap, refl, arith, below_more}
 use Rattle.std.specs.Ordering.{nat_cmp}
 use Rattle.std.specs.FinSet as members
-use Rattle.std.proofs.lemmas.Bool.{cases_Bool, both_ways, ltb-true}
+use Rattle.std.proofs.lemmas.Bool.{both_ways, ltb-true}
 use Rattle.task_sheet.specs.Sheet.{Task}
-use Rattle.task_sheet.specs.Indexes.{Indexes, indexes_of, without_index, IsPart}
+use Rattle.task_sheet.specs.Indexes.{indexes_of, without_index, IsPart}
 use Rattle.task_sheet.specs.Orders.{all_of}
-use Rattle.task_sheet.proofs.IndexLaws.{without-parts, without-member}
+use Rattle.task_sheet.proofs.IndexLaws.{without-parts, without-gone, without-kept}
 use Rattle.task_sheet.proofs.MembersIndexes.{indexes_of-remove}
 use Rattle.assignment.specs.Levels.{LevelState, with_finding, IsDecided}
-
--- an index that is taken out is gone, and the others stay
-without-gone : (H : Indexes) (i : ℕ) → without_index H i i ≡ false
-without-gone H i = elim (cases_Bool (without_index H i i)) [ inl so ↦ absurd ((without-parts H i i so).1 refl) | inr so ↦ so ]
-
-without-kept : (H : Indexes) (i k : ℕ) → (k ≡ i → ⊥) → without_index H i k ≡ H k
-without-kept H i k ne = elim (cases_Bool (H k)) [ inl so ↦ without-member H i k so ne ∙ sym so | inr so ↦ rw so ]
 
 -- the others of a set's tasks are of the set
 pub remove-part : (U : List Task) (left : members.FinSet nat_cmp) (i : ℕ) → IsPart (indexes_of left) (all_of U) → IsPart (indexes_of (members.remove left i)) (all_of U)
 remove-part U left i part k h = part k (without-parts (indexes_of left) i k (ap (λ X. X k) (sym (indexes_of-remove left i)) ∙ h)).0
 
 pub remove-apart : (left : members.FinSet nat_cmp) (i : ℕ) → IsFalse (indexes_of (members.remove left i) i)
-remove-apart left i = ap (λ X. X i) (indexes_of-remove left i) ∙ without-gone (indexes_of left) i
+remove-apart left i = ap (λ X. X i) (indexes_of-remove left i) ∙ without-gone (indexes_of left) i i refl
 
 -- the candidates below n have a finding, and the others have none
 pub record IsAsking (U : List Task) (left : members.FinSet nat_cmp) (l : LevelState) (n : ℕ) : Type 0 where
@@ -50,7 +43,7 @@ IsAsking-ask U left l l' n so asked =
           (λ j lt member.
           let ne : j ≡ n → ⊥ = λ e. omega arith in
           missing j ∙ without-kept (indexes_of l.missing) n j ne ∙ so.found j lt member)
-          (λ _. missing n ∙ without-gone (indexes_of l.missing) n);
+          (λ _. missing n ∙ without-gone (indexes_of l.missing) n n refl);
       rest = λ j le.
           let ne : j ≡ n → ⊥ = λ e. omega arith in
           missing j ∙ without-kept (indexes_of l.missing) n j ne ∙ so.rest j (omega arith);

@@ -87,73 +87,76 @@ fn bytes_of_a_certificate(rt: HostRuntime) -> Result<(), Fail> {
     Ok(())
 }
 
+// A set, the lines of a certificate between its first and its last, and what the checker says of it.
+const OTHER_PEOPLES: [(&str, &str, &str); 15] = [
+    (
+        examples::THREE_TASKS,
+        "best 3\nlevel 1 c 20000\nfails a 1 11000\nfails b 1 11000 14000\nlevel 2 a 6000\nlevel 3 b 3000\n",
+        "best",
+    ),
+    (
+        examples::THREE_TASKS,
+        "best 3\nlevel 1 c 20000\nfails a 1 11000\nfails b 1 11000 14000\nlevel 2 b 6000\nlevel 3 a 3000\n",
+        "MissingFail 2 a",
+    ),
+    (
+        examples::THREE_TASKS,
+        "best 3\nlevel 1 c 19999\nfails a 1 11000\nfails b 1 11000 14000\nlevel 2 a 6000\nlevel 3 b 3000\n",
+        "BadPass 1",
+    ),
+    (
+        examples::THREE_TASKS,
+        "best 3\nlevel 1 c 9999999999\nfails a 1 11000\nfails b 1 11000 14000\nlevel 2 a 6000\nlevel 3 b 3000\n",
+        "BadPass 1",
+    ),
+    (
+        examples::THREE_TASKS,
+        "best 3\nlevel 1 c 20000\nfails a 1 11000\nfails b 1 11000 15000\nlevel 2 a 6000\nlevel 3 b 3000\n",
+        "BadChain 1 b",
+    ),
+    (
+        examples::THREE_TASKS,
+        "best 3\nlevel 1 c 20000\nfails a 1 9999999999\nfails b 1 11000 14000\nlevel 2 a 6000\nlevel 3 b 3000\n",
+        "BadChain 1 a",
+    ),
+    (
+        examples::THREE_TASKS,
+        "best 3\nlevel 1 d 20000\nfails a 1 11000\nfails b 1 11000 14000\nlevel 2 a 6000\nlevel 3 b 3000\n",
+        "WrongTasks 0",
+    ),
+    (
+        examples::THREE_TASKS,
+        "best 3\nlevel 1 c 20000\nfails b 1 11000 14000\nfails a 1 11000\nlevel 2 a 6000\nlevel 3 b 3000\n",
+        "WrongTasks 1",
+    ),
+    (examples::THREE_TASKS, "best 0\n", "WrongTasks 0"),
+    (
+        examples::THREE_TASKS,
+        "best 3\nlevel 1 c 20000\nfails a 1 8000\nfails b 1 9000 14000\nlevel 2 a 6500\nlevel 3 b 3000\n",
+        "best",
+    ),
+    (
+        examples::BLOCKED_OUT,
+        "none 1\nmember hi 1 4500\n",
+        "no order",
+    ),
+    (
+        examples::BLOCKED_OUT,
+        "none 2\nmember hi 1 12000\nmember lo 1 12000 14000\n",
+        "BadChain 0 lo",
+    ),
+    (examples::BLOCKED_OUT, "none 0\n", "EmptySet"),
+    (
+        examples::THREE_TASKS_TOO_TIGHT,
+        "none 3\nmember c 1 11000 14000 17000 20000\nmember a 1 11000\nmember b 1 11000 14000\n",
+        "no order",
+    ),
+    ("", "best 0\n", "best"),
+];
+
 #[test]
 fn other_peoples_certificates(rt: HostRuntime) -> Result<(), Fail> {
-    for (document, body, want) in [
-        (
-            examples::THREE_TASKS,
-            "best 3\nlevel 1 c 20000\nfails a 1 11000\nfails b 1 11000 14000\nlevel 2 a 6000\nlevel 3 b 3000\n",
-            "best",
-        ),
-        (
-            examples::THREE_TASKS,
-            "best 3\nlevel 1 c 20000\nfails a 1 11000\nfails b 1 11000 14000\nlevel 2 b 6000\nlevel 3 a 3000\n",
-            "MissingFail 2 a",
-        ),
-        (
-            examples::THREE_TASKS,
-            "best 3\nlevel 1 c 19999\nfails a 1 11000\nfails b 1 11000 14000\nlevel 2 a 6000\nlevel 3 b 3000\n",
-            "BadPass 1",
-        ),
-        (
-            examples::THREE_TASKS,
-            "best 3\nlevel 1 c 9999999999\nfails a 1 11000\nfails b 1 11000 14000\nlevel 2 a 6000\nlevel 3 b 3000\n",
-            "BadPass 1",
-        ),
-        (
-            examples::THREE_TASKS,
-            "best 3\nlevel 1 c 20000\nfails a 1 11000\nfails b 1 11000 15000\nlevel 2 a 6000\nlevel 3 b 3000\n",
-            "BadChain 1 b",
-        ),
-        (
-            examples::THREE_TASKS,
-            "best 3\nlevel 1 c 20000\nfails a 1 9999999999\nfails b 1 11000 14000\nlevel 2 a 6000\nlevel 3 b 3000\n",
-            "BadChain 1 a",
-        ),
-        (
-            examples::THREE_TASKS,
-            "best 3\nlevel 1 d 20000\nfails a 1 11000\nfails b 1 11000 14000\nlevel 2 a 6000\nlevel 3 b 3000\n",
-            "WrongTasks 0",
-        ),
-        (
-            examples::THREE_TASKS,
-            "best 3\nlevel 1 c 20000\nfails b 1 11000 14000\nfails a 1 11000\nlevel 2 a 6000\nlevel 3 b 3000\n",
-            "WrongTasks 1",
-        ),
-        (examples::THREE_TASKS, "best 0\n", "WrongTasks 0"),
-        (
-            examples::THREE_TASKS,
-            "best 3\nlevel 1 c 20000\nfails a 1 8000\nfails b 1 9000 14000\nlevel 2 a 6500\nlevel 3 b 3000\n",
-            "best",
-        ),
-        (
-            examples::BLOCKED_OUT,
-            "none 1\nmember hi 1 4500\n",
-            "no order",
-        ),
-        (
-            examples::BLOCKED_OUT,
-            "none 2\nmember hi 1 12000\nmember lo 1 12000 14000\n",
-            "BadChain 0 lo",
-        ),
-        (examples::BLOCKED_OUT, "none 0\n", "EmptySet"),
-        (
-            examples::THREE_TASKS_TOO_TIGHT,
-            "none 3\nmember c 1 11000 14000 17000 20000\nmember a 1 11000\nmember b 1 11000 14000\n",
-            "no order",
-        ),
-        ("", "best 0\n", "best"),
-    ] {
+    for (document, body, want) in OTHER_PEOPLES {
         let text = format!(in rt.alloc(); "desk-certificate 1\n{body}end\n")?;
         let (said, status) = checked(rt.alloc(), document.as_bytes(), text.as_bytes())?;
         let lines = match want {

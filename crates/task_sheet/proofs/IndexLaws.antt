@@ -35,10 +35,10 @@ without-part G H i part k h =
     let both = without-parts G i k h in without-member H i k (part k both.0) both.1
 
 -- it is gone, and the others stay
-without-gone : (H : Indexes) (i k : ℕ) → k ≡ i → without_index H i k ≡ false
+pub without-gone : (H : Indexes) (i k : ℕ) → k ≡ i → without_index H i k ≡ false
 without-gone H i k e = elim (cases_Bool (without_index H i k)) [ inl so ↦ absurd ((without-parts H i k so).1 e) | inr so ↦ so ]
 
-without-kept : (H : Indexes) (i k : ℕ) → (k ≡ i → ⊥) → without_index H i k ≡ H k
+pub without-kept : (H : Indexes) (i k : ℕ) → (k ≡ i → ⊥) → without_index H i k ≡ H k
 without-kept H i k ne = elim (cases_Bool (H k)) [ inl so ↦ without-member H i k so ne ∙ sym so | inr so ↦ rw so ]
 
 -- how many indexes below n are in a set
