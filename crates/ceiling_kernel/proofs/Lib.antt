@@ -14,6 +14,7 @@ pub mod FinishLaws
 pub mod KeptLaws
 pub mod ListsLaws
 pub mod QueueLaws
+pub mod OwnerLaws
 pub mod MoveLaws
 pub mod RunLaws
 pub mod AcceptLaws

@@ -1,23 +1,27 @@
 -- No job waits for a lock.
-use Rattle.std.proofs.Common.{ℕ, zero, suc, ◌+◌, ◌<◌, ◌≤◌, ◌≡◌, inl, inr, refl, sym, ap, ◌∙◌, subst, arith, Bool, true, false, ◌==◌, ◌&&◌, ◌||◌, List, [], ◌∷◌, length, Some, None}
-use Rattle.std.proofs.lemmas.Bool.{cases_eq, cases_lt, cases_Bool, cases_order, true≢false, and_parts, or_cases, eqb-true}
+use Rattle.std.proofs.Common.{ℕ, zero, suc, ◌+◌, ◌<◌, ◌≤◌, ◌≡◌, ◌≢◌, ◌⊎◌, inl, inr, refl, sym, ap, ◌∙◌, subst, arith, Bool, true, false, ◌==◌, ◌&&◌, ◌||◌, List, [], ◌∷◌, length, Some, None}
+use Rattle.std.proofs.lemmas.Bool.{cases_eq, cases_lt, cases_Bool, cases_order, true≢false, and_parts, or_cases, eq-eqb, eqb-true}
 use Rattle.std.proofs.lemmas.List.{get_or_past}
 use Rattle.std.specs.List.{list_any}
 use Rattle.std.specs.Cmp.Lexicographic.{same_text}
 use Rattle.task_sheet.specs.Sheet.{CriticalSection, no_task, task_at, same_bytes}
 use Rattle.task_sheet.specs.Locks.{names_lock}
 use Rattle.ceiling_kernel.specs.Tick.{Node, Job, job_at, task_of, level_of, active_of, executed_before, picked, is_inside, ceiling, top_ceiling, held_ceiling}
-use Rattle.ceiling_kernel.specs.Waits.{IsNode, IsLegal, holds_lock, asks_lock, NoOverrunBy, NobodyWaits}
+use Rattle.ceiling_kernel.specs.Waits.{IsNode, IsLegal, holds_lock, asks_lock, NoOverrunBy, NobodyWaits, IsGranted, OneOwner}
 use Rattle.ceiling_kernel.proofs.NodeLaws.{AreApart, IsSoundTask, IsSound, sound}
-use Rattle.ceiling_kernel.proofs.SectionLaws.{inside_true, outside_before, outside_after}
-use Rattle.ceiling_kernel.proofs.MachineLaws.{machine, is_high, rest_at, picked_is, IsPick, pending_from, pending_parts, start_of, idle_of, other_of}
+use Rattle.ceiling_kernel.proofs.SectionLaws.{inside_true, inside_from, outside_before, outside_after}
+use Rattle.ceiling_kernel.proofs.MachineLaws.{machine, is_high, rest_at, picked_is, IsPick, pending_from, pending_parts, start_of, idle_of, own_of, other_of}
 use Rattle.ceiling_kernel.proofs.Busy.{began, done_later}
+
+pub or_later : (x y : Bool) → y ≡ true → (x || y) ≡ true
+or_later true y h = refl
+or_later false y h = h
 
 or_false : (x y : Bool) → x ≡ false → y ≡ false → (x || y) ≡ false
 or_false x y a b = rw (a, b)
 
 -- before the sections begin nothing is held or asked for
-holds_before : (begin cost : ℕ) (ss : List CriticalSection) (e : ℕ) (q : List ℕ) → AreApart begin ss cost → e ≤ begin → holds_lock ss e q ≡ false
+pub holds_before : (begin cost : ℕ) (ss : List CriticalSection) (e : ℕ) (q : List ℕ) → AreApart begin ss cost → e ≤ begin → holds_lock ss e q ≡ false
 holds_before begin cost [] e q apart h = refl
 holds_before begin cost (s ∷ ss) e q apart h =
     let out : is_inside s e ≡ false = outside_before s e (omega arith) in
@@ -177,8 +181,77 @@ module _ (node : Node) (jobs : List Job) (valid : IsSound node) where
         within_ceiling = within;
       }
 
+  -- who holds a lock after a tick held it before, or asked for it
+  holds_begins : (ss : List CriticalSection) (e : ℕ) (r : List ℕ) → holds_lock ss (suc e) r ≡ true → (holds_lock ss e r ≡ true) ⊎ (asks_lock ss e r ≡ true)
+  holds_begins [] e r h = absurd (true≢false (sym h))
+  holds_begins (s ∷ ss) e r h =
+      elim (or_cases (is_inside s (suc e) && names_lock s r) (holds_lock ss (suc e) r) h) [
+        | inl here ↦
+            let p : (is_inside s (suc e) ≡ true) × (names_lock s r ≡ true) = and_parts (is_inside s (suc e)) (names_lock s r) here in
+            let n : names_lock s r ≡ true = p.1 in
+            let b : (s.at < suc e) × (suc e < s.at + s.len) = inside_true s (suc e) p.0 in
+            elim (cases_eq s.at e) [
+              | inl begins ↦ (let c : (s.at == e) ≡ true = eq-eqb s.at e begins in inr (rw (c, n)))
+              | inr ne ↦ (let c : is_inside s e ≡ true = inside_from s e (omega arith) (omega arith) in inl (rw (c, n)))
+            ]
+        | inr later ↦ elim (holds_begins ss e r later) [
+          | inl held ↦ inl (or_later (is_inside s e && names_lock s r) (holds_lock ss e r) held)
+          | inr asks ↦ inr (or_later ((s.at == e) && names_lock s r) (asks_lock ss e r) asks)
+        ]
+      ]
+
+  -- no two jobs hold a lock
+  module _ (known : (j : ℕ) → j < length jobs → (job_at jobs j).task < length node.tasks) where
+    -- who holds a lock is a job
+    holder_is_job : (t j : ℕ) (r : List ℕ) → holds_lock (task_of node jobs j).sections (executed_before node jobs t j) r ≡ true → j < length jobs
+    holder_is_job t j r h =
+        let c : (ceiling node r ≤ held_ceiling node (task_of node jobs j).sections (executed_before node jobs t j)) × (0 < executed_before node jobs t j) × (executed_before node jobs t j < (task_of node jobs j).cost) =
+        ceiling-le_held node 0 (task_of node jobs j).cost (task_of node jobs j).sections (executed_before node jobs t j) r (apart_at j) h in
+        (began_of t j c.1).0
+
+    -- in the tick of job p, which comes to hold a lock or holds it on, nobody else holds it
+    none_beside : (t p k : ℕ) (r : List ℕ) → NoOverrunBy node jobs t → picked node jobs t ≡ Some p → k ≢ p
+        → (holds_lock (task_of node jobs p).sections (executed_before node jobs t p) r ≡ true → holds_lock (task_of node jobs k).sections (executed_before node jobs t k) r ≡ true → p ≡ k)
+        → holds_lock (task_of node jobs p).sections (executed_before node jobs (suc t) p) r ≡ true → holds_lock (task_of node jobs k).sections (executed_before node jobs (suc t) k) r ≡ true → ⊥
+    none_beside t p k r none pick ne before hp hk =
+        let k_was : holds_lock (task_of node jobs k).sections (executed_before node jobs t k) r ≡ true = subst (λ e. holds_lock (task_of node jobs k).sections e r ≡ true) (other_of node jobs t p k pick ne) hk in
+        elim (holds_begins (task_of node jobs p).sections (executed_before node jobs t p) r (subst (λ e. holds_lock (task_of node jobs p).sections e r ≡ true) (own_of node jobs t p pick) hp)) [
+          | inl held ↦ ne (sym (before held k_was))
+          | inr asks ↦ (let g : IsGranted node jobs t p r = granted known t p r none pick asks in true≢false (sym k_was ∙ g.is_free k (holder_is_job t k r k_was)))
+        ]
+
+    pub one_owner : (t j k : ℕ) (r : List ℕ) → ((s : ℕ) → s < t → NoOverrunBy node jobs s)
+        → holds_lock (task_of node jobs j).sections (executed_before node jobs t j) r ≡ true → holds_lock (task_of node jobs k).sections (executed_before node jobs t k) r ≡ true → j ≡ k
+    one_owner zero j k r none hj hk =
+        let free : holds_lock (task_of node jobs j).sections (executed_before node jobs 0 j) r ≡ false = holds_before 0 (task_of node jobs j).cost (task_of node jobs j).sections (executed_before node jobs 0 j) r (apart_at j) (omega (arith, start_of node jobs j)) in
+        absurd (true≢false (sym hj ∙ free))
+    one_owner (suc t) j k r none hj hk =
+        let before : (i l : ℕ) → holds_lock (task_of node jobs i).sections (executed_before node jobs t i) r ≡ true → holds_lock (task_of node jobs l).sections (executed_before node jobs t l) r ≡ true → i ≡ l =
+        λ i l. one_owner t i l r (λ s lt. none s (omega arith)) in
+        elim (picked node jobs t) as (λ o. picked node jobs t ≡ o → j ≡ k) [
+          | None ↦ λ idle. before j k
+              (subst (λ e. holds_lock (task_of node jobs j).sections e r ≡ true) (idle_of node jobs t j idle) hj)
+              (subst (λ e. holds_lock (task_of node jobs k).sections e r ≡ true) (idle_of node jobs t k idle) hk)
+          | Some p ↦ λ pick. elim (cases_eq j p) [
+            | inl j_runs ↦ elim (cases_eq k p) [
+              | inl k_runs ↦ j_runs ∙ sym k_runs
+              | inr ne ↦ absurd (none_beside t p k r (none t (omega arith)) pick ne (before p k) (subst (λ x. holds_lock (task_of node jobs x).sections (executed_before node jobs (suc t) x) r ≡ true) j_runs hj) hk)
+            ]
+            | inr j_rests ↦ elim (cases_eq k p) [
+              | inl k_runs ↦ absurd (none_beside t p j r (none t (omega arith)) pick j_rests (before p j) (subst (λ x. holds_lock (task_of node jobs x).sections (executed_before node jobs (suc t) x) r ≡ true) k_runs hk) hj)
+              | inr k_rests ↦ before j k
+                  (subst (λ e. holds_lock (task_of node jobs j).sections e r ≡ true) (other_of node jobs t p j pick j_rests) hj)
+                  (subst (λ e. holds_lock (task_of node jobs k).sections e r ≡ true) (other_of node jobs t p k pick k_rests) hk)
+            ]
+          ]
+        ] refl
+
 pub nobody_waits_law : (node : Node) (jobs : List Job) → IsNode node → IsLegal node jobs → NobodyWaits node jobs
 nobody_waits_law node jobs valid legal = granted node jobs (sound node valid) legal.known
+
+pub one_owner_law : (node : Node) (jobs : List Job) → IsNode node → IsLegal node jobs → OneOwner node jobs
+one_owner_law node jobs valid legal t j k r none hj hk =
+    one_owner node jobs (sound node valid) legal.known (t + 1) j k r (λ s lt i below ready. none i below (omega arith)) hj hk
 
 -- a job that has executed was ready before
 pub began_strictly : (node : Node) (jobs : List Job) (t j : ℕ) → 0 < executed_before node jobs t j → (job_at jobs j).ready < t

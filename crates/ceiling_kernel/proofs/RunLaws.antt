@@ -1,20 +1,22 @@
 -- The steps of a run, over the code's own lists.
-use Rattle.std.proofs.Common.{ℕ, zero, suc, ◌+◌, ◌-◌, ◌<◌, ◌≤◌, ◌≡◌, ◌≢◌, ◌⊎◌, inl, inr, refl, sym, ap, ap₂, ◌∙◌, subst, arith, List, [], ◌∷◌, ◌++◌, length, set, get_or, map, take, replicate, Option, Some, None, true, false, is_some, slice_index_or, get_or-set_same, get_or-set_other, length-set}
+use Rattle.std.proofs.Common.{ℕ, zero, suc, ◌+◌, ◌-◌, ◌<◌, ◌≤◌, ◌≡◌, ◌≢◌, ◌⊎◌, inl, inr, refl, sym, ap, ap₂, ◌∙◌, subst, arith, cond, List, [], ◌∷◌, ◌++◌, length, set, get_or, map, take, replicate, Option, Some, None, true, false, is_some, slice_index_or, get_or-set_same, get_or-set_other, length-set}
 use Rattle.std.proofs.lemmas.Bool.{cases_eq, cases_lt, true≢false}
 use Rattle.std.proofs.lemmas.List.{length-map, length-take, take_more, get_or_default, get_or-replicate, length-replicate}
 use Rattle.std.proofs.lemmas.List.Elements.{All-get_or}
 use Rattle.task_sheet.specs.Sheet.{Task, IsValidSheet, no_task, task_at}
 use Rattle.task_sheet.specs.TaskSet.{IsTaskSet}
+use Rattle.ceilings.specs.IsTableOf.{locks_of}
 use Rattle.ceiling_kernel.specs.declared.trace.Release.{Release}
 use Rattle.ceiling_kernel.specs.declared.tasks.NodeTask.{NodeTask}
 use Rattle.ceiling_kernel.specs.declared.run.Pending.{Pending}
 use Rattle.ceiling_kernel.specs.Tick.{Node, Job, job_at, task_of, level_at, executed_before, picked}
 use Rattle.ceiling_kernel.specs.Trace.{with_run, slices_before, finish_before}
 use Rattle.ceiling_kernel.specs.Jumps.{change_after, NoneReadyBetween}
-use Rattle.ceiling_kernel.specs.Waits.{IsNode, Overruns}
+use Rattle.ceiling_kernel.specs.Waits.{IsNode, Overruns, NoOverrunBy, holds_lock}
 use Rattle.ceiling_kernel.specs.Releases.{task_number, job_of, jobs_of, release_at, IsOverrun, record_of, records_from}
 use Rattle.ceiling_kernel.specs.NodeTasks.{IsTaskOf}
 use Rattle.ceiling_kernel.specs.Runs.{active_at, best_slot, next_change, IsRunnable, IsPending, Kept, AreFinishes}
+use Rattle.ceiling_kernel.specs.Owners.{owner_of, with_owners, AreOwners}
 use Rattle.ceiling_kernel.specs.Lists.{list_at, with_tail, without_head, moved_to, Queues, IsAlone}
 use Rattle.ceiling_kernel.proofs.NodeLaws.{AreApart, IsSoundTask, IsSound, sound}
 use Rattle.ceiling_kernel.proofs.MachineLaws.{picked_is, IsPick}
@@ -22,6 +24,8 @@ use Rattle.ceiling_kernel.proofs.JumpLaws as jump
 use Rattle.ceiling_kernel.proofs.SlotLaws.{IsBestSlot, slot_some}
 use Rattle.ceiling_kernel.proofs.FinishLaws.{finish_stays, finish_now}
 use Rattle.ceiling_kernel.proofs.TaskLaws.{next_change-is}
+use Rattle.ceiling_kernel.proofs.LockLaws.{holds_before, one_owner}
+use Rattle.ceiling_kernel.proofs.OwnerLaws.{with_owners-length, owner_written, owners_leave, owners_join}
 use Rattle.ceiling_kernel.proofs.KeptLaws as laws
 use Rattle.ceiling_kernel.proofs.MoveLaws as move
 
@@ -172,6 +176,21 @@ module _ (node : Node) (rs : List Release) (runnable : IsRunnable node rs) where
           → IsAlone (λ k. slice_index_or (set slots (task_number node.tasks (release_at rs next)) (Some p)) k None)
       admit_alone lists queues alone p level active = move.alone_admit node jobs is_sound t next slots kept lists queues alone p (task_number node.tasks (release_at rs next)) (runnable.known next lt) level active
 
+      -- it holds no lock yet
+      pub admit_owners : (owner : List ℕ → Option ℕ) → AreOwners node.tasks slot_of owner → (p : Pending) → p.executed ≡ 0 → slot_of (task_number node.tasks (release_at rs next)) ≡ None
+          → AreOwners node.tasks (λ k. slice_index_or (set slots (task_number node.tasks (release_at rs next)) (Some p)) k None) owner
+      admit_owners owner are p executed free =
+          let i : ℕ = task_number node.tasks (release_at rs next) in
+          let in_tasks : i < length node.tasks = runnable.known next lt in
+          let in_slots : i < length slots = (let c : length slots ≡ length node.tasks = kept.slot_count in omega arith) in
+          let v : IsSoundTask node i = (let s : IsSound node = is_sound in s.each i in_tasks) in
+          let none_held : (lock : List ℕ) → holds_lock (task_at node.tasks i).sections p.executed lock ≡ false =
+          λ lock. holds_before 0 (task_at node.tasks i).cost (task_at node.tasks i).sections p.executed lock v.apart (omega arith) in
+          owners_join node.tasks slot_of owner are (λ k. slice_index_or (set slots i (Some p)) k None) owner i (λ k ne. get_or-set_other slots i k (Some p) None ne) p free
+          (get_or-set_same slots i (Some p) None in_slots)
+          (λ lock. let h = none_held lock in rw h refl)
+          (λ lock k q ne slot mine other. true≢false (sym mine ∙ none_held lock))
+
       pub overrun : (q : Pending) → slot_of (task_number node.tasks (release_at rs next)) ≡ Some q → (r : Release) → release_at rs next ≡ r → IsOverrun node rs r.name r.time
       overrun q taken r e =
           let l : length jobs ≡ length rs = jobs_length node.tasks rs in
@@ -285,6 +304,14 @@ module _ (node : Node) (rs : List Release) (runnable : IsRunnable node rs) where
 
         -- of what is kept of its task
         module _ (x : NodeTask) (is_x : IsTaskOf node p.task x) where
+          -- it gives back what it holds
+          pub leave_owners : (owners : List (Option ℕ)) → length owners ≡ length (locks_of node.tasks) → AreOwners node.tasks slot_of (owner_of node.tasks owners)
+              → AreOwners node.tasks (λ k. slice_index_or (set slots p.task None) k None) (owner_of node.tasks (with_owners owners x.sections.items p.executed None))
+          leave_owners owners count are =
+              owners_leave node.tasks slot_of (owner_of node.tasks owners) are (λ k. slice_index_or (set slots p.task None) k None) (owner_of node.tasks (with_owners owners x.sections.items p.executed None)) p.task
+              (λ k ne. get_or-set_other slots p.task k None None ne) p slot (get_or-set_same slots p.task None None task_in_slots)
+              (λ lock. owner_written node p.executed None lock owners p.task x.sections.items task_in count is_x.sections)
+
           change_is : next_change x.sections.items p.executed x.cost ≡ change_after (task_at node.tasks p.task).sections p.executed cost
           change_is = ap (λ z. next_change x.sections.items p.executed z) is_x.cost ∙ next_change-is node (task_at node.tasks p.task).sections x.sections.items p.executed cost is_x.sections
 
@@ -344,6 +371,37 @@ module _ (node : Node) (rs : List Release) (runnable : IsRunnable node rs) where
             pub run_alone : (lists : List (List ℕ)) → Queues (λ k. slice_index_or slots k None) (list_at lists) → IsAlone slot_of → (p' : Pending) → p'.level ≡ p.level → p'.active ≡ active_at node p.task (p.executed + (stop - t))
                 → IsAlone (λ k. slice_index_or (set slots p.task (Some p')) k None)
             run_alone lists queues alone p' level active = move.alone_run node jobs is_sound t next slots kept lists queues alone p p' p.task task_in best slot level (next_is p'.active active)
+
+            no_overrun_before : (s : ℕ) → s < stop → NoOverrunBy node jobs s
+            no_overrun_before s lt k below ready = elim (cases_lt k next) [
+              | inl admitted ↦ kept.no_overrun k admitted
+              | inr above ↦ (let l : limit ≤ (job_at jobs k).ready = all_later k above below in absurd (omega arith))
+            ]
+
+            -- then it takes what it holds
+            pub run_owners : (p' : Pending) → p'.executed ≡ p.executed + (stop - t) → (owners : List (Option ℕ)) → length owners ≡ length (locks_of node.tasks) → AreOwners node.tasks slot_of (owner_of node.tasks owners)
+                → AreOwners node.tasks (λ k. slice_index_or (set slots p.task (Some p')) k None)
+                (owner_of node.tasks (with_owners (with_owners owners x.sections.items p.executed None) x.sections.items (p.executed + (stop - t)) (Some p.task)))
+            run_owners p' executed owners count are =
+                let m : IsPending node jobs t next p.task p = is_p in
+                let given : List (Option ℕ) = with_owners owners x.sections.items p.executed None in
+                owners_join node.tasks (λ k. slice_index_or (set slots p.task None) k None) (owner_of node.tasks given) (leave_owners owners count are)
+                (λ k. slice_index_or (set slots p.task (Some p')) k None) (owner_of node.tasks (with_owners given x.sections.items (p.executed + (stop - t)) (Some p.task))) p.task
+                (λ k ne. get_or-set_other slots p.task k (Some p') None ne ∙ sym (get_or-set_other slots p.task k None None ne)) p'
+                (get_or-set_same slots p.task None None task_in_slots) (get_or-set_same slots p.task (Some p') None task_in_slots)
+                (λ lock. owner_written node (p.executed + (stop - t)) (Some p.task) lock given p.task x.sections.items task_in (with_owners-length owners x.sections.items p.executed None ∙ count) is_x.sections
+                ∙ ap (λ e. cond (holds_lock (task_at node.tasks p.task).sections e lock) (Some p.task) (owner_of node.tasks given lock)) (sym executed))
+                (λ lock k q ne at_k mine other.
+                let was : slot_of k ≡ Some q = sym (get_or-set_other slots p.task k None None ne) ∙ at_k in
+                let mq : IsPending node jobs t next k q = kept.pending k q was in
+                let differ : q.job ≢ p.job = λ same. ne (sym mq.own ∙ (ap task_no same ∙ m.own)) in
+                let mine_then : executed_before node jobs stop p.job ≡ p'.executed = ap (λ y. executed_before node jobs y p.job) (sym to_stop) ∙ (own ∙ sym executed) in
+                let other_then : executed_before node jobs stop q.job ≡ q.executed = ap (λ y. executed_before node jobs y q.job) (sym to_stop) ∙ (others q.job differ ∙ sym mq.executed) in
+                let mine_holds : holds_lock (task_of node jobs p.job).sections (executed_before node jobs stop p.job) lock ≡ true =
+                subst (λ e. holds_lock (task_of node jobs p.job).sections e lock ≡ true) (sym mine_then) (subst (λ i. holds_lock (task_at node.tasks i).sections p'.executed lock ≡ true) (sym m.own) mine) in
+                let other_holds : holds_lock (task_of node jobs q.job).sections (executed_before node jobs stop q.job) lock ≡ true =
+                subst (λ e. holds_lock (task_of node jobs q.job).sections e lock ≡ true) (sym other_then) (subst (λ i. holds_lock (task_at node.tasks i).sections q.executed lock ≡ true) (sym mq.own) other) in
+                differ (sym (one_owner node jobs is_sound known_of stop p.job q.job lock no_overrun_before mine_holds other_holds)))
 
             pub finish_kept : p.executed + (stop - t) ≡ cost → Kept node jobs stop next (set slots p.task None)
             finish_kept full =

@@ -7,5 +7,6 @@ pub mod Releases
 pub mod NodeTasks
 pub mod NodeFields
 pub mod Lists
+pub mod Owners
 pub mod Runs
 pub mod Readings

@@ -1,6 +1,7 @@
 -- What a simulation keeps from event to event.
 use Rattle.std.specs.Prelude.{◌≡◌, ℕ, ◌+◌, ◌-◌, ◌<◌, ◌≤◌, max, Bool, false, ◌&&◌, ◌||◌, nat_lt, nat_le, ◌==◌, if◌then◌else◌, Option, Some, None, IfNone, List, [], ◌∷◌, length, slice_index_or, reverse}
 use Rattle.task_sheet.specs.Sheet.{Task, task_at}
+use Rattle.ceilings.specs.IsTableOf.{locks_of}
 use Rattle.ceiling_kernel.specs.declared.tasks.NodeSection.{NodeSection}
 use Rattle.ceiling_kernel.specs.declared.trace.Slice.{Slice}
 use Rattle.ceiling_kernel.specs.declared.trace.Release.{Release}
@@ -10,6 +11,8 @@ use Rattle.ceiling_kernel.specs.declared.run.Pending.{Pending}
 use Rattle.ceiling_kernel.specs.declared.run.Slices.{Slices}
 use Rattle.ceiling_kernel.specs.declared.run.Simulation.{Simulation}
 use Rattle.ceiling_kernel.specs.Lists.{listed, list_at, Queues, IsAlone}
+use Rattle.ceiling_kernel.specs.NodeTasks.{is_within}
+use Rattle.ceiling_kernel.specs.Owners.{owner_of, AreOwners}
 use Rattle.ceiling_kernel.specs.Tick.{Node, Job, job_at, task_of, level_at, held_ceiling, executed_before, picked}
 use Rattle.ceiling_kernel.specs.Trace.{slices_before, finish_before}
 use Rattle.ceiling_kernel.specs.Waits.{IsNode, Overruns}
@@ -40,7 +43,7 @@ pub record IsRunnable (node : Node) (rs : List Release) : Type 0 where
 -- the highest ceiling that is held after e ticks
 abbrev pub held_top : List NodeSection → ℕ → ℕ
 held_top [] e = 0
-held_top (s ∷ ss) e = max (if nat_lt s.at e && nat_lt e s.stop then s.top else 0) (held_top ss e)
+held_top (s ∷ ss) e = max (if is_within s e then s.top else 0) (held_top ss e)
 
 -- the first boundary above e, or the limit
 abbrev pub next_change : List NodeSection → ℕ → ℕ → ℕ
@@ -108,6 +111,8 @@ pub record IsRunning (node : Node) (rs : List Release) (s : Simulation) : Type 0
   pub list_count : length s.lists.items ≡ length node.tasks + 1
   pub queues : Queues (λ i. slice_index_or s.slots.items i None) (list_at (listed s.lists.items))
   pub alone : IsAlone (λ i. slice_index_or s.slots.items i None)
+  pub lock_count : length s.owners.items ≡ length (locks_of node.tasks)
+  pub owners : AreOwners node.tasks (λ i. slice_index_or s.slots.items i None) (owner_of node.tasks s.owners.items)
   pub slices : shown s.slices ≡ slices_before (picked node (jobs_of node.tasks rs)) s.now
   pub tidy : IsTidy s.slices
   pub finishes : AreFinishes node rs s.now s.finishes.items

@@ -66,3 +66,9 @@ abbrev pub NobodyWaits : Node → List Job → Type 0
 NobodyWaits node jobs =
     (t p : ℕ) (lock : List ℕ) → NoOverrunBy node jobs t → picked node jobs t ≡ Some p
     → asks_lock (task_of node jobs p).sections (executed_before node jobs t p) lock ≡ true → IsGranted node jobs t p lock
+
+-- as long as no job overruns, no two jobs hold a lock after a tick
+abbrev pub OneOwner : Node → List Job → Type 0
+OneOwner node jobs =
+    (t j k : ℕ) (lock : List ℕ) → NoOverrunBy node jobs t → holds_lock (task_of node jobs j).sections (executed_before node jobs (t + 1) j) lock ≡ true
+    → holds_lock (task_of node jobs k).sections (executed_before node jobs (t + 1) k) lock ≡ true → j ≡ k

@@ -1,6 +1,7 @@
 //! Kernels: a set's tasks at the levels of an order.
-ghost use Rattle.std.specs.Prelude.{◌≡◌, IfOk, IfErr};
+ghost use Rattle.std.specs.Prelude.{◌≡◌, length, IfOk, IfErr};
 ghost use Rattle.task_sheet.specs.Orders.{IsOrder};
+ghost use Rattle.ceilings.specs.IsTableOf.{locks_of};
 ghost use Rattle.ceiling_kernel.specs.Tick.{node_in};
 ghost use Rattle.ceiling_kernel.specs.Waits.{IsNode};
 
@@ -32,12 +33,13 @@ impl From<AllocError> for KernelFault {
     }
 }
 
-/// A set's tasks, each at its level in an order.
+/// A set's tasks, each at its level in an order, and how many locks they have.
 #[derive(Drop)]
 pub struct Kernel<'a> {
     set: &'a TaskSet,
     order: Vec<usize>,
     tasks: Vec<NodeTask>,
+    locks: usize,
 }
 
 impl<'a> Model for Kernel<'a> {
@@ -67,21 +69,33 @@ impl<'a> Kernel<'a> {
         let table = LockTable::new(alloc, set)?;
         let tasks = tasks_of(alloc, &table, order, set)?;
         let order = order.to_vec(alloc)?;
-        Ok(Kernel { set, order, tasks })
+        Ok(Kernel {
+            set,
+            order,
+            tasks,
+            locks: table.len(),
+        })
     }
 
     // The set.
     pub(crate) fn set(&self) -> &TaskSet
-        ensures { result.now ≡ self.now.tasks }
+        ensures tasks { result.now ≡ self.now.tasks }
+        ensures node { IsNode self.now }
     {
         self.set
     }
 
     // What is kept of its tasks.
     pub(crate) fn tasks(&self) -> &[NodeTask]
-        ensures tasks { HasTasks self.now result.now }
-        ensures node { IsNode self.now }
+        ensures { HasTasks self.now result.now }
     {
         &self.tasks
+    }
+
+    // How many locks they have.
+    pub(crate) fn locks(&self) -> usize
+        ensures { result ≡ length (locks_of self.now.tasks) }
+    {
+        self.locks
     }
 }

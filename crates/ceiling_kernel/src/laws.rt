@@ -6,7 +6,7 @@ ghost use Rattle.task_sheet.specs.Orders.{IsPassingOrder};
 ghost use Rattle.ceiling_kernel.specs.Tick.{Node, Job, task_of, is_pending, executed_before, picked};
 ghost use Rattle.ceiling_kernel.specs.Trace.{slices_of, finish_before};
 ghost use Rattle.ceiling_kernel.specs.Readings.{IsPicked, AreLongestRuns, IsFinishAt};
-ghost use Rattle.ceiling_kernel.specs.Waits.{IsNode, IsLegal, NobodyWaits, NoOverrun};
+ghost use Rattle.ceiling_kernel.specs.Waits.{IsNode, IsLegal, NobodyWaits, OneOwner, NoOverrun};
 ghost use Rattle.ceiling_kernel.specs.Jumps.{PickStays, IdleStays};
 ghost use Rattle.ceiling_kernel.specs.Bounds.{above_of, after_of, BoundHolds};
 
@@ -33,6 +33,11 @@ pub fn finishes_are_ends()
 /// no job overruns the one before it.
 pub fn nobody_waits()
     ensures { (node : Node) (jobs : List Job) → IsNode node → IsLegal node jobs → NobodyWaits node jobs }
+{}
+
+/// No two jobs hold a lock: each lock has one owner at most, as long as no job overruns the one before it.
+pub fn locks_have_one_owner()
+    ensures { (node : Node) (jobs : List Job) → IsNode node → IsLegal node jobs → OneOwner node jobs }
 {}
 
 /// From one event to the next the pick stays; events are that a job becomes ready, or that the job that runs reaches a

@@ -7,6 +7,7 @@ pub mod kernel;
 pub mod laws;
 mod levels;
 mod lists;
+mod owners;
 mod run;
 mod tasks;
 pub mod trace;

@@ -13,6 +13,7 @@ ghost use Rattle.ceiling_kernel.specs.Runs.{held_top, next_change, active_at, sh
 use crate::accept::accept;
 use crate::kernel::Kernel;
 use crate::lists::{drop_first, empty_lists, enqueue, move_first, pick};
+use crate::owners::{is_within, set_owners};
 use crate::tasks::{NodeSection, NodeTask};
 use crate::trace::{JobRecord, Release, RunFault, Slice, Trace};
 use std::alloc::{AllocError, Global};
@@ -36,13 +37,14 @@ pub struct Slices {
 }
 
 /// The state between two events: a slot for each task's pending job, the lists of the tasks with one, by its active
-/// priority, the place of the next release, and when each job finished.
+/// priority, the owner of each lock, the place of the next release, and when each job finished.
 #[derive(Drop)]
 pub struct Simulation {
     pub now: u64,
     pub next: usize,
     pub slots: Vec<Option<Pending>>,
     pub lists: Vec<VecDeque<usize>>,
+    pub owners: Vec<Option<usize>>,
     pub slices: Slices,
     pub finishes: Vec<Option<u64>>,
 }
@@ -53,7 +55,7 @@ fn held(sections: &[NodeSection], executed: u64) -> u32
 {
     let mut best = 0;
     for section in sections {
-        if section.at < executed && executed < section.stop && best < section.top {
+        if is_within(section, executed) && best < section.top {
             best = section.top;
         }
     }
@@ -152,26 +154,15 @@ impl Slices {
     }
 }
 
-// A free slot for each of `count` tasks.
-fn free_slots(alloc: Global, count: usize) -> Result<Vec<Option<Pending>>, AllocError>
-    ensures { IfOk result (λ slots. slots.items ≡ replicate count None) }
+// None for each of `count` tasks, locks or jobs.
+fn all_none<T: Drop>(alloc: Global, count: usize) -> Result<Vec<Option<T>>, AllocError>
+    ensures { IfOk result (λ nones. nones.items ≡ replicate count None) }
 {
-    let mut slots = Vec::new(alloc);
+    let mut nones = Vec::new(alloc);
     for i in 0..count {
-        slots.push(None)?;
+        nones.push(None)?;
     }
-    Ok(slots)
-}
-
-// For each of `count` jobs that it isn't finished.
-fn no_finishes(alloc: Global, count: usize) -> Result<Vec<Option<u64>>, AllocError>
-    ensures { IfOk result (λ finishes. finishes.items ≡ replicate count None) }
-{
-    let mut finishes = Vec::new(alloc);
-    for i in 0..count {
-        finishes.push(None)?;
-    }
-    Ok(finishes)
+    Ok(nones)
 }
 
 // The records of the releases.
@@ -197,17 +188,20 @@ fn records_of(
 
 impl Simulation {
     // Before the first tick.
-    fn start(alloc: Global, tasks: usize, jobs: usize) -> Result<Simulation, AllocError>
-        ensures { (node : Node) (rs : List Release) → IsRunnable node rs → length node.tasks ≡ tasks → length rs ≡ jobs → IfOk result (λ s. IsRunning node rs s × (s.now ≡ 0)) }
+    fn start(alloc: Global, kernel: &Kernel, jobs: usize) -> Result<Simulation, AllocError>
+        ensures { (rs : List Release) → IsRunnable kernel.now rs → length rs ≡ jobs → IfOk result (λ s. IsRunning kernel.now rs s × (s.now ≡ 0)) }
     {
-        let slots = free_slots(alloc, tasks)?;
-        let lists = empty_lists(alloc, tasks + 1)?;
-        let finishes = no_finishes(alloc, jobs)?;
+        let count = kernel.tasks().len();
+        let slots = all_none(alloc, count)?;
+        let lists = empty_lists(alloc, count + 1)?;
+        let owners = all_none(alloc, kernel.locks())?;
+        let finishes = all_none(alloc, jobs)?;
         Ok(Simulation {
             now: 0,
             next: 0,
             slots,
             lists,
+            owners,
             slices: Slices {
                 closed: Vec::new(alloc),
                 current: None,
@@ -276,6 +270,7 @@ impl Simulation {
         self.slices.add(picked.job, self.now, stop)?;
         let executed = picked.executed + (stop - self.now);
         self.now = stop;
+        set_owners(&mut self.owners, &task.sections, picked.executed, None);
         if executed == task.cost {
             drop_first(&mut self.lists, picked.active);
             self.slots[picked.task] = None;
@@ -284,6 +279,12 @@ impl Simulation {
         }
         let active = active(task, executed);
         move_first(&mut self.lists, picked.active, active, picked.task)?;
+        set_owners(
+            &mut self.owners,
+            &task.sections,
+            executed,
+            Some(picked.task),
+        );
         self.slots[picked.task] = Some(Pending {
             job: picked.job,
             task: picked.task,
@@ -330,7 +331,7 @@ impl<'a> Kernel<'a> {
         ensures no_overrun { IsPassingOrder self.now.tasks self.now.order → IfErr result IsNoOverrun }
     {
         let places = accept(alloc, self.set(), releases, until)?;
-        let mut simulation = Simulation::start(alloc, self.tasks().len(), releases.len())?;
+        let mut simulation = Simulation::start(alloc, self, releases.len())?;
         while simulation.now < until {
             simulation.step(self, releases, &places, until)?;
         }

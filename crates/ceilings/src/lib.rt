@@ -89,6 +89,14 @@ impl LockTable {
         }
     }
 
+    /// How many locks the set has.
+    pub fn len(&self) -> usize
+        ensures noted { result ≡ length (locks_in self.now) }
+        ensures locks { (U : List Task) → IsTableOf U self.now → result ≡ length (locks_of U) }
+    {
+        self.users.len()
+    }
+
     /// The place of a lock in the order of first sight, from 0; none for a lock that nobody names.
     pub fn index_of(&self, lock: Name) -> Option<usize>
         ensures noted { result ≡ position (same_bytes lock) (locks_in self.now) }

@@ -12,15 +12,15 @@ use Rattle.ceiling_kernel.proofs.kernel.Kernel.run.Goals as goal
 
 pub loop-simulation-init : goal.loop-simulation-init
 loop-simulation-init c =
-    let accepted = rw c.set.ensures at c.in_ok-places.ensures in
-    let runnable = runnable_from c.args.self.now c.args.releases.now c.args.until c.tasks.ensures.node accepted.0 in
-    let start = c.in_ok-simulation.ensures c.args.self.now c.args.releases.now runnable (sym c.tasks.ensures.tasks.count) refl in
+    let accepted = rw c.set.ensures.tasks at c.in_ok-places.ensures in
+    let runnable = runnable_from c.args.self.now c.args.releases.now c.args.until c.set.ensures.node accepted.0 in
+    let start = c.in_ok-simulation.ensures c.args.releases.now runnable refl in
     record { running = start.0; bounded = omega (arith, start.1) }
 
 pub step-requires-clause-runnable : goal.step-requires-clause-runnable
 step-requires-clause-runnable c =
-    let accepted = rw c.set.ensures at c.in_ok-places.ensures in
-    runnable_from c.args.self.now c.args.releases.now c.args.until c.tasks.ensures.node accepted.0
+    let accepted = rw c.set.ensures.tasks at c.in_ok-places.ensures in
+    runnable_from c.args.self.now c.args.releases.now c.args.until c.set.ensures.node accepted.0
 
 pub returns-clause-trace : goal.returns-clause-trace
 returns-clause-trace c =
@@ -28,7 +28,7 @@ returns-clause-trace c =
     let rs = c.args.releases.now in
     let s = c.loop-simulation.simulation in
     let running = c.loop-simulation.invariant.running in
-    let accepted = rw c.set.ensures at c.in_ok-places.ensures in
+    let accepted = rw c.set.ensures.tasks at c.in_ok-places.ensures in
     let past : c.args.until ≤ c.loop-simulation.simulation.now = c.loop-simulation-test.false in
     let ended : c.loop-simulation.simulation.now ≡ c.args.until = omega (arith, past, c.loop-simulation.invariant.bounded) in
     let finishes = subst (λ x. AreFinishes node rs s.now x) (sym c.deref-2.ensures.value) running.finishes in (
@@ -45,9 +45,9 @@ returns-clause-granted c =
     let node = c.args.self.now in
     let rs = c.args.releases.now in
     let s = c.loop-simulation.simulation in
-    let accepted = rw c.set.ensures at c.in_ok-places.ensures in
+    let accepted = rw c.set.ensures.tasks at c.in_ok-places.ensures in
     let none = no_overrun_then node rs c.args.until s.now s.next s.slots.items accepted.0 c.loop-simulation.invariant.running.kept c.loop-simulation-test.false in
-    each_granted node rs c.args.until c.tasks.ensures.node accepted.0 none
+    each_granted node rs c.args.until c.set.ensures.node accepted.0 none
 
 pub returns-clause-bounds : goal.returns-clause-bounds
 returns-clause-bounds c =
@@ -55,15 +55,15 @@ returns-clause-bounds c =
     let rs = c.args.releases.now in
     let s = c.loop-simulation.simulation in
     let running = c.loop-simulation.invariant.running in
-    let accepted = rw c.set.ensures at c.in_ok-places.ensures in
+    let accepted = rw c.set.ensures.tasks at c.in_ok-places.ensures in
     let past : c.args.until ≤ c.loop-simulation.simulation.now = c.loop-simulation-test.false in
     let ended : c.loop-simulation.simulation.now ≡ c.args.until = omega (arith, past, c.loop-simulation.invariant.bounded) in
     let finishes = subst (λ x. AreFinishes node rs s.now x) (sym c.deref-2.ensures.value) running.finishes in
-    bounded_trace node rs c.args.until (record { slices = c.in_ok-slices.slices; jobs = c.in_ok-jobs.jobs }) c.tasks.ensures.node accepted.0
+    bounded_trace node rs c.args.until (record { slices = c.in_ok-slices.slices; jobs = c.in_ok-jobs.jobs }) c.set.ensures.node accepted.0
     (c.in_ok-jobs.ensures node s.now finishes ∙ ap (λ t. let r : List JobRecord = records_from node (jobs_of node.tasks rs) t 0 rs in r) ended)
 
 pub returns-in_err-step-clause-no_overrun : goal.returns-in_err-step-clause-no_overrun
 returns-in_err-step-clause-no_overrun c = λ order.
-    let accepted = rw c.set.ensures at c.in_ok-places.ensures in
+    let accepted = rw c.set.ensures.tasks at c.in_ok-places.ensures in
     let p = err_from_is_err_and c.from_residual-in_err-step.result c.from_residual-in_err-step.ensures.1 in
-    rw (p.1, p.2) (stop_without c.args.self.now c.args.releases.now c.args.until c.in_err-step.field-0.0 c.tasks.ensures.node accepted.0 c.in_err-step.ensures.err order)
+    rw (p.1, p.2) (stop_without c.args.self.now c.args.releases.now c.args.until c.in_err-step.field-0.0 c.set.ensures.node accepted.0 c.in_err-step.ensures.err order)

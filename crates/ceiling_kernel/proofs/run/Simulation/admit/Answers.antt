@@ -5,8 +5,9 @@ use Rattle.ceiling_kernel.specs.Releases.{jobs_of, release_at, no_release, task_
 use Rattle.ceiling_kernel.specs.NodeTasks.{IsTaskOf}
 use Rattle.ceiling_kernel.specs.Runs.{Kept}
 use Rattle.ceiling_kernel.specs.Lists.{listed, list_at, with_tail, Queues, IsAlone}
+use Rattle.ceiling_kernel.specs.Owners.{owner_of, AreOwners}
 use Rattle.ceiling_kernel.proofs.MoveLaws.{count_kept, listed_length, level_within}
-use Rattle.ceiling_kernel.proofs.RunLaws.{admit_lists, admit_alone, place_is, read_at, some_from, none_from, slot_read, overrun, admit}
+use Rattle.ceiling_kernel.proofs.RunLaws.{admit_lists, admit_alone, admit_owners, place_is, read_at, some_from, none_from, slot_read, overrun, admit}
 use Rattle.ceiling_kernel.proofs.run.Simulation.admit.Goals as goal
 
 pub returns-then-is_some-clause-err : goal.returns-then-is_some-clause-err
@@ -30,9 +31,9 @@ returns-clause-ok c =
     let free : c.index.result.now ≡ None = none_from c.index.result.now c.if-is_some.ensures in
     let read : slice_index_or s.slots.items (task_number node.tasks (release_at rs s.next)) None ≡ c.index.result.now =
     slot_read node rs c.requires.runnable s.now s.next s.slots.items c.requires.running.kept c.requires.next c.requires.ready c.args.places.now c.index.result.now c.requires.places c.index.ensures in
-    let count : length c.tasks.result.now ≡ length node.tasks = c.tasks.ensures.tasks.count in
+    let count : length c.tasks.result.now ≡ length node.tasks = c.tasks.ensures.count in
     let known : task_number node.tasks (release_at rs s.next) < length node.tasks = c.requires.runnable.known s.next c.requires.next in
-    let task : IsTaskOf node (get_or c.args.places.now s.next 0) c.index-tasks-task.result = c.tasks.ensures.tasks.each (get_or c.args.places.now s.next 0) c.index-tasks-task.result (omega arith) c.index-tasks-task.is in
+    let task : IsTaskOf node (get_or c.args.places.now s.next 0) c.index-tasks-task.result = c.tasks.ensures.each (get_or c.args.places.now s.next 0) c.index-tasks-task.result (omega arith) c.index-tasks-task.is in
     let level : (get_or c.tasks.result.now (get_or c.args.places.now s.next 0) c.index-tasks-task.result).level ≡ level_at node (task_number node.tasks (release_at rs s.next)) =
     ap (λ x. x.level) (sym c.index-tasks-task.is) ∙ (task.level ∙ ap (level_at node) i_is) in
     let p : Pending = record {
@@ -51,6 +52,9 @@ returns-clause-ok c =
         list_count = count_kept s.lists.items c.enqueue.new.lists.items p.active (list_at (listed s.lists.items) p.active ++ get_or c.args.places.now s.next 0 ∷ []) c.in_ok-enqueue.ensures ∙ c.requires.running.list_count;
         queues = subst (λ x. Queues (λ k. slice_index_or (set s.slots.items (get_or c.args.places.now s.next 0) (Some p)) k None) (list_at x)) (sym c.in_ok-enqueue.ensures)
             (subst (λ x. Queues (λ k. slice_index_or (set s.slots.items x (Some p)) k None) (list_at (with_tail (listed s.lists.items) p.active x))) (sym i_is) lists);
+        lock_count = c.requires.running.lock_count;
+        owners = subst (λ x. AreOwners node.tasks (λ k. slice_index_or (set s.slots.items x (Some p)) k None) (owner_of node.tasks s.owners.items)) (sym i_is)
+            (admit_owners node rs c.requires.runnable s.now s.next s.slots.items c.requires.running.kept c.requires.next c.requires.ready (owner_of node.tasks s.owners.items) c.requires.running.owners p refl (read ∙ free));
         alone = subst (λ x. IsAlone (λ k. slice_index_or (set s.slots.items x (Some p)) k None)) (sym i_is) alone;
         slices = c.requires.running.slices;
         tidy = c.requires.running.tidy;
@@ -67,8 +71,8 @@ enqueue-requires c =
     let s = c.args.self.now in
     let i_is : get_or c.args.places.now s.next 0 ≡ task_number node.tasks (release_at rs s.next) = place_is node.tasks rs c.args.places.now s.next c.requires.places c.requires.next in
     let known : task_number node.tasks (release_at rs s.next) < length node.tasks = c.requires.runnable.known s.next c.requires.next in
-    let count : length c.tasks.result.now ≡ length node.tasks = c.tasks.ensures.tasks.count in
-    let task : IsTaskOf node (get_or c.args.places.now s.next 0) c.index-tasks-task.result = c.tasks.ensures.tasks.each (get_or c.args.places.now s.next 0) c.index-tasks-task.result (omega arith) c.index-tasks-task.is in
+    let count : length c.tasks.result.now ≡ length node.tasks = c.tasks.ensures.count in
+    let task : IsTaskOf node (get_or c.args.places.now s.next 0) c.index-tasks-task.result = c.tasks.ensures.each (get_or c.args.places.now s.next 0) c.index-tasks-task.result (omega arith) c.index-tasks-task.is in
     let level : (get_or c.tasks.result.now (get_or c.args.places.now s.next 0) c.index-tasks-task.result).level ≡ level_at node (get_or c.args.places.now s.next 0) = ap (λ x. x.level) (sym c.index-tasks-task.is) ∙ task.level in
     let within : level_at node (get_or c.args.places.now s.next 0) ≤ length node.tasks = level_within node c.requires.runnable.of_node (get_or c.args.places.now s.next 0) in
     omega (arith, level, within, c.requires.running.list_count)

@@ -1,11 +1,14 @@
-use Rattle.std.proofs.Common.{◌≡◌, ◌≢◌, ◌+◌, ◌-◌, ◌<◌, refl, sym, ap, ◌∙◌, arith, length, ℕ, subst, set, drop, Some, None, slice_index_or}
+use Rattle.std.proofs.Common.{◌≡◌, ◌≢◌, ◌+◌, ◌-◌, ◌<◌, ◌≤◌, refl, sym, ap, ◌∙◌, arith, All, List, length, vec_len, ℕ, subst, set, drop, Option, Some, None, slice_index_or}
+use Rattle.ceilings.specs.IsTableOf.{locks_of}
 use Rattle.ceiling_kernel.specs.declared.run.Pending.{Pending}
 use Rattle.ceiling_kernel.specs.Trace.{with_run}
 use Rattle.ceiling_kernel.specs.NodeTasks.{IsTaskOf}
 use Rattle.task_sheet.specs.Sheet.{task_at}
 use Rattle.ceiling_kernel.specs.Lists.{listed, list_at, Queues}
+use Rattle.ceiling_kernel.specs.Owners.{owner_of, with_owners, AreOwners}
+use Rattle.ceiling_kernel.proofs.OwnerLaws.{with_owners-length, locks_within}
 use Rattle.ceiling_kernel.proofs.MoveLaws.{count_kept, count_moved, listed_length, active_within}
-use Rattle.ceiling_kernel.proofs.RunLaws.{list_is, finish_lists, finish_alone, run_lists, run_alone, few_tasks, idle_kept, idle_slices, idle_finishes, job_in, task_in, task_in_slots, small, ahead, run_slices, run_kept, finish_kept, run_finishes, finish_finishes}
+use Rattle.ceiling_kernel.proofs.RunLaws.{list_is, finish_lists, finish_alone, run_lists, run_alone, few_tasks, idle_kept, idle_slices, idle_finishes, leave_owners, run_owners, job_in, task_in, task_in_slots, small, ahead, run_slices, run_kept, finish_kept, run_finishes, finish_finishes}
 use Rattle.ceiling_kernel.proofs.run.Simulation.advance.Goals as goal
 
 pub returns-in_default : goal.returns-in_default
@@ -22,6 +25,8 @@ returns-in_default c =
           list_count = c.requires.running.list_count;
           queues = c.requires.running.queues;
           alone = c.requires.running.alone;
+          lock_count = c.requires.running.lock_count;
+          owners = c.requires.running.owners;
           slices = c.requires.running.slices ∙ sym (idle_slices node rs c.requires.runnable s.now s.next s.slots.items c.requires.running.kept c.limit_of-limit.result lim.after lim.next (sym best));
           tidy = c.requires.running.tidy;
           finishes = idle_finishes node rs c.requires.runnable s.now s.next s.slots.items c.requires.running.kept c.limit_of-limit.result lim.after lim.next (sym best) s.finishes.items c.requires.running.finishes;
@@ -42,7 +47,7 @@ pub offset_bounds-tasks-picked : goal.offset_bounds-tasks-picked
 offset_bounds-tasks-picked c = omega (arith, in_tasks c, few_tasks c.args.kernel.now c.args.releases.now c.requires.runnable)
 
 pub bounds-tasks-picked : goal.bounds-tasks-picked
-bounds-tasks-picked c = (let count : length c.tasks.result.now ≡ length c.args.kernel.now.tasks = c.tasks.ensures.tasks.count in omega (arith, in_tasks c))
+bounds-tasks-picked c = (let count : length c.tasks.result.now ≡ length c.args.kernel.now.tasks = c.tasks.ensures.count in omega (arith, in_tasks c))
 
 pub stop_at-stop-requires-clause-ahead : goal.stop_at-stop-requires-clause-ahead
 stop_at-stop-requires-clause-ahead c =
@@ -52,8 +57,8 @@ stop_at-stop-requires-clause-ahead c =
     let lim = c.limit_of-limit.ensures in
     let best = rw c.deref.ensures.value at c.in-Some.ensures in
     let inside = task_in node rs c.requires.runnable s.now s.next s.slots.items c.requires.running.kept c.limit_of-limit.result lim.after lim.next c.in-Some.picked (sym best) in
-    let count : length c.tasks.result.now ≡ length node.tasks = c.tasks.ensures.tasks.count in
-    let task : IsTaskOf node c.in-Some.picked.task c.index-tasks-picked.result = c.tasks.ensures.tasks.each c.in-Some.picked.task c.index-tasks-picked.result (omega arith) c.index-tasks-picked.is in
+    let count : length c.tasks.result.now ≡ length node.tasks = c.tasks.ensures.count in
+    let task : IsTaskOf node c.in-Some.picked.task c.index-tasks-picked.result = c.tasks.ensures.each c.in-Some.picked.task c.index-tasks-picked.result (omega arith) c.index-tasks-picked.is in
     (ahead node rs c.requires.runnable s.now s.next s.slots.items c.requires.running.kept c.limit_of-limit.result lim.after lim.next c.in-Some.picked (sym best) c.index-tasks-picked.result task).0
 
 pub overflow_add-executed : goal.overflow_add-executed
@@ -64,8 +69,8 @@ overflow_add-executed c =
     let lim = c.limit_of-limit.ensures in
     let best = rw c.deref.ensures.value at c.in-Some.ensures in
     let inside = task_in node rs c.requires.runnable s.now s.next s.slots.items c.requires.running.kept c.limit_of-limit.result lim.after lim.next c.in-Some.picked (sym best) in
-    let count : length c.tasks.result.now ≡ length node.tasks = c.tasks.ensures.tasks.count in
-    let task : IsTaskOf node c.in-Some.picked.task c.index-tasks-picked.result = c.tasks.ensures.tasks.each c.in-Some.picked.task c.index-tasks-picked.result (omega arith) c.index-tasks-picked.is in
+    let count : length c.tasks.result.now ≡ length node.tasks = c.tasks.ensures.count in
+    let task : IsTaskOf node c.in-Some.picked.task c.index-tasks-picked.result = c.tasks.ensures.each c.in-Some.picked.task c.index-tasks-picked.result (omega arith) c.index-tasks-picked.is in
     let most = (ahead node rs c.requires.runnable s.now s.next s.slots.items c.requires.running.kept c.limit_of-limit.result lim.after lim.next c.in-Some.picked (sym best) c.index-tasks-picked.result task).1 in
     let low = small node rs c.requires.runnable s.now s.next s.slots.items c.requires.running.kept c.limit_of-limit.result lim.after lim.next c.in-Some.picked (sym best) in
     omega (arith, most, low, task.cost, c.stop_at-stop.ensures.within)
@@ -104,10 +109,12 @@ returns-then-executed-task c =
     let st = c.stop_at-stop.ensures in
     let best = rw c.deref.ensures.value at c.in-Some.ensures in
     let inside = task_in node rs c.requires.runnable s.now s.next s.slots.items c.requires.running.kept c.limit_of-limit.result lim.after lim.next p (sym best) in
-    let count : length c.tasks.result.now ≡ length node.tasks = c.tasks.ensures.tasks.count in
-    let task : IsTaskOf node c.in-Some.picked.task c.index-tasks-picked.result = c.tasks.ensures.tasks.each c.in-Some.picked.task c.index-tasks-picked.result (omega arith) c.index-tasks-picked.is in
+    let count : length c.tasks.result.now ≡ length node.tasks = c.tasks.ensures.count in
+    let task : IsTaskOf node c.in-Some.picked.task c.index-tasks-picked.result = c.tasks.ensures.each c.in-Some.picked.task c.index-tasks-picked.result (omega arith) c.index-tasks-picked.is in
     let full : c.in-Some.picked.executed + (c.stop_at-stop.result - c.args.self.now.now) ≡ (task_at c.args.kernel.now.tasks c.in-Some.picked.task).cost = c.if-executed-task.true ∙ task.cost in
     let slices = run_slices node rs c.requires.runnable s.now s.next s.slots.items c.requires.running.kept c.limit_of-limit.result lim.after lim.next p (sym best) c.index-tasks-picked.result task c.stop_at-stop.result st.after st.limit st.within in
+    let gives : c.set_owners.new.owners.items ≡ with_owners s.owners.items c.index-tasks-picked.result.sections.items p.executed None =
+    rw c.deref-3.ensures.value at c.set_owners.ensures in
     record {
       ok = record {
         running = record {
@@ -115,6 +122,9 @@ returns-then-executed-task c =
           list_count = count_kept s.lists.items c.drop_first.new.lists.items p.active (drop 1 (list_at (listed s.lists.items) p.active)) c.drop_first.ensures ∙ c.requires.running.list_count;
           queues = subst (λ x. Queues (λ k. slice_index_or (set s.slots.items p.task None) k None) (list_at x)) (sym c.drop_first.ensures)
               (finish_lists node rs c.requires.runnable s.now s.next s.slots.items c.requires.running.kept c.limit_of-limit.result lim.after lim.next p (sym best) (listed s.lists.items) c.requires.running.queues);
+          lock_count = ap (λ (xs : List (Option ℕ)). length xs) gives ∙ (with_owners-length s.owners.items c.index-tasks-picked.result.sections.items p.executed None ∙ c.requires.running.lock_count);
+          owners = subst (λ x. AreOwners node.tasks (λ k. slice_index_or (set s.slots.items p.task None) k None) (owner_of node.tasks x)) (sym gives)
+              (leave_owners node rs c.requires.runnable s.now s.next s.slots.items c.requires.running.kept c.limit_of-limit.result lim.after lim.next p (sym best) c.index-tasks-picked.result task s.owners.items c.requires.running.lock_count c.requires.running.owners);
           alone = finish_alone node rs c.requires.runnable s.now s.next s.slots.items c.requires.running.kept c.limit_of-limit.result lim.after lim.next p (sym best) (listed s.lists.items) c.requires.running.queues c.requires.running.alone;
           slices = c.in_ok-add.ensures.run ∙ (ap (λ y. with_run y c.in-Some.picked.job c.args.self.now.now c.stop_at-stop.result) c.requires.running.slices ∙ sym slices);
           tidy = c.in_ok-add.ensures.tidy;
@@ -135,8 +145,8 @@ returns c =
     let st = c.stop_at-stop.ensures in
     let best = rw c.deref.ensures.value at c.in-Some.ensures in
     let inside = task_in node rs c.requires.runnable s.now s.next s.slots.items c.requires.running.kept c.limit_of-limit.result lim.after lim.next p (sym best) in
-    let count : length c.tasks.result.now ≡ length node.tasks = c.tasks.ensures.tasks.count in
-    let task : IsTaskOf node c.in-Some.picked.task c.index-tasks-picked.result = c.tasks.ensures.tasks.each c.in-Some.picked.task c.index-tasks-picked.result (omega arith) c.index-tasks-picked.is in
+    let count : length c.tasks.result.now ≡ length node.tasks = c.tasks.ensures.count in
+    let task : IsTaskOf node c.in-Some.picked.task c.index-tasks-picked.result = c.tasks.ensures.each c.in-Some.picked.task c.index-tasks-picked.result (omega arith) c.index-tasks-picked.is in
     let most = (ahead node rs c.requires.runnable s.now s.next s.slots.items c.requires.running.kept c.limit_of-limit.result lim.after lim.next p (sym best) c.index-tasks-picked.result task).1 in
     let differ : c.in-Some.picked.executed + (c.stop_at-stop.result - c.args.self.now.now) ≢ c.index-tasks-picked.result.cost = c.if-executed-task.false in
     let open_ : c.in-Some.picked.executed + (c.stop_at-stop.result - c.args.self.now.now) < (task_at c.args.kernel.now.tasks c.in-Some.picked.task).cost = omega (arith, most, task.cost, st.within) in
@@ -148,6 +158,10 @@ returns c =
       executed = c.in-Some.picked.executed + (c.stop_at-stop.result - c.args.self.now.now);
       active = c.active-active.result;
     } in
+    let gives : c.set_owners.new.owners.items ≡ with_owners s.owners.items c.index-tasks-picked.result.sections.items p.executed None =
+    rw c.deref-3.ensures.value at c.set_owners.ensures in
+    let takes : c.set_owners-2.new.owners.items ≡ with_owners (with_owners s.owners.items c.index-tasks-picked.result.sections.items p.executed None) c.index-tasks-picked.result.sections.items next.executed (Some p.task) =
+    rw (c.deref-4.ensures.value, gives) at c.set_owners-2.ensures in
     record {
       ok = record {
         running = record {
@@ -157,6 +171,10 @@ returns c =
           queues = subst (λ x. Queues (λ k. slice_index_or (set s.slots.items p.task (Some next)) k None) (list_at x)) (sym c.in_ok-move_first.ensures)
               (run_lists node rs c.requires.runnable s.now s.next s.slots.items c.requires.running.kept c.limit_of-limit.result lim.after lim.next p (sym best) c.index-tasks-picked.result task c.stop_at-stop.result st.after st.limit st.within (listed s.lists.items) c.requires.running.queues c.requires.running.alone (listed_length s.lists.items ∙ c.requires.running.list_count)
               next refl (c.active-active.ensures node c.in-Some.picked.task task));
+          lock_count = ap (λ (xs : List (Option ℕ)). length xs) takes ∙ (with_owners-length (with_owners s.owners.items c.index-tasks-picked.result.sections.items p.executed None) c.index-tasks-picked.result.sections.items next.executed (Some p.task)
+              ∙ (with_owners-length s.owners.items c.index-tasks-picked.result.sections.items p.executed None ∙ c.requires.running.lock_count));
+          owners = subst (λ x. AreOwners node.tasks (λ k. slice_index_or (set s.slots.items p.task (Some next)) k None) (owner_of node.tasks x)) (sym takes)
+              (run_owners node rs c.requires.runnable s.now s.next s.slots.items c.requires.running.kept c.limit_of-limit.result lim.after lim.next p (sym best) c.index-tasks-picked.result task c.stop_at-stop.result st.after st.limit st.within next refl s.owners.items c.requires.running.lock_count c.requires.running.owners);
           alone = run_alone node rs c.requires.runnable s.now s.next s.slots.items c.requires.running.kept c.limit_of-limit.result lim.after lim.next p (sym best) c.index-tasks-picked.result task c.stop_at-stop.result st.after st.limit st.within (listed s.lists.items) c.requires.running.queues c.requires.running.alone next refl (c.active-active.ensures node c.in-Some.picked.task task);
           slices = c.in_ok-add.ensures.run ∙ (ap (λ y. with_run y c.in-Some.picked.job c.args.self.now.now c.stop_at-stop.result) c.requires.running.slices ∙ sym slices);
           tidy = c.in_ok-add.ensures.tidy;
@@ -175,6 +193,34 @@ pick-requires-clause-queues c =
     let s = c.args.self.now in
     subst (λ x. Queues (λ k. slice_index_or x k None) (list_at (listed c.deref-2.result.now))) (sym c.deref.ensures.value)
     (subst (λ x. Queues (λ k. slice_index_or s.slots.items k None) (list_at (listed x))) (sym c.deref-2.ensures.value) c.requires.running.queues)
+
+pub set_owners-requires : goal.set_owners-requires
+set_owners-requires c =
+    let node = c.args.kernel.now in
+    let s = c.args.self.now in
+    let lim = c.limit_of-limit.ensures in
+    let best = rw c.deref.ensures.value at c.in-Some.ensures in
+    let inside = task_in node c.args.releases.now c.requires.runnable s.now s.next s.slots.items c.requires.running.kept c.limit_of-limit.result lim.after lim.next c.in-Some.picked (sym best) in
+    let count : length c.tasks.result.now ≡ length node.tasks = c.tasks.ensures.count in
+    let task : IsTaskOf node c.in-Some.picked.task c.index-tasks-picked.result = c.tasks.ensures.each c.in-Some.picked.task c.index-tasks-picked.result (omega arith) c.index-tasks-picked.is in
+    let few : length (locks_of node.tasks) ≤ vec_len s.owners = omega (arith, s.owners.ok.0, c.requires.running.lock_count) in
+    subst (λ x. All (λ r. All (λ place. place < vec_len s.owners) r.locks.items) x) (sym c.deref-3.ensures.value)
+    (locks_within node (task_at node.tasks c.in-Some.picked.task).sections c.index-tasks-picked.result.sections.items (vec_len s.owners) task.sections few)
+
+pub set_owners-requires-2 : goal.set_owners-requires-2
+set_owners-requires-2 c =
+    let node = c.args.kernel.now in
+    let s = c.args.self.now in
+    let lim = c.limit_of-limit.ensures in
+    let best = rw c.deref.ensures.value at c.in-Some.ensures in
+    let inside = task_in node c.args.releases.now c.requires.runnable s.now s.next s.slots.items c.requires.running.kept c.limit_of-limit.result lim.after lim.next c.in-Some.picked (sym best) in
+    let count : length c.tasks.result.now ≡ length node.tasks = c.tasks.ensures.count in
+    let task : IsTaskOf node c.in-Some.picked.task c.index-tasks-picked.result = c.tasks.ensures.each c.in-Some.picked.task c.index-tasks-picked.result (omega arith) c.index-tasks-picked.is in
+    let gives = rw c.deref-3.ensures.value at c.set_owners.ensures in
+    let few : length (locks_of node.tasks) ≤ vec_len c.set_owners.new.owners =
+    omega (arith, c.set_owners.new.owners.ok.0, ap (λ (xs : List (Option ℕ)). length xs) gives, with_owners-length s.owners.items c.index-tasks-picked.result.sections.items c.in-Some.picked.executed None, c.requires.running.lock_count) in
+    subst (λ x. All (λ r. All (λ place. place < vec_len c.set_owners.new.owners) r.locks.items) x) (sym c.deref-4.ensures.value)
+    (locks_within node (task_at node.tasks c.in-Some.picked.task).sections c.index-tasks-picked.result.sections.items (vec_len c.set_owners.new.owners) task.sections few)
 
 pub drop_first-requires : goal.drop_first-requires
 drop_first-requires c =
@@ -199,7 +245,7 @@ move_first-requires-clause-new c =
     let lim = c.limit_of-limit.ensures in
     let best = rw c.deref.ensures.value at c.in-Some.ensures in
     let inside = task_in node c.args.releases.now c.requires.runnable s.now s.next s.slots.items c.requires.running.kept c.limit_of-limit.result lim.after lim.next c.in-Some.picked (sym best) in
-    let count : length c.tasks.result.now ≡ length node.tasks = c.tasks.ensures.tasks.count in
-    let task : IsTaskOf node c.in-Some.picked.task c.index-tasks-picked.result = c.tasks.ensures.tasks.each c.in-Some.picked.task c.index-tasks-picked.result (omega arith) c.index-tasks-picked.is in
+    let count : length c.tasks.result.now ≡ length node.tasks = c.tasks.ensures.count in
+    let task : IsTaskOf node c.in-Some.picked.task c.index-tasks-picked.result = c.tasks.ensures.each c.in-Some.picked.task c.index-tasks-picked.result (omega arith) c.index-tasks-picked.is in
     let executed : ℕ = c.in-Some.picked.executed + (c.stop_at-stop.result - c.args.self.now.now) in
     omega (arith, c.active-active.ensures node c.in-Some.picked.task task, active_within node c.requires.runnable.of_node c.in-Some.picked.task executed, c.requires.running.list_count)
