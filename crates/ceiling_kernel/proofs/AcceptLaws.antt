@@ -1,8 +1,11 @@
 -- The first refusal of a release list, and what holds where there is none.
 use Rattle.std.proofs.Common.{ℕ, zero, suc, ◌+◌, ◌-◌, ◌<◌, ◌≤◌, ◌≡◌, ◌⊎◌, inl, inr, refl, sym, ap, ap₂, ◌∙◌, subst, arith, List, [], ◌∷◌, ◌++◌, length, get_or, map, take, set, replicate, get_or-set_same, get_or-set_other, length-set, Option, Some, None, Bool, true, false, ◌&&◌, ◌||◌, ◌==◌, nat_lt, is_none, unwrap_or, position, slice_index_or}
+use Rattle.std.proofs.lemmas.Option.{none-some}
+use Rattle.std.specs.List.{list_any}
 use Rattle.std.specs.Option.{option_or, option_map}
 use Rattle.std.proofs.lemmas.Bool.{cases_eq, cases_lt, cases_Bool, true≢false, lt-ltb, le-ltb, eq-eqb, ne_eqb}
 use Rattle.std.proofs.lemmas.List.{map_more, get_or_default, get_or-replicate, length-replicate, get_or_past}
+use Rattle.std.proofs.lemmas.List.Folds.{list_any_at}
 use Rattle.std.proofs.lemmas.List.Quantifiers.{position-Some}
 use Rattle.task_sheet.specs.Sheet.{Task, no_task, same_bytes, task_at}
 use Rattle.task_sheet.specs.Indexes.{some_below}
@@ -12,9 +15,10 @@ use Rattle.ceiling_kernel.specs.declared.trace.RunFault.TheVariants as fault
 use Rattle.ceiling_kernel.specs.Tick.{Node, job_at}
 use Rattle.ceiling_kernel.specs.Waits.{IsNode}
 use Rattle.ceiling_kernel.specs.Releases.{task_named, task_number, job_of, jobs_of, first_or, first_where, no_release, release_at, is_unsorted, is_unknown, is_soon_job, is_too_soon, is_past, refuse_if, refusal_of}
-use Rattle.ceiling_kernel.specs.Runs.{IsRunnable, soon_after}
-use Rattle.ceiling_kernel.proofs.BoundLaws.{some_below-at}
-use Rattle.ceiling_kernel.proofs.RunLaws.{job_is}
+use Rattle.ceiling_kernel.specs.Releases.{soon_after}
+use Rattle.ceiling_kernel.specs.States.{IsRunnable}
+use Rattle.task_sheet.proofs.Below.{some_below-at}
+use Rattle.ceiling_kernel.proofs.ReleaseLaws.{job_is}
 
 -- ---- the first that passes a test
 first_step : (test : ℕ → Bool) (n : ℕ) → first_where test (suc n) ≡ first_or (first_where test n) (test n) n
@@ -74,19 +78,19 @@ pub record IsAccepted (U : List Task) (rs : List Release) (until : ℕ) : Type 0
   pub sorted : first_where (is_unsorted rs) (length rs) ≡ None
   pub known : first_where (is_unknown U rs) (length rs) ≡ None
   pub spaced : first_where (is_too_soon U (jobs_of U rs)) (length rs) ≡ None
-  pub before : some_below (length rs) (is_past rs until) ≡ false
+  pub before : list_any (is_past until) rs ≡ false
 
 pub accepted : (U : List Task) (rs : List Release) (until : ℕ) → refusal_of U rs until ≡ None → IsAccepted U rs until
 accepted U rs until e =
     let a = or_none (option_map (λ k. fault.Unsorted (k + 1)) (first_where (is_unsorted rs) (length rs))) _ e in
     let b = or_none (option_map (λ k. fault.UnknownTask (k + 1)) (first_where (is_unknown U rs) (length rs))) _ a.1 in
     let c = or_none (option_map (λ k. fault.TooSoon (k + 1)) (first_where (is_too_soon U (jobs_of U rs)) (length rs))) _ b.1 in
-    let d = or_none (refuse_if (nat_lt 60000000 until || some_below (length rs) (is_past rs until)) fault.PastHorizon) _ c.1 in
+    let d = or_none (refuse_if (nat_lt 60000000 until || list_any (is_past until) rs) fault.PastHorizon) _ c.1 in
     record {
       sorted = map_none (λ k. fault.Unsorted (k + 1)) (first_where (is_unsorted rs) (length rs)) a.0;
       known = map_none (λ k. fault.UnknownTask (k + 1)) (first_where (is_unknown U rs) (length rs)) b.0;
       spaced = map_none (λ k. fault.TooSoon (k + 1)) (first_where (is_too_soon U (jobs_of U rs)) (length rs)) c.0;
-      before = (or_false_parts (nat_lt 60000000 until) (some_below (length rs) (is_past rs until)) (if_none (nat_lt 60000000 until || some_below (length rs) (is_past rs until)) fault.PastHorizon d.0)).1;
+      before = (or_false_parts (nat_lt 60000000 until) (list_any (is_past until) rs) (if_none (nat_lt 60000000 until || list_any (is_past until) rs) fault.PastHorizon d.0)).1;
     }
 
 -- ---- sorted lists
@@ -136,9 +140,6 @@ some_below-none : (n : ℕ) (p : ℕ → Bool) → ((k : ℕ) → k < n → p k 
 some_below-none zero p h = refl
 some_below-none (suc n) p h = rw (some_below-none n p (λ k lt. h k (omega arith)), h n (omega arith))
 
-pub some_more : (n : ℕ) (p : ℕ → Bool) → some_below n p ≡ false → p n ≡ false → some_below (n + 1) p ≡ false
-some_more n p a b = (let one : n + 1 ≡ suc n = omega arith in ap (λ m. some_below m p) one ∙ rw (a, b))
-
 -- ---- the last release of each task
 pub record AreLast (U : List Task) (rs : List Release) (n : ℕ) (last : List (Option ℕ)) : Type 0 where
   pub count : length last ≡ 32
@@ -148,16 +149,13 @@ pub record AreLast (U : List Task) (rs : List Release) (n : ℕ) (last : List (O
 abbrev none_of : Option ℕ
 none_of = None
 
-no_time : (l : ℕ) → ◌≡◌ {A = Option ℕ} None (Some l) → ⊥
-no_time l e = cc
-
 pub last_start : (U : List Task) (rs : List Release) → AreLast U rs 0 (replicate 32 None)
 last_start U rs = record {
   count = length-replicate 32 none_of;
   known = λ j lt. absurd (omega arith);
   some = λ i l e. elim (cases_lt i 32) [
-    | inl lt ↦ absurd (no_time l (sym (get_or-replicate 32 i none_of None lt) ∙ e))
-    | inr ge ↦ (let n : length (replicate 32 none_of) ≡ 32 = length-replicate 32 none_of in absurd (no_time l (sym (get_or_past (replicate 32 none_of) i None (omega arith)) ∙ e)))
+    | inl lt ↦ absurd (none-some l (sym (get_or-replicate 32 i none_of None lt) ∙ e))
+    | inr ge ↦ (let n : length (replicate 32 none_of) ≡ 32 = length-replicate 32 none_of in absurd (none-some l (sym (get_or_past (replicate 32 none_of) i None (omega arith)) ∙ e)))
   ];
 }
 
@@ -211,7 +209,7 @@ module _ (U : List Task) (rs : List Release) (sorted : (i j : ℕ) → i ≤ j �
         | None ↦ λ e. some_below-none k (is_soon_job U (jobs_of U rs) k) (λ j before. too_soon_job j before ∙ elim (cases_eq (task_no j) (task_no k)) [
           | inl same ↦
               let w : (l : ℕ) × (slice_index_or last (task_no j) None ≡ Some l) × (time_of j ≤ l) = are.known j before in
-              absurd (no_time w.0 (sym e ∙ subst (λ x. slice_index_or last x None ≡ Some w.0) same w.1))
+              absurd (none-some w.0 (sym e ∙ subst (λ x. slice_index_or last x None ≡ Some w.0) same w.1))
           | inr other ↦ (let f : (task_no j == task_no k) ≡ false = ne_eqb (task_no j) (task_no k) other in rw f)
         ])
         | Some l ↦ λ e.
@@ -269,15 +267,15 @@ pub refused_soon : (U : List Task) (rs : List Release) (until k : ℕ) → first
 refused_soon U rs until k a b e = rw (a, b, e)
 
 pub refused_past : (U : List Task) (rs : List Release) (until : ℕ) → first_where (is_unsorted rs) (length rs) ≡ None → first_where (is_unknown U rs) (length rs) ≡ None
-    → first_where (is_too_soon U (jobs_of U rs)) (length rs) ≡ None → (nat_lt 60000000 until || some_below (length rs) (is_past rs until)) ≡ true → refusal_of U rs until ≡ Some fault.PastHorizon
+    → first_where (is_too_soon U (jobs_of U rs)) (length rs) ≡ None → (nat_lt 60000000 until || list_any (is_past until) rs) ≡ true → refusal_of U rs until ≡ Some fault.PastHorizon
 refused_past U rs until a b c e = rw (a, b, c, e)
 
 pub refused_many : (U : List Task) (rs : List Release) (until : ℕ) → first_where (is_unsorted rs) (length rs) ≡ None → first_where (is_unknown U rs) (length rs) ≡ None
-    → first_where (is_too_soon U (jobs_of U rs)) (length rs) ≡ None → (nat_lt 60000000 until || some_below (length rs) (is_past rs until)) ≡ false → 10000 < length rs → refusal_of U rs until ≡ Some fault.TooMany
+    → first_where (is_too_soon U (jobs_of U rs)) (length rs) ≡ None → (nat_lt 60000000 until || list_any (is_past until) rs) ≡ false → 10000 < length rs → refusal_of U rs until ≡ Some fault.TooMany
 refused_many U rs until a b c e h = (let t : nat_lt 10000 (length rs) ≡ true = lt-ltb 10000 (length rs) h in rw (a, b, c, e, t))
 
 pub not_refused : (U : List Task) (rs : List Release) (until : ℕ) → first_where (is_unsorted rs) (length rs) ≡ None → first_where (is_unknown U rs) (length rs) ≡ None
-    → first_where (is_too_soon U (jobs_of U rs)) (length rs) ≡ None → (nat_lt 60000000 until || some_below (length rs) (is_past rs until)) ≡ false → length rs ≤ 10000 → refusal_of U rs until ≡ None
+    → first_where (is_too_soon U (jobs_of U rs)) (length rs) ≡ None → (nat_lt 60000000 until || list_any (is_past until) rs) ≡ false → length rs ≤ 10000 → refusal_of U rs until ≡ None
 not_refused U rs until a b c e h = (let t : nat_lt 10000 (length rs) ≡ false = le-ltb 10000 (length rs) h in rw (a, b, c, e, t))
 
 pub past_or : (a b : Bool) → (a ≡ true) ⊎ (b ≡ true) → (a || b) ≡ true
@@ -288,6 +286,10 @@ past_none until b h e = (let f : nat_lt 60000000 until ≡ false = le-ltb 600000
 
 pub past_horizon : (until : ℕ) (b : Bool) → 60000000 < until → (nat_lt 60000000 until || b) ≡ true
 past_horizon until b h = (let t : nat_lt 60000000 until ≡ true = lt-ltb 60000000 until h in rw t)
+
+-- where no element passes a test, one that is read doesn't
+pub none_passes : {X : Type 0} (p : X → Bool) (xs : List X) (k : ℕ) (d : X) → k < length xs → list_any p xs ≡ false → p (get_or xs k d) ≡ false
+none_passes p xs k d lt none = elim (cases_Bool (p (get_or xs k d))) [ inl passes ↦ absurd (true≢false (sym (list_any_at p xs k d lt passes) ∙ none)) | inr fails ↦ fails ]
 
 pub none_below : (n : ℕ) (p : ℕ → Bool) → some_below n p ≡ false → (k : ℕ) → k < n → p k ≡ false
 none_below zero p h k lt = absurd (omega arith)

@@ -1,5 +1,5 @@
 -- Each job of a task that passes finishes by its bound.
-use Rattle.std.proofs.Common.{ℕ, zero, suc, ◌+◌, ◌-◌, ◌*◌, ◌/◌, ◌<◌, ◌≤◌, ◌≡◌, inl, inr, refl, sym, ap, ◌∙◌, subst, arith, if◌then◌else◌, Bool, true, false, ◌==◌, ◌&&◌, ◌||◌, cond, List, [], ◌∷◌, length, nat_le, nat_lt, eqb}
+use Rattle.std.proofs.Common.{ℕ, ◌+◌, ◌-◌, ◌*◌, ◌/◌, ◌<◌, ◌≤◌, ◌≡◌, inl, inr, refl, sym, ap, ◌∙◌, subst, arith, if◌then◌else◌, Bool, true, false, ◌==◌, ◌&&◌, cond, List, [], ◌∷◌, length, nat_le, nat_lt, eqb}
 use Rattle.std.proofs.lemmas.Bool.{cases_eq, cases_lt, cases_Bool, lt-ltb, le-leb, lt-leb, leb-true, ltb-true, and_parts, eq-eqb, eqb-true, ne_eqb, le-ltb}
 use Rattle.std.proofs.lemmas.List.{get_or_past}
 use Rattle.std.proofs.Math.Nat.{mul-le-mul_right, div-lt_iff_lt-mul}
@@ -8,7 +8,7 @@ use Rattle.std.proofs.lemmas.Grind.{div_ceil_times}
 use Rattle.std.specs.Int.{div_ceil}
 use Rattle.std.specs.List.{list_any}
 use Rattle.task_sheet.specs.Sheet.{Task, CriticalSection, no_task, task_at}
-use Rattle.task_sheet.specs.Indexes.{Indexes, with_index, greatest_below, some_below}
+use Rattle.task_sheet.specs.Indexes.{Indexes, with_index, greatest_below}
 use Rattle.task_sheet.specs.Locks.{uses, shares_lock, reaches}
 use Rattle.task_sheet.specs.Demand.{releases_within, longest_reached, blocking_of, interference_of, demand_of}
 use Rattle.task_sheet.specs.Orders.{Stands, IsPassingOrder}
@@ -17,29 +17,11 @@ use Rattle.ceiling_kernel.specs.Waits.{IsNode, IsLegal, lateness_of, NoOverrun}
 use Rattle.ceiling_kernel.specs.Bounds.{above_of, PassesBy, BoundHolds}
 use Rattle.ceiling_kernel.proofs.NodeLaws.{AreApart, IsSoundTask, IsSound, sound, top_user, stands_above}
 use Rattle.ceiling_kernel.proofs.SumLaws.{total, total-sum, total-le, total-add, total-same, total-single, total-zero}
+use Rattle.task_sheet.proofs.Below.{some_below-at, le-greatest_below}
 use Rattle.ceiling_kernel.proofs.WindowLaws.{of_task, most_in_window, by_tasks}
 use Rattle.ceiling_kernel.proofs.SectionLaws.{rest_of, rest-le}
 use Rattle.ceiling_kernel.proofs.MachineLaws.{machine, is_high, rest_at}
 use Rattle.ceiling_kernel.proofs.Busy.{work, finishes, done_later}
-
-greatest_below-at : (n : ℕ) (f : ℕ → ℕ) (k : ℕ) → k < n → f k ≤ greatest_below n f
-greatest_below-at zero f k lt = absurd (omega arith)
-greatest_below-at (suc n) f k lt =
-    elim (cases_eq k n) [
-      | inl e ↦ (let same : f k ≡ f n = ap f e in omega arith)
-      | inr ne ↦ (let ih : f k ≤ greatest_below n f = greatest_below-at n f k (omega arith) in omega arith)
-    ]
-
-pub some_below-at : (n : ℕ) (p : ℕ → Bool) (k : ℕ) → k < n → p k ≡ true → some_below n p ≡ true
-some_below-at zero p k lt h = absurd (omega arith)
-some_below-at (suc n) p k lt h =
-    elim (cases_eq k n) [
-      | inl e ↦ (let same : p n ≡ true = sym (ap p e) ∙ h in or_right (some_below n p) (p n) same)
-      | inr ne ↦ (let ih : some_below n p ≡ true = some_below-at n p k (omega arith) h in rw ih)
-    ]
-  where
-    or_right : (x y : Bool) → y ≡ true → (x || y) ≡ true
-    or_right x y e = elim (cases_Bool x) [ inl t ↦ rw t | inr f ↦ rw (f, e) ]
 
 -- how many jobs of a task become ready in a window of t ticks at most, by its period and how late they may be
 abbrev most_jobs : Task → ℕ → ℕ
@@ -134,7 +116,7 @@ module _ (node : Node) (jobs : List Job) (is_node : IsNode node) (legal : IsLega
                 | inl lt ↦
                     let out : upper k ≡ false = upper-low k low in
                     let b : (if upper k then 0 else longest_reached node.tasks upper (task_at node.tasks k)) ≤ greatest_below (length node.tasks) (λ k. if upper k then 0 else longest_reached node.tasks upper (task_at node.tasks k)) =
-                    greatest_below-at (length node.tasks) (λ k. if upper k then 0 else longest_reached node.tasks upper (task_at node.tasks k)) k lt in
+                    le-greatest_below (length node.tasks) (λ k. if upper k then 0 else longest_reached node.tasks upper (task_at node.tasks k)) k lt in
                     let b' : longest_reached node.tasks upper (task_at node.tasks k) ≤ greatest_below (length node.tasks) (λ k. if upper k then 0 else longest_reached node.tasks upper (task_at node.tasks k)) = rw out at b in
                     rw not_high (omega arith)
                 | inr past ↦

@@ -1,5 +1,6 @@
 -- What a run has shown at its end.
 use Rattle.std.proofs.Common.{ℕ, zero, suc, ◌+◌, ◌-◌, ◌<◌, ◌≤◌, ◌≡◌, inl, inr, refl, sym, ap, ◌∙◌, subst, arith, List, [], ◌∷◌, length, slice_index_or, Option, None, Some, false, true, cond, nat_le, nat_lt, eqb}
+use Rattle.std.proofs.lemmas.Option.{none-some}
 use Rattle.std.proofs.lemmas.Bool.{cases_lt, cases_Bool, true≢false, le-leb, eq-eqb}
 use Rattle.task_sheet.specs.Orders.{IsPassingOrder}
 use Rattle.ceiling_kernel.specs.declared.trace.Release.{Release}
@@ -12,18 +13,20 @@ use Rattle.ceiling_kernel.specs.Tick.{Node, Job, job_at, task_of, executed_befor
 use Rattle.ceiling_kernel.specs.Trace.{finish_before}
 use Rattle.ceiling_kernel.specs.Waits.{IsNode, IsLegal, NoOverrun, EachIsGranted}
 use Rattle.ceiling_kernel.specs.Bounds.{PassesBy}
-use Rattle.ceiling_kernel.specs.Releases.{task_number, jobs_of, job_of, release_at, is_soon_job, is_too_soon, is_past, refusal_of, IsFirstOverrun, IsOverrun, record_of, no_record, records_from, MeetsBounds, IsNoOverrun}
-use Rattle.ceiling_kernel.specs.Runs.{Kept, IsStop}
+use Rattle.ceiling_kernel.specs.Releases.{task_number, jobs_of, job_of, no_release, release_at, is_soon_job, is_too_soon, is_past, refusal_of}
+use Rattle.ceiling_kernel.specs.Runs.{IsFirstOverrun, IsOverrun, record_of, no_record, records_from, MeetsBounds, IsNoOverrun}
+use Rattle.ceiling_kernel.specs.States.{Kept, IsStop}
 use Rattle.ceiling_kernel.proofs.LockLaws.{nobody_waits_law}
 use Rattle.ceiling_kernel.proofs.BoundLaws.{bound_law, no_overrun_law}
 use Rattle.ceiling_kernel.proofs.FinishLaws.{finish_start, finish_step, finish_some, finish_later}
-use Rattle.ceiling_kernel.proofs.RunLaws.{job_is, jobs_length, cost_some}
-use Rattle.ceiling_kernel.proofs.AcceptLaws.{IsAccepted, accepted, first_none, none_below, not_lt, known_from, runnable_from}
+use Rattle.ceiling_kernel.proofs.ReleaseLaws.{job_is, jobs_length}
+use Rattle.ceiling_kernel.proofs.RunLaws.{cost_some}
+use Rattle.ceiling_kernel.proofs.AcceptLaws.{IsAccepted, accepted, first_none, none_below, none_passes, not_lt, known_from, runnable_from}
 
 -- no release of an accepted list stands at the end or after it
 before_end : (node : Node) (rs : List Release) (until k : ℕ) → IsAccepted node.tasks rs until → k < length rs → (job_at (jobs_of node.tasks rs) k).ready < until
 before_end node rs until k a lt =
-    let f : is_past rs until k ≡ false = none_below (length rs) (is_past rs until) a.before k lt in
+    let f : is_past until (release_at rs k) ≡ false = none_passes (is_past until) rs k no_release lt a.before in
     let r : (job_at (jobs_of node.tasks rs) k).ready ≡ (release_at rs k).time = ap (λ x. x.ready) (job_is node.tasks rs k lt) in
     elim (cases_lt (release_at rs k).time until) [
       | inl before ↦ omega arith
@@ -67,10 +70,7 @@ each_granted node rs until ok e none t p lock pick asks = nobody_waits_law node 
 
 -- ---- the bound
 finish_within : (node : Node) (jobs : List Job) (j t f : ℕ) → finish_before node jobs t j ≡ Some f → f ≤ t
-finish_within node jobs j zero f e = absurd (no_finish f (sym (finish_start node jobs j) ∙ e))
-  where
-    no_finish : (f : ℕ) → ◌≡◌ {A = Option ℕ} None (Some f) → ⊥
-    no_finish f e = cc
+finish_within node jobs j zero f e = absurd (none-some f (sym (finish_start node jobs j) ∙ e))
 finish_within node jobs j (suc t) f e =
     elim (finish_before node jobs t j) as (λ o. finish_before node jobs t j ≡ o → f ≤ suc t) [
       | Some g ↦ λ is.

@@ -1,5 +1,6 @@
 -- When a job finishes.
 use Rattle.std.proofs.Common.{Option, ap, ◌-◌, ℕ, zero, suc, ◌+◌, ◌<◌, ◌≤◌, ◌≡◌, ◌⊎◌, inl, inr, refl, sym, ◌∙◌, subst, arith, true, false, cond, List, Some, None, nat_le, add-suc, add-zero}
+use Rattle.std.proofs.lemmas.Option.{none-some}
 use Rattle.std.specs.Option.{option_or}
 use Rattle.std.proofs.lemmas.Bool.{cases_eq, cases_lt, le-leb, lt-leb}
 use Rattle.ceiling_kernel.specs.Tick.{Node, Job, task_of, executed_before, picked}
@@ -81,12 +82,9 @@ module _ (node : Node) (jobs : List Job) (j : ℕ) where
       let tr : nat_le cost (done (suc (t + k))) ≡ true = le-leb cost (done (suc (t + k))) after' in
       rw add-suc (finish_step (t + k) ∙ rw (none, tr))
 
-  no_finish : (f : ℕ) → ◌≡◌ {A = Option ℕ} None (Some f) → ⊥
-  no_finish f e = cc
-
   -- the finish is the end of the tick in which the job executes the last of its cost
   pub finish_is : (t f : ℕ) → 0 < cost → finish_before node jobs t j ≡ Some f → (f ≤ t) × IsFinishAt node jobs j f
-  finish_is zero f some e = absurd (no_finish f (sym finish_start ∙ e))
+  finish_is zero f some e = absurd (none-some f (sym finish_start ∙ e))
   finish_is (suc t) f some e =
       elim (finish_before node jobs t j) as (λ o. finish_before node jobs t j ≡ o → (f ≤ suc t) × IsFinishAt node jobs j f) [
         | Some g ↦ λ is.
@@ -99,10 +97,10 @@ module _ (node : Node) (jobs : List Job) (j : ℕ) where
             let now : cond (nat_le cost (done (suc t))) (Some (suc t)) None ≡ Some f = sym (finish_step t ∙ rw is) ∙ e in
             let open_ : done t < cost = elim (cases_lt (done t) cost) [
               | inl lt ↦ lt
-              | inr ge ↦ (let g : (g : ℕ) × (finish_before node jobs t j ≡ Some g) = finish_some t some ge in absurd (no_finish g.0 (sym is ∙ g.1)))
+              | inr ge ↦ (let g : (g : ℕ) × (finish_before node jobs t j ≡ Some g) = finish_some t some ge in absurd (none-some g.0 (sym is ∙ g.1)))
             ] in
             elim (cases_lt (done (suc t)) cost) [
-              | inl less ↦ (let no : nat_le cost (done (suc t)) ≡ false = lt-leb cost (done (suc t)) less in let m : ◌≡◌ {A = Option ℕ} None (Some f) = rw no at now in absurd (no_finish f m))
+              | inl less ↦ (let no : nat_le cost (done (suc t)) ≡ false = lt-leb cost (done (suc t)) less in let m : ◌≡◌ {A = Option ℕ} None (Some f) = rw no at now in absurd (none-some f m))
               | inr full ↦
                   let yes_ : nat_le cost (done (suc t)) ≡ true = le-leb cost (done (suc t)) full in
                   let n : ◌≡◌ {A = Option ℕ} (Some (suc t)) (Some f) = rw yes_ at now in
@@ -118,5 +116,5 @@ module _ (node : Node) (jobs : List Job) (j : ℕ) where
   unfinished_is t some e =
       elim (cases_lt (done t) cost) [
         | inl lt ↦ lt
-        | inr ge ↦ (let g : (g : ℕ) × (finish_before node jobs t j ≡ Some g) = finish_some t some ge in absurd (no_finish g.0 (sym e ∙ g.1)))
+        | inr ge ↦ (let g : (g : ℕ) × (finish_before node jobs t j ≡ Some g) = finish_some t some ge in absurd (none-some g.0 (sym e ∙ g.1)))
       ]

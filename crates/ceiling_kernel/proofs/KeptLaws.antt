@@ -1,5 +1,6 @@
 -- What the slots keep gives the pick of the tick rule, and each event keeps it.
 use Rattle.std.proofs.Common.{ℕ, suc, ◌+◌, ◌<◌, ◌≤◌, ◌≡◌, ◌≢◌, inl, inr, sym, ap, ap₂, ◌∙◌, subst, arith, List, length, set, replicate, Option, Some, None, true, slice_index_or, get_or-set_same, get_or-set_other, length-set}
+use Rattle.std.proofs.lemmas.Option.{none-some}
 use Rattle.std.proofs.lemmas.Bool.{cases_Bool, cases_eq, cases_lt}
 use Rattle.std.proofs.lemmas.List.{get_or-replicate, length-replicate, get_or_past}
 use Rattle.task_sheet.specs.Sheet.{task_at}
@@ -7,16 +8,13 @@ use Rattle.ceiling_kernel.specs.declared.run.Pending.{Pending}
 use Rattle.ceiling_kernel.specs.Tick.{Node, Job, job_at, task_of, level_at, level_of, active_of, is_pending, held_ceiling, executed_before, picked}
 use Rattle.ceiling_kernel.specs.Jumps.{change_after, NoneReadyBetween}
 use Rattle.ceiling_kernel.specs.Waits.{Overruns}
-use Rattle.ceiling_kernel.specs.Runs.{active_at, best_slot, IsPending, Kept}
+use Rattle.ceiling_kernel.specs.States.{active_at, best_slot, IsPending, Kept}
 use Rattle.ceiling_kernel.proofs.NodeLaws.{AreApart, IsSoundTask, IsSound}
 use Rattle.ceiling_kernel.proofs.PickLaws.{best_is, best_none_is}
 use Rattle.ceiling_kernel.proofs.MachineLaws.{picked_is, IsPick, pending_parts, pending_from}
 use Rattle.ceiling_kernel.proofs.LockLaws.{began_strictly, held_before}
 use Rattle.ceiling_kernel.proofs.JumpLaws as jump
 use Rattle.ceiling_kernel.proofs.SlotLaws.{IsBestSlot, slot_some, slot_none}
-
-pub no_some : (q : Pending) → ◌≡◌ {A = Option Pending} None (Some q) → ⊥
-no_some q e = cc
 
 module _ (node : Node) (jobs : List Job) (sound : IsSound node) (known : (j : ℕ) → j < length jobs → (job_at jobs j).task < length node.tasks) where
   abbrev done : ℕ → ℕ → ℕ
@@ -60,7 +58,7 @@ module _ (node : Node) (jobs : List Job) (sound : IsSound node) (known : (j : �
     unfolding picked
     pick_is p e =
         let s : IsBestSlot slots None p = slot_some slots None p e in
-        let place : (i : ℕ) × (slot_of slots i ≡ Some p) = elim s.from [ inl no_one ↦ absurd (no_some p no_one) | inr found ↦ found ] in
+        let place : (i : ℕ) × (slot_of slots i ≡ Some p) = elim s.from [ inl no_one ↦ absurd (none-some p no_one) | inr found ↦ found ] in
         let m : IsPending node jobs t next place.0 p = kept.pending place.0 p place.1 in
         let w : next ≤ length jobs = kept.within in
         let r : p.job < next = m.released in
@@ -106,10 +104,10 @@ module _ (node : Node) (jobs : List Job) (sound : IsSound node) (known : (j : �
     to_come = λ j le lt. omega arith;
     slot_count = length-replicate (length node.tasks) none_of;
     pending = λ i p e. elim (cases_lt i (length node.tasks)) [
-      | inl lt ↦ absurd (no_some p (sym (get_or-replicate (length node.tasks) i none_of None lt) ∙ e))
+      | inl lt ↦ absurd (none-some p (sym (get_or-replicate (length node.tasks) i none_of None lt) ∙ e))
       | inr ge ↦
           let l : length (replicate (length node.tasks) none_of) ≡ length node.tasks = length-replicate (length node.tasks) none_of in
-          absurd (no_some p (sym (get_or_past (replicate (length node.tasks) none_of) i None (omega arith)) ∙ e))
+          absurd (none-some p (sym (get_or_past (replicate (length node.tasks) none_of) i None (omega arith)) ∙ e))
     ];
     complete = λ j lt. absurd (omega arith);
     no_overrun = λ k lt. absurd (omega arith);
@@ -169,7 +167,7 @@ module _ (node : Node) (jobs : List Job) (sound : IsSound node) (known : (j : �
             | inr ne ↦
                 let was : (q : Pending) × (slot_of slots (task_no j) ≡ Some q) × (q.job ≡ j) = kept.complete j (omega arith) open_ in
                 elim (cases_eq (task_no j) i) [
-                  | inl same ↦ absurd (no_some was.0 (sym free ∙ subst (λ x. slot_of slots x ≡ Some was.0) same was.1))
+                  | inl same ↦ absurd (none-some was.0 (sym free ∙ subst (λ x. slot_of slots x ≡ Some was.0) same was.1))
                   | inr other ↦ (was.0, get_or-set_other slots i (task_no j) (Some p) None other ∙ was.1, was.2)
                 ]
           ];
@@ -180,7 +178,7 @@ module _ (node : Node) (jobs : List Job) (sound : IsSound node) (known : (j : �
                 let r : ready_of k ≡ t = (let s : ready_of k ≡ ready_of next = ap ready_of same in omega arith) in
                 let open_ : done t over.0 < cost_of over.0 = subst (λ x. done x over.0 < cost_of over.0) r over.3 in
                 let was : (q : Pending) × (slot_of slots (task_no over.0) ≡ Some q) × (q.job ≡ over.0) = kept.complete over.0 b open_ in
-                no_some was.0 (sym free ∙ subst (λ x. slot_of slots x ≡ Some was.0) o was.1)
+                none-some was.0 (sym free ∙ subst (λ x. slot_of slots x ≡ Some was.0) o was.1)
             | inr ne ↦ kept.no_overrun k (omega arith) over
           ];
         }
@@ -318,7 +316,7 @@ module _ (node : Node) (jobs : List Job) (sound : IsSound node) (known : (j : �
               pending = λ h q e. elim (cases_eq h i) [
                 | inl same ↦
                     let here : slot_of (set slots i None) i ≡ Some q = subst (λ x. slot_of (set slots i None) x ≡ Some q) same e in
-                    absurd (no_some q (sym (get_or-set_same slots i None None in_slots) ∙ here))
+                    absurd (none-some q (sym (get_or-set_same slots i None None in_slots) ∙ here))
                 | inr other ↦ other_pending h q other (sym (get_or-set_other slots i h None None other) ∙ e)
               ];
               complete = λ j lt left. elim (cases_eq j p.job) [

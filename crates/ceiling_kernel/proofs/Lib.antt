@@ -15,7 +15,9 @@ pub mod KeptLaws
 pub mod ListsLaws
 pub mod QueueLaws
 pub mod OwnerLaws
+pub mod PriorityLaws
 pub mod MoveLaws
+pub mod ReleaseLaws
 pub mod RunLaws
 pub mod AcceptLaws
 pub mod EndLaws

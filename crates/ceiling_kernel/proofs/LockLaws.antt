@@ -1,6 +1,6 @@
 -- No job waits for a lock.
 use Rattle.std.proofs.Common.{ℕ, zero, suc, ◌+◌, ◌<◌, ◌≤◌, ◌≡◌, ◌≢◌, ◌⊎◌, inl, inr, refl, sym, ap, ◌∙◌, subst, arith, Bool, true, false, ◌==◌, ◌&&◌, ◌||◌, List, [], ◌∷◌, length, Some, None}
-use Rattle.std.proofs.lemmas.Bool.{cases_eq, cases_lt, cases_Bool, cases_order, true≢false, and_parts, or_cases, eq-eqb, eqb-true}
+use Rattle.std.proofs.lemmas.Bool.{cases_eq, cases_lt, cases_Bool, cases_order, true≢false, and_parts, or_cases, or_right, eq-eqb, eqb-true}
 use Rattle.std.proofs.lemmas.List.{get_or_past}
 use Rattle.std.specs.List.{list_any}
 use Rattle.std.specs.Cmp.Lexicographic.{same_text}
@@ -12,10 +12,6 @@ use Rattle.ceiling_kernel.proofs.NodeLaws.{AreApart, IsSoundTask, IsSound, sound
 use Rattle.ceiling_kernel.proofs.SectionLaws.{inside_true, inside_from, outside_before, outside_after}
 use Rattle.ceiling_kernel.proofs.MachineLaws.{machine, is_high, rest_at, picked_is, IsPick, pending_from, pending_parts, start_of, idle_of, own_of, other_of}
 use Rattle.ceiling_kernel.proofs.Busy.{began, done_later}
-
-pub or_later : (x y : Bool) → y ≡ true → (x || y) ≡ true
-or_later true y h = refl
-or_later false y h = h
 
 or_false : (x y : Bool) → x ≡ false → y ≡ false → (x || y) ≡ false
 or_false x y a b = rw (a, b)
@@ -195,8 +191,8 @@ module _ (node : Node) (jobs : List Job) (valid : IsSound node) where
               | inr ne ↦ (let c : is_inside s e ≡ true = inside_from s e (omega arith) (omega arith) in inl (rw (c, n)))
             ]
         | inr later ↦ elim (holds_begins ss e r later) [
-          | inl held ↦ inl (or_later (is_inside s e && names_lock s r) (holds_lock ss e r) held)
-          | inr asks ↦ inr (or_later ((s.at == e) && names_lock s r) (asks_lock ss e r) asks)
+          | inl held ↦ inl (or_right (is_inside s e && names_lock s r) (holds_lock ss e r) held)
+          | inr asks ↦ inr (or_right ((s.at == e) && names_lock s r) (asks_lock ss e r) asks)
         ]
       ]
 

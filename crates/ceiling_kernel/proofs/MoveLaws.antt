@@ -1,155 +1,19 @@
 -- Each event of a run keeps the lists.
-use Rattle.std.proofs.Common.{ℕ, suc, ◌+◌, ◌<◌, ◌≤◌, ◌≡◌, ◌≢◌, ◌⊎◌, ◌==◌, inl, inr, refl, sym, ap, ◌∙◌, subst, arith, cond, List, [], ◌∷◌, ◌++◌, length, drop, set, replicate, true, false, Option, Some, None, nat_le, nat_lt, slice_index_or, get_or-set_same, get_or-set_other, length-set}
-use Rattle.std.specs.Option.{option_or, unwrap_or}
-use Rattle.std.proofs.lemmas.Bool.{cases_eq, cases_lt, cases_Bool, eq-eqb, ne_eqb, lt-leb, lt-ltb, le-ltb}
+use Rattle.std.proofs.Common.{ℕ, ◌+◌, ◌<◌, ◌≤◌, ◌≡◌, ◌≢◌, ◌⊎◌, ◌==◌, inl, inr, sym, ap, ◌∙◌, subst, arith, List, [], ◌∷◌, ◌++◌, length, drop, set, replicate, true, false, Option, Some, None, nat_lt, slice_index_or, get_or-set_same, get_or-set_other, length-set}
+use Rattle.std.proofs.lemmas.Option.{none-some, same_Some}
+use Rattle.std.proofs.lemmas.Bool.{cases_eq, cases_lt, eq-eqb, ne_eqb, lt-ltb, le-ltb}
 use Rattle.std.proofs.lemmas.List.{get_or-replicate, length-replicate, get_or_past}
-use Rattle.task_sheet.specs.Sheet.{Task, CriticalSection, task_at}
-use Rattle.task_sheet.specs.Locks.{uses, ceiling_from}
-use Rattle.std.specs.declared.collections.VecDeque.{VecDeque}
-use Rattle.std.specs.declared.alloc.Global.{Global}
 use Rattle.ceiling_kernel.specs.declared.run.Pending.{Pending}
-use Rattle.ceiling_kernel.specs.Tick.{Node, Job, is_inside, level_from, level_at, ceiling, top_ceiling, held_ceiling}
-use Rattle.ceiling_kernel.specs.Jumps.{change_after}
+use Rattle.ceiling_kernel.specs.Tick.{Node, Job, level_at}
 use Rattle.ceiling_kernel.specs.Waits.{IsNode}
-use Rattle.ceiling_kernel.specs.Runs.{active_at, best_slot, IsPending, Kept}
-use Rattle.ceiling_kernel.specs.Lists.{listed, list_at, with_tail, without_head, with_head, moved_to, StandsAt, Queues, IsAlone}
-use Rattle.ceiling_kernel.proofs.NodeLaws.{AreApart, IsSound}
-use Rattle.ceiling_kernel.proofs.SectionLaws.{inside_from, outside_before, outside_after}
-use Rattle.ceiling_kernel.proofs.LockLaws.{held_before}
-use Rattle.ceiling_kernel.proofs.OrderLaws.{order_length}
+use Rattle.ceiling_kernel.specs.States.{active_at, best_slot, IsPending, Kept}
+use Rattle.ceiling_kernel.specs.Lists.{list_at, with_tail, without_head, with_head, moved_to, StandsAt, Queues, IsAlone}
+use Rattle.ceiling_kernel.proofs.PriorityLaws.{level_within}
+use Rattle.ceiling_kernel.proofs.ListsLaws.{head_is_tail}
+use Rattle.ceiling_kernel.proofs.NodeLaws.{IsSound}
 use Rattle.ceiling_kernel.proofs.SlotLaws.{IsBestSlot, slot_some}
-use Rattle.ceiling_kernel.proofs.QueueLaws.{head_leaves, tail_joins, place_stays, pending_same, no_pending, stands_empty, empty_from, head_of}
+use Rattle.ceiling_kernel.proofs.QueueLaws.{head_leaves, tail_joins, place_stays, pending_same, stands_empty, empty_from, head_of}
 
--- ---- priorities are at most the number of tasks
-level_bound : (l : ℕ) (order : List ℕ) (i : ℕ) → 0 < l → level_from l order i < l + length order
-level_bound l [] i some = omega arith
-level_bound l (k ∷ order) i some =
-    let ih : level_from (l + 1) order i < l + 1 + length order = level_bound (l + 1) order i (omega arith) in
-    elim (cases_Bool (k == i)) [ inl is ↦ rw is (omega arith) | inr not ↦ rw not (omega arith) ]
-
-ceiling_bound : (U : List Task) (l : ℕ) (order : List ℕ) (lock : List ℕ) → 0 < l → unwrap_or (ceiling_from l U order lock) 0 < l + length order
-ceiling_bound U l [] lock some = omega arith
-ceiling_bound U l (x ∷ order) lock some =
-    let ih : unwrap_or (ceiling_from (l + 1) U order lock) 0 < l + 1 + length order = ceiling_bound U (l + 1) order lock (omega arith) in
-    elim (ceiling_from (l + 1) U order lock) as (λ o. ceiling_from (l + 1) U order lock ≡ o → unwrap_or (option_or o (cond (uses (task_at U x) lock) (Some l) None)) 0 < l + suc (length order)) [
-      | Some d ↦ λ is. (let ih' : d < l + 1 + length order = rw is at ih in omega arith)
-      | None ↦ λ is. elim (cases_Bool (uses (task_at U x) lock)) [ inl u ↦ rw u (omega arith) | inr u ↦ rw u (omega arith) ]
-    ] refl
-
-module _ (node : Node) where
-  top_bound : (locks : List (List ℕ)) → top_ceiling node locks ≤ length node.order
-  top_bound [] = omega arith
-  top_bound (q ∷ qs) =
-      let one : ceiling node q < 1 + length node.order = ceiling_bound node.tasks 1 node.order q (omega arith) in
-      let ih : top_ceiling node qs ≤ length node.order = top_bound qs in
-      omega arith
-
-  held_bound : (ss : List CriticalSection) (e : ℕ) → held_ceiling node ss e ≤ length node.order
-  held_bound [] e = omega arith
-  held_bound (s ∷ ss) e =
-      let one : top_ceiling node s.locks ≤ length node.order = top_bound s.locks in
-      let ih : held_ceiling node ss e ≤ length node.order = held_bound ss e in
-      elim (cases_Bool (is_inside s e)) [ inl is ↦ rw is (omega arith) | inr not ↦ rw not (omega arith) ]
-
-  pub level_within : IsNode node → (i : ℕ) → level_at node i ≤ length node.tasks
-  level_within ok i =
-      let n : length node.order ≡ length node.tasks = order_length (length node.tasks) node.order ok.order in
-      let l : level_at node i < 1 + length node.order = level_bound 1 node.order i (omega arith) in
-      omega arith
-
-  pub active_within : IsNode node → (i e : ℕ) → active_at node i e ≤ length node.tasks
-  active_within ok i e =
-      let n : length node.order ≡ length node.tasks = order_length (length node.tasks) node.order ok.order in
-      let l : level_at node i ≤ length node.tasks = level_within ok i in
-      let h : held_ceiling node (task_at node.tasks i).sections e ≤ length node.order = held_bound (task_at node.tasks i).sections e in
-      omega arith
-
-  -- ---- up to the next boundary, a job leaves all locks or holds no lower ceiling
-  held_next : (begin cost : ℕ) (ss : List CriticalSection) (e e' limit : ℕ) → AreApart begin ss cost → e ≤ e' → e' ≤ change_after ss e limit → (held_ceiling node ss e' ≡ 0) ⊎ (held_ceiling node ss e ≤ held_ceiling node ss e')
-  held_next begin cost [] e e' limit apart le lt = inl refl
-  held_next begin cost (s ∷ ss) e e' limit apart le lt =
-      elim (cases_lt s.at e) [
-        | inr at_most ↦
-            let out : is_inside s e ≡ false = outside_before s e at_most in
-            let a : held_ceiling node ss e ≡ 0 = held_before node (s.at + s.len) cost ss e apart.2 (omega arith) in
-            rw (out, a) (inr (omega arith))
-        | inl past ↦
-            let x : nat_le e s.at ≡ false = lt-leb e s.at past in
-            elim (cases_lt e (s.at + s.len)) [
-              | inl within ↦
-                  let y : nat_lt e (s.at + s.len) ≡ true = lt-ltb e (s.at + s.len) within in
-                  let bound : e' ≤ s.at + s.len = rw (x, y) at lt in
-                  let a : held_ceiling node ss e ≡ 0 = held_before node (s.at + s.len) cost ss e apart.2 (omega arith) in
-                  let b : held_ceiling node ss e' ≡ 0 = held_before node (s.at + s.len) cost ss e' apart.2 (omega arith) in
-                  elim (cases_lt e' (s.at + s.len)) [
-                    | inl still ↦
-                        let in_ : is_inside s e ≡ true = inside_from s e past within in
-                        let in' : is_inside s e' ≡ true = inside_from s e' (omega arith) still in
-                        rw (in_, in', a, b) (inr (omega arith))
-                    | inr left ↦
-                        let out' : is_inside s e' ≡ false = outside_after s e' left in
-                        rw (out', b) (inl (omega arith))
-                  ]
-              | inr after ↦
-                  let y : nat_lt e (s.at + s.len) ≡ false = le-ltb e (s.at + s.len) after in
-                  let later : e' ≤ change_after ss e limit = rw (x, y) at lt in
-                  let out : is_inside s e ≡ false = outside_after s e after in
-                  let out' : is_inside s e' ≡ false = outside_after s e' (omega arith) in
-                  let ih : (held_ceiling node ss e' ≡ 0) ⊎ (held_ceiling node ss e ≤ held_ceiling node ss e') = held_next (s.at + s.len) cost ss e e' limit apart.2 le later in
-                  rw (out, out') (elim ih [ inl none ↦ inl (omega arith) | inr more ↦ inr (omega arith) ])
-            ]
-      ]
-
-  -- so its priority is its own level, or no lower than it was
-  pub active_next : (i e e' : ℕ) → AreApart 0 (task_at node.tasks i).sections (task_at node.tasks i).cost → e ≤ e' → e' ≤ change_after (task_at node.tasks i).sections e (task_at node.tasks i).cost
-      → (active_at node i e' ≡ level_at node i) ⊎ (active_at node i e ≤ active_at node i e')
-  active_next i e e' apart le lt =
-      elim (held_next 0 (task_at node.tasks i).cost (task_at node.tasks i).sections e e' (task_at node.tasks i).cost apart le lt) [
-        | inl none ↦ inl (omega arith)
-        | inr more ↦ inr (omega arith)
-      ]
-
--- ---- how many lists there are
-abbrev Deque : Type 0
-Deque = VecDeque ℕ Global
-
-pub listed_length : (xs : List Deque) → length (listed xs) ≡ length xs
-listed_length [] = refl
-listed_length (x ∷ xs) = ap suc (listed_length xs)
-
-pub count_started : (xs : List Deque) (n : ℕ) → listed xs ≡ replicate n [] → length xs ≡ n
-count_started xs n e = sym (listed_length xs) ∙ (ap length e ∙ length-replicate n no_tasks)
-  where
-    no_tasks : List ℕ
-    no_tasks = []
-
-pub count_kept : (xs ys : List Deque) (p : ℕ) (zs : List ℕ) → listed ys ≡ set (listed xs) p zs → length ys ≡ length xs
-count_kept xs ys p zs e = sym (listed_length ys) ∙ (ap length e ∙ (length-set (listed xs) p zs ∙ listed_length xs))
-
-moved_length : (lists : List (List ℕ)) (old new task : ℕ) → length (moved_to lists old new task) ≡ length lists
-moved_length lists old new task =
-    let n : length (without_head lists old) ≡ length lists = length-set lists old (drop 1 (list_at lists old)) in
-    elim (cases_Bool (old == new)) [
-      | inl same ↦ rw same
-      | inr differ ↦ elim (cases_Bool (nat_lt new old)) [
-        | inl lower ↦ rw (differ, lower) (length-set (without_head lists old) new (task ∷ list_at (without_head lists old) new) ∙ n)
-        | inr higher ↦ rw (differ, higher) (length-set (without_head lists old) new (list_at (without_head lists old) new ++ task ∷ []) ∙ n)
-      ]
-    ]
-
-pub count_moved : (xs ys : List Deque) (old new task : ℕ) → listed ys ≡ moved_to (listed xs) old new task → length ys ≡ length xs
-count_moved xs ys old new task e = sym (listed_length ys) ∙ (ap length e ∙ (moved_length (listed xs) old new task ∙ listed_length xs))
-
--- in an empty list the head is the tail
-head_is_tail : (lists : List (List ℕ)) (p task : ℕ) → list_at lists p ≡ [] → with_head lists p task ≡ with_tail lists p task
-head_is_tail lists p task e =
-    let h : task ∷ list_at lists p ≡ list_at lists p ++ task ∷ [] = rw e in
-    ap (λ xs. set lists p xs) h
-
-some_same : (p q : Pending) → ◌≡◌ {A = Option Pending} (Some p) (Some q) → p ≡ q
-some_same p q e = cc
-
--- ---- the events
 module _ (slots : List (Option Pending)) (lists : List (List ℕ)) (queues : Queues (λ i. slice_index_or slots i None) (list_at lists)) where
   abbrev slot_of : ℕ → Option Pending
   slot_of i = slice_index_or slots i None
@@ -206,7 +70,7 @@ module _ (slots : List (Option Pending)) (lists : List (List ℕ)) (queues : Que
       p q at_i (get_or-set_same slots i (Some q) None in_slots) active level
 
 pub alone_start : (n : ℕ) → IsAlone (λ i. slice_index_or (replicate n None) i None)
-alone_start n i k q r at_i at_k ne above e = no_pending q (sym no_slot ∙ at_i)
+alone_start n i k q r at_i at_k ne above e = none-some q (sym no_slot ∙ at_i)
   where
     none_of : Option Pending
     none_of = None
@@ -220,7 +84,7 @@ alone_start n i k q r at_i at_k ne above e = no_pending q (sym no_slot ∙ at_i)
 pub queues_start : (n m : ℕ) → Queues (λ i. slice_index_or (replicate n None) i None) (list_at (replicate m []))
 queues_start n m = record {
   sound = λ p k i st. absurd (stands_empty (list_at (replicate m []) p) k i (no_list p) st);
-  complete = λ i q e. absurd (no_pending q (sym (no_slot i) ∙ e));
+  complete = λ i q e. absurd (none-some q (sym (no_slot i) ∙ e));
   rising = λ p k h i j q r lt st. absurd (stands_empty (list_at (replicate m []) p) k i (no_list p) st);
 }
   where
@@ -257,7 +121,7 @@ module _ (node : Node) (jobs : List Job) (sound : IsSound node) (t next : ℕ) (
       let active : r.active ≡ active_at node k r.executed = m.active in
       let k_in : k < length node.tasks = elim (cases_lt k (length slots)) [
         | inl lt ↦ (let c : length slots ≡ length node.tasks = kept.slot_count in omega arith)
-        | inr past ↦ absurd (no_pending r (sym (get_or_past slots k None past) ∙ at_k))
+        | inr past ↦ absurd (none-some r (sym (get_or_past slots k None past) ∙ at_k))
       ] in
       elim (cases_eq r.level a) [
         | inl same ↦ absurd (ne (sound.levels_differ k i k_in in_tasks (sym level ∙ (same ∙ sym own))))
@@ -272,7 +136,7 @@ module _ (node : Node) (jobs : List Job) (sound : IsSound node) (t next : ℕ) (
       let b : level_at node i ≤ length node.tasks = level_within node ok i in
       queues_join slots lists queues p i (omega arith) (omega arith) free
       (λ n k r st at_k.
-      let lt : r.level < p.active = lower i p.active n k r in_tasks (sym active) st at_k (λ same. no_pending r (sym free ∙ subst (λ x. slot_at x ≡ Some r) same at_k)) in
+      let lt : r.level < p.active = lower i p.active n k r in_tasks (sym active) st at_k (λ same. none-some r (sym free ∙ subst (λ x. slot_at x ≡ Some r) same at_k)) in
       omega arith)
 
   -- the job that goes first has executed, and isn't finished
@@ -332,7 +196,7 @@ module _ (node : Node) (jobs : List Job) (sound : IsSound node) (t next : ℕ) (
           (get_or-set_same (without_head lists p.active) q.active (list_at (without_head lists p.active) q.active ++ i ∷ []) [] (omega arith))
           (λ l other. get_or-set_other (without_head lists p.active) q.active l (list_at (without_head lists p.active) q.active ++ i ∷ []) [] other)
           (λ m k r st at_k.
-          let other : k ≢ i = λ same. no_pending r (sym (get_or-set_same slots i None None in_slots) ∙ subst (λ x. slice_index_or (set slots i None) x None ≡ Some r) same at_k) in
+          let other : k ≢ i = λ same. none-some r (sym (get_or-set_same slots i None None in_slots) ∙ subst (λ x. slice_index_or (set slots i None) x None ≡ Some r) same at_k) in
           let st' : StandsAt (list_at lists q.active) m k = subst (λ x. StandsAt x m k) (get_or-set_other lists p.active q.active (drop 1 (list_at lists p.active)) [] ne) st in
           below ne m k r st' (sym (get_or-set_other slots i k None None other) ∙ at_k) other)
 
@@ -346,7 +210,7 @@ module _ (node : Node) (jobs : List Job) (sound : IsSound node) (t next : ℕ) (
         omega arith,
         elim (cases_lt k (length slots)) [
           | inl lt ↦ (let c : length slots ≡ length node.tasks = kept.slot_count in omega arith)
-          | inr past ↦ absurd (no_pending r (sym (get_or_past slots k None past) ∙ at_k))
+          | inr past ↦ absurd (none-some r (sym (get_or_past slots k None past) ∙ at_k))
         ],
       )
 
@@ -362,14 +226,14 @@ module _ (node : Node) (jobs : List Job) (sound : IsSound node) (t next : ℕ) (
       let c : length slots ≡ length node.tasks = kept.slot_count in
       elim (written i (Some p) (omega arith) h q at_h) [
         | inl new ↦
-            let one : p ≡ q = some_same p q new.1 in
+            let one : p ≡ q = same_Some p q new.1 in
             let l : p.level ≡ q.level = ap (λ x. x.level) one in
             let a : p.active ≡ q.active = ap (λ x. x.active) one in
             omega arith
         | inr was ↦ elim (written i (Some p) (omega arith) k r at_k) [
           | inr also ↦ alone h k q r was.1 also.1 ne above e
           | inl new ↦
-              let a : p.active ≡ r.active = ap (λ x. x.active) (some_same p r new.1) in
+              let a : p.active ≡ r.active = ap (λ x. x.active) (same_Some p r new.1) in
               let l : (q.level ≡ level_at node h) × (q.level ≤ q.active) × (h < length node.tasks) = level_of_slot h q was.1 in
               was.0 (sound.levels_differ h i l.2 in_tasks (sym l.0 ∙ (sym e ∙ (sym a ∙ active))))
         ]
@@ -378,8 +242,8 @@ module _ (node : Node) (jobs : List Job) (sound : IsSound node) (t next : ℕ) (
   pub alone_finish : IsAlone slot_at → (i : ℕ) → i < length slots → IsAlone (λ k. slice_index_or (set slots i None) k None)
   alone_finish alone i in_slots h k q r at_h at_k ne above e =
       elim (written i None in_slots h q at_h) [
-        | inl new ↦ no_pending q new.1
-        | inr was ↦ elim (written i None in_slots k r at_k) [ inl new ↦ no_pending r new.1 | inr also ↦ alone h k q r was.1 also.1 ne above e ]
+        | inl new ↦ none-some q new.1
+        | inr was ↦ elim (written i None in_slots k r at_k) [ inl new ↦ none-some r new.1 | inr also ↦ alone h k q r was.1 also.1 ne above e ]
       ]
 
   pub alone_run : IsAlone slot_at → (p q : Pending) (i : ℕ) → i < length node.tasks → best_slot slots None ≡ Some p → slot_at i ≡ Some p → q.level ≡ p.level → (q.active ≡ level_at node i) ⊎ (p.active ≤ q.active)
@@ -392,7 +256,7 @@ module _ (node : Node) (jobs : List Job) (sound : IsSound node) (t next : ℕ) (
         | inl new ↦ elim (written i (Some q) (omega arith) k b at_k) [
           | inl also ↦ ne (new.0 ∙ sym also.0)
           | inr other ↦
-              let l : q.level ≡ a.level = ap (λ x. x.level) (some_same q a new.1) in
+              let l : q.level ≡ a.level = ap (λ x. x.level) (same_Some q a new.1) in
               let lb : (b.level ≡ level_at node k) × (b.level ≤ b.active) × (k < length node.tasks) = level_of_slot k b other.1 in
               elim (cases_lt p.level p.active) [
                 | inl raised ↦ alone i k p b at_i other.1 (λ same. other.0 (sym same)) raised (e ∙ (sym l ∙ level))
@@ -410,7 +274,7 @@ module _ (node : Node) (jobs : List Job) (sound : IsSound node) (t next : ℕ) (
         | inr was ↦ elim (written i (Some q) (omega arith) k b at_k) [
           | inr also ↦ alone h k a b was.1 also.1 ne above e
           | inl new ↦
-              let n : q.active ≡ b.active = ap (λ x. x.active) (some_same q b new.1) in
+              let n : q.active ≡ b.active = ap (λ x. x.active) (same_Some q b new.1) in
               let l : (a.level ≡ level_at node h) × (a.level ≤ a.active) × (h < length node.tasks) = level_of_slot h a was.1 in
               elim next_is [
                 | inl own_level ↦ was.0 (sound.levels_differ h i l.2 in_tasks (sym l.0 ∙ (sym e ∙ (sym n ∙ own_level))))

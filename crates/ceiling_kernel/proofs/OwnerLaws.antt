@@ -1,6 +1,7 @@
 -- Who owns a lock, before and after an event.
 use Rattle.std.proofs.Common.{ℕ, zero, suc, ◌+◌, ◌<◌, ◌≤◌, ◌≡◌, ◌≢◌, inl, inr, refl, sym, ap, ap₂, ◌∙◌, subst, arith, Bool, true, false, ◌==◌, ◌&&◌, ◌||◌, cond, List, [], ◌∷◌, ◌++◌, length, All, Option, Some, None, set, drop, replicate, get_or, get_or-set_same, get_or-set_other, length-set, position, slice_index_or}
-use Rattle.std.proofs.lemmas.Bool.{cases_eq, cases_lt, cases_Bool, true≢false, and_parts, or_cases, eq-eqb, ne_eqb, lt-ltb}
+use Rattle.std.proofs.lemmas.Option.{none-some, same_Some}
+use Rattle.std.proofs.lemmas.Bool.{cases_eq, cases_lt, cases_Bool, true≢false, and_parts, or_cases, or_right, eq-eqb, ne_eqb, lt-ltb}
 use Rattle.std.proofs.lemmas.List.{get_or-replicate, length-replicate, get_or_past}
 use Rattle.std.proofs.lemmas.List.Folds.{list_any-append, list_any_none}
 use Rattle.std.proofs.lemmas.List.Quantifiers.{position-Some}
@@ -16,8 +17,7 @@ use Rattle.ceiling_kernel.specs.declared.run.Pending.{Pending}
 use Rattle.ceiling_kernel.specs.Tick.{Node, is_inside}
 use Rattle.ceiling_kernel.specs.Waits.{holds_lock}
 use Rattle.ceiling_kernel.specs.NodeTasks.{places_in, is_within, IsSectionOf, AreSectionsOf}
-use Rattle.ceiling_kernel.proofs.LockLaws.{or_later}
-use Rattle.ceiling_kernel.proofs.QueueLaws.{no_pending, pending_same}
+use Rattle.ceiling_kernel.proofs.QueueLaws.{pending_same}
 use Rattle.ceiling_kernel.specs.Owners.{owner_at, owner_of, with_owner, with_inside, with_owners, AreOwners}
 
 same_own : (a : List ℕ) → same_bytes a a ≡ true
@@ -25,12 +25,6 @@ same_own a = nat_list_eq_equiv.refl a
 
 same_is : (a b : List ℕ) → same_bytes a b ≡ true → a ≡ b
 same_is a b h = same_text a b (sym h)
-
-some_is : (a b : ℕ) → ◌≡◌ {A = Option ℕ} (Some a) (Some b) → a ≡ b
-some_is a b e = cc
-
-no_place : (n : ℕ) → ◌≡◌ {A = Option ℕ} None (Some n) → ⊥
-no_place n e = cc
 
 -- ---- the places of locks
 module _ (seen : List (List ℕ)) (lock : List ℕ) (n : ℕ) (at_n : position (same_bytes lock) seen ≡ Some n) where
@@ -44,7 +38,7 @@ module _ (seen : List (List ℕ)) (lock : List ℕ) (n : ℕ) (at_n : position (
             let one : q ≡ lock = same_is q (get_or seen n []) q_there ∙ sym (same_is lock (get_or seen n []) lock_there) in
             eq-eqb m n same ∙ sym (subst (λ x. same_bytes q x ≡ true) one (same_own q))
         | inr ne ↦ ne_eqb m n ne ∙ sym (elim (cases_Bool (same_bytes q lock)) [
-          | inl same ↦ absurd (ne (some_is m n (sym at_m ∙ (ap (λ x. position (same_bytes x) seen) (same_is q lock same) ∙ at_n))))
+          | inl same ↦ absurd (ne (same_Some m n (sym at_m ∙ (ap (λ x. position (same_bytes x) seen) (same_is q lock same) ∙ at_n))))
           | inr differ ↦ differ
         ])
       ]
@@ -56,7 +50,7 @@ module _ (seen : List (List ℕ)) (lock : List ℕ) (n : ℕ) (at_n : position (
       let ih : list_any (λ m. m == n) (places_in seen locks) ≡ list_any (λ name. same_bytes name lock) locks = among_places locks in
       elim (position (same_bytes q) seen) as (λ o. position (same_bytes q) seen ≡ o → list_any (λ m. m == n) (cons_option o (places_in seen locks)) ≡ (same_bytes q lock || list_any (λ name. same_bytes name lock) locks)) [
         | None ↦ λ e. ih ∙ elim (cases_Bool (same_bytes q lock)) [
-          | inl same ↦ absurd (no_place n (sym e ∙ (ap (λ x. position (same_bytes x) seen) (same_is q lock same) ∙ at_n)))
+          | inl same ↦ absurd (none-some n (sym e ∙ (ap (λ x. position (same_bytes x) seen) (same_is q lock same) ∙ at_n)))
           | inr differ ↦ (rw differ refl)
         ]
         | Some m ↦ λ e. rw (ih, at_place q m e) refl
@@ -81,7 +75,7 @@ any_left : (p : List ℕ → Bool) (xs ys : List (List ℕ)) → list_any p xs �
 any_left p xs ys h = list_any-append p xs ys ∙ rw h refl
 
 any_right : (p : List ℕ → Bool) (xs ys : List (List ℕ)) → list_any p ys ≡ true → list_any p (xs ++ ys) ≡ true
-any_right p xs ys h = list_any-append p xs ys ∙ or_later (list_any p xs) (list_any p ys) h
+any_right p xs ys h = list_any-append p xs ys ∙ or_right (list_any p xs) (list_any p ys) h
 
 module _ (lock : List ℕ) where
   kept_with : (seen : List (List ℕ)) (q : List ℕ) → list_any (same_bytes lock) seen ≡ true → list_any (same_bytes lock) (with_name seen q) ≡ true
@@ -122,7 +116,7 @@ module _ (lock : List ℕ) where
   nowhere : (seen : List (List ℕ)) → position (same_bytes lock) seen ≡ None → list_any (same_bytes lock) seen ≡ false
   nowhere seen none =
       elim (cases_lt (position_or_len (same_bytes lock) seen) (length seen)) [
-        | inl found ↦ absurd (no_place (position_or_len (same_bytes lock) seen) (sym none ∙ (let c = lt-ltb (position_or_len (same_bytes lock) seen) (length seen) found in rw c refl)))
+        | inl found ↦ absurd (none-some (position_or_len (same_bytes lock) seen) (sym none ∙ (let c = lt-ltb (position_or_len (same_bytes lock) seen) (length seen) found in rw c refl)))
         | inr past ↦ list_any_none (same_bytes lock) seen (λ k d lt. fails_before_first (same_bytes lock) seen k d (omega arith))
       ]
 
@@ -217,7 +211,7 @@ module _ (U : List Task) (g : ℕ → Option Pending) (owner : List ℕ → Opti
   pub owners_leave : g i ≡ Some p → g' i ≡ None → ((lock : List ℕ) → owner' lock ≡ cond (holds_lock (task_at U i).sections p.executed lock) None (owner lock)) → AreOwners U g' owner'
   owners_leave was gone given = record {
     sound = λ lock k e. elim (cases_Bool (holds_lock (task_at U i).sections p.executed lock)) [
-      | inl held ↦ (let o : owner' lock ≡ None = given lock ∙ rw held refl in absurd (no_place k (sym o ∙ e)))
+      | inl held ↦ (let o : owner' lock ≡ None = given lock ∙ rw held refl in absurd (none-some k (sym o ∙ e)))
       | inr free ↦
           let o : owner' lock ≡ owner lock = given lock ∙ rw free refl in
           let w : (q : Pending) × (g k ≡ Some q) × (holds_lock (task_at U k).sections q.executed lock ≡ true) = are.sound lock k (sym o ∙ e) in
@@ -231,11 +225,11 @@ module _ (U : List Task) (g : ℕ → Option Pending) (owner : List ℕ → Opti
           ]
     ];
     complete = λ lock k q slot held. elim (cases_eq k i) [
-      | inl same ↦ absurd (no_pending q (sym gone ∙ subst (λ x. g' x ≡ Some q) same slot))
+      | inl same ↦ absurd (none-some q (sym gone ∙ subst (λ x. g' x ≡ Some q) same slot))
       | inr ne ↦
           let o : owner lock ≡ Some k = are.complete lock k q (sym (others k ne) ∙ slot) held in
           elim (cases_Bool (holds_lock (task_at U i).sections p.executed lock)) [
-            | inl mine ↦ (let o' : owner lock ≡ Some i = are.complete lock i p was mine in absurd (ne (some_is k i (sym o ∙ o'))))
+            | inl mine ↦ (let o' : owner lock ≡ Some i = are.complete lock i p was mine in absurd (ne (same_Some k i (sym o ∙ o'))))
             | inr free ↦ given lock ∙ rw free o
           ]
     ];
@@ -249,13 +243,13 @@ module _ (U : List Task) (g : ℕ → Option Pending) (owner : List ℕ → Opti
     sound = λ lock k e. elim (cases_Bool (holds_lock (task_at U i).sections p.executed lock)) [
       | inl held ↦
           let o : owner' lock ≡ Some i = given lock ∙ rw held refl in
-          let same : k ≡ i = some_is k i (sym e ∙ o) in
+          let same : k ≡ i = same_Some k i (sym e ∙ o) in
           (p, subst (λ x. g' x ≡ Some p) (sym same) here, subst (λ x. holds_lock (task_at U x).sections p.executed lock ≡ true) (sym same) held)
       | inr free ↦
           let o : owner' lock ≡ owner lock = given lock ∙ rw free refl in
           let w : (q : Pending) × (g k ≡ Some q) × (holds_lock (task_at U k).sections q.executed lock ≡ true) = are.sound lock k (sym o ∙ e) in
           elim (cases_eq k i) [
-            | inl same ↦ absurd (no_pending w.0 (sym was ∙ subst (λ x. g x ≡ Some w.0) same w.1))
+            | inl same ↦ absurd (none-some w.0 (sym was ∙ subst (λ x. g x ≡ Some w.0) same w.1))
             | inr ne ↦ (w.0, others k ne ∙ w.1, w.2)
           ]
     ];
@@ -277,8 +271,8 @@ module _ (U : List Task) (g : ℕ → Option Pending) (owner : List ℕ → Opti
 -- before anything runs, nobody owns a lock
 pub owners_start : (U : List Task) (n m : ℕ) → AreOwners U (λ i. slice_index_or (replicate n None) i None) (owner_of U (replicate m None))
 owners_start U n m = record {
-  sound = λ lock i e. absurd (no_place i (sym (nobody (position (same_bytes lock) (locks_of U))) ∙ e));
-  complete = λ lock i p slot held. absurd (no_pending p (sym (none_at n i) ∙ slot));
+  sound = λ lock i e. absurd (none-some i (sym (nobody (position (same_bytes lock) (locks_of U))) ∙ e));
+  complete = λ lock i p slot held. absurd (none-some p (sym (none_at n i) ∙ slot));
 }
   where
     none_at : {X : Type 0} (n i : ℕ) → slice_index_or (replicate n (let r : Option X = None in r)) i None ≡ None

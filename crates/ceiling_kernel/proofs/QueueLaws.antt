@@ -1,9 +1,10 @@
 -- The head of the highest list is the task of the slot that goes first, and each event keeps the lists.
 use Rattle.std.proofs.Common.{ℕ, zero, suc, ◌<◌, ◌≤◌, ◌≡◌, ◌≢◌, ◌⊎◌, inl, inr, refl, sym, ap, ◌∙◌, subst, arith, List, [], ◌∷◌, ◌++◌, length, drop, Option, Some, None, slice_index_or}
+use Rattle.std.proofs.lemmas.Option.{none-some}
 use Rattle.std.proofs.lemmas.Bool.{cases_eq, cases_lt}
 use Rattle.std.proofs.lemmas.List.{get_or_past}
 use Rattle.ceiling_kernel.specs.declared.run.Pending.{Pending}
-use Rattle.ceiling_kernel.specs.Runs.{best_slot}
+use Rattle.ceiling_kernel.specs.States.{best_slot}
 use Rattle.ceiling_kernel.specs.Lists.{list_at, head_of_highest, StandsAt, Queues}
 use Rattle.ceiling_kernel.proofs.SlotLaws.{IsBestSlot, slot_some, slot_none, NotFirst}
 
@@ -86,11 +87,8 @@ highest ((x ∷ xs) ∷ lists) found j e =
     above lists p h zero lt = absurd (omega arith)
     above lists p h (suc q) lt = h q (omega arith)
 
-no_head : (j : ℕ) → ◌≡◌ {A = Option ℕ} None (Some j) → ⊥
-no_head j e = cc
-
 pub highest_some : (lists : List (List ℕ)) (j : ℕ) → head_of_highest lists None ≡ Some j → (p : ℕ) × IsTop lists p j
-highest_some lists j e = elim (highest lists None j e) [ inl none ↦ absurd (no_head j none.0) | inr top ↦ top ]
+highest_some lists j e = elim (highest lists None j e) [ inl none ↦ absurd (none-some j none.0) | inr top ↦ top ]
 
 highest_none : (lists : List (List ℕ)) (found : Option ℕ) → head_of_highest lists found ≡ None → (found ≡ None) × AllEmpty lists
 highest_none [] found e = (e, λ q. refl)
@@ -99,10 +97,7 @@ highest_none ([] ∷ lists) found e = (let ih : (found ≡ None) × AllEmpty lis
     empty : ((q : ℕ) → list_at lists q ≡ []) → (q : ℕ) → list_at ([] ∷ lists) q ≡ []
     empty h zero = refl
     empty h (suc q) = h q
-highest_none ((x ∷ xs) ∷ lists) found e = (let ih : (Some x ≡ None) × AllEmpty lists = highest_none lists (Some x) e in absurd (no_head x (sym ih.0)))
-
-pub no_pending : (q : Pending) → ◌≡◌ {A = Option Pending} None (Some q) → ⊥
-no_pending q e = cc
+highest_none ((x ∷ xs) ∷ lists) found e = (let ih : (Some x ≡ None) × AllEmpty lists = highest_none lists (Some x) e in absurd (none-some x (sym ih.0)))
 
 pub stands_empty : (xs : List ℕ) (n i : ℕ) → xs ≡ [] → StandsAt xs n i → ⊥
 stands_empty xs n i e a = subst (λ x. StandsAt x n i) e a
@@ -118,7 +113,7 @@ module _ (slots : List (Option Pending)) (lists : List (List ℕ)) (queues : Que
       let s : (q : Pending) × (slot_of j ≡ Some q) × (q.active ≡ top.0) = queues.sound top.0 0 j top.1.0 in
       elim (cases_lt j (length slots)) [
         | inl lt ↦ lt
-        | inr past ↦ absurd (no_pending s.0 (sym (get_or_past slots j None past) ∙ s.1))
+        | inr past ↦ absurd (none-some s.0 (sym (get_or_past slots j None past) ∙ s.1))
       ]
 
   -- a slot's job that goes before all others stands first in the highest list
@@ -147,7 +142,7 @@ module _ (slots : List (Option Pending)) (lists : List (List ℕ)) (queues : Que
         | None ↦ λ none. absurd (nobody j p s.1 none)
         | Some b ↦ λ found.
             let is : IsBestSlot slots None b = slot_some slots None b found in
-            let place : (i : ℕ) × (slot_of i ≡ Some b) = elim is.from [ inl no_one ↦ absurd (no_pending b no_one) | inr at ↦ at ] in
+            let place : (i : ℕ) × (slot_of i ≡ Some b) = elim is.from [ inl no_one ↦ absurd (none-some b no_one) | inr at ↦ at ] in
             let at_b : (n : ℕ) × StandsAt (list_at lists b.active) n place.0 = queues.complete place.0 b place.1 in
             let at_most : b.active ≤ p.active = elim (cases_lt top.0 b.active) [
               | inl above ↦ absurd (stands_empty (list_at lists b.active) at_b.0 place.0 (top.1.1 b.active above) at_b.1)
@@ -167,7 +162,7 @@ module _ (slots : List (Option Pending)) (lists : List (List ℕ)) (queues : Que
         | None ↦ λ none. refl
         | Some b ↦ λ found.
             let is : IsBestSlot slots None b = slot_some slots None b found in
-            let place : (i : ℕ) × (slot_of i ≡ Some b) = elim is.from [ inl no_one ↦ absurd (no_pending b no_one) | inr at ↦ at ] in
+            let place : (i : ℕ) × (slot_of i ≡ Some b) = elim is.from [ inl no_one ↦ absurd (none-some b no_one) | inr at ↦ at ] in
             let at_b : (n : ℕ) × StandsAt (list_at lists b.active) n place.0 = queues.complete place.0 b place.1 in
             absurd (stands_empty (list_at lists b.active) at_b.0 place.0 (empty b.active) at_b.1)
       ] refl
@@ -207,7 +202,7 @@ module _ (g : ℕ → Option Pending) (f : ℕ → List ℕ) (queues : Queues g 
           (s.0, others k ne ∙ s.1, s.2)
     ];
     complete = λ k r e. elim (cases_eq k i) [
-      | inl same ↦ absurd (no_pending r (sym gone ∙ subst (λ x. g' x ≡ Some r) same e))
+      | inl same ↦ absurd (none-some r (sym gone ∙ subst (λ x. g' x ≡ Some r) same e))
       | inr ne ↦
           let place : (n : ℕ) × StandsAt (f r.active) n k = queues.complete k r (sym (others k ne) ∙ e) in
           elim (cases_eq r.active q.active) [
@@ -233,7 +228,7 @@ module _ (g : ℕ → Option Pending) (f : ℕ → List ℕ) (queues : Queues g 
     where
       still : (k : ℕ) (r : Pending) → g' k ≡ Some r → g' i ≡ None → g k ≡ Some r
       still k r e gone = elim (cases_eq k i) [
-        | inl same ↦ absurd (no_pending r (sym gone ∙ subst (λ x. g' x ≡ Some r) same e))
+        | inl same ↦ absurd (none-some r (sym gone ∙ subst (λ x. g' x ≡ Some r) same e))
         | inr ne ↦ sym (others k ne) ∙ e
       ]
 
@@ -289,7 +284,7 @@ module _ (g : ℕ → Option Pending) (f : ℕ → List ℕ) (queues : Queues g 
   }
     where
       other : (k : ℕ) (r : Pending) → g k ≡ Some r → k ≢ i
-      other k r e = λ same. no_pending r (sym free ∙ subst (λ x. g x ≡ Some r) same e)
+      other k r e = λ same. none-some r (sym free ∙ subst (λ x. g x ≡ Some r) same e)
 
       was : (l n k : ℕ) (r : Pending) → StandsAt (f l) n k → g' k ≡ Some r → g k ≡ Some r
       was l n k r st e = (let s : (q : Pending) × (g k ≡ Some q) × (q.active ≡ l) = queues.sound l n k st in sym (others k (other k s.0 s.1)) ∙ e)

@@ -1,9 +1,10 @@
 -- The steps of a run, over the code's own lists.
-use Rattle.std.proofs.Common.{ℕ, zero, suc, ◌+◌, ◌-◌, ◌<◌, ◌≤◌, ◌≡◌, ◌≢◌, ◌⊎◌, inl, inr, refl, sym, ap, ap₂, ◌∙◌, subst, arith, cond, List, [], ◌∷◌, ◌++◌, length, set, get_or, map, take, replicate, Option, Some, None, true, false, is_some, slice_index_or, get_or-set_same, get_or-set_other, length-set}
+use Rattle.std.proofs.Common.{ℕ, suc, ◌+◌, ◌-◌, ◌<◌, ◌≤◌, ◌≡◌, ◌≢◌, ◌⊎◌, inl, inr, refl, sym, ap, ◌∙◌, subst, arith, cond, List, length, set, get_or, map, replicate, Option, Some, None, true, false, slice_index_or, get_or-set_same, get_or-set_other, length-set}
+use Rattle.std.proofs.lemmas.Option.{none-some}
 use Rattle.std.proofs.lemmas.Bool.{cases_eq, cases_lt, true≢false}
-use Rattle.std.proofs.lemmas.List.{length-map, length-take, take_more, get_or_default, get_or-replicate, length-replicate}
+use Rattle.std.proofs.lemmas.List.{get_or-replicate, length-replicate}
 use Rattle.std.proofs.lemmas.List.Elements.{All-get_or}
-use Rattle.task_sheet.specs.Sheet.{Task, IsValidSheet, no_task, task_at}
+use Rattle.task_sheet.specs.Sheet.{IsValidSheet, no_task, task_at}
 use Rattle.task_sheet.specs.TaskSet.{IsTaskSet}
 use Rattle.ceilings.specs.IsTableOf.{locks_of}
 use Rattle.ceiling_kernel.specs.declared.trace.Release.{Release}
@@ -13,11 +14,13 @@ use Rattle.ceiling_kernel.specs.Tick.{Node, Job, job_at, task_of, level_at, exec
 use Rattle.ceiling_kernel.specs.Trace.{with_run, slices_before, finish_before}
 use Rattle.ceiling_kernel.specs.Jumps.{change_after, NoneReadyBetween}
 use Rattle.ceiling_kernel.specs.Waits.{IsNode, Overruns, NoOverrunBy, holds_lock}
-use Rattle.ceiling_kernel.specs.Releases.{task_number, job_of, jobs_of, release_at, IsOverrun, record_of, records_from}
+use Rattle.ceiling_kernel.specs.Releases.{task_number, jobs_of, release_at}
+use Rattle.ceiling_kernel.specs.Runs.{IsOverrun}
 use Rattle.ceiling_kernel.specs.NodeTasks.{IsTaskOf}
-use Rattle.ceiling_kernel.specs.Runs.{active_at, best_slot, next_change, IsRunnable, IsPending, Kept, AreFinishes}
+use Rattle.ceiling_kernel.specs.States.{active_at, best_slot, next_change, IsRunnable, IsPending, Kept, AreFinishes}
 use Rattle.ceiling_kernel.specs.Owners.{owner_of, with_owners, AreOwners}
 use Rattle.ceiling_kernel.specs.Lists.{list_at, with_tail, without_head, moved_to, Queues, IsAlone}
+use Rattle.ceiling_kernel.proofs.ReleaseLaws.{finish_first, job_is, jobs_length, place_is, read_at}
 use Rattle.ceiling_kernel.proofs.NodeLaws.{AreApart, IsSoundTask, IsSound, sound}
 use Rattle.ceiling_kernel.proofs.MachineLaws.{picked_is, IsPick}
 use Rattle.ceiling_kernel.proofs.JumpLaws as jump
@@ -27,62 +30,9 @@ use Rattle.ceiling_kernel.proofs.TaskLaws.{next_change-is}
 use Rattle.ceiling_kernel.proofs.LockLaws.{holds_before, one_owner}
 use Rattle.ceiling_kernel.proofs.OwnerLaws.{with_owners-length, owner_written, owners_leave, owners_join}
 use Rattle.ceiling_kernel.proofs.KeptLaws as laws
+use Rattle.ceiling_kernel.proofs.PriorityLaws as priority
 use Rattle.ceiling_kernel.proofs.MoveLaws as move
 
--- ---- releases and jobs
-pub job_is : (U : List Task) (rs : List Release) (j : ℕ) → j < length rs → job_at (jobs_of U rs) j ≡ job_of U (release_at rs j)
-job_is U [] j lt = absurd (omega arith)
-job_is U (r ∷ rs) zero lt = refl
-job_is U (r ∷ rs) (suc j) lt = job_is U rs j (omega arith)
-
-pub jobs_length : (U : List Task) (rs : List Release) → length (jobs_of U rs) ≡ length rs
-jobs_length U rs = length-map rs (job_of U)
-
-numbers_at : (U : List Task) (rs : List Release) (j : ℕ) → j < length rs → get_or (map (task_number U) rs) j 0 ≡ task_number U (release_at rs j)
-numbers_at U [] j lt = absurd (omega arith)
-numbers_at U (r ∷ rs) zero lt = refl
-numbers_at U (r ∷ rs) (suc j) lt = numbers_at U rs j (omega arith)
-
--- the kept index of a release's task
-pub place_is : (U : List Task) (rs : List Release) (places : List ℕ) (j : ℕ) → places ≡ map (task_number U) rs → j < length rs → get_or places j 0 ≡ task_number U (release_at rs j)
-place_is U rs places j e lt = ap (λ x. get_or x j 0) e ∙ numbers_at U rs j lt
-
--- what `v[i]` reads, at another default
-pub read_at : {X : Type 0} (xs : List X) (i : ℕ) (x d : X) → i < length xs → x ≡ slice_index_or xs i x → slice_index_or xs i d ≡ x
-read_at xs i x d lt e = get_or_default xs i d x lt ∙ sym e
-
-pub some_from : (o : Option Pending) → true ≡ is_some o → (q : Pending) × (o ≡ Some q)
-some_from None e = absurd (true≢false e)
-some_from (Some q) e = (q, refl)
-
-pub none_from : (o : Option Pending) → false ≡ is_some o → o ≡ None
-none_from None e = refl
-none_from (Some q) e = absurd (true≢false (sym e))
-
-pub no_slices : (run : ℕ → Option ℕ) → [] ≡ slices_before run 0
-unfolding slices_before
-no_slices run = refl
-
-finish_first : (node : Node) (jobs : List Job) (j : ℕ) → finish_before node jobs 0 j ≡ None
-unfolding finish_before
-finish_first node jobs j = refl
-
--- ---- records
-records-more : (node : Node) (jobs : List Job) (t k : ℕ) (rs : List Release) (r : Release) → records_from node jobs t k (rs ++ r ∷ []) ≡ records_from node jobs t k rs ++ record_of node jobs t (k + length rs) r ∷ []
-records-more node jobs t k [] r = (let e : k + 0 ≡ k = omega arith in ap (λ x. record_of node jobs t x r ∷ []) (sym e))
-records-more node jobs t k (s ∷ rs) r =
-    let e : k + 1 + length rs ≡ k + suc (length rs) = omega arith in
-    ap (λ x. record_of node jobs t k s ∷ x) (records-more node jobs t (k + 1) rs r ∙ ap (λ x. records_from node jobs t (k + 1) rs ++ record_of node jobs t x r ∷ []) e)
-
-pub records-next : (node : Node) (jobs : List Job) (t : ℕ) (rs : List Release) (k : ℕ) (r : Release) → k < length rs → r ≡ get_or rs k r →
-    records_from node jobs t 0 (take (k + 1) rs) ≡ records_from node jobs t 0 (take k rs) ++ record_of node jobs t k r ∷ []
-records-next node jobs t rs k r lt same =
-    let n : 0 + length (take k rs) ≡ k = omega (arith, length-take k rs) in
-    ap (records_from node jobs t 0) (take_more rs k r lt)
-    ∙ (records-more node jobs t 0 (take k rs) (get_or rs k r)
-    ∙ ap₂ (λ m x. records_from node jobs t 0 (take k rs) ++ record_of node jobs t m x ∷ []) n (sym same))
-
--- ---- a run
 module _ (node : Node) (rs : List Release) (runnable : IsRunnable node rs) where
   ok : IsNode node
   ok = runnable.of_node
@@ -264,7 +214,7 @@ module _ (node : Node) (rs : List Release) (runnable : IsRunnable node rs) where
         cost = (task_at node.tasks p.task).cost
 
         place : (i : ℕ) × (slot_of i ≡ Some p)
-        place = (let s : IsBestSlot slots None p = slot_some slots None p best in elim s.from [ inl no_one ↦ absurd (laws.no_some p no_one) | inr found ↦ found ])
+        place = (let s : IsBestSlot slots None p = slot_some slots None p best in elim s.from [ inl no_one ↦ absurd (none-some p no_one) | inr found ↦ found ])
 
         pub slot : slot_of p.task ≡ Some p
         slot = (let m : IsPending node jobs t next place.0 p = kept.pending place.0 p place.1 in subst (λ x. slot_of x ≡ Some p) (sym m.task) place.1)
@@ -360,12 +310,12 @@ module _ (node : Node) (rs : List Release) (runnable : IsRunnable node rs) where
             next_is active e =
                 let m : IsPending node jobs t next p.task p = is_p in
                 let was : p.active ≡ active_at node p.task p.executed = m.active in
-                elim (move.active_next node p.task p.executed (p.executed + (stop - t)) apart (omega arith) within_p) [ inl own_level ↦ inl (e ∙ own_level) | inr more ↦ inr (omega arith) ]
+                elim (priority.active_next node p.task p.executed (p.executed + (stop - t)) apart (omega arith) within_p) [ inl own_level ↦ inl (e ∙ own_level) | inr more ↦ inr (omega arith) ]
 
             pub run_lists : (lists : List (List ℕ)) → Queues (λ k. slice_index_or slots k None) (list_at lists) → IsAlone slot_of → length lists ≡ length node.tasks + 1 → (p' : Pending) → p'.level ≡ p.level → p'.active ≡ active_at node p.task (p.executed + (stop - t))
                 → Queues (λ k. slice_index_or (set slots p.task (Some p')) k None) (list_at (moved_to lists p.active p'.active p.task))
             run_lists lists queues alone count p' level active =
-                let most : active_at node p.task (p.executed + (stop - t)) ≤ length node.tasks = move.active_within node ok p.task (p.executed + (stop - t)) in
+                let most : active_at node p.task (p.executed + (stop - t)) ≤ length node.tasks = priority.active_within node ok p.task (p.executed + (stop - t)) in
                 move.queues_run node jobs is_sound t next slots kept lists queues alone p p' p.task task_in best slot level (omega arith) (next_is p'.active active)
 
             pub run_alone : (lists : List (List ℕ)) → Queues (λ k. slice_index_or slots k None) (list_at lists) → IsAlone slot_of → (p' : Pending) → p'.level ≡ p.level → p'.active ≡ active_at node p.task (p.executed + (stop - t))

@@ -1,5 +1,6 @@
 -- The slices are the longest runs of ticks of one job.
 use Rattle.std.proofs.Common.{ℕ, zero, suc, ◌+◌, ◌<◌, ◌≤◌, ◌≡◌, ◌≢◌, inl, inr, refl, sym, ap, ◌∙◌, subst, arith, Bool, true, ◌==◌, ◌&&◌, List, [], ◌∷◌, ◌++◌, Option, Some, None, reverse}
+use Rattle.std.proofs.lemmas.Option.{none-some, same_Some}
 use Rattle.std.proofs.lemmas.Bool.{cases_Bool, cases_eq, cases_lt, true≢false, and_parts, eqb-true, eq-eqb}
 use Rattle.std.proofs.lemmas.List.{append_assoc, append-nil}
 use Rattle.std.proofs.lemmas.Grind.{reverse_onto}
@@ -7,9 +8,6 @@ use Rattle.ceiling_kernel.specs.declared.trace.Slice.{Slice}
 use Rattle.ceiling_kernel.specs.Tick.{Node, Job, picked}
 use Rattle.ceiling_kernel.specs.Trace.{with_run, with_tick, slices_before, slices_of}
 use Rattle.ceiling_kernel.specs.Readings.{AreLongestRuns}
-
-no_job : (j : ℕ) → ◌≡◌ {A = Option ℕ} None (Some j) → ⊥
-no_job j e = cc
 
 module _ (run : ℕ → Option ℕ) where
   -- where the newest of some older slices ends at a time, its job isn't this one
@@ -95,7 +93,7 @@ module _ (run : ℕ → Option ℕ) where
         λ u lo hi. absurd (omega arith),
         h.2,
         λ inside same. elim (cases_lt s.stop t) [
-          | inl gap ↦ no_job s.job (sym (h.3 s.stop (omega arith) gap) ∙ same)
+          | inl gap ↦ none-some s.job (sym (h.3 s.stop (omega arith) gap) ∙ same)
           | inr ends ↦
               let e : s.stop ≡ t = omega (arith, h.1) in
               meets (omega arith) s.job (ap run (sym e) ∙ same) e refl
@@ -104,12 +102,9 @@ module _ (run : ℕ → Option ℕ) where
       ) in
       let all : AreLongestRuns run 0 until (reverse ss ++ (s ∷ after)) =
       joined s.start until ss (s ∷ after) (omega (arith, h.0, h.1)) h.5 mine
-      (λ lt job e. (let first : run s.start ≡ Some s.job = h.2 s.start (omega arith) h.0 in let same : job ≡ s.job = some_same job s.job (sym e ∙ first) in subst (λ j. Differs ss s.start j) (sym same) h.4)) in
+      (λ lt job e. (let first : run s.start ≡ Some s.job = h.2 s.start (omega arith) h.0 in let same : job ≡ s.job = same_Some job s.job (sym e ∙ first) in subst (λ j. Differs ss s.start j) (sym same) h.4)) in
       subst (AreLongestRuns run 0 until) (sym (turn ss s after)) all
     where
-      some_same : (a b : ℕ) → ◌≡◌ {A = Option ℕ} (Some a) (Some b) → a ≡ b
-      some_same a b e = cc
-
       turn : (ss : List Slice) (s : Slice) (after : List Slice) → reverse (s ∷ ss) ++ after ≡ reverse ss ++ (s ∷ after)
       turn ss s after = ap (λ x. x ++ after) (reverse_onto ss s []) ∙ append_assoc (reverse ss) (s ∷ []) after
 

@@ -1,8 +1,9 @@
 -- What the best of the slots is.
 use Rattle.std.proofs.Common.{ℕ, zero, suc, ◌<◌, ◌≤◌, ◌≡◌, ◌⊎◌, inl, inr, refl, sym, ap, ◌∙◌, subst, arith, List, [], ◌∷◌, Option, Some, None, Bool, true, false, ◌||◌, ◌&&◌, ◌==◌, nat_lt, slice_index_or}
+use Rattle.std.proofs.lemmas.Option.{none-some}
 use Rattle.std.proofs.lemmas.Bool.{cases_Bool, cases_eq, cases_lt, true≢false, lt-ltb, le-ltb, ltb-true, eq-eqb, ne_eqb}
 use Rattle.ceiling_kernel.specs.declared.run.Pending.{Pending}
-use Rattle.ceiling_kernel.specs.Runs.{better_pending, best_slot}
+use Rattle.ceiling_kernel.specs.States.{better_pending, best_slot}
 
 -- pending job q doesn't go before p
 abbrev pub NotFirst : Pending → Pending → Type 0
@@ -126,9 +127,6 @@ slot_some (Some j ∷ slots) found p e =
     after_some here h zero k e = let same : j ≡ k = cc in subst (λ x. NotFirst x p) same here
     after_some here h (suc i) k e = h i k e
 
-no_some : (q : Pending) → ◌≡◌ {A = Option Pending} None (Some q) → ⊥
-no_some q e = cc
-
 pub slot_none : (slots : List (Option Pending)) (found : Option Pending) → best_slot slots found ≡ None → (found ≡ None) × ((i : ℕ) (k : Pending) → slice_index_or slots i None ≡ Some k → ⊥)
 slot_none [] found e = (e, λ i k h. (cc))
 slot_none (None ∷ slots) found e =
@@ -140,4 +138,4 @@ slot_none (None ∷ slots) found e =
     after h (suc i) k e = h i k e
 slot_none (Some j ∷ slots) found e =
     let ih : (Some (better_pending found j) ≡ None) × ((i : ℕ) (k : Pending) → slice_index_or slots i None ≡ Some k → ⊥) = slot_none slots (Some (better_pending found j)) e in
-    absurd (no_some (better_pending found j) (sym ih.0))
+    absurd (none-some (better_pending found j) (sym ih.0))

@@ -11,7 +11,7 @@ use Rattle.ceiling_kernel.specs.declared.tasks.NodeTask.{NodeTask}
 use Rattle.ceiling_kernel.specs.Tick.{Node, held_ceiling}
 use Rattle.ceiling_kernel.specs.Jumps.{change_after}
 use Rattle.ceiling_kernel.specs.NodeTasks.{IsSectionOf, AreSectionsOf, IsTaskOf, AreTasksOf}
-use Rattle.ceiling_kernel.specs.Runs.{held_top, next_change, active_at}
+use Rattle.ceiling_kernel.specs.States.{held_top, next_change, active_at}
 
 pub held_top-is : (node : Node) (xs : List CriticalSection) (ss : List NodeSection) (e : ℕ) → AreSectionsOf node xs ss → held_top ss e ≡ held_ceiling node xs e
 held_top-is node [] [] e h = refl

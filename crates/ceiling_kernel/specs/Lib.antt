@@ -9,4 +9,5 @@ pub mod NodeFields
 pub mod Lists
 pub mod Owners
 pub mod Runs
+pub mod States
 pub mod Readings

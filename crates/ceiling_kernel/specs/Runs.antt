@@ -1,134 +1,63 @@
--- What a simulation keeps from event to event.
-use Rattle.std.specs.Prelude.{◌≡◌, ℕ, ◌+◌, ◌-◌, ◌<◌, ◌≤◌, max, Bool, false, ◌&&◌, ◌||◌, nat_lt, nat_le, ◌==◌, if◌then◌else◌, Option, Some, None, IfNone, List, [], ◌∷◌, length, slice_index_or, reverse}
-use Rattle.task_sheet.specs.Sheet.{Task, task_at}
-use Rattle.ceilings.specs.IsTableOf.{locks_of}
-use Rattle.ceiling_kernel.specs.declared.tasks.NodeSection.{NodeSection}
-use Rattle.ceiling_kernel.specs.declared.trace.Slice.{Slice}
+-- What a run answers: the trace of the tick rule, the first overrun, or the refusal of the release list; and what the analysis says of it.
+use Rattle.std.specs.Prelude.{◌≡◌, ℕ, ◌+◌, ◌<◌, ◌≤◌, Some, None, Result, Ok, Err, List, [], ◌∷◌, length, slice_index_or}
 use Rattle.ceiling_kernel.specs.declared.trace.Release.{Release}
+use Rattle.ceiling_kernel.specs.declared.trace.JobRecord.{JobRecord}
+use Rattle.ceiling_kernel.specs.declared.trace.Trace.{Trace}
 use Rattle.ceiling_kernel.specs.declared.trace.RunFault.{RunFault}
 use Rattle.ceiling_kernel.specs.declared.trace.RunFault.TheVariants as fault
-use Rattle.ceiling_kernel.specs.declared.run.Pending.{Pending}
-use Rattle.ceiling_kernel.specs.declared.run.Slices.{Slices}
-use Rattle.ceiling_kernel.specs.declared.run.Simulation.{Simulation}
-use Rattle.ceiling_kernel.specs.Lists.{listed, list_at, Queues, IsAlone}
-use Rattle.ceiling_kernel.specs.NodeTasks.{is_within}
-use Rattle.ceiling_kernel.specs.Owners.{owner_of, AreOwners}
-use Rattle.ceiling_kernel.specs.Tick.{Node, Job, job_at, task_of, level_at, held_ceiling, executed_before, picked}
-use Rattle.ceiling_kernel.specs.Trace.{slices_before, finish_before}
-use Rattle.ceiling_kernel.specs.Waits.{IsNode, Overruns}
-use Rattle.ceiling_kernel.specs.Releases.{task_number, jobs_of, release_at, first_where, is_unknown, IsOverrun}
+use Rattle.ceiling_kernel.specs.Tick.{Node, Job, job_at}
+use Rattle.ceiling_kernel.specs.Trace.{slices_of, finish_before}
+use Rattle.ceiling_kernel.specs.Waits.{Overruns, NoOverrun}
+use Rattle.ceiling_kernel.specs.Bounds.{PassesBy}
+use Rattle.ceiling_kernel.specs.Releases.{task_number, ready_of, jobs_of, release_at, refusal_of}
 
--- a fault is want of memory, or the refusal
-abbrev pub IsRefusal : RunFault → Option RunFault → Type 0
-IsRefusal fault.OutOfMemory refusal = Unit {0}
-IsRefusal e refusal = refusal ≡ Some e
+-- job k is the first that overruns the one before it: the earliest, then the first in the list
+pub record IsFirstOverrun (node : Node) (jobs : List Job) (k : ℕ) : Type 0 where
+  pub is_job : k < length jobs
+  pub overruns : Overruns node jobs k
+  pub earliest : (j : ℕ) → j < length jobs → Overruns node jobs j → (job_at jobs k).ready ≤ (job_at jobs j).ready
+  pub first : (j : ℕ) → j < k → Overruns node jobs j → (job_at jobs k).ready < (job_at jobs j).ready
 
--- a fault is want of memory, or names the first release whose task is unknown
-abbrev pub IsUnknown : List Task → List Release → RunFault → Type 0
-IsUnknown U rs fault.OutOfMemory = Unit {0}
-IsUnknown U rs e = (k : ℕ) × (first_where (is_unknown U rs) (length rs) ≡ Some k) × (e ≡ fault.UnknownTask (k + 1))
+-- what is recorded of the job at a place in the ticks below a time
+abbrev pub record_of : Node → List Job → ℕ → ℕ → Release → JobRecord
+record_of node jobs until j r = record { name = r.name; release = r.time; finish = finish_before node jobs until j }
 
--- a time comes less than a period after another, if there is one
-abbrev pub soon_after : Option ℕ → ℕ → ℕ → Bool
-soon_after None time period = false
-soon_after (Some before) time period = nat_lt time (before + period)
+-- stands past the end of a list of records
+abbrev pub no_record : JobRecord
+no_record = record { name = []; release = 0; finish = None }
 
--- releases in order, of tasks of the node
-pub record IsRunnable (node : Node) (rs : List Release) : Type 0 where
-  pub of_node : IsNode node
-  pub known : (j : ℕ) → j < length rs → task_number node.tasks (release_at rs j) < length node.tasks
-  pub sorted : (i j : ℕ) → i ≤ j → j < length rs → (release_at rs i).time ≤ (release_at rs j).time
+-- the records of releases, of which the first stands at a place
+abbrev pub records_from : Node → List Job → ℕ → ℕ → List Release → List JobRecord
+records_from node jobs until j [] = []
+records_from node jobs until j (r ∷ rs) = record_of node jobs until j r ∷ records_from node jobs until (j + 1) rs
 
--- ---- sections, as they are kept
--- the highest ceiling that is held after e ticks
-abbrev pub held_top : List NodeSection → ℕ → ℕ
-held_top [] e = 0
-held_top (s ∷ ss) e = max (if is_within s e then s.top else 0) (held_top ss e)
+-- the trace of the tick rule, below `until`
+pub record IsTrace (node : Node) (rs : List Release) (until : ℕ) (trace : Trace) : Type 0 where
+  pub slices : trace.slices.items ≡ slices_of node (jobs_of node.tasks rs) until
+  pub jobs : trace.jobs.items ≡ records_from node (jobs_of node.tasks rs) until 0 rs
 
--- the first boundary above e, or the limit
-abbrev pub next_change : List NodeSection → ℕ → ℕ → ℕ
-next_change [] e limit = limit
-next_change (s ∷ ss) e limit = if nat_le e s.at then s.at + 1 else (if nat_lt e s.stop then s.stop else next_change ss e limit)
+-- an overrun of a release with this name, at this time
+pub record IsOverrun (node : Node) (rs : List Release) (name : List ℕ) (time : ℕ) : Type 0 where
+  pub place : ℕ
+  pub first : IsFirstOverrun node (jobs_of node.tasks rs) place
+  pub name_is : name ≡ (release_at rs place).name
+  pub time_is : time ≡ ready_of (release_at rs place)
 
--- the active priority of a job of task i that has executed e ticks
-abbrev pub active_at : Node → ℕ → ℕ → ℕ
-active_at node i e = max (level_at node i) (held_ceiling node (task_at node.tasks i).sections e)
+-- what a run answers: the trace of the tick rule, the first overrun, or the refusal
+abbrev pub Runs : Node → List Release → ℕ → Result Trace RunFault → Type 0
+Runs node rs until (Ok trace) = (refusal_of node.tasks rs until ≡ None) × NoOverrun node (jobs_of node.tasks rs) × IsTrace node rs until trace
+Runs node rs until (Err fault.OutOfMemory) = Unit {0}
+Runs node rs until (Err (fault.Overrun name time)) = (refusal_of node.tasks rs until ≡ None) × IsOverrun node rs name time
+Runs node rs until (Err e) = refusal_of node.tasks rs until ≡ Some e
 
--- ---- the pick among the slots
-abbrev pub better_pending : Option Pending → Pending → Pending
-better_pending None p = p
-better_pending (Some q) p = if nat_lt q.active p.active || ((q.active == p.active) && nat_lt p.level q.level) then p else q
+-- ---- the bound of the analysis (Audsley et al. 1993)
+-- each job of a task that passes by t, with that bound within the run, has a finish by then
+abbrev pub MeetsBounds : Node → List Release → ℕ → Trace → Type 0
+MeetsBounds node rs until trace =
+    (j t : ℕ) → j < length rs → PassesBy node (task_number node.tasks (release_at rs j)) t → (release_at rs j).time + t ≤ until
+    → (f : ℕ) × ((slice_index_or trace.jobs.items j no_record).finish ≡ Some f) × (f ≤ (release_at rs j).time + t)
 
--- the best of the pending jobs in the slots, after one that was found before
-abbrev pub best_slot : List (Option Pending) → Option Pending → Option Pending
-best_slot [] found = found
-best_slot (None ∷ slots) found = best_slot slots found
-best_slot (Some p ∷ slots) found = best_slot slots (Some (better_pending found p))
-
--- ---- slices
-abbrev pub shown_of : List Slice → Option Slice → List Slice
-shown_of closed None = []
-shown_of closed (Some s) = s ∷ reverse closed
-
--- the slices so far, the newest first
-abbrev pub shown : Slices → List Slice
-shown s = shown_of s.closed.items s.current
-
--- nothing is closed before there is a current slice
-abbrev pub IsTidy : Slices → Type 0
-IsTidy s = IfNone s.current (s.closed.items ≡ [])
-
--- ---- the state
--- the pending job in the slot of task i, at tick t, with the jobs below `next` released
-pub record IsPending (node : Node) (jobs : List Job) (t next i : ℕ) (p : Pending) : Type 0 where
-  pub released : p.job < next
-  pub task : p.task ≡ i
-  pub own : (job_at jobs p.job).task ≡ i
-  pub level : p.level ≡ level_at node i
-  pub executed : p.executed ≡ executed_before node jobs t p.job
-  pub active : p.active ≡ active_at node i p.executed
-  pub unfinished : p.executed < (task_at node.tasks i).cost
-
--- at tick t, with the jobs below `next` released, the slot of each task holds its pending job
-pub record Kept (node : Node) (jobs : List Job) (t next : ℕ) (slots : List (Option Pending)) : Type 0 where
-  pub within : next ≤ length jobs
-  pub admitted : (j : ℕ) → j < next → (job_at jobs j).ready ≤ t
-  pub to_come : (j : ℕ) → next ≤ j → j < length jobs → t ≤ (job_at jobs j).ready
-  pub slot_count : length slots ≡ length node.tasks
-  pub pending : (i : ℕ) (p : Pending) → slice_index_or slots i None ≡ Some p → IsPending node jobs t next i p
-  pub complete : (j : ℕ) → j < next → executed_before node jobs t j < (task_of node jobs j).cost
-      → (p : Pending) × (slice_index_or slots (job_at jobs j).task None ≡ Some p) × (p.job ≡ j)
-  pub no_overrun : (k : ℕ) → k < next → ¬ Overruns node jobs k
-
--- when each job finished, so far
-pub record AreFinishes (node : Node) (rs : List Release) (t : ℕ) (finishes : List (Option ℕ)) : Type 0 where
-  pub count : length finishes ≡ length rs
-  pub each : (j : ℕ) → j < length rs → slice_index_or finishes j None ≡ finish_before node (jobs_of node.tasks rs) t j
-
--- the state is that of the tick rule at its time
-pub record IsRunning (node : Node) (rs : List Release) (s : Simulation) : Type 0 where
-  pub kept : Kept node (jobs_of node.tasks rs) s.now s.next s.slots.items
-  pub list_count : length s.lists.items ≡ length node.tasks + 1
-  pub queues : Queues (λ i. slice_index_or s.slots.items i None) (list_at (listed s.lists.items))
-  pub alone : IsAlone (λ i. slice_index_or s.slots.items i None)
-  pub lock_count : length s.owners.items ≡ length (locks_of node.tasks)
-  pub owners : AreOwners node.tasks (λ i. slice_index_or s.slots.items i None) (owner_of node.tasks s.owners.items)
-  pub slices : shown s.slices ≡ slices_before (picked node (jobs_of node.tasks rs)) s.now
-  pub tidy : IsTidy s.slices
-  pub finishes : AreFinishes node rs s.now s.finishes.items
-
--- what is still ahead: ticks and releases
-abbrev pub ahead_of : List Release → ℕ → Simulation → ℕ
-ahead_of rs until s = (until - s.now) + (length rs - s.next)
-
--- one event on: less is ahead
-pub record IsFurther (node : Node) (rs : List Release) (until : ℕ) (old new : Simulation) : Type 0 where
-  pub running : IsRunning node rs new
-  pub bounded : new.now ≤ until
-  pub less : ahead_of rs until new < ahead_of rs until old
-
--- why a run may stop
-abbrev pub IsStop : Node → List Release → RunFault → Type 0
-IsStop node rs fault.OutOfMemory = Unit {0}
-IsStop node rs (fault.Overrun name time) = IsOverrun node rs name time
-IsStop node rs e = ⊥
+-- a fault that isn't an overrun
+abbrev pub IsNoOverrun : RunFault → Type 0
+IsNoOverrun (fault.Overrun name time) = ⊥
+IsNoOverrun e = Unit {0}

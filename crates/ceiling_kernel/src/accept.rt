@@ -1,20 +1,19 @@
 //! Which release lists a kernel runs.
 ghost use Rattle.std.specs.Prelude.{◌≡◌, ◌<◌, ◌≤◌, ◌+◌, ℕ, List, length, map, MatchResult, IfSome, Some, None};
 ghost use Rattle.task_sheet.specs.Sheet.{Task, task_at};
-ghost use Rattle.task_sheet.specs.Indexes.{some_below};
-ghost use Rattle.ceiling_kernel.specs.Releases.{task_number, jobs_of, first_where, is_unsorted, is_unknown, is_too_soon, is_past, refusal_of};
-ghost use Rattle.ceiling_kernel.specs.Runs.{IsRefusal, IsUnknown, soon_after};
+ghost use Rattle.std.specs.List.{list_any};
+ghost use Rattle.ceiling_kernel.specs.Releases.{task_number, jobs_of, first_where, is_unsorted, is_unknown, is_too_soon, is_past, refusal_of, IsRefusal, IsUnknown, soon_after};
 ghost use Rattle.std.specs.Option.{ForSome};
 
 use crate::trace::{Release, RunFault};
 use std::alloc::Global;
 use task_sheet::TaskSet;
 
-/// The last time at which a run may end, in microseconds.
-pub const HORIZON: u64 = 60_000_000;
+// The last time at which a run may end, in microseconds.
+const HORIZON: u64 = 60_000_000;
 
-/// The most releases of a run.
-pub const RELEASE_LIMIT: usize = 10_000;
+// The most releases of a run.
+const RELEASE_LIMIT: usize = 10_000;
 
 // The release's time is below the one before.
 fn is_unsorted(releases: &[Release], k: usize) -> bool
@@ -86,17 +85,12 @@ fn first_too_soon(set: &TaskSet, releases: &[Release], places: &[usize]) -> Opti
 
 // Some release stands at the end or after it.
 fn is_past(releases: &[Release], until: u64) -> bool
-    ensures { result ≡ some_below (length releases.now) (is_past releases.now until) }
+    ensures { result ≡ list_any (is_past until) releases.now }
 {
-    for k in 0..releases.len() {
-        if until <= releases[k].time {
-            return true;
-        }
-    }
-    false
+    releases.iter().any(|release| until <= release.time)
 }
 
-/// The index of each release's task, where the list isn't refused.
+// The index of each release's task, where the list isn't refused.
 pub fn accept(
     alloc: Global,
     set: &TaskSet,

@@ -63,10 +63,7 @@ pub fn top_of(table: &LockTable, order: &[usize], locks: &[Name]) -> u32
 {
     let mut top = 0;
     for lock in locks {
-        let ceiling = table.ceiling(*lock, order).unwrap_or(0);
-        if top < ceiling {
-            top = ceiling;
-        }
+        top = top.max(table.ceiling(*lock, order).unwrap_or(0));
     }
     top
 }

@@ -3,14 +3,14 @@
 
 mod accept;
 mod build;
-pub mod kernel;
+mod kernel;
 pub mod laws;
 mod levels;
 mod lists;
 mod owners;
 mod run;
 mod tasks;
-pub mod trace;
+mod trace;
 
 pub use kernel::{Kernel, KernelFault};
 pub use trace::{JobRecord, Release, RunFault, Slice, Trace};

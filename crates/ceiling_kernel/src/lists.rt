@@ -1,6 +1,6 @@
 //! The lists of the tasks whose jobs are pending: SCHED_FIFO of POSIX.1-2017, with one list per priority, the lowest first.
 ghost use Rattle.std.specs.Prelude.{◌≡◌, ◌<◌, ◌≤◌, ℕ, length, vec_len, slice_index_or, replicate, IfOk, None, []};
-ghost use Rattle.ceiling_kernel.specs.Runs.{best_slot};
+ghost use Rattle.ceiling_kernel.specs.States.{best_slot};
 ghost use Rattle.ceiling_kernel.specs.Lists.{listed, list_at, Queues, with_tail, with_head, without_head, moved_to, head_of_highest};
 
 use crate::run::Pending;
@@ -12,7 +12,7 @@ pub(crate) fn empty_lists(alloc: Global, count: usize) -> Result<Vec<VecDeque<us
     ensures { IfOk result (λ lists. listed lists.items ≡ replicate count []) }
 {
     let mut lists = Vec::new(alloc);
-    for i in 0..count {
+    for _ in 0..count {
         lists.push(VecDeque::new(alloc))?;
     }
     Ok(lists)

@@ -4,11 +4,12 @@ ghost use Rattle.task_sheet.specs.Sheet.{task_at};
 ghost use Rattle.ceiling_kernel.specs.declared.trace.Release.{Release};
 ghost use Rattle.ceiling_kernel.specs.Tick.{Node, job_at};
 ghost use Rattle.ceiling_kernel.specs.Trace.{with_run, finish_before};
-ghost use Rattle.ceiling_kernel.specs.Releases.{task_number, jobs_of, release_at, records_from, Runs, MeetsBounds, IsNoOverrun};
+ghost use Rattle.ceiling_kernel.specs.Releases.{task_number, jobs_of, release_at};
+ghost use Rattle.ceiling_kernel.specs.Runs.{records_from, Runs, MeetsBounds, IsNoOverrun};
 ghost use Rattle.ceiling_kernel.specs.Waits.{EachIsGranted};
 ghost use Rattle.task_sheet.specs.Orders.{IsPassingOrder};
 ghost use Rattle.ceiling_kernel.specs.NodeTasks.{IsTaskOf};
-ghost use Rattle.ceiling_kernel.specs.Runs.{held_top, next_change, active_at, shown, IsTidy, IsRunnable, AreFinishes, IsRunning, IsFurther, IsStop};
+ghost use Rattle.ceiling_kernel.specs.States.{held_top, next_change, active_at, shown, IsTidy, IsRunnable, AreFinishes, IsRunning, IsFurther, IsStop};
 
 use crate::accept::accept;
 use crate::kernel::Kernel;
@@ -55,15 +56,15 @@ fn held(sections: &[NodeSection], executed: u64) -> u32
 {
     let mut best = 0;
     for section in sections {
-        if is_within(section, executed) && best < section.top {
-            best = section.top;
+        if is_within(section, executed) {
+            best = best.max(section.top);
         }
     }
     best
 }
 
 // After how many ticks what it holds may change next.
-fn change_after(sections: &[NodeSection], executed: u64, limit: u64) -> u64
+fn next_change(sections: &[NodeSection], executed: u64, limit: u64) -> u64
     ensures { result ≡ next_change sections.now executed limit }
 {
     for section in sections {
@@ -82,8 +83,7 @@ fn change_after(sections: &[NodeSection], executed: u64, limit: u64) -> u64
 fn active(task: &NodeTask, executed: u64) -> u32
     ensures { (node : Node) (i : ℕ) → IsTaskOf node i task.now → result ≡ active_at node i executed }
 {
-    let top = held(&task.sections, executed);
-    if top < task.level { task.level } else { top }
+    task.level.max(held(&task.sections, executed))
 }
 
 // Until when the pending jobs run by themselves: the next release, or the end.
@@ -111,7 +111,7 @@ fn stop_at(task: &NodeTask, executed: u64, now: u64, limit: u64) -> u64
     ensures limit { result ≤ limit }
     ensures within { executed + (result - now) ≤ next_change task.now.sections.items executed task.now.cost }
 {
-    let change = change_after(&task.sections, executed, task.cost);
+    let change = next_change(&task.sections, executed, task.cost);
     let most = change - executed;
     if most < limit - now {
         now + most
@@ -159,7 +159,7 @@ fn all_none<T: Drop>(alloc: Global, count: usize) -> Result<Vec<Option<T>>, Allo
     ensures { IfOk result (λ nones. nones.items ≡ replicate count None) }
 {
     let mut nones = Vec::new(alloc);
-    for i in 0..count {
+    for _ in 0..count {
         nones.push(None)?;
     }
     Ok(nones)

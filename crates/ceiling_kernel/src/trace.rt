@@ -6,7 +6,7 @@ use std::alloc::{AllocError, AllocFailed};
 use task_sheet::Name;
 
 /// A job of the task with that name arrives at that time, in microseconds.
-#[derive(Clone, Copy, PartialEq, Eq)]
+#[derive(Clone, Copy, Debug, PartialEq, Eq)]
 pub struct Release {
     pub time: u64,
     pub name: Name,
@@ -22,7 +22,7 @@ pub struct Slice {
 }
 
 /// A job: its task's name, when it was released, and when it finished, if it did; in microseconds.
-#[derive(Clone, Copy, PartialEq, Eq)]
+#[derive(Clone, Copy, Debug, PartialEq, Eq)]
 pub struct JobRecord {
     pub name: Name,
     pub release: u64,
@@ -37,7 +37,7 @@ pub struct Trace {
 }
 
 /// Why there is no trace. A place is that of a release in the list, from 1; times are in microseconds.
-#[derive(Clone, Copy, PartialEq, Eq)]
+#[derive(Clone, Copy, Debug, PartialEq, Eq)]
 pub enum RunFault {
     /// A release stands before the time of the one before it in the list.
     Unsorted { place: usize },

@@ -5,7 +5,7 @@ use Rattle.task_sheet.specs.Sheet.{Task}
 use Rattle.task_sheet.specs.ReadsSet.{ReadsSet}
 use Rattle.task_sheet.specs.Verdicts.{LevelData, IsBestOrder, IsStuck}
 use Rattle.ceiling_kernel.specs.Tick.{node_in}
-use Rattle.ceiling_kernel.specs.Releases.{Runs}
+use Rattle.ceiling_kernel.specs.Runs.{Runs}
 use Rattle.ceiling_kernel.specs.declared.trace.Release.{Release}
 use Rattle.ceiling_kernel.specs.declared.trace.Trace.{Trace}
 use Rattle.desk_cli.specs.Check.{IsTooLong}

@@ -3,7 +3,7 @@ use Rattle.std.proofs.lemmas.List.{get_or_default}
 use Rattle.task_sheet.specs.Sheet.{Task, no_task, task_at}
 use Rattle.ceiling_kernel.specs.Releases.{is_too_soon, jobs_of, task_number, release_at, no_release}
 use Rattle.ceiling_kernel.proofs.AcceptLaws.{first_start, first_found, first_more, last_start, last_before, last_next, too_soon_at, known_from, sorted_from}
-use Rattle.ceiling_kernel.proofs.RunLaws.{place_is}
+use Rattle.ceiling_kernel.proofs.ReleaseLaws.{place_is}
 use Rattle.ceiling_kernel.proofs.accept.first_too_soon.Goals as goal
 
 pub loop-k-init : goal.loop-k-init

@@ -1,5 +1,5 @@
 use Rattle.std.proofs.Common.{◌≡◌, replicate, None}
 use Rattle.ceiling_kernel.proofs.run.all_none.Given as goal
 
-abbrev pub invariant-loop-i : goal.invariant-loop-i
-invariant-loop-i g l = l.nones.items ≡ replicate l.i None
+abbrev pub invariant-loop : goal.invariant-loop
+invariant-loop g l = l.nones.items ≡ replicate l.counter None

@@ -1,5 +1,5 @@
 use Rattle.std.proofs.Common.{◌≡◌, max, drop}
-use Rattle.ceiling_kernel.specs.Runs.{held_top}
+use Rattle.ceiling_kernel.specs.States.{held_top}
 use Rattle.ceiling_kernel.proofs.run.held.Given as goal
 
 abbrev pub invariant-loop-section : goal.invariant-loop-section

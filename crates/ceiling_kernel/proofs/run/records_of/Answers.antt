@@ -2,7 +2,7 @@ use Rattle.std.proofs.Common.{◌≡◌, ℕ, List, ◌++◌, ◌∷◌, [], Opt
 use Rattle.ceiling_kernel.specs.declared.trace.JobRecord.{JobRecord}
 use Rattle.ceiling_kernel.specs.Trace.{finish_before}
 use Rattle.ceiling_kernel.specs.Releases.{jobs_of}
-use Rattle.ceiling_kernel.proofs.RunLaws.{records-next}
+use Rattle.ceiling_kernel.proofs.ReleaseLaws.{records-next}
 use Rattle.ceiling_kernel.proofs.run.records_of.Goals as goal
 
 pub loop-k-preserved : goal.loop-k-preserved

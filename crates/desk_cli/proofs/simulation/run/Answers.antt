@@ -1,5 +1,5 @@
 use Rattle.std.proofs.Common.{◌≡◌, ◌∙◌, Ok, ap₂, map, subst}
-use Rattle.ceiling_kernel.specs.Releases.{Runs}
+use Rattle.ceiling_kernel.specs.Runs.{Runs}
 use Rattle.ceiling_kernel.specs.Tick.{node_in}
 use Rattle.desk_cli.proofs.simulation.run.Goals as goal
 

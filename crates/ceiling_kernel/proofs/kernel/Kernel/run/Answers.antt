@@ -4,8 +4,9 @@ use Rattle.ceiling_kernel.specs.declared.trace.Slice.{Slice}
 use Rattle.ceiling_kernel.specs.declared.trace.JobRecord.{JobRecord}
 use Rattle.ceiling_kernel.specs.Tick.{picked}
 use Rattle.ceiling_kernel.specs.Trace.{slices_before}
-use Rattle.ceiling_kernel.specs.Releases.{jobs_of, records_from}
-use Rattle.ceiling_kernel.specs.Runs.{AreFinishes}
+use Rattle.ceiling_kernel.specs.Releases.{jobs_of}
+use Rattle.ceiling_kernel.specs.Runs.{records_from}
+use Rattle.ceiling_kernel.specs.States.{AreFinishes}
 use Rattle.ceiling_kernel.proofs.AcceptLaws.{runnable_from}
 use Rattle.ceiling_kernel.proofs.EndLaws.{no_overrun_then, each_granted, bounded_trace, stop_without}
 use Rattle.ceiling_kernel.proofs.kernel.Kernel.run.Goals as goal

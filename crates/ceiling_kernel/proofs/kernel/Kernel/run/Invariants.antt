@@ -1,5 +1,5 @@
 use Rattle.std.proofs.Common.{◌≤◌}
-use Rattle.ceiling_kernel.specs.Runs.{IsRunning, ahead_of}
+use Rattle.ceiling_kernel.specs.States.{IsRunning, ahead_of}
 use Rattle.ceiling_kernel.proofs.kernel.Kernel.run.Given as goal
 
 abbrev pub invariant-loop-simulation : goal.invariant-loop-simulation

@@ -3,11 +3,13 @@ use Rattle.ceiling_kernel.specs.declared.run.Pending.{Pending}
 use Rattle.ceiling_kernel.specs.Tick.{level_at}
 use Rattle.ceiling_kernel.specs.Releases.{jobs_of, release_at, no_release, task_number}
 use Rattle.ceiling_kernel.specs.NodeTasks.{IsTaskOf}
-use Rattle.ceiling_kernel.specs.Runs.{Kept}
+use Rattle.ceiling_kernel.specs.States.{Kept}
 use Rattle.ceiling_kernel.specs.Lists.{listed, list_at, with_tail, Queues, IsAlone}
 use Rattle.ceiling_kernel.specs.Owners.{owner_of, AreOwners}
-use Rattle.ceiling_kernel.proofs.MoveLaws.{count_kept, listed_length, level_within}
-use Rattle.ceiling_kernel.proofs.RunLaws.{admit_lists, admit_alone, admit_owners, place_is, read_at, some_from, none_from, slot_read, overrun, admit}
+use Rattle.ceiling_kernel.proofs.ListsLaws.{count_kept, listed_length}
+use Rattle.ceiling_kernel.proofs.PriorityLaws.{level_within}
+use Rattle.ceiling_kernel.proofs.ReleaseLaws.{place_is, read_at, some_from, none_from}
+use Rattle.ceiling_kernel.proofs.RunLaws.{admit_lists, admit_alone, admit_owners, slot_read, overrun, admit}
 use Rattle.ceiling_kernel.proofs.run.Simulation.admit.Goals as goal
 
 pub returns-then-is_some-clause-err : goal.returns-then-is_some-clause-err

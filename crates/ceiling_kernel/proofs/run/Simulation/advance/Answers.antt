@@ -7,7 +7,8 @@ use Rattle.task_sheet.specs.Sheet.{task_at}
 use Rattle.ceiling_kernel.specs.Lists.{listed, list_at, Queues}
 use Rattle.ceiling_kernel.specs.Owners.{owner_of, with_owners, AreOwners}
 use Rattle.ceiling_kernel.proofs.OwnerLaws.{with_owners-length, locks_within}
-use Rattle.ceiling_kernel.proofs.MoveLaws.{count_kept, count_moved, listed_length, active_within}
+use Rattle.ceiling_kernel.proofs.ListsLaws.{count_kept, count_moved, listed_length}
+use Rattle.ceiling_kernel.proofs.PriorityLaws.{active_within}
 use Rattle.ceiling_kernel.proofs.RunLaws.{list_is, finish_lists, finish_alone, run_lists, run_alone, few_tasks, idle_kept, idle_slices, idle_finishes, leave_owners, run_owners, job_in, task_in, task_in_slots, small, ahead, run_slices, run_kept, finish_kept, run_finishes, finish_finishes}
 use Rattle.ceiling_kernel.proofs.run.Simulation.advance.Goals as goal
 

@@ -4,12 +4,14 @@ use Rattle.ceilings.specs.IsTableOf.{locks_of}
 use Rattle.ceiling_kernel.specs.declared.run.Pending.{Pending}
 use Rattle.ceiling_kernel.specs.Tick.{picked}
 use Rattle.ceiling_kernel.specs.Releases.{jobs_of}
-use Rattle.ceiling_kernel.specs.Runs.{Kept, AreFinishes}
+use Rattle.ceiling_kernel.specs.States.{Kept, AreFinishes}
 use Rattle.ceiling_kernel.specs.Lists.{list_at, Queues, IsAlone}
 use Rattle.ceiling_kernel.specs.Owners.{owner_of, AreOwners}
-use Rattle.ceiling_kernel.proofs.MoveLaws.{count_started, queues_start, alone_start}
+use Rattle.ceiling_kernel.proofs.ListsLaws.{count_started}
+use Rattle.ceiling_kernel.proofs.MoveLaws.{queues_start, alone_start}
 use Rattle.ceiling_kernel.proofs.OwnerLaws.{owners_start}
-use Rattle.ceiling_kernel.proofs.RunLaws.{kept_start, finishes_start, no_slices}
+use Rattle.ceiling_kernel.proofs.ReleaseLaws.{no_slices}
+use Rattle.ceiling_kernel.proofs.RunLaws.{kept_start, finishes_start}
 use Rattle.ceiling_kernel.proofs.run.Simulation.start.Goals as goal
 
 pub returns : goal.returns
