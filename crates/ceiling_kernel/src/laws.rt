@@ -1,11 +1,11 @@
 //! Laws of the tick rule, which speak of no body: each is the contract of a function that does nothing.
 
-ghost use Rattle.std.specs.Prelude.{◌≡◌, ◌<◌, ◌≤◌, ℕ, false, List, length, Some, None};
+ghost use Rattle.std.specs.Prelude.{◌≡◌, ◌<◌, ℕ, List, length};
 ghost use Rattle.task_sheet.specs.Indexes.{among};
 ghost use Rattle.task_sheet.specs.Orders.{IsPassingOrder};
-ghost use Rattle.ceiling_kernel.specs.Tick.{Node, Job, task_of, is_pending, executed_before, picked};
-ghost use Rattle.ceiling_kernel.specs.Trace.{slices_of, finish_before};
-ghost use Rattle.ceiling_kernel.specs.Readings.{IsPicked, AreLongestRuns, IsFinishAt};
+ghost use Rattle.ceiling_kernel.specs.Tick.{Node, Job, picked};
+ghost use Rattle.ceiling_kernel.specs.Trace.{slices_of};
+ghost use Rattle.ceiling_kernel.specs.Readings.{PicksFirst, IdlesEmpty, AreLongestRuns, FinishesAreEnds, UnfinishedLack};
 ghost use Rattle.ceiling_kernel.specs.Waits.{IsNode, IsLegal, NobodyWaits, OneOwner, NoOverrun};
 ghost use Rattle.ceiling_kernel.specs.Jumps.{PickStays, IdleStays};
 ghost use Rattle.ceiling_kernel.specs.Bounds.{above_of, after_of, BoundHolds};
@@ -13,8 +13,8 @@ ghost use Rattle.ceiling_kernel.specs.Bounds.{above_of, after_of, BoundHolds};
 /// The tick rule picks a pending job of greatest active priority, and among equals the one of lower own level; it picks none
 /// only where none is pending.
 pub fn picks_go_first()
-    ensures picked { (node : Node) (jobs : List Job) (t p : ℕ) → picked node jobs t ≡ Some p → IsPicked node jobs t p }
-    ensures idle { (node : Node) (jobs : List Job) (t k : ℕ) → picked node jobs t ≡ None → k < length jobs → is_pending node jobs (executed_before node jobs t) t k ≡ false }
+    ensures picked { (node : Node) (jobs : List Job) → PicksFirst node jobs }
+    ensures idle { (node : Node) (jobs : List Job) → IdlesEmpty node jobs }
 {}
 
 /// The slices of a trace are the longest runs of ticks of one job, by time, and leave out no tick that picks a job.
@@ -24,8 +24,8 @@ pub fn slices_are_longest_runs()
 
 /// A job's finish is the end of the tick in which it executes the last of its cost; without one by a time, it lacks some.
 pub fn finishes_are_ends()
-    ensures finished { (node : Node) (jobs : List Job) (until j f : ℕ) → 0 < (task_of node jobs j).cost → finish_before node jobs until j ≡ Some f → (f ≤ until) × IsFinishAt node jobs j f }
-    ensures unfinished { (node : Node) (jobs : List Job) (until j : ℕ) → 0 < (task_of node jobs j).cost → finish_before node jobs until j ≡ None → executed_before node jobs until j < (task_of node jobs j).cost }
+    ensures finished { (node : Node) (jobs : List Job) → FinishesAreEnds node jobs }
+    ensures unfinished { (node : Node) (jobs : List Job) → UnfinishedLack node jobs }
 {}
 
 /// Whenever a job asks for locks it holds none and nobody holds any of them, and its priority, then its own level, is at
