@@ -35,6 +35,8 @@ fn run(rt: &HostRuntime) -> Status {
             return refuse(Refusal::OutOfMemory, &mut output);
         }
     }
+    // Takes the number of a standard stream that is closed, so that no input gets it: a folder is neither read nor written.
+    let _folder = fs::open(rt, "/");
     match read_words(rt.alloc(), &texts) {
         Ok(call) => run_call(rt, call, &mut output),
         Err(fault) => refuse_words(&fault, &mut output, &mut errors),
@@ -72,6 +74,17 @@ fn open(rt: &HostRuntime, input: Input<'_>) -> io::Result<Watched<Source>> {
     }
 }
 
+// The second input is opened only where the first was.
+fn open_both(
+    rt: &HostRuntime,
+    first: Input<'_>,
+    second: Input<'_>,
+) -> io::Result<(Watched<Source>, Watched<Source>)> {
+    let first = open(rt, first)?;
+    let second = open(rt, second)?;
+    Ok((first, second))
+}
+
 // Opens the inputs of a call, and runs it.
 fn run_call(rt: &HostRuntime, call: Call<'_>, output: &mut Watched<Stdout>) -> Status {
     let alloc = rt.alloc();
@@ -84,15 +97,18 @@ fn run_call(rt: &HostRuntime, call: Call<'_>, output: &mut Watched<Stdout>) -> S
             Ok(mut set) => certify(alloc, &mut set, output),
             Err(_) => refuse(NOT_OPENED, output),
         },
-        Call::Check { set, certificate } => match (open(rt, set), open(rt, certificate)) {
-            (Ok(mut set), Ok(mut certificate)) => {
-                check_files(alloc, &mut set, &mut certificate, output)
-            }
-            _ => refuse(NOT_OPENED, output),
+        Call::Check { set, certificate } => match open_both(rt, set, certificate) {
+            Ok((mut set, mut certificate)) => check_files(
+                alloc,
+                &mut set,
+                &mut certificate,
+                output,
+            ),
+            Err(_) => refuse(NOT_OPENED, output),
         },
-        Call::Simulate { set, releases } => match (open(rt, set), open(rt, releases)) {
-            (Ok(mut set), Ok(mut releases)) => simulate(alloc, &mut set, &mut releases, output),
-            _ => refuse(NOT_OPENED, output),
+        Call::Simulate { set, releases } => match open_both(rt, set, releases) {
+            Ok((mut set, mut releases)) => simulate(alloc, &mut set, &mut releases, output),
+            Err(_) => refuse(NOT_OPENED, output),
         },
     }
 }
