@@ -3,7 +3,6 @@ use Rattle.std.proofs.Common.{◌≡◌, ℕ, ◌+◌, ◌<◌, Bool, true, fals
 use Rattle.std.proofs.lemmas.Bool.{false≢true}
 use Rattle.std.proofs.lemmas.List.{take_more}
 use Rattle.std.proofs.lemmas.List.Sums.{fold-append, fold_push}
-use Rattle.std.proofs.lemmas.Slice.Eq.{bytes_eq-Decides}
 use Rattle.std.specs.Cmp.{nat_cmp_total}
 use Rattle.std.specs.Cmp.Lexicographic.{nat_list_eq_equiv}
 use Rattle.std.specs.FinSet as set
@@ -13,14 +12,9 @@ use Rattle.std.specs.Ordering.{nat_cmp, eq_by_cmp}
 use Rattle.indexmap.specs.IndexMap.{insert_entry}
 use Rattle.task_sheet.specs.Sheet.{CriticalSection, Task, same_bytes}
 use Rattle.task_sheet.specs.Locks.{names_lock, uses}
+use Rattle.task_sheet.proofs.NameLaws.{same_own, same_is}
 use Rattle.ceilings.specs.Table.{Table, locks_in, users_in, with_user, with_section, with_task}
 use Rattle.ceilings.specs.IsTableOf.{with_name}
-
-same_is : (a b : List ℕ) → same_bytes a b ≡ true → a ≡ b
-same_is a b h = (bytes_eq-Decides a b).0 h
-
-same_own : (a : List ℕ) → same_bytes a a ≡ true
-same_own a = nat_list_eq_equiv.refl a
 
 -- ---- the users of a lock
 

@@ -5,29 +5,22 @@ use Rattle.std.specs.Option.{option_or}
 use Rattle.task_sheet.specs.Sheet.{Task, task_at}
 use Rattle.task_sheet.specs.Indexes.{Indexes}
 use Rattle.task_sheet.specs.Locks.{uses, ceiling_from, ceiling_of}
+use Rattle.task_sheet.proofs.OptionLaws.{option_or-none, option_or-assoc}
 
 -- the level of the last element that passes, where the first stands at a level
 abbrev pub highest_from : ℕ → Indexes → List ℕ → Option ℕ
 highest_from level p [] = None
 highest_from level p (i ∷ order) = option_or (highest_from (level + 1) p order) (cond (p i) (Some level) None)
 
-or_none : {A : Type 0} (o : Option A) → option_or o None ≡ o
-or_none None = refl
-or_none (Some x) = refl
-
-or_regrouped : {A : Type 0} (o p q : Option A) → option_or (option_or o p) q ≡ option_or o (option_or p q)
-or_regrouped None p q = refl
-or_regrouped (Some x) p q = refl
-
 highest_push : (level : ℕ) (p : Indexes) (order : List ℕ) (i : ℕ)
     → highest_from level p (order ++ i ∷ []) ≡ option_or (cond (p i) (Some (level + length order)) None) (highest_from level p order)
 highest_push level p [] i =
     let here : level + 0 ≡ level = omega arith in
-    rw here (sym (or_none (cond (p i) (Some level) None)))
+    rw here (sym (option_or-none (cond (p i) (Some level) None)))
 highest_push level p (j ∷ order) i =
     let here : (level + 1) + length order ≡ level + length (j ∷ order) = omega arith in
     ap (λ o. option_or o (cond (p j) (Some level) None)) (highest_push (level + 1) p order i)
-    ∙ or_regrouped (cond (p i) (Some ((level + 1) + length order)) None) (highest_from (level + 1) p order) (cond (p j) (Some level) None)
+    ∙ option_or-assoc (cond (p i) (Some ((level + 1) + length order)) None) (highest_from (level + 1) p order) (cond (p j) (Some level) None)
     ∙ rw here refl
 
 chosen : (b : Bool) (level : ℕ) (o : Option ℕ) → cond b (Some level) o ≡ option_or (cond b (Some level) None) o

@@ -2,4 +2,3 @@ pub mod Growth
 pub mod WholeTable
 pub mod Highest
 pub mod Reached
-pub mod OrderBounds

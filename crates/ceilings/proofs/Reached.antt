@@ -1,5 +1,6 @@
 -- A section is reached by the members where one of its locks has a user among them.
 use Rattle.std.proofs.Common.{◌≡◌, ℕ, zero, suc, ◌≤◌, inl, inr, Bool, true, false, ◌||◌, ◌&&◌, List, [], ◌∷◌, length, refl, sym, ◌∙◌, ap, arith}
+use Rattle.std.proofs.Math.Bool.{and_comm, or-false}
 use Rattle.std.proofs.lemmas.Bool.{cases_eq}
 use Rattle.std.specs.FinSet as set
 use Rattle.std.specs.List.{list_any}
@@ -7,14 +8,11 @@ use Rattle.std.specs.Ordering.{nat_cmp}
 use Rattle.task_sheet.specs.Sheet.{CriticalSection, Task, task_at}
 use Rattle.task_sheet.specs.Indexes.{indexes_of, some_below, meet}
 use Rattle.task_sheet.specs.Locks.{uses, reaches}
+use Rattle.task_sheet.proofs.Below.{some_below-none}
 use Rattle.task_sheet.proofs.MembersMeet.{some_below-congr}
 use Rattle.ceilings.specs.Table.{Table, users_in, some_uses}
 use Rattle.ceilings.specs.IsTableOf.{IsTableOf}
 use Rattle.ceilings.proofs.WholeTable.{past_none}
-
-some_below-none : (n : ℕ) (p : ℕ → Bool) → ((k : ℕ) → p k ≡ false) → some_below n p ≡ false
-some_below-none zero p none = refl
-some_below-none (suc n) p none = rw (some_below-none n p none, none n)
 
 swapped : (a b c d : Bool) → ((a || b) || (c || d)) ≡ ((a || c) || (b || d))
 swapped true b c d = refl
@@ -26,10 +24,6 @@ some_below-or : (n : ℕ) (p q : ℕ → Bool) → some_below n (λ k. p k || q 
 some_below-or zero p q = refl
 some_below-or (suc n) p q = ap (λ b. b || (p n || q n)) (some_below-or n p q) ∙ swapped (some_below n p) (some_below n q) (p n) (q n)
 
-or_false : (b : Bool) → (b || false) ≡ b
-or_false true = refl
-or_false false = refl
-
 -- numbers past n change nothing where none of them passes
 some_below-further : (n m : ℕ) (p : ℕ → Bool) → n ≤ m → ((k : ℕ) → n ≤ k → p k ≡ false) → some_below m p ≡ some_below n p
 some_below-further n zero p le none =
@@ -40,18 +34,12 @@ some_below-further n (suc m) p le none =
       | inl e ↦ rw e refl
       | inr ne ↦
           let last : p m ≡ false = none m (omega arith) in
-          rw last (or_false (some_below m p) ∙ some_below-further n m p (omega arith) none)
+          rw last (or-false (some_below m p) ∙ some_below-further n m p (omega arith) none)
     ]
 
 both_or : (x a b : Bool) → (x && (a || b)) ≡ ((x && a) || (x && b))
 both_or true a b = refl
 both_or false a b = refl
-
-turned : (a b : Bool) → (a && b) ≡ (b && a)
-turned true true = refl
-turned true false = refl
-turned false true = refl
-turned false false = refl
 
 none_of : (x b : Bool) → b ≡ false → (x && b) ≡ false
 none_of true b e = e
@@ -68,11 +56,11 @@ module _ (U : List Task) (table : Table) (is_table : IsTableOf U table) (members
   unfolding meet
   meet_is lock =
       some_below-congr 32 (λ k. indexes_of (users_in table lock) k && indexes_of members k) (member_uses lock)
-      (λ k lt. ap (λ b. b && indexes_of members k) (is_table.users lock k) ∙ turned (uses (task_at U k) lock) (indexes_of members k))
+      (λ k lt. ap (λ b. b && indexes_of members k) (is_table.users lock k) ∙ and_comm (uses (task_at U k) lock) (indexes_of members k))
       ∙ some_below-further (length U) 32 (member_uses lock) is_table.few (λ k le. none_of (indexes_of members k) (uses (task_at U k) lock) (past_none U k lock le))
 
   some_uses-is : (locks : List (List ℕ)) → some_uses table members locks ≡ some_below (length U) (uses_one locks)
-  some_uses-is [] = sym (some_below-none (length U) (uses_one []) (λ k. none_of (indexes_of members k) false refl))
+  some_uses-is [] = sym (some_below-none (length U) (uses_one []) (λ k lt. none_of (indexes_of members k) false refl))
   some_uses-is (lock ∷ locks) =
       ap (λ b. b || some_uses table members locks) (meet_is lock)
       ∙ ap (λ b. some_below (length U) (member_uses lock) || b) (some_uses-is locks)

@@ -90,7 +90,7 @@ impl LockTable {
     }
 
     /// How many locks the set has.
-    pub fn len(&self) -> usize
+    pub fn count(&self) -> usize
         ensures noted { result ≡ length (locks_in self.now) }
         ensures locks { (U : List Task) → IsTableOf U self.now → result ≡ length (locks_of U) }
     {

@@ -45,9 +45,8 @@ fn limit_of(set: &TaskSet, task: usize) -> u64
     set.sheets()[task].deadline()
 }
 
-/// The work that falls due to a task within a window of `time` microseconds, with these above it: its cost, its blocking,
-/// and the cost of each job of these that is released within the window (Audsley et al. 1993). The table is that of the
-/// set.
+/// The demand of a task in a window of `time` microseconds, with these above it: its cost, its blocking, and the cost of
+/// each job of these that is released within the window (Audsley et al. 1993). The table is that of the set.
 pub fn demand(set: &TaskSet, table: &LockTable, task: usize, above: Members, time: u64) -> u64
     requires table { IsTableOf set.now table.now }
     requires task { task < length set.now }

@@ -1,4 +1,4 @@
-//! The work that falls due to one task below others, made ready to be asked for again and again.
+//! The demand of one task below others, made ready to be asked for again and again.
 ghost use Rattle.std.specs.Prelude.{◌≡◌, ◌<◌, ◌≤◌, ℕ, length};
 ghost use Rattle.task_sheet.specs.Sheet.{IsValidSheet};
 ghost use Rattle.task_sheet.specs.Indexes.{indexes_of};
@@ -9,7 +9,7 @@ ghost use Rattle.response_time.specs.Workload.{share_within, work_within};
 use blocking::blocking;
 use ceilings::LockTable;
 use std::marker::Model;
-use task_sheet::{Members, Sheet, TaskSet};
+use task_sheet::{Members, Sheet, TASK_LIMIT, TaskSet};
 
 // How often a task above comes, and what it takes each time, in microseconds.
 #[derive(Clone, Copy)]
@@ -32,7 +32,9 @@ impl Model for Share {
 
 impl Share {
     // No work at all.
-    fn none() -> Share {
+    fn none() -> Share
+        ensures { (time : ℕ) → share_within time result ≡ 0 }
+    {
         Share { period: 1, cost: 0 }
     }
 
@@ -57,11 +59,11 @@ impl Share {
     }
 }
 
-/// The work that falls due to a task: its cost and its blocking once, and the shares of the tasks above it.
+/// What must be executed for a task: its cost and its blocking once, and the shares of the tasks above it.
 #[derive(Drop)]
 pub(crate) struct Workload {
     always: u64,
-    shares: [Share; 32],
+    shares: [Share; TASK_LIMIT],
     count: usize,
 }
 
@@ -77,14 +79,14 @@ impl Model for Workload {
 }
 
 impl Workload {
-    /// The work that falls due to a task with these above it. The table is that of the set.
+    /// The demand of a task with these above it. The table is that of the set.
     pub(crate) fn new(set: &TaskSet, table: &LockTable, task: usize, above: Members) -> Workload
         requires table { IsTableOf set.now table.now }
         requires task { task < length set.now }
         ensures { (time : ℕ) → work_within time result ≡ demand_of set.now task (indexes_of above) time }
     {
         let sheets = set.sheets();
-        let mut shares = [Share::none(); 32];
+        let mut shares = [Share::none(); TASK_LIMIT];
         let mut count = 0;
         for (index, sheet) in sheets.iter().enumerate() {
             if above.has(index) {
@@ -99,7 +101,7 @@ impl Workload {
         }
     }
 
-    /// The work within a window of some microseconds.
+    /// The demand in a window of some microseconds.
     pub(crate) fn within(&self, time: u64) -> u64
         requires { time ≤ 10000000 }
         ensures { result ≡ work_within time self.now }

@@ -1,5 +1,5 @@
 -- Sums, greatest values and tests over the numbers below n, and greatest values over lists.
-use Rattle.std.proofs.Common.{◌≡◌, ℕ, zero, suc, ◌+◌, ◌*◌, ◌<◌, ◌≤◌, ◌⊎◌, Bool, cond, true, inl, inr, List, [], ◌∷◌, ◌++◌, length, take, get_or, add-one, refl, ap, arith, max, false}
+use Rattle.std.proofs.Common.{◌≡◌, ℕ, zero, suc, ◌+◌, ◌*◌, ◌<◌, ◌≤◌, ◌⊎◌, Bool, cond, true, inl, inr, List, [], ◌∷◌, ◌++◌, length, take, get_or, add-one, refl, sym, ◌∙◌, ap, arith, max, false}
 use Rattle.std.proofs.lemmas.List.{take_more}
 use Rattle.std.specs.List.{AllByRecursion, Contains}
 use Rattle.std.proofs.lemmas.Bool.{cases_Bool, cases_eq, cases_lt, or_left, or_right, or_cases}
@@ -116,9 +116,21 @@ greatest_of-push f [] y = omega arith
 greatest_of-push f (x ∷ xs) y = omega (arith, greatest_of-push f xs y)
 
 -- a loop's step
-pub greatest_of-step : {X : Type 0} (f : X → ℕ) (xs : List X) (i : ℕ) (d : X) → i < length xs
+greatest_of-step : {X : Type 0} (f : X → ℕ) (xs : List X) (i : ℕ) (d : X) → i < length xs
     → greatest_of f (take (i + 1) xs) ≡ max (greatest_of f (take i xs)) (f (get_or xs i d))
 greatest_of-step f xs i d lt = rw (take_more xs i d lt) (greatest_of-push f (take i xs) (get_or xs i d))
+
+cond-max : (b : Bool) (best n : ℕ) → cond b (max best n) best ≡ max best (cond b n 0)
+cond-max true best n = omega arith
+cond-max false best n = omega arith
+
+-- a loop's step, where only the elements that pass a test count
+pub greatest_step : {X : Type 0} (p : X → Bool) (f : X → ℕ) (xs : List X) (i : ℕ) (x : X) (b : Bool) (best next : ℕ) → i < length xs → x ≡ get_or xs i x → b ≡ p x
+    → best ≡ greatest_of (λ y. cond (p y) (f y) 0) (take i xs) → next ≡ cond b (max best (f x)) best → next ≡ greatest_of (λ y. cond (p y) (f y) 0) (take (i + 1) xs)
+greatest_step p f xs i x b best next lt is test h e =
+    e ∙ cond-max b best (f x) ∙ rw (test) (ap (λ n. max n (cond (p x) (f x) 0)) h
+    ∙ ap (λ y. max (greatest_of (λ z. cond (p z) (f z) 0) (take i xs)) (cond (p y) (f y) 0)) is
+    ∙ sym (greatest_of-step (λ y. cond (p y) (f y) 0) xs i x lt))
 
 -- ---- some number below n
 pub find_below : (n : ℕ) (p : ℕ → Bool) → ((k : ℕ) × (k < n) × (p k ≡ true)) ⊎ ((k : ℕ) → k < n → p k ≡ false)
@@ -147,6 +159,10 @@ some_below-witness (suc n) p h =
       | inl before ↦ let at = some_below-witness n p before in (at.0, omega (arith, at.1), at.2)
       | inr here ↦ (n, omega arith, here)
     ]
+
+pub some_below-none : (n : ℕ) (p : ℕ → Bool) → ((k : ℕ) → k < n → p k ≡ false) → some_below n p ≡ false
+some_below-none zero p none = refl
+some_below-none (suc n) p none = rw (some_below-none n p (λ k lt. none k (omega arith)), none n (omega arith))
 
 pub some_below-mono : (n : ℕ) (p q : ℕ → Bool) → ((k : ℕ) → p k ≡ true → q k ≡ true) → some_below n p ≡ true → some_below n q ≡ true
 some_below-mono n p q more h =

@@ -1,14 +1,14 @@
 -- Sets of indexes: parts of one another, one index less or more, and the lists that name them.
-use Rattle.std.proofs.Common.{◌≡◌, ℕ, zero, suc, ◌+◌, ◌<◌, ◌≤◌, ◌⊎◌, inl, inr, Bool, true, false, cond, ◌==◌, ◌&&◌, not, nat_lt, List, [], ◌∷◌, ◌++◌, refl, sym, ◌∙◌, ap, arith}
+use Rattle.std.proofs.Common.{◌≡◌, ℕ, zero, suc, ◌+◌, ◌*◌, ◌<◌, ◌≤◌, ◌⊎◌, inl, inr, Bool, true, false, cond, ◌==◌, ◌&&◌, not, nat_lt, List, [], ◌∷◌, ◌++◌, length, refl, sym, ◌∙◌, ap, arith}
 use Rattle.std.proofs.Math.Path.{fun_ext}
-use Rattle.std.specs.List.{count_by}
-use Rattle.std.proofs.lemmas.Bool.{cases_Bool, cases_eq, and_parts, and_from, or_cases, or_left, or_right, both_ways, cond-true, cond-false, eq-eqb, ne_eqb, not-true, lt-ltb, le-ltb}
+use Rattle.std.specs.List.{count_by, AllByRecursion}
+use Rattle.std.proofs.lemmas.Bool.{cases_Bool, cases_eq, and_parts, and_from, or_cases, or_left, or_right, both_ways, cond-true, cond-false, eq-eqb, ne_eqb, not-true, lt-ltb, le-ltb, ltb-true}
 use Rattle.std.proofs.lemmas.Bool.Decides.{nat_tests}
 use Rattle.std.proofs.Math.Bool.{and-false}
 use Rattle.std.proofs.lemmas.List.Sums.{sum_by-cons, sum_by-append}
 use Rattle.task_sheet.specs.Indexes.{Indexes, IsPart, below, with_index, without_index, among, listed_below, sum_below}
 use Rattle.task_sheet.specs.Orders.{IsOrderOf}
-use Rattle.task_sheet.proofs.Below.{sum_below-gap}
+use Rattle.task_sheet.proofs.Below.{cond-le, sum_below-gap, sum_below-fits}
 
 -- ---- parts
 pub same_parts : (G H : Indexes) → IsPart G H → IsPart H G → G ≡ H
@@ -33,6 +33,10 @@ without-parts H i k h =
 pub without-part : (G H : Indexes) (i : ℕ) → IsPart G H → IsPart (without_index G i) (without_index H i)
 without-part G H i part k h =
     let both = without-parts G i k h in without-member H i k (part k both.0) both.1
+
+-- what is left of a part is a part
+pub without-part_of : (n : ℕ) (L : Indexes) (i : ℕ) → IsPart L (below n) → IsPart (without_index L i) (below n)
+without-part_of n L i part k h = part k (without-parts L i k h).0
 
 -- it is gone, and the others stay
 pub without-gone : (H : Indexes) (i k : ℕ) → k ≡ i → without_index H i k ≡ false
@@ -61,7 +65,7 @@ without-fewer n L i lt member =
     )
 
 -- ---- how often a list names an index
-count-cons : (i k : ℕ) (xs : List ℕ) → count_by (λ x. x == k) (i ∷ xs) ≡ cond (i == k) 1 0 + count_by (λ x. x == k) xs
+pub count-cons : (i k : ℕ) (xs : List ℕ) → count_by (λ x. x == k) (i ∷ xs) ≡ cond (i == k) 1 0 + count_by (λ x. x == k) xs
 count-cons i k xs = sum_by-cons (λ x. cond (x == k) 1 0) i xs
 
 count-same : (i k : ℕ) (xs : List ℕ) → i ≡ k → count_by (λ x. x == k) (i ∷ xs) ≡ 1 + count_by (λ x. x == k) xs
@@ -118,6 +122,25 @@ IsOrderOf-cons L i above member each k =
       | inr ne ↦
           rw (without-kept L i k ne) at (count-other i k above (λ e. ne (sym e)) ∙ once)
     ]
+
+-- ---- such a list of indexes below n: each is below n, and there are n at most
+pub order-below : (n : ℕ) (L : Indexes) (order : List ℕ) → IsOrderOf L order → IsPart L (below n) → AllByRecursion (λ k. k < n) order
+order-below n L [] each part = tt
+order-below n L (i ∷ above) each part =
+    (ltb-true i n (part i (IsOrderOf-head L i above each)), order-below n (without_index L i) above (IsOrderOf-rest L i above each) (without-part_of n L i part))
+
+order-count : (n : ℕ) (L : Indexes) (order : List ℕ) → IsOrderOf L order → IsPart L (below n) → length order ≤ count_below n L
+order-count n L [] each part = omega arith
+order-count n L (i ∷ above) each part =
+    let member = IsOrderOf-head L i above each in
+    let fewer = without-fewer n L i (ltb-true i n (part i member)) member in
+    let rest = order-count n (without_index L i) above (IsOrderOf-rest L i above each) (without-part_of n L i part) in
+    omega (arith, fewer, rest)
+
+pub order-few : (n : ℕ) (L : Indexes) (order : List ℕ) → IsOrderOf L order → IsPart L (below n) → length order ≤ n
+order-few n L order each part =
+    let all : count_below n L ≤ n * 1 = sum_below-fits n 1 (λ k. cond (L k) 1 0) (λ k lt. cond-le (L k) 1 0 1 (omega arith) (omega arith)) in
+    omega (arith, order-count n L order each part, all)
 
 -- ---- the rising list of a set
 push-count : (xs : List ℕ) (b : Bool) (n k : ℕ)

@@ -6,10 +6,14 @@ use Rattle.task_sheet.specs.Indexes.{Indexes, with_index, sum_below, greatest_be
 use Rattle.task_sheet.specs.Locks.{reaches}
 use Rattle.task_sheet.specs.Responses.{Covers}
 
--- ---- the two words that say what a task releases and how long it may take
--- how many jobs of a task are released within a window of this length
+-- ---- the words that say what a task releases and how long it may take
+-- how many jobs of this period are released within a window of this length
+abbrev pub jobs_within : (period time : ℕ) → ℕ
+jobs_within period time = div_ceil time period
+
+-- how many jobs of a task are released within the window
 abbrev pub releases_within : Task → ℕ → ℕ
-releases_within t time = div_ceil time t.period
+releases_within t time = jobs_within t.period time
 
 -- the longest time that serves a task: its deadline
 abbrev pub limit_of : Task → ℕ
@@ -43,10 +47,14 @@ pub record Blocks (U : List Task) (i : ℕ) (H : Indexes) (s : CriticalSection) 
 abbrev pub interference_of : Task → ℕ → ℕ
 interference_of t time = releases_within t time * t.cost
 
+-- what the jobs of the tasks H can execute in a window
+abbrev pub interference_within : List Task → Indexes → ℕ → ℕ
+interference_within U H time = sum_below (length U) (λ h. if H h then interference_of (task_at U h) time else 0)
+
 -- cost, blocking, and the interference of the tasks above
 unfoldable pub demand_of : List Task → ℕ → Indexes → ℕ → ℕ
 demand_of U i H time =
-    (task_at U i).cost + blocking_of U i H + sum_below (length U) (λ h. if H h then interference_of (task_at U h) time else 0)
+    (task_at U i).cost + blocking_of U i H + interference_within U H time
 
 -- task i passes with the tasks H above it: some time from 1 to its limit covers its demand
 abbrev pub Passes : List Task → ℕ → Indexes → Type 0

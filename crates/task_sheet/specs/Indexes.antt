@@ -24,7 +24,7 @@ with_index H i k = (k == i) || H k
 abbrev pub without_index : Indexes → ℕ → Indexes
 without_index H i k = H k && not (k == i)
 
--- the indexes of both
+-- the indexes of either
 abbrev pub either_of : Indexes → Indexes → Indexes
 either_of G H k = G k || H k
 
@@ -46,6 +46,7 @@ listed_below zero L = []
 listed_below (suc n) L = if L n then listed_below n L ++ n ∷ [] else listed_below n L
 
 -- ---- over the numbers below n
+-- the sum of the values below n
 abbrev pub sum_below : ℕ → (ℕ → ℕ) → ℕ
 sum_below zero f = 0
 sum_below (suc n) f = sum_below n f + f n

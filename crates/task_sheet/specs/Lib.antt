@@ -9,7 +9,7 @@ pub mod MembersWords
 pub mod MembersLaws
 pub mod TaskSet
 pub mod SetFields
-pub mod SetFault
+pub mod SheetsFault
 pub mod Tree
 pub mod TreeFault
 pub mod ReadsSet

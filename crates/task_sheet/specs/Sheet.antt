@@ -72,7 +72,7 @@ pub record IsTask (t : Task) : Type 0 where
   pub cost : 0 < t.cost
   pub within : All (λ s. s.at + s.len ≤ t.cost) t.sections
 
--- the laws of the analysis hold of such lists
+-- each of the list is such a task
 abbrev pub AllTasks : List Task → Type 0
 AllTasks U = All IsTask U
 

@@ -1,8 +1,8 @@
 -- Equality of sections and of sheets as a test: an equivalence that holds of equal values alone.
-use Rattle.std.specs.Prelude.{◌≡◌, Bool, true, List}
-use Rattle.std.proofs.Common.{refl, subst, Decides, ◌↔◌, IsTrue}
+use Rattle.std.specs.Prelude.{◌≡◌, Bool, true}
+use Rattle.std.proofs.Common.{refl, subst, Decides}
 use Rattle.std.specs.Cmp.{IsPartialEquivalence, IsEquivalence, and_equiv, on_equiv, partial_equiv_from_equiv, nat_eq_equiv}
-use Rattle.std.specs.Cmp.Lexicographic.{pointwise, lists_equiv, nat_list_eq_equiv}
+use Rattle.std.specs.Cmp.Lexicographic.{lists_equiv, nat_list_eq_equiv}
 use Rattle.std.proofs.lemmas.Bool.{and_parts}
 use Rattle.std.proofs.lemmas.Bool.Decides.{Decides-eqb}
 use Rattle.std.proofs.lemmas.Slice.Eq.{slice_eq-Decides, bytes_eq-Decides}
@@ -50,15 +50,3 @@ same_sheet-Decides x y = decides same_sheet sheet_equiv x y (λ h.
     let cost : x.cost ≡ y.cost = (Decides-eqb x.cost y.cost).0 e.0 in
     let sections : x.sections ≡ y.sections = (slice_eq-Decides same_section-Decides x.sections y.sections _ refl).0 e.1 in
     λ i. record { name = name i; weight = weight i; period = period i; deadline = deadline i; cost = cost i; sections = sections i })
-
--- ---- what an answer says
-
--- of two lists of sheets
-pub same_sheets_told : (xs ys : List Task) (r : Bool) → r ≡ pointwise same_sheet xs ys → IsTrue r ↔ (xs ≡ ys)
-same_sheets_told xs ys r e = slice_eq-Decides same_sheet-Decides xs ys r e
-
-pub same_section_told : (x y : CriticalSection) (r : Bool) → r ≡ same_section x y → IsTrue r ↔ (x ≡ y)
-same_section_told x y r e = rw e (same_section-Decides x y)
-
-pub same_sheet_told : (x y : Task) (r : Bool) → r ≡ same_sheet x y → IsTrue r ↔ (x ≡ y)
-same_sheet_told x y r e = rw e (same_sheet-Decides x y)

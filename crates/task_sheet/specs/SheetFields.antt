@@ -1,4 +1,4 @@
--- How a `Section` and a `Sheet` keep their data.
+-- How a `Sheet` keeps its data.
 use Rattle.task_sheet.specs.Sheet.{Task, IsValidSheet}
 use Rattle.task_sheet.specs.declared.sheet.Sheet.TheInside.{Inside}
 

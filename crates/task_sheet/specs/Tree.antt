@@ -3,8 +3,8 @@ use Rattle.std.specs.Prelude.{◌≡◌, ℕ, Bool, true, false, ◌&&◌, List,
 use Rattle.std.specs.List.{list_any}
 use Rattle.toml.specs.Data.{Data, string, integer, array, table, Items, no_items, item, Members, no_members, member, get_member, as_str}
 use Rattle.task_sheet.specs.Sheet.{CriticalSection, Task, same_bytes}
-use Rattle.task_sheet.specs.declared.read.Key.{Key}
-use Rattle.task_sheet.specs.declared.read.Key.TheVariants as key
+use Rattle.task_sheet.specs.declared.keys.Key.{Key}
+use Rattle.task_sheet.specs.declared.keys.Key.TheVariants as key
 
 -- ---- keys
 
@@ -21,7 +21,7 @@ word_of key.Locks = codes "locks"
 word_of key.At = codes "at"
 word_of key.Len = codes "len"
 
--- the keys that may stand in the root, in a task's table and in a section's, and those that a task needs
+-- the keys that may stand in the root
 abbrev pub root_keys : List Key
 root_keys = key.Task ∷ []
 

@@ -6,12 +6,12 @@ use Rattle.toml.specs.Data.{Members}
 use Rattle.task_sheet.specs.Name.{is_name}
 use Rattle.task_sheet.specs.Sheet.{CriticalSection, Task}
 use Rattle.task_sheet.specs.SheetFault.{sheet_fault}
-use Rattle.task_sheet.specs.SetFault.{set_fault}
+use Rattle.task_sheet.specs.SheetsFault.{sheets_fault}
 use Rattle.task_sheet.specs.Tree.{root_keys, task_keys, needed_keys, section_keys, only_keys, first_missing, value_at, number_at, number_or_zero, text_at, strings_at, tables_at, sheet_at, tree_sheets}
 use Rattle.task_sheet.specs.declared.set.SetCause.{SetCause}
 use Rattle.task_sheet.specs.declared.set.SetCause.TheVariants as cause
-use Rattle.task_sheet.specs.declared.read.Key.{Key}
-use Rattle.task_sheet.specs.declared.read.Key.TheVariants as key
+use Rattle.task_sheet.specs.declared.keys.Key.{Key}
+use Rattle.task_sheet.specs.declared.keys.Key.TheVariants as key
 use Rattle.task_sheet.specs.declared.read.SetFault.{SetFault}
 use Rattle.task_sheet.specs.declared.read.SetFault.TheVariants as fault
 
@@ -90,5 +90,5 @@ tree_fault ms = first (
     unless (only_keys root_keys ms) (fault.UnknownKey 0 0)
     ∷ unless (is_some (tables_at key.Task ms)) (fault.WrongKind 0 0 key.Task)
     ∷ tasks_fault 1 (unwrap_or (tables_at key.Task ms) [])
-    ∷ option_map of_set (set_fault (tree_sheets ms))
+    ∷ option_map of_set (sheets_fault (tree_sheets ms))
     ∷ [])

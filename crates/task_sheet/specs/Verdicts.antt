@@ -23,7 +23,7 @@ pub data VerdictData : Type 0 where
   Admitted : (levels : List LevelData) → VerdictData
   Infeasible : (members : List FailureData) → VerdictData
 
--- the tasks that fail, and those of the levels from the lowest up
+-- the tasks that fail, in their order
 abbrev pub tasks_of : List FailureData → List ℕ
 tasks_of fails = map (λ f. f.task) fails
 

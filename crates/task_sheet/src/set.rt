@@ -2,7 +2,7 @@
 ghost use Rattle.std.specs.Prelude.{◌≡◌, ◌≢◌, ◌==◌, ◌↔◌, ℕ, ◌+◌, ◌<◌, ◌≤◌, List, [], ◌∷◌, ◌++◌, length, vec_len, true, false, Some, None, Err, IsTrue, IsNone, IsSome, IfOk, IfErr, IfSome, IfNone, All, option_map, slice_get, position};
 ghost use Rattle.task_sheet.specs.Sheet.{Task, IsValidSheet, same_bytes};
 ghost use Rattle.task_sheet.specs.TaskSet.{IsTaskSet, IsByRank, AreDistinct, first_repeat, has_name, others_of, same_name};
-ghost use Rattle.task_sheet.specs.SetFault.{set_fault, with_fault};
+ghost use Rattle.task_sheet.specs.SheetsFault.{sheets_fault, with_fault};
 
 use crate::name::Name;
 use crate::sheet::Sheet;
@@ -71,6 +71,16 @@ pub enum WithoutFault {
     /// A growth was refused.
     #[error("out of memory")]
     OutOfMemory,
+}
+
+impl From<AllocError> for WithoutFault {
+    ghost use Rattle.task_sheet.specs.declared.set.WithoutFault.TheVariants.{OutOfMemory};
+
+    ghost from_gives = { λ _ fault. fault ≡ OutOfMemory };
+
+    fn from(_error: AllocError) -> WithoutFault {
+        WithoutFault::OutOfMemory
+    }
 }
 
 /// At most 32 sheets with distinct names, by rank: by weight, then by the bytes of the name. A task's
@@ -153,9 +163,9 @@ fn by_rank(mut sheets: Vec<Sheet>) -> TaskSet
 impl TaskSet {
     /// The set of the sheets. Refused in this order: `SameName`, `TooManyTasks`.
     pub fn new(alloc: Global, sheets: Vec<Sheet>) -> Result<TaskSet, SheetsFault>
-        ensures ok { IfOk result (λ set. (set_fault sheets.items ≡ None) × IsByRank sheets.items set) }
+        ensures ok { IfOk result (λ set. (sheets_fault sheets.items ≡ None) × IsByRank sheets.items set) }
         ensures err { IfErr result (λ e. e.cause ≢ SetCause.OutOfMemory
-            → set_fault sheets.items ≡ Some e.cause) }
+            → sheets_fault sheets.items ≡ Some e.cause) }
         ensures back { IfErr result (λ e. e.sheets.items ≡ sheets.items) }
     {
         let cause = match first_repeat(alloc, &sheets) {
@@ -259,9 +269,7 @@ impl TaskSet {
         if !is_taken(&self.sheets, name) {
             return Err(WithoutFault::NoSuchTask);
         }
-        match copy_others(alloc, &self.sheets, name) {
-            Ok(sheets) => Ok(TaskSet { sheets }),
-            Err(_) => Err(WithoutFault::OutOfMemory),
-        }
+        let sheets = copy_others(alloc, &self.sheets, name)?;
+        Ok(TaskSet { sheets })
     }
 }

@@ -10,20 +10,20 @@ use std::alloc::{AllocError, Global};
 use std::marker::Model;
 use thiserror::Error;
 
-/// The greatest weight.
-pub const WEIGHT_LIMIT: u64 = 1000;
+// The greatest weight.
+const WEIGHT_LIMIT: u64 = 1000;
 
-/// The shortest period, in microseconds.
-pub const PERIOD_FROM: u64 = 1000;
+// The shortest period, in microseconds.
+const PERIOD_FROM: u64 = 1000;
 
-/// The longest period, in microseconds.
-pub const PERIOD_TO: u64 = 10_000_000;
+// The longest period, in microseconds.
+const PERIOD_TO: u64 = 10_000_000;
 
-/// The most sections of a task.
-pub const SECTION_LIMIT: usize = 8;
+// The most sections of a task.
+const SECTION_LIMIT: usize = 8;
 
-/// The most locks of a section.
-pub const LOCK_LIMIT: usize = 4;
+// The most locks of a section.
+const LOCK_LIMIT: usize = 4;
 
 /// Why values are no sheet. A section is named by its place, from 1.
 #[derive(Clone, Copy, Debug, PartialEq, Eq, Error)]
@@ -79,8 +79,8 @@ pub struct SheetFault {
     pub sections: Vec<Section>,
 }
 
-/// A critical section: while a job has executed from `at` to before `at + len` microseconds, it holds
-/// the locks. A nested section is written as one section that holds all its locks for its whole length
+/// A critical section: a job takes the locks when it has executed `at` microseconds and executes on, and gives them back when it
+/// has executed `at + len`. A nested section is written as one section that holds all its locks for its whole length
 /// (Sha, Rajkumar, Lehoczky 1990; `PTHREAD_PRIO_PROTECT` of POSIX.1-2017).
 #[derive(Debug, Drop)]
 pub struct Section {
@@ -101,8 +101,8 @@ impl Model for Section {
 }
 
 impl Section {
-    /// A section that says the same.
-    pub fn copy(&self, alloc: Global) -> Result<Section, AllocError>
+    // A section that says the same.
+    pub(crate) fn copy(&self, alloc: Global) -> Result<Section, AllocError>
         ensures { IfOk result (λ s. s ≡ self.now) }
     {
         let locks = Vec::from_slice(alloc, &self.locks)?;

@@ -6,11 +6,11 @@ use Rattle.task_sheet.specs.Tree.{tables_in, section_at}
 use Rattle.task_sheet.specs.TreeFault.{section_table_fault}
 use Rattle.task_sheet.proofs.TreeLaws.{IsReadAs, tables_more, tables_left, never_other, read_more}
 use Rattle.task_sheet.proofs.read.read_sections.Goals as goal
-use Rattle.task_sheet.proofs.read.read_sections.Goals.{in-Some+in_ok-section+else-is_err, in_default}
+use Rattle.task_sheet.proofs.read.read_sections.Goals.{in-Some+in_ok-section+in_ok-take, in_default}
 
 pub loop-i-preserved : goal.loop-i-preserved
 loop-i-preserved c = elim c.match-as_table.branch [
-  | in-Some+in_ok-section+else-is_err w ↦
+  | in-Some+in_ok-section+in_ok-take w ↦
       let here : Some (table_view w.in-Some.table.now) ≡ as_table (view c.index-items-i.result) = search rules in
       let rest = tables_more c.args.items.now c.loop-i.i c.index-items-i.result (table_view w.in-Some.table.now) c.loop-i-test.true c.index-items-i.is here in
       let none : section_table_fault c.args.task (c.loop-i.i + 1) (table_view w.in-Some.table.now) ≡ None = search rules in

@@ -7,8 +7,8 @@ use Rattle.task_sheet.specs.Indexes.{indexes_of, sum_below}
 use Rattle.task_sheet.specs.Demand.{interference_of, demand_of}
 use Rattle.task_sheet.proofs.Below.{sum_step}
 use Rattle.task_sheet.proofs.DemandFits.{cost-fits}
+use Rattle.task_sheet.proofs.TaskLaws.{task_read}
 use Rattle.response_time.specs.Workload.{share_within}
-use Rattle.response_time.proofs.SheetReads.{task_read}
 use Rattle.response_time.proofs.Shares.{share_added}
 use Rattle.response_time.proofs.workload.Workload.new.Goals as goal
 use Rattle.response_time.proofs.workload.Workload.new.Goals.{then-has, else-has}

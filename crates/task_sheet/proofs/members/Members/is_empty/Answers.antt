@@ -1,6 +1,6 @@
 use Rattle.std.proofs.Common.{arith}
 use Rattle.task_sheet.specs.Members.{places}
-use Rattle.task_sheet.specs.MembersLaws.{same_bits, same_members_told}
+use Rattle.task_sheet.proofs.Equality.{same_bits, same_members_told}
 use Rattle.task_sheet.proofs.MembersEdits.{places-zero}
 use Rattle.task_sheet.proofs.members.Members.is_empty.Goals as goal
 

@@ -1,6 +1,6 @@
 use Rattle.std.proofs.Common.{◌≡◌, nat_eq}
 use Rattle.task_sheet.specs.MembersWords.{same_members}
-use Rattle.task_sheet.specs.MembersLaws.{same_bits, same_members_told}
+use Rattle.task_sheet.proofs.Equality.{same_bits, same_members_told}
 use Rattle.task_sheet.proofs.members.MembersPartialEq.eq.Goals as goal
 
 pub returns-clause-value : goal.returns-clause-value

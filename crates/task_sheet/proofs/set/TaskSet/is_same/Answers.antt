@@ -1,5 +1,5 @@
 use Rattle.std.proofs.Common.{rules}
-use Rattle.task_sheet.specs.SheetEquality.{same_sheets_told}
+use Rattle.task_sheet.proofs.Equality.{same_sheets_told}
 use Rattle.task_sheet.proofs.set.TaskSet.is_same.Goals as goal
 
 pub returns : goal.returns

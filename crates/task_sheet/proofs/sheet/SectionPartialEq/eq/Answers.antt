@@ -1,5 +1,5 @@
 use Rattle.std.proofs.Common.{rules}
-use Rattle.task_sheet.specs.SheetEquality.{same_section_told}
+use Rattle.task_sheet.proofs.Equality.{same_section_told}
 use Rattle.task_sheet.proofs.sheet.SectionPartialEq.eq.Goals as goal
 
 pub returns-then-self-other-clause-same : goal.returns-then-self-other-clause-same

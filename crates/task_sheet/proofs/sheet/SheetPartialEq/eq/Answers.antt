@@ -1,5 +1,5 @@
 use Rattle.std.proofs.Common.{rules}
-use Rattle.task_sheet.specs.SheetEquality.{same_sheet_told}
+use Rattle.task_sheet.proofs.Equality.{same_sheet_told}
 use Rattle.task_sheet.proofs.sheet.SheetPartialEq.eq.Goals as goal
 
 pub returns-then-self-other-4-clause-same : goal.returns-then-self-other-4-clause-same

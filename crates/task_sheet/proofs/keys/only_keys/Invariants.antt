@@ -1,7 +1,7 @@
 use Rattle.std.proofs.Common.{◌≡◌}
 use Rattle.toml.specs.View.{members_view}
 use Rattle.task_sheet.specs.Tree.{only_keys}
-use Rattle.task_sheet.proofs.read.only_keys.Given as goal
+use Rattle.task_sheet.proofs.keys.only_keys.Given as goal
 
 abbrev pub invariant-loop-key : goal.invariant-loop-key
 invariant-loop-key l =

@@ -13,8 +13,8 @@ set_cause (Some task) xs = Some (cause.SameName task)
 set_cause None xs = if nat_lt 32 (length xs) then Some cause.TooManyTasks else None
 
 -- the first reason why sheets are no set, in the order in which they are given
-abbrev pub set_fault : List Task → Option SetCause
-set_fault xs = set_cause (first_repeat [] 1 xs) xs
+abbrev pub sheets_fault : List Task → Option SetCause
+sheets_fault xs = set_cause (first_repeat [] 1 xs) xs
 
 -- why a sheet can't be added to a set
 abbrev pub with_fault : List Task → Task → Option WithCause

@@ -1,0 +1,104 @@
+//! The keys of a document, and which of them a table has.
+ghost use Rattle.std.specs.Prelude.{◌≡◌, option_map};
+ghost use Rattle.toml.specs.View.{view, table_view};
+ghost use Rattle.task_sheet.specs.Tree.{word_of, is_word_of, only_keys, value_at, first_missing};
+
+use toml::{Table, Value};
+
+/// The keys of a document. A number is an integer that is not negative.
+#[derive(Clone, Copy, Debug, PartialEq, Eq)]
+pub enum Key {
+    /// `task` of the root: an array of tables.
+    Task,
+    /// `name` of a task: a string.
+    Name,
+    /// `weight` of a task: a number, 0 where it is absent.
+    Weight,
+    /// `period` of a task: a number of microseconds.
+    Period,
+    /// `deadline` of a task: a number of microseconds.
+    Deadline,
+    /// `cost` of a task: a number of microseconds.
+    Cost,
+    /// `section` of a task: an array of tables, none where it is absent.
+    Section,
+    /// `locks` of a section: an array of strings.
+    Locks,
+    /// `at` of a section: a number of microseconds.
+    At,
+    /// `len` of a section: a number of microseconds.
+    Len,
+}
+
+impl Key {
+    /// The key as it is written in a document.
+    pub fn word(self) -> &'static str
+        ensures { result.now ≡ word_of self }
+    {
+        match self {
+            Key::Task => "task",
+            Key::Name => "name",
+            Key::Weight => "weight",
+            Key::Period => "period",
+            Key::Deadline => "deadline",
+            Key::Cost => "cost",
+            Key::Section => "section",
+            Key::Locks => "locks",
+            Key::At => "at",
+            Key::Len => "len",
+        }
+    }
+}
+
+pub(crate) const ROOT_KEYS: [Key; 1] = [Key::Task];
+
+pub(crate) const TASK_KEYS: [Key; 6] = [
+    Key::Name,
+    Key::Weight,
+    Key::Period,
+    Key::Deadline,
+    Key::Cost,
+    Key::Section,
+];
+
+pub(crate) const NEEDED_KEYS: [Key; 4] = [Key::Name, Key::Period, Key::Deadline, Key::Cost];
+
+pub(crate) const SECTION_KEYS: [Key; 3] = [Key::Locks, Key::At, Key::Len];
+
+// The text is the word of one of the keys.
+fn is_word_of(keys: &[Key], text: &str) -> bool
+    ensures { result ≡ is_word_of keys.now text.now }
+{
+    keys.iter().any(|key| key.word() == text)
+}
+
+// The table has these keys alone.
+pub(crate) fn only_keys(keys: &[Key], table: &Table) -> bool
+    ensures { result ≡ only_keys keys.now (table_view table.now) }
+{
+    for (key, _) in table.iter() {
+        if !is_word_of(keys, key.as_str()) {
+            return false;
+        }
+    }
+    true
+}
+
+// The value at a key.
+pub(crate) fn value_at<'a>(key: Key, table: &'a Table) -> Option<&'a Value>
+    ensures { option_map (λ v. view v.now) result ≡ value_at key (table_view table.now) }
+{
+    table.get(key.word())
+}
+
+// The first of the keys that the table lacks.
+pub(crate) fn first_missing(keys: &[Key], table: &Table) -> Option<Key>
+    ensures { result ≡ first_missing keys.now (table_view table.now) }
+{
+    for key in keys {
+        if value_at(*key, table).is_none() {
+            return Some(*key);
+        }
+    }
+    None
+}

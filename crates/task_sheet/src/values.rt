@@ -1,0 +1,98 @@
+//! The values at a table's keys, where they are of the right kind.
+ghost use Rattle.std.specs.Prelude.{◌≡◌, None, Some, true, MatchOption, option_map};
+ghost use Rattle.toml.specs.View.{view, table_view, items_view};
+ghost use Rattle.task_sheet.specs.Tree.{value_at, number_of, number_at, number_or_zero, text_at, all_strings, strings_in, strings_at, all_tables, tables_in, tables_at};
+
+use crate::keys::{Key, value_at};
+use toml::{Table, Value};
+
+// An integer that is not negative.
+fn number_of(value: &Value) -> Option<u64>
+    ensures { result ≡ number_of (view value.now) }
+{
+    match value.as_integer() {
+        Some(n) if n >= 0 => Some(n as u64),
+        _ => None,
+    }
+}
+
+// The number at a key.
+pub(crate) fn number_at(key: Key, table: &Table) -> Option<u64>
+    ensures { result ≡ number_at key (table_view table.now) }
+{
+    match value_at(key, table) {
+        Some(value) => number_of(value),
+        None => None,
+    }
+}
+
+// The number at a key, which is 0 where it is absent.
+pub(crate) fn number_or_zero(key: Key, table: &Table) -> Option<u64>
+    ensures { result ≡ number_or_zero (value_at key (table_view table.now)) }
+{
+    match value_at(key, table) {
+        Some(value) => number_of(value),
+        None => Some(0),
+    }
+}
+
+// The text at a key.
+pub(crate) fn text_at<'a>(key: Key, table: &'a Table) -> Option<&'a str>
+    ensures { option_map (λ s. s.now) result ≡ text_at key (table_view table.now) }
+{
+    match value_at(key, table) {
+        Some(value) => value.as_str(),
+        None => None,
+    }
+}
+
+// All of the values are strings.
+fn are_strings(items: &[Value]) -> bool
+    ensures { result ≡ all_strings (items_view items.now) }
+{
+    for item in items {
+        if item.as_str().is_none() {
+            return false;
+        }
+    }
+    true
+}
+
+// All of the values are tables.
+fn are_tables(items: &[Value]) -> bool
+    ensures { result ≡ all_tables (items_view items.now) }
+{
+    for item in items {
+        if !item.is_table() {
+            return false;
+        }
+    }
+    true
+}
+
+// The array of strings at a key.
+pub(crate) fn strings_at<'a>(key: Key, table: &'a Table) -> Option<&'a [Value]>
+    ensures { MatchOption result (strings_at key (table_view table.now) ≡ None)
+        (λ s. (all_strings (items_view s.now) ≡ true)
+        × (strings_at key (table_view table.now) ≡ Some (strings_in (items_view s.now)))) }
+{
+    match value_at(key, table)?.as_array() {
+        Some(items) if are_strings(items) => Some(items),
+        _ => None,
+    }
+}
+
+// The array of tables at a key, which is empty where it is absent.
+pub(crate) fn tables_at<'a>(key: Key, table: &'a Table) -> Option<&'a [Value]>
+    ensures { MatchOption result (tables_at key (table_view table.now) ≡ None)
+        (λ s. (all_tables (items_view s.now) ≡ true)
+        × (tables_at key (table_view table.now) ≡ Some (tables_in (items_view s.now)))) }
+{
+    let Some(value) = value_at(key, table) else {
+        return Some(&[]);
+    };
+    match value.as_array() {
+        Some(items) if are_tables(items) => Some(items),
+        _ => None,
+    }
+}
