@@ -71,7 +71,7 @@ fn unanswered(alloc: Global, count: usize) -> Result<Vec<Option<Answer>>, AllocE
     ensures { IfOk result (λ answers. answers.items ≡ replicate count None) }
 {
     let mut answers = Vec::with_capacity(alloc, count)?;
-    for _k in 0..count {
+    for _ in 0..count {
         answers.push(None)?;
     }
     Ok(answers)
@@ -226,11 +226,8 @@ impl Level {
             if self.left.has(task) {
                 match &self.answers[task] {
                     None => return false,
-                    Some(answer) => {
-                        if lets_stand(answer) {
-                            return true;
-                        }
-                    }
+                    Some(answer) if lets_stand(answer) => return true,
+                    Some(_) => {}
                 }
             }
         }

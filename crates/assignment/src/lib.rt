@@ -1,11 +1,11 @@
 //! Assignment of levels to a set's tasks, from the lowest level up.
 #![tactic(auto)]
 
-pub mod assigning;
-pub mod climb;
-pub mod level;
-pub mod question;
-pub mod verdict;
+mod assigning;
+mod climb;
+mod level;
+mod question;
+mod verdict;
 
 pub use assigning::assign;
 pub use climb::{Climb, ClimbFault, Unfinished};

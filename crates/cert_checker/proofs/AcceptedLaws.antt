@@ -13,10 +13,10 @@ use Rattle.task_sheet.specs.Orders.{all_of, IsOrderOf}
 use Rattle.task_sheet.specs.Verdicts.{FailureData, LevelData, VerdictData, Admitted, Infeasible, tasks_of, order_of, IsVerdictOf}
 use Rattle.task_sheet.specs.Ready.{AllReady, IsReadyOrder, IsReadySet}
 use Rattle.task_sheet.proofs.TaskLaws.{AllTasks-from_set}
-use Rattle.task_sheet.proofs.IndexLaws.{IsOrderOf-head, IsOrderOf-rest}
+use Rattle.task_sheet.proofs.IndexLaws.{IsOrderOf-head, IsOrderOf-rest, without-part_of, order-below}
 use Rattle.task_sheet.proofs.VerdictLaws.{IsBestOrder-ready, IsStuck-ready}
 use Rattle.certificate.specs.CertificateOf.{chains_named, levels_named, certificate_of}
-use Rattle.certificate.proofs.VerdictSpelling.{fails-below, order-below, without-part_of, verdict-spelled}
+use Rattle.certificate.proofs.VerdictSpelling.{fails-below, verdict-spelled}
 use Rattle.certificate.proofs.ReadingLaws.{reads_back}
 use Rattle.cert_checker.specs.Naming.{task_of, failures_of, levels_of, IsReady}
 use Rattle.cert_checker.specs.Answers.{kind_of, kind_of_verdict, IsAccepted}

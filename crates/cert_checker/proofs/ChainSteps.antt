@@ -11,7 +11,7 @@ use Rattle.cert_checker.specs.Work.{work_within}
 use Rattle.cert_checker.specs.Chains.{goes_past, is_chain}
 use Rattle.cert_checker.specs.Faults.{does_pass, is_refuted}
 
--- the demand, with what falls due once worked out
+-- the demand, with the base demand worked out
 demand-is : (U : List Task) (k : ℕ) (H : Indexes) (once : ℕ) → once ≡ (task_at U k).cost + blocking_of U k H → work_within U H once ≡ demand_of U k H
 unfolding demand_of
 demand-is U k H once e = ap (work_within U H) e

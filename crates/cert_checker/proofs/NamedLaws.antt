@@ -1,16 +1,12 @@
 -- Lists that name tasks each once.
 use Rattle.std.proofs.Common.{◌≡◌, ℕ, zero, suc, ◌+◌, ◌<◌, Bool, true, false, cond, ◌&&◌, ◌||◌, ◌==◌, not, nat_lt, List, [], ◌∷◌, refl, ◌∙◌, ap, subst, arith, inl, inr}
 use Rattle.std.specs.List.{count_by}
-use Rattle.std.proofs.lemmas.List.Sums.{sum_by-cons}
 use Rattle.std.proofs.lemmas.Bool.{cases_eq, and_parts, and_from, or_cases, both_ways, ltb-true, lt-ltb, eqb-true, ne_eqb, not-true}
 use Rattle.task_sheet.specs.Indexes.{Indexes, IsPart, no_index, below, with_index, without_index, among}
 use Rattle.task_sheet.specs.Orders.{IsOrderOf}
-use Rattle.task_sheet.proofs.IndexLaws.{same_parts, without-parts, IsOrderOf-among, IsOrderOf-head, IsOrderOf-rest}
+use Rattle.task_sheet.proofs.IndexLaws.{count-cons, same_parts, without-parts, IsOrderOf-among, IsOrderOf-head, IsOrderOf-rest}
 use Rattle.cert_checker.specs.Faults.{are_new, has_all}
 use Rattle.cert_checker.proofs.SeenSteps.{same-test}
-
-count-cons : (i k : ℕ) (xs : List ℕ) → count_by (λ x. x == k) (i ∷ xs) ≡ cond (i == k) 1 0 + count_by (λ x. x == k) xs
-count-cons i k xs = sum_by-cons (λ x. cond (x == k) 1 0) i xs
 
 new-parts : (n : ℕ) (seen : Indexes) (x : ℕ) (ks : List ℕ) → are_new n seen (x ∷ ks) ≡ true → (x < n) × (seen x ≡ false) × (are_new n (with_index seen x) ks ≡ true)
 new-parts n seen x ks h =

@@ -11,9 +11,9 @@ use Rattle.task_sheet.specs.Demand.{demand_of, limit_of}
 use Rattle.task_sheet.specs.Orders.{all_of, IsOrderOf}
 use Rattle.task_sheet.specs.Verdicts.{tasks_of, order_of}
 use Rattle.task_sheet.specs.Ready.{AllRefuted, IsReadyLevel, AllReady, IsReadyOrder, IsReadySet}
-use Rattle.task_sheet.proofs.IndexLaws.{IsOrderOf-head, IsOrderOf-rest}
+use Rattle.task_sheet.proofs.IndexLaws.{IsOrderOf-head, IsOrderOf-rest, without-part_of, order-below}
 use Rattle.certificate.specs.Body.{Chain, Level, Body, Best, NoOrder}
-use Rattle.certificate.proofs.VerdictSpelling.{fails-below, order-below, without-part_of}
+use Rattle.certificate.proofs.VerdictSpelling.{fails-below}
 use Rattle.cert_checker.specs.Naming.{task_of, failures_of, level_of, levels_of, IsReady}
 use Rattle.cert_checker.specs.Chains.{is_chain}
 use Rattle.cert_checker.specs.Faults.{unless, are_new, has_all, are_lesser, does_pass, is_refuted, bad_chain, first_missing, missing_at, level_fault, levels_fault, order_fault, set_fault, check_fault}

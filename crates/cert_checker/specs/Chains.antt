@@ -5,7 +5,7 @@ use Rattle.std.specs.Prelude.{ℕ, Bool, false, ◌&&◌, ◌==◌, nat_lt, nat_
 abbrev pub may_follow : (ℕ → ℕ) → ℕ → ℕ → ℕ → Bool
 may_follow W limit a b = nat_le a limit && nat_lt a b && nat_le b (W a)
 
--- what follows a rises by what is due, up to the first that is past the limit
+-- what follows a climbs by the work requested, up to the first that is past the limit
 abbrev pub goes_past : (ℕ → ℕ) → ℕ → ℕ → List ℕ → Bool
 goes_past W limit a [] = nat_lt limit a
 goes_past W limit a (b ∷ bs) = may_follow W limit a b && goes_past W limit b bs

@@ -75,6 +75,7 @@ levels_fault U asked place L [] = None
 levels_fault U asked place L (l ∷ ls) = option_or (level_fault U asked place L l) (levels_fault U asked (place + 1) (without_index L (task_of U l.name)) ls)
 
 -- ---- the whole
+-- the first fault of a `best` certificate
 abbrev pub order_fault : List Task → List Level → Option CheckFault
 order_fault U levels =
     if are_new (length U) no_index (order_of (levels_of U levels)) && has_all (length U) (among (order_of (levels_of U levels)))
@@ -91,7 +92,7 @@ set_fault U members =
     then option_or (bad_chain U 0 (among (tasks_of (failures_of U members))) members) (unless (not (length members == 0)) EmptySet)
     else Some (WrongTasks 0)
 
--- the first fault of a certificate, in the order of its numbers
+-- the first fault of a certificate: of an order WrongTasks, BadPass, BadChain, MissingFail; of a set WrongTasks, BadChain, EmptySet
 abbrev pub check_fault : List Task → Body → Option CheckFault
 check_fault U (Best levels) = order_fault U levels
 check_fault U (NoOrder members) = set_fault U members

@@ -10,7 +10,7 @@ ghost use Rattle.cert_checker.specs.Faults.{does_pass, is_refuted, bad_chain};
 
 use crate::fault::CheckFault;
 use crate::naming::task_of;
-use crate::work::{due_once, limit_of, work_within};
+use crate::work::{base_demand, limit_of, work_within};
 use certificate::CertChain;
 use task_sheet::{Members, TaskSet};
 
@@ -58,7 +58,7 @@ fn is_chain(set: &TaskSet, task: usize, above: Members, numbers: &[u64]) -> bool
         return false;
     }
     let limit = limit_of(&set.sheets()[task]);
-    let once = due_once(set, task, above);
+    let once = base_demand(set, task, above);
     goes_past(set, above, once, limit, 1, rest)
 }
 
@@ -73,7 +73,7 @@ pub fn does_pass(set: &TaskSet, left: Members, task: usize, time: u64) -> bool
         return false;
     }
     let above = left.without(task);
-    work_within(set, above, due_once(set, task, above), time) <= time
+    work_within(set, above, base_demand(set, task, above), time) <= time
 }
 
 // Whether the name is a task's, and its numbers are a chain below the others that are left.

@@ -83,6 +83,7 @@ pub fn check(set: &TaskSet, certificate: &Certificate) -> Result<Checked, CheckF
     ensures best { result ≡ Ok Checked.Best → IsBest set.now (order_in set.now certificate.now) }
     ensures no_order { result ≡ Ok Checked.NoOrder → ¬ IsFeasible set.now }
 {
+    // Its contract says that the set is one of at most 32 valid sheets.
     let _sheets = set.sheets();
     shown(set, certificate)
 }

@@ -17,9 +17,13 @@ use task_sheet::{Members, Name, TaskSet};
 /// What is asked of each level.
 #[derive(Clone, Copy)]
 pub enum Asked {
+    /// Its failures are of remaining tasks of smaller rank, by rank.
     Tasks,
+    /// Its time is within the deadline, and covers the demand.
     Pass,
+    /// Its failures' numbers are chains.
     Chains,
+    /// Each remaining task of smaller rank has a failure.
     Missing,
 }
 

@@ -1,11 +1,11 @@
-//! The work that falls due to a task within a window, in microseconds.
+//! The work requested of a task and of those above it in a window, in microseconds.
 ghost use Rattle.std.specs.Prelude.{◌≡◌, ◌+◌, ◌*◌, ◌<◌, ◌≤◌, ℕ, length};
 ghost use Rattle.task_sheet.specs.Sheet.{task_at};
 ghost use Rattle.task_sheet.specs.TaskSet.{IsTaskSet};
 ghost use Rattle.task_sheet.specs.Indexes.{indexes_of};
 ghost use Rattle.task_sheet.specs.Locks.{names_lock, uses, shares_lock, reaches};
-ghost use Rattle.task_sheet.specs.Demand.{releases_within, limit_of, longest_reached, blocking_of, interference_of};
-ghost use Rattle.cert_checker.specs.Work.{taken_within, work_within};
+ghost use Rattle.task_sheet.specs.Demand.{interference_within, releases_within, limit_of, longest_reached, blocking_of, interference_of};
+ghost use Rattle.cert_checker.specs.Work.{work_within};
 
 use task_sheet::{Members, Name, Section, Sheet, TaskSet};
 
@@ -86,8 +86,8 @@ fn blocking(set: &TaskSet, task: usize, above: Members) -> u64
     longest
 }
 
-/// What falls due once: the task's cost and its blocking.
-pub fn due_once(set: &TaskSet, task: usize, above: Members) -> u64
+/// The part of the demand that does not grow with the window: the task's cost and its blocking.
+pub fn base_demand(set: &TaskSet, task: usize, above: Members) -> u64
     requires { task < length set.now }
     ensures is { result ≡ (task_at set.now task).cost + blocking_of set.now task (indexes_of above) }
     ensures fits { result ≤ 20000000 }
@@ -95,10 +95,10 @@ pub fn due_once(set: &TaskSet, task: usize, above: Members) -> u64
     set.sheets()[task].cost() + blocking(set, task, above)
 }
 
-// What the tasks above take within a window (Audsley et al. 1993).
-fn taken_within(set: &TaskSet, above: Members, time: u64) -> u64
+// What the jobs released above within a window cost (Audsley et al. 1993).
+fn interference_within(set: &TaskSet, above: Members, time: u64) -> u64
     requires { time ≤ 10000000 }
-    ensures is { result ≡ taken_within set.now (indexes_of above) time }
+    ensures is { result ≡ interference_within set.now (indexes_of above) time }
     ensures fits { result ≤ 640000000 }
 {
     let mut taken = 0;
@@ -110,11 +110,11 @@ fn taken_within(set: &TaskSet, above: Members, time: u64) -> u64
     taken
 }
 
-/// What falls due within a window.
+/// What must be executed in a window: the base demand, and the jobs released above within it.
 pub fn work_within(set: &TaskSet, above: Members, once: u64, time: u64) -> u64
     requires once { once ≤ 20000000 }
     requires time { time ≤ 10000000 }
     ensures { result ≡ work_within set.now (indexes_of above) once time }
 {
-    once + taken_within(set, above, time)
+    once + interference_within(set, above, time)
 }

@@ -1,5 +1,5 @@
 -- A line with a chain: what is read is spelled so, and what is spelled so is read.
-use Rattle.std.proofs.Common.{◌≡◌, ℕ, ◌^◌, ◌<◌, ◌==◌, Bool, true, false, cond, ◌&&◌, List, [], ◌∷◌, ◌++◌, length, map, All, Option, Some, None, refl, sym, ap, ◌∙◌, subst, arith}
+use Rattle.std.proofs.Common.{◌≡◌, ℕ, ◌^◌, ◌<◌, ◌==◌, Bool, true, false, ◌&&◌, List, [], ◌∷◌, ◌++◌, length, map, All, Some, refl, sym, ap, ◌∙◌, subst, arith}
 use Rattle.std.specs.Prelude.{bytes_eq}
 use Rattle.std.specs.List.{list_all, AllByRecursion, join_with_byte}
 use Rattle.std.specs.Fmt.{decimal}
@@ -7,6 +7,7 @@ use Rattle.std.specs.Char.{is_ascii_digit}
 use Rattle.std.proofs.lemmas.Bool.{and_parts}
 use Rattle.std.proofs.lemmas.Bool.Decides.{nat_tests}
 use Rattle.std.proofs.lemmas.List.{append-nil, length-map}
+use Rattle.std.proofs.lemmas.Option.{same_Some}
 use Rattle.std.proofs.lemmas.Slice.Eq.{bytes_eq-Decides}
 use Rattle.std.proofs.lemmas.List.Concat.{flat_map-cons}
 use Rattle.std.proofs.lemmas.List.Elements.{All-from_recursion}
@@ -17,8 +18,7 @@ use Rattle.certificate.specs.Body.{Chain, IsShort, IsChainText}
 use Rattle.certificate.specs.Spelling.{numbers_text}
 use Rattle.certificate.specs.Words.{◌>>=◌, words, numbers_in, chain_in}
 use Rattle.certificate.proofs.Numbers.{own}
-use Rattle.certificate.proofs.WordLaws.{bind_some, numbers_take, numbers_again}
-use Rattle.certificate.proofs.Chains.{true_from}
+use Rattle.certificate.proofs.WordLaws.{bind_some, cond_given, numbers_take, numbers_again}
 
 -- a line without its end
 abbrev pub chain_text : List ℕ → Chain → List ℕ
@@ -47,7 +47,7 @@ name_bytes : (text : List ℕ) → is_name text ≡ true → list_all is_name_by
 name_bytes text h = grind (arith, nat_tests)
 
 pub name_lacks : (b : ℕ) (text : List ℕ) → b < 45 → IsName text → All (λ x. (x == b) ≡ false) text
-name_lacks b text small h = lacks b is_name_byte (name_apart b small) text (name_bytes text (true_from (is_name text) h))
+name_lacks b text small h = lacks b is_name_byte (name_apart b small) text (name_bytes text h)
 
 -- ---- numbers behind spaces
 
@@ -67,22 +67,15 @@ words_numbers n (m ∷ ms) short =
 
 -- ---- a line
 
-some_chain : (x y : Chain) → Some x ≡ Some y → x ≡ y
-some_chain x y e = cc
-
 bytes_same : (x y : List ℕ) → bytes_eq x y ≡ true → x ≡ y
 bytes_same x y h = (bytes_eq-Decides x y).0 h
 
 bytes_again : (x : List ℕ) → bytes_eq x x ≡ true
 bytes_again x = (bytes_eq-Decides x x).1 refl
 
-guard_chain : (b : Bool) (x : Option Chain) (y : Chain) → cond b x None ≡ Some y → (b ≡ true) × (x ≡ Some y)
-guard_chain true x y e = (refl, e)
-guard_chain false x y e = absurd cc
-
-joined : (word w name n : List ℕ) (ns : List (List ℕ)) (numbers : List ℕ) → w ≡ word → n ∷ ns ≡ map decimal numbers → join_with_byte 32 (w ∷ name ∷ n ∷ ns) ≡ chain_text word (record { name = name; numbers = numbers })
-joined word w name n ns [] same e = absurd cc
-joined word w name n ns (m ∷ ms) same e =
+join_with_byte-chain : (word w name n : List ℕ) (ns : List (List ℕ)) (numbers : List ℕ) → w ≡ word → n ∷ ns ≡ map decimal numbers → join_with_byte 32 (w ∷ name ∷ n ∷ ns) ≡ chain_text word (record { name = name; numbers = numbers })
+join_with_byte-chain word w name n ns [] same e = absurd cc
+join_with_byte-chain word w name n ns (m ∷ ms) same e =
     ap (λ (x : List (List ℕ)). join_with_byte 32 (w ∷ name ∷ x)) e
     ∙ ap (λ (x : List ℕ). x ++ 32 ∷ (name ++ 32 ∷ join_with_byte 32 (map decimal (m ∷ ms)))) same
     ∙ ap (λ (x : List ℕ). word ++ 32 ∷ (name ++ x)) (join_numbers m ms)
@@ -93,12 +86,12 @@ take_words word [] c e = absurd cc
 take_words word (w ∷ []) c e = absurd cc
 take_words word (w ∷ name ∷ []) c e = absurd cc
 take_words word (w ∷ name ∷ n ∷ ns) c e =
-    let g = guard_chain (bytes_eq w word && is_name name) (numbers_in (n ∷ ns) >>= λ numbers. Some (record { name = name; numbers = numbers })) c e in
+    let g = cond_given (bytes_eq w word && is_name name) (numbers_in (n ∷ ns) >>= λ numbers. Some (record { name = name; numbers = numbers })) c e in
     let tests = and_parts (bytes_eq w word) (is_name name) g.0 in
     let b = bind_some (numbers_in (n ∷ ns)) (λ numbers. Some (record { name = name; numbers = numbers })) c g.1 in
     let taken = numbers_take (n ∷ ns) b.0 b.1 in
-    subst (λ (x : Chain). (join_with_byte 32 (w ∷ name ∷ n ∷ ns) ≡ chain_text word x) × IsChainText x) (some_chain (record { name = name; numbers = b.0 }) c b.2)
-    (joined word w name n ns b.0 (bytes_same w word tests.0) taken.0, record { name = tests.1; some = omega (arith, ap length taken.0, length-map b.0 decimal); short = taken.1 })
+    subst (λ (x : Chain). (join_with_byte 32 (w ∷ name ∷ n ∷ ns) ≡ chain_text word x) × IsChainText x) (same_Some (record { name = name; numbers = b.0 }) c b.2)
+    (join_with_byte-chain word w name n ns b.0 (bytes_same w word tests.0) taken.0, record { name = tests.1; some = omega (arith, ap length taken.0, length-map b.0 decimal); short = taken.1 })
 
 pub chain_takes : (word line : List ℕ) (c : Chain) → chain_in word (words line) ≡ Some c → (line ≡ chain_text word c) × IsChainText c
 chain_takes word line c e =
@@ -116,8 +109,9 @@ again_numbers : (word name : List ℕ) (ns : List ℕ) → All (λ x. (x == 32) 
 unfolding chain_in
 again_numbers word name [] plain named some short = absurd (omega arith)
 again_numbers word name (n ∷ ns) plain named some short =
+    let is : is_name name ≡ true = named in
     ap (λ (x : List (List ℕ)). chain_in word x) (again_words word name n ns plain named short)
-    ∙ rw (bytes_again word, true_from (is_name name) named, numbers_again (n ∷ ns) short) refl
+    ∙ rw (bytes_again word, is, numbers_again (n ∷ ns) short) refl
 
 pub chain_again : (word : List ℕ) (c : Chain) → All (λ x. (x == 32) ≡ false) word → IsChainText c → chain_in word (words (chain_text word c)) ≡ Some c
 chain_again word c plain fits = again_numbers word c.name c.numbers plain fits.name fits.some fits.short

@@ -5,7 +5,7 @@ use Rattle.std.proofs.Math.Bool.{and-false}
 use Rattle.task_sheet.specs.Name.{is_name, IsName}
 use Rattle.certificate.specs.Body.{Chain}
 use Rattle.certificate.specs.Words.{◌>>=◌, words, numbers_in, chain_in}
-use Rattle.certificate.proofs.Lists.{words_some}
+use Rattle.certificate.proofs.NumberLoops.{words_some}
 
 pub no_space : (word line : List ℕ) → words line ≡ line ∷ [] → None ≡ chain_in word (words line)
 unfolding chain_in
@@ -26,9 +26,6 @@ not-false false h = sym h
 false_from_not : (b : Bool) → ¬ IsTrue b → b ≡ false
 false_from_not true h = absurd (h refl)
 false_from_not false h = refl
-
-pub true_from : (b : Bool) → IsTrue b → b ≡ true
-true_from b h = h
 
 abbrev pub chain_body : List ℕ → List ℕ → List ℕ → List (List ℕ) → Option Chain
 chain_body word w name ns = cond (bytes_eq w word && is_name name) (numbers_in ns >>= λ numbers. Some (record { name = name; numbers = numbers })) None
@@ -56,7 +53,7 @@ is_unnamed word line w r name rest one two bad =
 pub is_found : (word line w r name rest : List ℕ) → words line ≡ w ∷ words r → words r ≡ name ∷ words rest → not (bytes_eq w word) ≡ false → IsName name → chain_body word w name (words rest) ≡ (numbers_in (words rest) >>= λ numbers. Some (record { name = name; numbers = numbers }))
 is_found word line w r name rest one two eq named =
     let e : bytes_eq w word ≡ true = not-false (bytes_eq w word) eq in
-    let f : is_name name ≡ true = true_from (is_name name) named in
+    let f : is_name name ≡ true = named in
     rw (e, f) refl
 
 pub not_numbers : (word line w r name rest : List ℕ) → words line ≡ w ∷ words r → words r ≡ name ∷ words rest → not (bytes_eq w word) ≡ false → IsName name → None ≡ numbers_in (words rest) → None ≡ chain_in word (words line)

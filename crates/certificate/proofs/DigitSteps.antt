@@ -13,8 +13,8 @@ pub record IsPartWritten (number rest start : ℕ) (bytes : List ℕ) : Type 0 w
   pub room : length (decimal rest) ≤ start
   pub so_far : decimal number ≡ decimal rest ++ drop start bytes
 
-pub starts : (number : ℕ) (bytes : List ℕ) → number < 2 ^ 64 → length bytes ≡ 20 → drop 20 bytes ≡ [] → IsPartWritten number number 20 bytes
-starts number bytes fits len none = record {
+pub IsPartWritten-start : (number : ℕ) (bytes : List ℕ) → number < 2 ^ 64 → length bytes ≡ 20 → drop 20 bytes ≡ [] → IsPartWritten number number 20 bytes
+IsPartWritten-start number bytes fits len none = record {
   len = len;
   within = omega arith;
   small = omega arith;
@@ -25,14 +25,14 @@ starts number bytes fits len none = record {
 pub has_room : (rest start : ℕ) → rest < 2 ^ 64 → length (decimal rest) ≤ start → 1 ≤ start
 has_room rest start fits room = omega (arith, decimal_nonempty rest fits)
 
-put : (bytes : List ℕ) (start digit : ℕ) → 1 ≤ start → start ≤ length bytes → drop (start - 1) (set bytes (start - 1) digit) ≡ digit ∷ drop start bytes
-put bytes start digit some within =
+drop-set_before : (bytes : List ℕ) (start digit : ℕ) → 1 ≤ start → start ≤ length bytes → drop (start - 1) (set bytes (start - 1) digit) ≡ digit ∷ drop start bytes
+drop-set_before bytes start digit some within =
     let same : start - 1 + 1 ≡ start = omega arith in
     drop-set bytes (start - 1) digit (omega arith) ∙ ap (λ (k : ℕ). digit ∷ drop k bytes) same
 
-pub goes_on : (number rest start : ℕ) (bytes : List ℕ) → number < 2 ^ 64 → 10 ≤ rest → IsPartWritten number rest start bytes
+pub IsPartWritten-next : (number rest start : ℕ) (bytes : List ℕ) → number < 2 ^ 64 → 10 ≤ rest → IsPartWritten number rest start bytes
     → length (set bytes (start - 1) (48 + rest % 10)) ≡ 20 → IsPartWritten number (rest / 10) (start - 1) (set bytes (start - 1) (48 + rest % 10))
-goes_on number rest start bytes fits more h len =
+IsPartWritten-next number rest start bytes fits more h len =
     let wide : rest < 2 ^ 64 = omega (arith, h.small) in
     let step : decimal rest ≡ decimal (rest / 10) ++ (48 + rest % 10) ∷ [] = decimal_step rest more wide in
     let longer : length (decimal rest) ≡ length (decimal (rest / 10)) + 1 = ap length step ∙ length-append (decimal (rest / 10)) ((48 + rest % 10) ∷ []) in
@@ -43,12 +43,12 @@ goes_on number rest start bytes fits more h len =
       small = omega (arith, h.small);
       room = omega (arith, h.room, longer);
       so_far = h.so_far ∙ ap (λ (y : List ℕ). y ++ drop start bytes) step ∙ append_assoc (decimal (rest / 10)) ((48 + rest % 10) ∷ []) (drop start bytes)
-          ∙ ap (λ (y : List ℕ). decimal (rest / 10) ++ y) (sym (put bytes start (48 + rest % 10) some (omega (arith, h.within, h.len))));
+          ∙ ap (λ (y : List ℕ). decimal (rest / 10) ++ y) (sym (drop-set_before bytes start (48 + rest % 10) some (omega (arith, h.within, h.len))));
     }
 
-pub ends : (number rest start : ℕ) (bytes : List ℕ) → number < 2 ^ 64 → rest < 10 → IsPartWritten number rest start bytes → drop (start - 1) (set bytes (start - 1) (48 + rest)) ≡ decimal number
-ends number rest start bytes fits few h =
+pub IsPartWritten-last : (number rest start : ℕ) (bytes : List ℕ) → number < 2 ^ 64 → rest < 10 → IsPartWritten number rest start bytes → drop (start - 1) (set bytes (start - 1) (48 + rest)) ≡ decimal number
+IsPartWritten-last number rest start bytes fits few h =
     let wide : rest < 2 ^ 64 = omega arith in
     let some : 1 ≤ start = has_room rest start wide h.room in
-    put bytes start (48 + rest) some (omega (arith, h.within, h.len))
+    drop-set_before bytes start (48 + rest) some (omega (arith, h.within, h.len))
     ∙ sym (h.so_far ∙ ap (λ (y : List ℕ). y ++ drop start bytes) (decimal_digit rest few))

@@ -1,10 +1,11 @@
 -- Levels: what is read, and what is read of what is spelled.
-use Rattle.std.proofs.Common.{◌≡◌, ℕ, zero, suc, ◌+◌, ◌^◌, ◌<◌, ◌==◌, eq-eqb, Bool, true, false, cond, ◌&&◌, List, [], ◌∷◌, ◌++◌, length, All, Option, Some, None, Ok, refl, sym, ap, ◌∙◌, subst, append_assoc, arith, add-zero}
+use Rattle.std.proofs.Common.{◌≡◌, ℕ, zero, suc, ◌+◌, ◌^◌, ◌<◌, ◌==◌, eq-eqb, true, false, ◌&&◌, List, [], ◌∷◌, ◌++◌, length, All, Option, Some, None, Ok, refl, sym, ap, ◌∙◌, subst, append_assoc, arith, add-zero}
 use Rattle.std.specs.Prelude.{bytes_eq, codes}
 use Rattle.std.specs.List.{AllByRecursion, join_with_byte}
 use Rattle.std.specs.Fmt.{decimal}
 use Rattle.std.proofs.lemmas.Bool.{eqb-true, and_parts}
 use Rattle.std.proofs.lemmas.Bool.Decides.{nat_tests}
+use Rattle.std.proofs.lemmas.Option.{cond_some}
 use Rattle.std.proofs.lemmas.Slice.Eq.{bytes_eq-Decides}
 use Rattle.std.proofs.lemmas.List.Concat.{flat_map-cons}
 use Rattle.std.proofs.lemmas.List.Elements.{All-append, All-from_recursion}
@@ -14,8 +15,8 @@ use Rattle.certificate.specs.Body.{Chain, Level, IsShort, IsChainText, IsLevelTe
 use Rattle.certificate.specs.Spelling.{chain_line, chain_lines, level_line, level_lines}
 use Rattle.certificate.specs.Words.{words, parts, number_in, chain_in}
 use Rattle.certificate.specs.Lines.{◌>>=◌, At, line_from, wanted, level_of, level_in, fails_case, fails_from, level_at, levels_at}
-use Rattle.certificate.proofs.WordLaws.{guard_some, number_takes, number_again}
-use Rattle.certificate.proofs.Loops.{parts_some}
+use Rattle.certificate.proofs.WordLaws.{cond_given, number_takes, number_again}
+use Rattle.certificate.proofs.MemberLoops.{parts_some}
 use Rattle.certificate.proofs.LevelLoops.{fails_line}
 use Rattle.certificate.proofs.ChainLaws.{chain_text, chain_takes, chain_again, decimal_lacks, name_lacks}
 use Rattle.certificate.proofs.LineLaws.{left, bind_ok, ok_is, wanted_ok, line_takes, line_end, line_again}
@@ -26,19 +27,12 @@ abbrev pub level_text : ℕ → List ℕ → ℕ → List ℕ
 level_text k name t = codes "level" ++ 32 ∷ (decimal k ++ 32 ∷ (name ++ 32 ∷ decimal t))
 
 -- ---- the line of a level
-some_pair : {A : Type 0} (x y : A) → Some x ≡ Some y → x ≡ y
-some_pair x y e = cc
-
-guard_pair : (b : Bool) (x : Option (List ℕ × ℕ)) (y : List ℕ × ℕ) → cond b x None ≡ Some y → (b ≡ true) × (x ≡ Some y)
-guard_pair true x y e = (refl, e)
-guard_pair false x y e = absurd cc
-
 parts_of_level : (k : ℕ) (name : List ℕ) (number time : Option ℕ) (h : List ℕ × ℕ) → level_of k name number time ≡ Some h
     → (number ≡ Some k) × IsName name × ((t : ℕ) × (time ≡ Some t) × ((name, t) ≡ h))
 parts_of_level k name None time h e = absurd cc
 parts_of_level k name (Some m) None h e = absurd cc
 parts_of_level k name (Some m) (Some n) h e =
-    let g = guard_some ((m == k) && is_name name) (name, n) h e in
+    let g = cond_some ((m == k) && is_name name) (name, n) h e in
     let t = and_parts (m == k) (is_name name) g.0 in
     (ap (λ (x : ℕ). Some x) (eqb-true m k t.0), t.1, (n, refl, g.1))
 
@@ -49,7 +43,7 @@ take_level k (w ∷ m ∷ []) h e = absurd cc
 take_level k (w ∷ m ∷ name ∷ []) h e = absurd cc
 take_level k (w ∷ m ∷ name ∷ n ∷ x ∷ xs) h e = absurd cc
 take_level k (w ∷ m ∷ name ∷ n ∷ []) h e =
-    let g = guard_pair (bytes_eq w (codes "level")) (level_of k name (number_in m) (number_in n)) h e in
+    let g = cond_given (bytes_eq w (codes "level")) (level_of k name (number_in m) (number_in n)) h e in
     let p = parts_of_level k name (number_in m) (number_in n) h g.1 in
     let number = number_takes m k p.0 in
     let time = number_takes n p.2.0 p.2.1 in
@@ -73,9 +67,6 @@ words_level k name t short named brief =
     ∙ ap (λ (x : List (List ℕ)). codes "level" ∷ x) (slice_split_at (λ b. b == 32) (decimal k) 32 (name ++ 32 ∷ decimal t) (decimal_lacks 32 k (omega arith) (omega arith)) refl)
     ∙ ap (λ (x : List (List ℕ)). codes "level" ∷ decimal k ∷ x) (slice_split_at (λ b. b == 32) name 32 (decimal t) (name_lacks 32 name (omega arith) named) refl)
     ∙ ap (λ (x : List (List ℕ)). codes "level" ∷ decimal k ∷ name ∷ x) (slice_split_none (λ b. b == 32) (decimal t) (decimal_lacks 32 t (omega arith) (omega arith)))
-
-true_from : (b : Bool) → b ≡ true → b ≡ true
-true_from b h = h
 
 level_line_again : (k : ℕ) (name : List ℕ) (t : ℕ) → IsShort k → IsName name → IsShort t → level_in k (words (level_text k name t)) ≡ Some (name, t)
 level_line_again k name t short named brief =

@@ -10,37 +10,37 @@ use Rattle.certificate.specs.Lines.{◌>>=◌, At, Fails, level_at, levels_at}
 abbrev pub with_levels : List Level → Result (List Level × At) CertFault → Result (List Level × At) CertFault
 with_levels front read = read >>= λ x. Ok (front ++ x.0, x.1)
 
-regroup_levels : (front : List Level) (n : Level) (read : Result (List Level × At) CertFault) → with_levels front (read >>= λ x. Ok (n ∷ x.0, x.1)) ≡ with_levels (front ++ n ∷ []) read
-regroup_levels front n (Ok x) = ap (λ (ns : List Level). Ok (ns, x.1)) (simp append_assoc)
-regroup_levels front n (Err f) = refl
+with_levels-bind : (front : List Level) (n : Level) (read : Result (List Level × At) CertFault) → with_levels front (read >>= λ x. Ok (n ∷ x.0, x.1)) ≡ with_levels (front ++ n ∷ []) read
+with_levels-bind front n (Ok x) = ap (λ (ns : List Level). Ok (ns, x.1)) (simp append_assoc)
+with_levels-bind front n (Err f) = refl
 
-pub level_goes_on : (front : List Level) (count i : ℕ) (at : At) (n : Level) (after : At) (total : Result (List Level × At) CertFault) → i < count → level_at (i + 1) at ≡ Ok (n, after)
+pub with_levels_next : (front : List Level) (count i : ℕ) (at : At) (n : Level) (after : At) (total : Result (List Level × At) CertFault) → i < count → level_at (i + 1) at ≡ Ok (n, after)
     → with_levels front (levels_at (count - i) (i + 1) at) ≡ total → with_levels (front ++ n ∷ []) (levels_at (count - (i + 1)) (i + 1 + 1) after) ≡ total
 unfolding levels_at
-level_goes_on front count i at n after total lt h so_far =
+with_levels_next front count i at n after total lt h so_far =
     let k : count - i ≡ suc (count - (i + 1)) = omega arith in
-    let one : with_levels front (levels_at (count - i) (i + 1) at) ≡ with_levels (front ++ n ∷ []) (levels_at (count - (i + 1)) (i + 1 + 1) after) = rw (k, h) (regroup_levels front n (levels_at (count - (i + 1)) (i + 1 + 1) after)) in
+    let one : with_levels front (levels_at (count - i) (i + 1) at) ≡ with_levels (front ++ n ∷ []) (levels_at (count - (i + 1)) (i + 1 + 1) after) = rw (k, h) (with_levels-bind front n (levels_at (count - (i + 1)) (i + 1 + 1) after)) in
     sym one ∙ so_far
 
-level_stops : (front : List Level) (count i : ℕ) (at : At) (e : CertFault) (total : Result (List Level × At) CertFault) → i < count → level_at (i + 1) at ≡ Err e
+with_levels_stops : (front : List Level) (count i : ℕ) (at : At) (e : CertFault) (total : Result (List Level × At) CertFault) → i < count → level_at (i + 1) at ≡ Err e
     → with_levels front (levels_at (count - i) (i + 1) at) ≡ total → total ≡ Err e
 unfolding levels_at
-level_stops front count i at e total lt h so_far =
+with_levels_stops front count i at e total lt h so_far =
     let k : count - i ≡ suc (count - (i + 1)) = omega arith in
     let one : with_levels front (levels_at (count - i) (i + 1) at) ≡ Err e = rw (k, h) refl in
     sym so_far ∙ one
 
-pub level_ends : (e : CertFault) (front : List Level) (count i : ℕ) (at : At) (total : Result (List Level × At) CertFault) → i < count → Fails e (level_at (i + 1) at)
+pub Fails-with_levels : (e : CertFault) (front : List Level) (count i : ℕ) (at : At) (total : Result (List Level × At) CertFault) → i < count → Fails e (level_at (i + 1) at)
     → with_levels front (levels_at (count - i) (i + 1) at) ≡ total → Fails e total
-level_ends OutOfMemory front count i at total lt h so_far = tt
-level_ends BadHead front count i at total lt h so_far = level_stops front count i at BadHead total lt h so_far
-level_ends (BadLine line) front count i at total lt h so_far = level_stops front count i at (BadLine line) total lt h so_far
-level_ends Truncated front count i at total lt h so_far = level_stops front count i at Truncated total lt h so_far
-level_ends Trailing front count i at total lt h so_far = level_stops front count i at Trailing total lt h so_far
+Fails-with_levels OutOfMemory front count i at total lt h so_far = tt
+Fails-with_levels BadHead front count i at total lt h so_far = with_levels_stops front count i at BadHead total lt h so_far
+Fails-with_levels (BadLine line) front count i at total lt h so_far = with_levels_stops front count i at (BadLine line) total lt h so_far
+Fails-with_levels Truncated front count i at total lt h so_far = with_levels_stops front count i at Truncated total lt h so_far
+Fails-with_levels Trailing front count i at total lt h so_far = with_levels_stops front count i at Trailing total lt h so_far
 
-pub levels_done : (front : List Level) (count i : ℕ) (at : At) (total : Result (List Level × At) CertFault) → count ≤ i → with_levels front (levels_at (count - i) (i + 1) at) ≡ total → total ≡ Ok (front, at)
+pub with_levels_last : (front : List Level) (count i : ℕ) (at : At) (total : Result (List Level × At) CertFault) → count ≤ i → with_levels front (levels_at (count - i) (i + 1) at) ≡ total → total ≡ Ok (front, at)
 unfolding levels_at
-levels_done front count i at total le so_far =
+with_levels_last front count i at total le so_far =
     let k : count - i ≡ 0 = omega arith in
     let one : with_levels front (levels_at (count - i) (i + 1) at) ≡ Ok (front, at) = rw k (ap (λ (ns : List Level). Ok (ns, at)) (append-nil front)) in
     sym so_far ∙ one

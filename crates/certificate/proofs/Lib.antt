@@ -1,10 +1,10 @@
 pub mod Cuts
 pub mod Numbers
-pub mod Lists
+pub mod NumberLoops
 pub mod Chains
 pub mod WordLaws
 pub mod ChainLaws
-pub mod Loops
+pub mod MemberLoops
 pub mod LevelLoops
 pub mod LevelSteps
 pub mod LineLaws

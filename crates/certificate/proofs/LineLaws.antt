@@ -4,6 +4,7 @@ use Rattle.std.specs.Prelude.{bytes_eq, codes, nat_le}
 use Rattle.std.specs.List.{join_with_byte}
 use Rattle.std.specs.Fmt.{decimal}
 use Rattle.std.proofs.lemmas.Bool.{le-leb, leb-true, eqb-true}
+use Rattle.std.proofs.lemmas.Option.{cond_some}
 use Rattle.std.proofs.lemmas.Slice.Eq.{bytes_eq-Decides}
 use Rattle.std.proofs.lemmas.List.{nil_from_length}
 use Rattle.std.proofs.lemmas.List.Elements.{All-from_recursion}
@@ -14,8 +15,8 @@ use Rattle.certificate.specs.Words.{words, parts, number_in}
 use Rattle.certificate.specs.Lines.{◌>>=◌, At, line_from, wanted, count_in, few, at_most_32, end_at, is_over}
 use Rattle.certificate.specs.declared.fault.CertFault.{CertFault}
 use Rattle.certificate.specs.declared.fault.CertFault.TheVariants.{BadHead, BadLine, Trailing}
-use Rattle.certificate.proofs.WordLaws.{guard_some, number_takes, number_again}
-use Rattle.certificate.proofs.Loops.{parts_some, line_is, over_is}
+use Rattle.certificate.proofs.WordLaws.{cond_given, number_takes, number_again}
+use Rattle.certificate.proofs.MemberLoops.{parts_some, line_is, over_is}
 use Rattle.certificate.proofs.ChainLaws.{chain_text, decimal_lacks}
 
 -- the bytes that are left
@@ -52,25 +53,18 @@ pub line_again : (l rest : List ℕ) (n : ℕ) → All (λ x. (x == 10) ≡ fals
 line_again l rest n plain = rw (slice_split_at (λ b. b == 10) l 10 rest plain refl) (line_is l (parts rest) n (parts_some rest))
 
 -- ---- the line with the count
-some_number : (x y : ℕ) → Some x ≡ Some y → x ≡ y
-some_number x y e = cc
-
 few_takes : (o : Option ℕ) (n : ℕ) → at_most_32 o ≡ Some n → (o ≡ Some n) × (n ≤ 32)
 few_takes None n e = absurd cc
 few_takes (Some m) n e =
-    let g = guard_some (nat_le m 32) m n e in
+    let g = cond_some (nat_le m 32) m n e in
     (ap (λ (x : ℕ). Some x) g.1, omega (arith, leb-true m 32 g.0, g.1))
-
-guard_number : (b : Bool) (x : Option ℕ) (y : ℕ) → cond b x None ≡ Some y → (b ≡ true) × (x ≡ Some y)
-guard_number true x y e = (refl, e)
-guard_number false x y e = absurd cc
 
 take_count : (word : List ℕ) (ws : List (List ℕ)) (n : ℕ) → count_in word ws ≡ Some n → (join_with_byte 32 ws ≡ word ++ 32 ∷ decimal n) × (n ≤ 32)
 take_count word [] n e = absurd cc
 take_count word (w ∷ []) n e = absurd cc
 take_count word (w ∷ m ∷ x ∷ xs) n e = absurd cc
 take_count word (w ∷ m ∷ []) n e =
-    let g = guard_number (bytes_eq w word) (few m) n e in
+    let g = cond_given (bytes_eq w word) (few m) n e in
     let f = few_takes (number_in m) n g.1 in
     let t = number_takes m n f.0 in
     (ap (λ (y : List ℕ). y ++ 32 ∷ m) ((bytes_eq-Decides w word).0 g.0) ∙ ap (λ (y : List ℕ). word ++ 32 ∷ y) t.0, f.1)

@@ -55,11 +55,11 @@ chain_lacks word c plain fits =
     (All-append (λ x. (x == 10) ≡ false) (32 ∷ []) (c.name ++ numbers_text c.numbers) (All-from_recursion (λ x. (x == 10) ≡ false) (32 ∷ []) (refl, tt))
     (All-append (λ x. (x == 10) ≡ false) c.name (numbers_text c.numbers) (name_lacks 10 c.name (omega arith) fits.name) (numbers_lack c.numbers fits.short)))
 
-apart : (c b : ℕ) → b < c → (c == b) ≡ false
-apart c b lt = grind (arith, nat_tests)
+eqb-less : (c b : ℕ) → b < c → (c == b) ≡ false
+eqb-less c b lt = grind (arith, nat_tests)
 
 member_plain : (b : ℕ) → b < 45 → All (λ x. (x == b) ≡ false) (codes "member")
-member_plain b small = All-from_recursion (λ x. (x == b) ≡ false) (codes "member") (apart 109 b (omega arith), (apart 101 b (omega arith), (apart 109 b (omega arith), (apart 98 b (omega arith), (apart 101 b (omega arith), (apart 114 b (omega arith), tt))))))
+member_plain b small = All-from_recursion (λ x. (x == b) ≡ false) (codes "member") (eqb-less 109 b (omega arith), (eqb-less 101 b (omega arith), (eqb-less 109 b (omega arith), (eqb-less 98 b (omega arith), (eqb-less 101 b (omega arith), (eqb-less 114 b (omega arith), tt))))))
 
 pub member_again : (c : Chain) (rest : List ℕ) (n : ℕ) → IsChainText c → member_at (record { parts = parts (chain_line (codes "member") c ++ rest); line = n }) ≡ Ok (c, record { parts = parts rest; line = n + 1 })
 unfolding member_at

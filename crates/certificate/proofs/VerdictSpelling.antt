@@ -1,19 +1,18 @@
 -- The certificate of a verdict has a spelling.
-use Rattle.std.proofs.Common.{◌≡◌, ℕ, zero, suc, ◌*◌, ◌<◌, ◌≤◌, Bool, true, false, cond, List, [], ◌∷◌, ◌++◌, length, All, refl, sym, subst, arith}
+use Rattle.std.proofs.Common.{◌≡◌, ℕ, zero, suc, ◌<◌, ◌≤◌, Bool, true, false, cond, List, [], ◌∷◌, ◌++◌, length, All, refl, sym, subst, arith}
 use Rattle.std.specs.List.{AllByRecursion}
 use Rattle.std.proofs.lemmas.Bool.{ltb-true}
 use Rattle.std.proofs.lemmas.List.{length-map}
 use Rattle.std.proofs.lemmas.List.Elements.{All-from_recursion}
 use Rattle.task_sheet.specs.Sheet.{Task, task_at}
 use Rattle.task_sheet.specs.TaskSet.{IsTaskSet}
-use Rattle.task_sheet.specs.Indexes.{Indexes, IsPart, below, without_index, among, listed_below}
+use Rattle.task_sheet.specs.Indexes.{Indexes, IsPart, without_index, among, listed_below}
 use Rattle.task_sheet.specs.Responses.{ChainFrom, IsChain}
 use Rattle.task_sheet.specs.Demand.{demand_of, limit_of}
 use Rattle.task_sheet.specs.Orders.{all_of, IsOrderOf}
 use Rattle.task_sheet.specs.Verdicts.{FailureData, LevelData, VerdictData, Admitted, Infeasible, tasks_of, order_of, IsBestOrder, IsStuck, IsVerdictOf}
 use Rattle.task_sheet.specs.Ready.{AllRefuted, AllReady, IsReadyOrder, IsReadySet}
-use Rattle.task_sheet.proofs.Below.{sum_below-fits}
-use Rattle.task_sheet.proofs.IndexLaws.{count_below, without-fewer, without-parts, IsOrderOf-head, IsOrderOf-rest}
+use Rattle.task_sheet.proofs.IndexLaws.{without-part_of, IsOrderOf-head, IsOrderOf-rest, order-below, order-few}
 use Rattle.task_sheet.proofs.TaskLaws.{valid_at, AllTasks-from_set}
 use Rattle.task_sheet.proofs.DemandFits.{limit-fits, demand-fits}
 use Rattle.task_sheet.proofs.VerdictLaws.{IsBestOrder-ready, IsStuck-ready}
@@ -40,32 +39,6 @@ listed-below (suc n) L = grown-below n (L n) (listed_below n L) (listed-below n 
 -- failures of the tasks of L below the chosen one name tasks of the set
 pub fails-below : (n : ℕ) (L : Indexes) (chosen : ℕ) (ks : List ℕ) → chosen < n → ks ≡ listed_below chosen L → AllByRecursion (λ k. k < n) ks
 fails-below n L chosen ks lt lesser = subst (AllByRecursion (λ k. k < n)) (sym lesser) (keep-below chosen n (listed_below chosen L) (listed-below chosen L) (omega arith))
-
-pub without-part_of : (n : ℕ) (L : Indexes) (i : ℕ) → IsPart L (below n) → IsPart (without_index L i) (below n)
-without-part_of n L i part k h = part k (without-parts L i k h).0
-
-pub order-below : (n : ℕ) (L : Indexes) (order : List ℕ) → IsOrderOf L order → IsPart L (below n) → AllByRecursion (λ k. k < n) order
-order-below n L [] each part = tt
-order-below n L (i ∷ above) each part =
-    (ltb-true i n (part i (IsOrderOf-head L i above each)), order-below n (without_index L i) above (IsOrderOf-rest L i above each) (without-part_of n L i part))
-
--- ---- how many there are
-order-count : (n : ℕ) (L : Indexes) (order : List ℕ) → IsOrderOf L order → IsPart L (below n) → length order ≤ count_below n L
-order-count n L [] each part = omega arith
-order-count n L (i ∷ above) each part =
-    let member = IsOrderOf-head L i above each in
-    let fewer = without-fewer n L i (ltb-true i n (part i member)) member in
-    let rest = order-count n (without_index L i) above (IsOrderOf-rest L i above each) (without-part_of n L i part) in
-    omega (arith, fewer, rest)
-
-one-or-none : (b : Bool) → cond b 1 0 ≤ 1
-one-or-none true = omega arith
-one-or-none false = omega arith
-
-pub order-few : (n : ℕ) (L : Indexes) (order : List ℕ) → IsOrderOf L order → IsPart L (below n) → length order ≤ n
-order-few n L order each part =
-    let all : count_below n L ≤ n * 1 = sum_below-fits n 1 (λ k. cond (L k) 1 0) (λ k lt. one-or-none (L k)) in
-    omega (arith, order-count n L order each part, all)
 
 -- ---- names and numbers
 module _ (U : List Task) (set : IsTaskSet U) where

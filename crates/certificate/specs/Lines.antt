@@ -23,7 +23,7 @@ abbrev pub ◌>>=◌ : {A B : Type 0} → Result A CertFault → (A → Result B
 (Ok x) >>= f = f x
 (Err e) >>= f = Err e
 
--- what a function returned, seen by view, is what reading gives, unless memory ran out
+-- the reading has this fault; want of memory says nothing of it
 abbrev pub Fails : {Y : Type 0} → CertFault → Result Y CertFault → Type 0
 Fails OutOfMemory read = Unit {0}
 Fails e read = read ≡ Err e
@@ -82,7 +82,7 @@ at_most_32 (Some n) = if nat_le n 32 then Some n else None
 abbrev pub few : List ℕ → Option ℕ
 few text = at_most_32 (number_in text)
 
--- how many members there are
+-- the number of a line of this word and one number up to 32
 abbrev pub count_in : List ℕ → List (List ℕ) → Option ℕ
 count_in word [] = None
 count_in word (w ∷ []) = None
@@ -90,6 +90,7 @@ count_in word (w ∷ n ∷ []) = if bytes_eq w word then few n else None
 count_in word (w ∷ n ∷ x ∷ xs) = None
 
 -- ---- levels
+-- the name and the time of level k, where the number is k, the name is one and the time is a number
 abbrev pub level_of : ℕ → List ℕ → Option ℕ → Option ℕ → Option (List ℕ × ℕ)
 level_of k name None time = None
 level_of k name (Some m) None = None

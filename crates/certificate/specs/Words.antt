@@ -1,4 +1,4 @@
--- Reading from the first line to the last, with the first fault that is met.
+-- The words of a line, and what they spell.
 use Rattle.std.specs.Prelude.{ℕ, List, [], ◌∷◌, ◌++◌, length, Bool, ◌&&◌, ◌||◌, not, ◌==◌, nat_lt, nat_le, bytes_eq, slice_index, Option, Some, None, if◌then◌else◌}
 use Rattle.std.specs.List.{slice_split, list_all}
 use Rattle.std.specs.Char.{is_ascii_digit}
@@ -7,7 +7,7 @@ use Rattle.std.specs.Global.{Vec}
 use Rattle.task_sheet.specs.Name.{is_name}
 use Rattle.certificate.specs.Body.{Chain}
 
--- the parts between the spaces, and the complete lines, of which the last part is none
+-- the parts of a line between its spaces
 abbrev pub words : List ℕ → List (List ℕ)
 words line = slice_split (λ b. b == 32) line
 

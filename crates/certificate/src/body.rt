@@ -14,10 +14,13 @@ use std::alloc::Global;
 /// What a certificate says.
 #[derive(Drop)]
 pub enum CertBody {
+    /// The levels of an order, the lowest first.
     Best(Vec<CertLevel>),
+    /// The members of a set of which none passes below the others.
     NoOrder(Vec<CertChain>),
 }
 
+// The rest as levels, and the last line.
 #[tactic(auto, unfolding(crate::specs::Lines::best_of))]
 fn best_of<'a>(alloc: Global, count: u64, at: Place<'a>) -> Result<CertBody, CertFault>
     requires { count ≤ 32 }
@@ -28,6 +31,7 @@ fn best_of<'a>(alloc: Global, count: u64, at: Place<'a>) -> Result<CertBody, Cer
     Ok(CertBody::Best(levels))
 }
 
+// The rest as members, and the last line.
 #[tactic(auto, unfolding(crate::specs::Lines::members_of))]
 fn members_of<'a>(alloc: Global, count: u64, at: Place<'a>) -> Result<CertBody, CertFault>
     ensures { Gives body_of result (members_of count (at_place at.entry)) }
@@ -37,6 +41,7 @@ fn members_of<'a>(alloc: Global, count: u64, at: Place<'a>) -> Result<CertBody, 
     Ok(CertBody::NoOrder(members))
 }
 
+/// What the certificate that the bytes are says, or the first fault.
 #[tactic(auto, unfolding(crate::specs::Lines::certificate_in))]
 pub fn certificate_in(alloc: Global, bytes: &[u8]) -> Result<CertBody, CertFault>
     ensures { Gives body_of result (certificate_in bytes.now) }

@@ -38,7 +38,7 @@ impl Model for Certificate {
 }
 
 impl Certificate {
-    /// The certificate of a verdict: its numbers, with the names of the tasks.
+    /// The certificate of a verdict: its numbers, with the names of the tasks. The error is want of memory.
     pub fn of(alloc: Global, verdict: &Verdict) -> Result<Certificate, AllocError>
         ensures { IfOk result (λ c. c ≡ certificate_of (set_of verdict.now) (verdict_of verdict.now)) }
     {
@@ -54,7 +54,8 @@ impl Certificate {
         &self.body
     }
 
-    /// Writes the spelling, through a buffer of 4096 bytes, and takes no memory.
+    /// Writes the spelling, through a buffer of 4096 bytes, and takes no memory. The error comes where the writer fails:
+    /// how much of the spelling went out is then open.
     pub fn write<W: Write + Drop>(&self, out: &mut Watched<W>) -> Result<(), WriteFailed>
         ensures written { OnOk result (Appends (W.contents out.old.inner) (W.contents out.new.inner) (spelling self.now)) }
         ensures ok { OnOk result (out.new.has_failed ≡ out.old.has_failed) }
@@ -66,7 +67,8 @@ impl Certificate {
     }
 }
 
-/// Reads a certificate. Lines end with LF, the last one too; a fault is that of the first line that shows one.
+/// Reads a certificate. Lines end with LF, the last one too; a fault is that of the first line that shows one,
+/// or want of memory.
 pub fn read(alloc: Global, bytes: &[u8]) -> Result<Certificate, CertFault>
     ensures found { IfOk result (λ c. (bytes.now ≡ spelling c) × HasSpelling c) }
     ensures only { (c : Body) → HasSpelling c → bytes.now ≡ spelling c → Gives (λ x. x) result (Ok c) }

@@ -4,7 +4,7 @@ ghost use Rattle.std.specs.Fmt.{decimal};
 
 use std::marker::Model;
 
-// The digits stand at the end.
+/// The digits of a number; they stand at the end of the bytes.
 #[derive(Drop)]
 pub struct Digits {
     bytes: [u8; 20],
@@ -39,6 +39,7 @@ impl Digits {
         Digits { bytes, start }
     }
 
+    /// The digits, the first one first.
     pub fn bytes(&self) -> &[u8]
         ensures same { result.now ≡ self.now }
         ensures few { length result.now ≤ 20 }

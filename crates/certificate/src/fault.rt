@@ -20,6 +20,7 @@ pub enum CertFault {
     /// Something follows the line `end`.
     #[error("something follows the line `end`")]
     Trailing,
+    /// A growth was refused.
     #[error("out of memory")]
     OutOfMemory,
 }

@@ -10,15 +10,11 @@ use std::marker::Model;
 // How many bytes are held back at most.
 const ROOM: usize = 4096;
 
+/// Up to 4096 bytes that wait to be written.
+#[derive(Drop)]
 pub struct Held {
-    bytes: [u8; 4096],
+    bytes: [u8; ROOM],
     len: usize,
-}
-
-impl Drop for Held {
-    fn drop(self) {
-        let Held { bytes: _, len: _ } = self;
-    }
 }
 
 impl Model for Held {
@@ -32,11 +28,12 @@ impl Model for Held {
 }
 
 impl Held {
+    /// With nothing held back.
     pub fn new() -> Held
         ensures { result ≡ [] }
     {
         Held {
-            bytes: [0; 4096],
+            bytes: [0; ROOM],
             len: 0,
         }
     }

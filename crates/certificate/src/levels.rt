@@ -12,6 +12,7 @@ use crate::words::{chain_of, cut, number_of};
 use std::alloc::{AllocError, Global};
 use task_sheet::Name;
 
+// The chains of the lines `fails` that come next, and the place behind them.
 fn fails<'a>(alloc: Global, at: Place<'a>) -> Result<(Vec<CertChain>, Place<'a>), AllocError>
     ensures { IfOk result (λ x. (x.0.items, at_place x.1) ≡ fails_from (at_place at.entry).parts at.entry.line) }
 {
@@ -29,6 +30,7 @@ fn fails<'a>(alloc: Global, at: Place<'a>) -> Result<(Vec<CertChain>, Place<'a>)
     }
 }
 
+// The name and the time of level `k`, where the number is `k` and the name is one.
 fn level_of(k: u64, name: &[u8], number: Option<u64>, time: Option<u64>) -> Option<(Name, u64)>
     ensures { result ≡ level_of k name.now number time }
 {
@@ -41,6 +43,7 @@ fn level_of(k: u64, name: &[u8], number: Option<u64>, time: Option<u64>) -> Opti
     }
 }
 
+// The name and the time of a line of level `k`.
 fn level_in(k: u64, line: &[u8]) -> Option<(Name, u64)>
     ensures { result ≡ level_in k (words line.now) }
 {
@@ -54,6 +57,7 @@ fn level_in(k: u64, line: &[u8]) -> Option<(Name, u64)>
     }
 }
 
+// The next lines as level `k` with its failures, and the place behind them.
 #[tactic(auto, unfolding(crate::specs::Lines::level_at))]
 fn level<'a>(alloc: Global, k: u64, at: Place<'a>) -> Result<(CertLevel, Place<'a>), CertFault>
     ensures { Gives (λ x. (x.0, at_place x.1)) result (level_at k (at_place at.entry)) }
@@ -66,6 +70,7 @@ fn level<'a>(alloc: Global, k: u64, at: Place<'a>) -> Result<(CertLevel, Place<'
     Ok((CertLevel { name, t, fails }, after))
 }
 
+/// The next lines as `count` levels, and the place behind them.
 pub fn levels<'a>(
     alloc: Global,
     count: u64,

@@ -19,5 +19,7 @@ mod writing;
 pub use body::CertBody;
 pub use certificate::{Certificate, read};
 pub use fault::CertFault;
+pub use place::Place;
 pub use value::{CertChain, CertLevel};
 pub use watched::{Watched, WriteFailed};
+pub use words::{cut, number_of};

@@ -25,22 +25,15 @@ pub fn line_of<'a>(at: Place<'a>) -> Option<(&'a [u8], Place<'a>)>
     ))
 }
 
+/// The next complete line, and the place behind it; `Truncated` where there is none.
 pub fn next_line<'a>(at: Place<'a>) -> Result<(&'a [u8], Place<'a>), CertFault>
     ensures line { Gives (λ x. (x.0.now, at_place x.1)) result (line_at (at_place at.entry)) }
     ensures less { IfOk result (λ x. length x.1.rest.now < length at.entry.rest.now) }
 {
-    match cut(at.rest, b'\n') {
-        None => Err(CertFault::Truncated),
-        Some((line, rest)) => Ok((
-            line,
-            Place {
-                rest,
-                line: at.line + 1,
-            },
-        )),
-    }
+    line_of(at).ok_or(CertFault::Truncated)
 }
 
+// The next line as a member, and the place behind it.
 #[tactic(auto, unfolding(crate::specs::Lines::member_at))]
 fn member<'a>(alloc: Global, at: Place<'a>) -> Result<(CertChain, Place<'a>), CertFault>
     ensures { Gives (λ x. (x.0, at_place x.1)) result (member_at (at_place at.entry)) }
@@ -52,6 +45,7 @@ fn member<'a>(alloc: Global, at: Place<'a>) -> Result<(CertChain, Place<'a>), Ce
     }
 }
 
+/// The next `count` lines as members, and the place behind them.
 pub fn members<'a>(
     alloc: Global,
     count: u64,
@@ -69,7 +63,8 @@ pub fn members<'a>(
     Ok((members, at))
 }
 
-#[tactic(auto, using(crate::proofs::Loops::over_is), unfolding(crate::specs::Lines::end_at))]
+/// The last line is next, and nothing follows it: else `Truncated`, `BadLine` or `Trailing`.
+#[tactic(auto, using(crate::proofs::MemberLoops::over_is), unfolding(crate::specs::Lines::end_at))]
 pub fn end<'a>(at: Place<'a>) -> Result<(), CertFault>
     ensures { Gives (λ x. x) result (end_at (at_place at.entry)) }
 {
@@ -83,12 +78,14 @@ pub fn end<'a>(at: Place<'a>) -> Result<(), CertFault>
     Ok(())
 }
 
+/// Whether the text is this word.
 pub fn is_word(text: &[u8], word: &[u8]) -> bool
     ensures { result ≡ bytes_eq text.now word.now }
 {
     text == word
 }
 
+// The number that a word is, where it is at most 32.
 fn few(text: &[u8]) -> Option<u64>
     ensures is { result ≡ few text.now }
     ensures small { IfSome result (λ n. n ≤ 32) }
@@ -99,7 +96,7 @@ fn few(text: &[u8]) -> Option<u64>
     }
 }
 
-/// The number behind a word.
+/// The number, at most 32, of a line of this word and one number.
 pub fn count_of(word: &[u8], line: &[u8]) -> Option<u64>
     ensures is { result ≡ count_in word.now (words line.now) }
     ensures small { IfSome result (λ n. n ≤ 32) }

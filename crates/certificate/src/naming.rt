@@ -23,6 +23,7 @@ fn chain_named(alloc: Global, set: &TaskSet, failure: &Failure) -> Result<CertCh
     Ok(CertChain { name, numbers })
 }
 
+// Failures' numbers, with the names of their tasks.
 fn chains_named(
     alloc: Global,
     set: &TaskSet,
@@ -51,6 +52,7 @@ fn level_named(alloc: Global, set: &TaskSet, level: &LevelRecord) -> Result<Cert
     Ok(CertLevel { name, t, fails })
 }
 
+// Levels' numbers, with the names of their tasks.
 fn levels_named(
     alloc: Global,
     set: &TaskSet,
@@ -73,6 +75,7 @@ fn best_named(alloc: Global, best: &Assignment) -> Result<Vec<CertLevel>, AllocE
     ensures spelled { HasSpelling (Best (levels_named best.now.set best.now.levels)) }
 {
     let set = best.set();
+    // Its contract says that the set is one of at most 32 valid sheets.
     let _sheets = set.sheets();
     levels_named(alloc, set, best.levels())
 }
@@ -83,6 +86,7 @@ fn stuck_named(alloc: Global, stuck: &Obstruction) -> Result<Vec<CertChain>, All
     ensures spelled { HasSpelling (NoOrder (chains_named stuck.now.set stuck.now.members)) }
 {
     let set = stuck.set();
+    // Its contract says that the set is one of at most 32 valid sheets.
     let _sheets = set.sheets();
     chains_named(alloc, set, stuck.members())
 }

@@ -3,7 +3,7 @@
 use std::marker::Model;
 use task_sheet::Name;
 
-/// Numbers that show that a task fails.
+/// Numbers, in microseconds, that show that a task fails.
 #[derive(Drop)]
 pub struct CertChain {
     pub name: Name,
@@ -22,6 +22,7 @@ impl Model for CertChain {
 #[derive(Drop)]
 pub struct CertLevel {
     pub name: Name,
+    /// In microseconds.
     pub t: u64,
     pub fails: Vec<CertChain>,
 }

@@ -8,7 +8,7 @@ use crate::value::CertChain;
 use std::alloc::{AllocError, Global};
 use task_sheet::Name;
 
-/// The bytes before the first such byte, and those after it.
+/// The bytes before the first such byte, and those after it; `None` where there is none.
 pub fn cut(bytes: &[u8], byte: u8) -> Option<(&[u8], &[u8])>
     ensures parts { MatchOption result (slice_split (λ b. b == byte) bytes.now ≡ bytes.now ∷ []) (λ x. slice_split (λ b. b == byte) bytes.now ≡ x.0.now ∷ slice_split (λ b. b == byte) x.1.now) }
     ensures less { IfSome result (λ x. length x.1.now < length bytes.now) }
@@ -34,7 +34,7 @@ fn is_number(text: &[u8]) -> bool
     !text.is_empty() && text.len() <= 10 && (text.len() == 1 || text[0] != b'0') && are_digits(text)
 }
 
-/// A number of 1 to 10 digits.
+/// The number that 1 to 10 digits spell, with no zero in front of others; `None` for any other word.
 pub fn number_of(text: &[u8]) -> Option<u64>
     ensures { result ≡ number_in text.now }
 {
@@ -48,7 +48,7 @@ pub fn number_of(text: &[u8]) -> Option<u64>
     Some(number)
 }
 
-/// The numbers between spaces.
+/// The numbers between spaces; `None` where a word is no number.
 pub fn numbers_of(alloc: Global, text: &[u8]) -> Result<Option<Vec<u64>>, AllocError>
     ensures { IfOk result (λ o. found o ≡ numbers_in (words text.now)) }
 {
@@ -68,7 +68,7 @@ pub fn numbers_of(alloc: Global, text: &[u8]) -> Result<Option<Vec<u64>>, AllocE
     Ok(Some(numbers))
 }
 
-/// A chain behind a word and a name.
+/// The chain of a line of this word, a name and numbers.
 pub fn chain_of(alloc: Global, word: &[u8], line: &[u8]) -> Result<Option<CertChain>, AllocError>
     ensures { IfOk result (λ o. o ≡ chain_in word.now (words line.now)) }
 {

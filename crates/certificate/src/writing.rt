@@ -14,6 +14,7 @@ use crate::watched::{Watched, WriteFailed};
 use std::io::Write;
 use task_sheet::Name;
 
+// A number in decimal digits.
 fn put_number<W: Write + Drop>(
     number: u64,
     held: &mut Held,
@@ -27,7 +28,7 @@ fn put_number<W: Write + Drop>(
     put(digits.bytes(), held, out)
 }
 
-// A name and what ends it.
+// A name.
 fn put_name<W: Write + Drop>(
     name: Name,
     held: &mut Held,
@@ -76,6 +77,7 @@ fn put_chain<W: Write + Drop>(
     put(b"\n", held, out)
 }
 
+// A line for each chain, behind a word.
 fn put_chains<W: Write + Drop>(
     word: &[u8],
     chains: &[CertChain],
@@ -142,6 +144,7 @@ fn put_level<W: Write + Drop>(
     put_time(level.name, level.t, held, out)
 }
 
+// The levels with their failures, the lowest first.
 fn put_levels<W: Write + Drop>(
     levels: &[CertLevel],
     held: &mut Held,

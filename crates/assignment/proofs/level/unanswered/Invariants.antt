@@ -1,5 +1,5 @@
 use Rattle.std.proofs.Common.{◌≡◌, replicate, None}
 use Rattle.assignment.proofs.level.unanswered.Given as goal
 
-abbrev pub invariant-loop-k : goal.invariant-loop-k
-invariant-loop-k l = l.answers.items ≡ replicate l._k None
+abbrev pub invariant-loop : goal.invariant-loop
+invariant-loop l = l.answers.items ≡ replicate l.counter None

@@ -1,7 +1,7 @@
 use Rattle.std.proofs.Common.{◌≡◌, cond, max, ap, arith}
 use Rattle.task_sheet.specs.Indexes.{indexes_of}
-use Rattle.task_sheet.proofs.Below.{ord_max-is}
-use Rattle.cert_checker.proofs.WorkSteps.{longest_step}
+use Rattle.task_sheet.specs.Locks.{reaches}
+use Rattle.task_sheet.proofs.Below.{ord_max-is, greatest_step}
 use Rattle.cert_checker.proofs.work.longest.Goals as goal
 use Rattle.cert_checker.proofs.work.longest.Goals.{then-reaches, else-reaches}
 
@@ -11,5 +11,5 @@ loop-section-preserved c =
       | then-reaches w ↦ rw (w.if-reaches.true) (omega (arith, w.longest-is, w.max-longest.ensures, ord_max-is, ap (λ s. s.len) c.section.view_is))
       | else-reaches w ↦ rw (w.if-reaches.false) w.longest-is
     ] in
-    longest_step c.args.set.now (indexes_of c.args.members) c.sections-section-items.result.now c.loop-section.section-index c.section-item.result c.reaches.result c.loop-section.longest c.if-reaches.longest
+    greatest_step (reaches c.args.set.now (indexes_of c.args.members)) (λ s. s.len) c.sections-section-items.result.now c.loop-section.section-index c.section-item.result c.reaches.result c.loop-section.longest c.if-reaches.longest
     c.loop-section-test.true c.section-item.is c.reaches.ensures c.loop-section.invariant next

@@ -2,7 +2,8 @@ use Rattle.std.proofs.Common.{◌≡◌, ◌<◌, true, sym, ◌∙◌, length, 
 use Rattle.task_sheet.specs.Sheet.{task_at}
 use Rattle.task_sheet.specs.Indexes.{indexes_of}
 use Rattle.task_sheet.specs.Locks.{shares_lock}
-use Rattle.cert_checker.proofs.WorkSteps.{task_read, reached-at}
+use Rattle.task_sheet.proofs.TaskLaws.{task_read}
+use Rattle.cert_checker.proofs.WorkSteps.{reached-at}
 use Rattle.cert_checker.proofs.work.reaches.Goals as goal
 
 pub returns-then-shares : goal.returns-then-shares

@@ -1,6 +1,6 @@
 use Rattle.certificate.specs.Words.{words}
-use Rattle.certificate.proofs.Lists.{words_some}
-use Rattle.certificate.proofs.Loops.{too_many}
+use Rattle.certificate.proofs.NumberLoops.{words_some}
+use Rattle.certificate.proofs.MemberLoops.{too_many}
 use Rattle.certificate.proofs.lines.count_of.Goals as goal
 
 pub returns-in-Some-clause-is : goal.returns-in-Some-clause-is

@@ -1,6 +1,6 @@
 use Rattle.std.proofs.Common.{◌≡◌, ◌-◌}
 use Rattle.certificate.specs.Lines.{members_at, at_place}
-use Rattle.certificate.proofs.Loops.{with_front}
+use Rattle.certificate.proofs.MemberLoops.{with_front}
 use Rattle.certificate.proofs.lines.members.Given as goal
 
 abbrev pub invariant-loop : goal.invariant-loop

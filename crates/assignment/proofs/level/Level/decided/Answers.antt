@@ -12,8 +12,8 @@ use Rattle.assignment.proofs.level.Level.decided.Goals.{then-has+in-Some+else-le
 read_at : (answers : List (Option Answer)) (k : ℕ) (o : Option Answer) (answer : Answer) → k < length answers → o ≡ get_or answers k o → o ≡ Some answer → get_or answers k None ≡ Some answer
 read_at answers k o answer lt read is = sym (get_or_read answers k o lt read None) ∙ is
 
-pub returns-then-lets_stand : goal.returns-then-lets_stand
-returns-then-lets_stand c =
+pub returns-in-Some : goal.returns-in-Some
+returns-in-Some c =
     let a = c.self.inside in
     let inv = c.self.invariant in
     let n = c.loop-task.task in

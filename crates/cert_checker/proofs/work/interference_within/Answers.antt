@@ -8,8 +8,8 @@ use Rattle.task_sheet.proofs.Releases.{interference-fits}
 use Rattle.task_sheet.proofs.TaskLaws.{valid_at}
 use Rattle.std.proofs.lemmas.List.{get_or_read}
 use Rattle.cert_checker.proofs.WorkSteps.{interference_from}
-use Rattle.cert_checker.proofs.work.taken_within.Goals as goal
-use Rattle.cert_checker.proofs.work.taken_within.Goals.{then-has, else-has}
+use Rattle.cert_checker.proofs.work.interference_within.Goals as goal
+use Rattle.cert_checker.proofs.work.interference_within.Goals.{then-has, else-has}
 
 pub loop-h-preserved : goal.loop-h-preserved
 loop-h-preserved c =

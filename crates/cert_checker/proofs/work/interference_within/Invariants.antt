@@ -2,7 +2,7 @@ use Rattle.std.proofs.Common.{◌≡◌, ◌≤◌, ◌*◌, if◌then◌else◌
 use Rattle.task_sheet.specs.Sheet.{task_at}
 use Rattle.task_sheet.specs.Indexes.{indexes_of, sum_below}
 use Rattle.task_sheet.specs.Demand.{interference_of}
-use Rattle.cert_checker.proofs.work.taken_within.Given as goal
+use Rattle.cert_checker.proofs.work.interference_within.Given as goal
 
 abbrev pub invariant-loop-h : goal.invariant-loop-h
 invariant-loop-h l = record {

@@ -1,8 +1,8 @@
 use Rattle.std.proofs.Common.{ap, arith}
 use Rattle.task_sheet.specs.Indexes.{indexes_of}
 use Rattle.task_sheet.proofs.DemandFits.{cost-fits, blocking-fits}
-use Rattle.cert_checker.proofs.WorkSteps.{task_read}
-use Rattle.cert_checker.proofs.work.due_once.Goals as goal
+use Rattle.task_sheet.proofs.TaskLaws.{task_read}
+use Rattle.cert_checker.proofs.work.base_demand.Goals as goal
 
 pub overflow_add-result : goal.overflow_add-result
 overflow_add-result c =

@@ -1,0 +1,29 @@
+-- Reading numbers one after the other, as a loop does.
+use Rattle.std.proofs.Common.{◌≡◌, ℕ, ◌<◌, ◌==◌, List, [], ◌∷◌, ◌++◌, length, Option, Some, None, refl, sym, ap, ◌∙◌, append_assoc, arith}
+use Rattle.std.proofs.lemmas.List.Splits.{length-slice_split}
+use Rattle.certificate.specs.Words.{◌>>=◌, words, number_in, numbers_in, before}
+
+pub words_some : (line : List ℕ) → 0 < length (words line)
+words_some line = omega (arith, length-slice_split {X = ℕ} (λ b. b == 32) line)
+
+before-bind : (front : List ℕ) (n : ℕ) (o : Option (List ℕ)) → before front (o >>= λ ns. Some (n ∷ ns)) ≡ before (front ++ n ∷ []) o
+before-bind front n None = refl
+before-bind front n (Some ns) = ap (λ (x : List ℕ). Some x) (simp append_assoc)
+
+pub before_next : (front w : List ℕ) (ws all : List (List ℕ)) (n : ℕ) (total : Option (List ℕ)) → all ≡ w ∷ ws → number_in w ≡ Some n → before front (numbers_in all) ≡ total → before (front ++ n ∷ []) (numbers_in ws) ≡ total
+unfolding numbers_in
+before_next front w ws all n total cut is so_far =
+    let one : before front (numbers_in all) ≡ before (front ++ n ∷ []) (numbers_in ws) = rw (cut, is) (before-bind front n (numbers_in ws)) in
+    sym one ∙ so_far
+
+pub before_none : (front w : List ℕ) (ws all : List (List ℕ)) (total : Option (List ℕ)) → all ≡ w ∷ ws → number_in w ≡ None → before front (numbers_in all) ≡ total → None ≡ total
+unfolding numbers_in
+before_none front w ws all total cut is so_far =
+    let one : before front (numbers_in all) ≡ None = rw (cut, is) refl in
+    sym one ∙ so_far
+
+pub before_last : (front w : List ℕ) (all : List (List ℕ)) (n : ℕ) (total : Option (List ℕ)) → all ≡ w ∷ [] → number_in w ≡ Some n → before front (numbers_in all) ≡ total → Some (front ++ n ∷ []) ≡ total
+unfolding numbers_in
+before_last front w all n total cut is so_far =
+    let one : before front (numbers_in all) ≡ Some (front ++ n ∷ []) = rw (cut, is) refl in
+    sym one ∙ so_far
