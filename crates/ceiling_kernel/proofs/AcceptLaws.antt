@@ -17,7 +17,7 @@ use Rattle.ceiling_kernel.specs.Waits.{IsNode}
 use Rattle.ceiling_kernel.specs.Releases.{task_named, task_number, job_of, jobs_of, first_or, first_where, no_release, release_at, is_unsorted, is_unknown, is_soon_job, is_too_soon, is_past, refuse_if, refusal_of}
 use Rattle.ceiling_kernel.specs.Releases.{soon_after}
 use Rattle.ceiling_kernel.specs.States.{IsRunnable}
-use Rattle.task_sheet.proofs.Below.{some_below-at}
+use Rattle.task_sheet.proofs.Below.{some_below-at, some_below-none}
 use Rattle.ceiling_kernel.proofs.ReleaseLaws.{job_is}
 
 -- ---- the first that passes a test
@@ -135,10 +135,6 @@ unsorted_is rs (suc k) some = (let e : suc k - 1 ≡ k = omega arith in ap (λ n
 
 pub unsorted_first : (rs : List Release) (k : ℕ) → k ≡ 0 → is_unsorted rs k ≡ false
 unsorted_first rs k e = ap (is_unsorted rs) e
-
-some_below-none : (n : ℕ) (p : ℕ → Bool) → ((k : ℕ) → k < n → p k ≡ false) → some_below n p ≡ false
-some_below-none zero p h = refl
-some_below-none (suc n) p h = rw (some_below-none n p (λ k lt. h k (omega arith)), h n (omega arith))
 
 -- ---- the last release of each task
 pub record AreLast (U : List Task) (rs : List Release) (n : ℕ) (last : List (Option ℕ)) : Type 0 where

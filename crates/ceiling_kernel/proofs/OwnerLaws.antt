@@ -8,9 +8,10 @@ use Rattle.std.proofs.lemmas.List.Quantifiers.{position-Some}
 use Rattle.std.proofs.lemmas.List.Sums.{fails_before_first}
 use Rattle.std.proofs.Math.Seq.{drop-cons}
 use Rattle.std.specs.List.{list_any, flat_map, fold, cons_option, position_or_len}
-use Rattle.std.specs.Cmp.Lexicographic.{same_text, nat_list_eq_equiv}
+use Rattle.std.specs.Cmp.Lexicographic.{nat_list_eq_equiv}
 use Rattle.task_sheet.specs.Sheet.{CriticalSection, Task, same_bytes, task_at}
 use Rattle.task_sheet.specs.Locks.{names_lock}
+use Rattle.task_sheet.proofs.NameLaws.{same_own, same_is}
 use Rattle.ceilings.specs.IsTableOf.{with_name, names_in, locks_of}
 use Rattle.ceiling_kernel.specs.declared.tasks.NodeSection.{NodeSection}
 use Rattle.ceiling_kernel.specs.declared.run.Pending.{Pending}
@@ -19,12 +20,6 @@ use Rattle.ceiling_kernel.specs.Waits.{holds_lock}
 use Rattle.ceiling_kernel.specs.NodeTasks.{places_in, is_within, IsSectionOf, AreSectionsOf}
 use Rattle.ceiling_kernel.proofs.QueueLaws.{pending_same}
 use Rattle.ceiling_kernel.specs.Owners.{owner_at, owner_of, with_owner, with_inside, with_owners, AreOwners}
-
-same_own : (a : List ℕ) → same_bytes a a ≡ true
-same_own a = nat_list_eq_equiv.refl a
-
-same_is : (a b : List ℕ) → same_bytes a b ≡ true → a ≡ b
-same_is a b h = same_text a b (sym h)
 
 -- ---- the places of locks
 module _ (seen : List (List ℕ)) (lock : List ℕ) (n : ℕ) (at_n : position (same_bytes lock) seen ≡ Some n) where

@@ -73,7 +73,7 @@ impl<'a> Kernel<'a> {
             set,
             order,
             tasks,
-            locks: table.len(),
+            locks: table.count(),
         })
     }
 
