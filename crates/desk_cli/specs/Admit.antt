@@ -1,12 +1,12 @@
 -- What `desk admit` answers and prints.
-use Rattle.std.specs.Prelude.{◌≡◌, ℕ, ◌<◌, List, length, Option, IfSome, Result, Ok, Err}
+use Rattle.std.specs.Prelude.{◌≡◌, ℕ, List, Option, Result, Ok, Err}
 use Rattle.std.specs.Io.KnownBytes.{Appends}
 use Rattle.task_sheet.specs.ReadsSet.{ReadsSet}
 use Rattle.task_sheet.specs.Verdicts.{IsVerdictOf}
 use Rattle.assignment.specs.Verdict.{set_of, verdict_of}
 use Rattle.assignment.specs.declared.verdict.Verdict.{Verdict}
 use Rattle.assignment.specs.declared.verdict.Verdict.TheVariants.{Admitted, Infeasible}
-use Rattle.desk_cli.specs.Inputs.{IsReadFrom}
+use Rattle.desk_cli.specs.Inputs.{IsReadFrom, IsTooLong}
 use Rattle.desk_cli.specs.Lines.{verdict_lines}
 use Rattle.desk_cli.specs.Refusals.{refusal_line, status_of}
 use Rattle.desk_cli.specs.declared.input.InputFault.TheVariants as input
@@ -20,7 +20,7 @@ use Rattle.desk_cli.specs.declared.status.Status.TheVariants as status
 abbrev pub Admits : Option (List ℕ) → Result Verdict Refusal → Type 0
 Admits known (Ok v) = (bytes : List ℕ) × IsReadFrom known bytes × ReadsSet bytes (Ok (set_of v)) × IsVerdictOf (set_of v) (verdict_of v)
 Admits known (Err (refusal.Set fault)) = (bytes : List ℕ) × IsReadFrom known bytes × ReadsSet bytes (Err fault)
-Admits known (Err (refusal.Input input.TooLong)) = IfSome known (λ all. 16777216 < length all)
+Admits known (Err (refusal.Input input.TooLong)) = IsTooLong known
 Admits known (Err (refusal.Input input.ReadFailed)) = Unit {0}
 Admits known (Err (refusal.Input input.OutOfMemory)) = Unit {0}
 Admits known (Err (refusal.Certificate fault)) = ⊥

@@ -55,10 +55,10 @@ is_twice (Simulate set releases) = is_standard set && is_standard releases
 abbrev pub IsTaken : List Text → Type 0
 IsTaken words = (words ≡ []) ⊎ (fault_of desk_app words ≡ [])
 
--- `clap` gives an error of a kind that the words have, or for want of memory; or their call names standard input twice
+-- `clap` gives an error of a kind that the words have, or for want of memory; or it takes them, and their call names standard input twice
 abbrev pub IsWordsFault : List Text → WordsFault → Type 0
 IsWordsFault words (fault.Clap error) = (words ≢ []) × HasKind (fault_of desk_app words) error
-IsWordsFault words fault.InputTwice = (call : Call) × Calls words call × (is_twice call ≡ true)
+IsWordsFault words fault.InputTwice = IsTaken words × (call : Call) × Calls words call × (is_twice call ≡ true)
 
 -- help is no mistake
 abbrev pub kind_status : ErrorKind → Status

@@ -1,5 +1,5 @@
 -- What `desk check` answers and prints.
-use Rattle.std.specs.Prelude.{◌≡◌, ◌⊎◌, ℕ, ◌<◌, List, length, codes, Option, Some, IfSome, Result, Ok, Err}
+use Rattle.std.specs.Prelude.{◌≡◌, ◌⊎◌, ℕ, List, codes, Option, Some, Result, Ok, Err}
 use Rattle.std.specs.Io.KnownBytes.{Appends}
 use Rattle.task_sheet.specs.Sheet.{Task}
 use Rattle.task_sheet.specs.Orders.{IsBest, IsFeasible}
@@ -11,7 +11,7 @@ use Rattle.cert_checker.specs.Faults.{check_fault}
 use Rattle.cert_checker.specs.Answers.{kind_of, order_in}
 use Rattle.cert_checker.specs.declared.checking.Checked.{Checked}
 use Rattle.cert_checker.specs.declared.checking.Checked.TheVariants.{Best, NoOrder}
-use Rattle.desk_cli.specs.Inputs.{IsReadFrom}
+use Rattle.desk_cli.specs.Inputs.{IsReadFrom, IsTooLong}
 use Rattle.desk_cli.specs.Refusals.{refusal_line, status_of}
 use Rattle.desk_cli.specs.declared.input.InputFault.TheVariants as input
 use Rattle.desk_cli.specs.declared.refusal.Refusal.{Refusal}
@@ -40,10 +40,6 @@ ChecksBytes bytes text (Err refusal.OutOfMemory) = Unit {0}
 -- the bytes are those that the readers had
 abbrev pub ChecksRead : Option (List ℕ) → Option (List ℕ) → Result Checked Refusal → Type 0
 ChecksRead set certificate r = (bytes : List ℕ) × (text : List ℕ) × IsReadFrom set bytes × IsReadFrom certificate text × ChecksBytes bytes text r
-
--- the reader had more than an input may have
-abbrev pub IsTooLong : Option (List ℕ) → Type 0
-IsTooLong known = IfSome known (λ all. 16777216 < length all)
 
 -- the answer on what the readers have of a set and of a certificate
 abbrev pub Checks : Option (List ℕ) → Option (List ℕ) → Result Checked Refusal → Type 0

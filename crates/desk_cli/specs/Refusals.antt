@@ -4,7 +4,7 @@ use Rattle.std.specs.Prelude.{ℕ, List, ◌++◌, codes}
 use Rattle.std.specs.Fmt.{decimal}
 use Rattle.task_sheet.specs.declared.sheet.SheetCause.{SheetCause}
 use Rattle.task_sheet.specs.declared.sheet.SheetCause.TheVariants as cause
-use Rattle.task_sheet.specs.declared.read.Key.{Key}
+use Rattle.task_sheet.specs.declared.keys.Key.{Key}
 use Rattle.task_sheet.specs.Tree.{word_of}
 use Rattle.task_sheet.specs.declared.read.SetFault.{SetFault}
 use Rattle.task_sheet.specs.declared.read.SetFault.TheVariants as fault

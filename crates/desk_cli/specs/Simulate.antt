@@ -8,8 +8,7 @@ use Rattle.ceiling_kernel.specs.Tick.{node_in}
 use Rattle.ceiling_kernel.specs.Runs.{Runs}
 use Rattle.ceiling_kernel.specs.declared.trace.Release.{Release}
 use Rattle.ceiling_kernel.specs.declared.trace.Trace.{Trace}
-use Rattle.desk_cli.specs.Check.{IsTooLong}
-use Rattle.desk_cli.specs.Inputs.{IsReadFrom}
+use Rattle.desk_cli.specs.Inputs.{IsReadFrom, IsTooLong}
 use Rattle.desk_cli.specs.Lines.{infeasible_line}
 use Rattle.desk_cli.specs.Refusals.{refusal_line, status_of}
 use Rattle.desk_cli.specs.ReleasesText.{list_in}

@@ -1,17 +1,14 @@
 -- The lines that say a trace.
 use Rattle.std.specs.Prelude.{ℕ, List, [], ◌∷◌, ◌++◌, Option, Some, None, codes, slice_index_or}
 use Rattle.std.specs.Fmt.{decimal}
+use Rattle.ceiling_kernel.specs.Runs.{no_record}
 use Rattle.ceiling_kernel.specs.declared.trace.JobRecord.{JobRecord}
 use Rattle.ceiling_kernel.specs.declared.trace.Slice.{Slice}
 use Rattle.ceiling_kernel.specs.declared.trace.Trace.{Trace}
 
--- stands past the end of a list of jobs
-abbrev pub no_job : JobRecord
-no_job = record { name = []; release = 0; finish = None }
-
 -- a slice: from when to when, and the name of its job's task
 abbrev pub slice_line : List JobRecord → Slice → List ℕ
-slice_line jobs s = decimal s.start ++ codes " " ++ decimal s.stop ++ codes " " ++ (slice_index_or jobs s.job no_job).name ++ codes "\n"
+slice_line jobs s = decimal s.start ++ codes " " ++ decimal s.stop ++ codes " " ++ (slice_index_or jobs s.job no_record).name ++ codes "\n"
 
 -- a line for each slice
 abbrev pub slice_lines : List JobRecord → List Slice → List ℕ

@@ -23,21 +23,10 @@ pub(crate) fn decide<R: Read + Drop>(
     ensures answer { Admits (R.remaining set.old.inner) result }
     ensures failed { result ≡ Err (Refusal.Input InputFault.ReadFailed) → set.new.has_failed ≡ true }
 {
-    let bytes = match read_input(alloc, set) {
-        Ok(bytes) => bytes,
-        Err(fault) => return Err(Refusal::Input(fault)),
-    };
-    let tasks = match read_set(alloc, &bytes) {
-        Ok(tasks) => tasks,
-        Err(fault) => return Err(Refusal::Set(fault)),
-    };
-    let Ok(tasks) = Arc::new(alloc, tasks) else {
-        return Err(Refusal::OutOfMemory);
-    };
-    match assign(alloc, tasks) {
-        Ok(verdict) => Ok(verdict),
-        Err(_) => Err(Refusal::OutOfMemory),
-    }
+    let bytes = read_input(alloc, set)?;
+    let tasks = read_set(alloc, &bytes)?;
+    let verdict = assign(alloc, Arc::new(alloc, tasks)?)?;
+    Ok(verdict)
 }
 
 pub(crate) fn status_of(verdict: &Verdict) -> Status

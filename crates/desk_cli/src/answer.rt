@@ -67,8 +67,8 @@ pub(crate) fn infeasible_text(
     Ok(text)
 }
 
-/// The lines that say a verdict.
-pub fn verdict_text(alloc: Global, verdict: &Verdict) -> Result<String, AllocError>
+// The lines that say a verdict.
+pub(crate) fn verdict_text(alloc: Global, verdict: &Verdict) -> Result<String, AllocError>
     ensures { IfOk result (λ text. string_bytes text ≡ verdict_lines (set_of verdict.now) (verdict_of verdict.now)) }
 {
     match verdict {

@@ -16,18 +16,10 @@ use task_sheet::read_set;
 fn check_bytes(alloc: Global, bytes: &[u8], text: &[u8]) -> Result<Checked, Refusal>
     ensures { ChecksBytes bytes.now text.now result }
 {
-    let tasks = match read_set(alloc, bytes) {
-        Ok(tasks) => tasks,
-        Err(fault) => return Err(Refusal::Set(fault)),
-    };
-    let certificate = match read(alloc, text) {
-        Ok(certificate) => certificate,
-        Err(fault) => return Err(Refusal::Certificate(fault)),
-    };
-    match check(&tasks, &certificate) {
-        Ok(checked) => Ok(checked),
-        Err(fault) => Err(Refusal::Check(fault)),
-    }
+    let tasks = read_set(alloc, bytes)?;
+    let certificate = read(alloc, text)?;
+    let checked = check(&tasks, &certificate)?;
+    Ok(checked)
 }
 
 // What the certificate shows of the set, once both are read.
@@ -39,14 +31,8 @@ fn checked<R: Read + Drop, S: Read + Drop>(
     ensures answer { Checks (R.remaining set.old.inner) (S.remaining certificate.old.inner) result }
     ensures failed { result ≡ Err (Refusal.Input InputFault.ReadFailed) → (set.new.has_failed ≡ true) ⊎ (certificate.new.has_failed ≡ true) }
 {
-    let bytes = match read_input(alloc, set) {
-        Ok(bytes) => bytes,
-        Err(fault) => return Err(Refusal::Input(fault)),
-    };
-    let text = match read_input(alloc, certificate) {
-        Ok(text) => text,
-        Err(fault) => return Err(Refusal::Input(fault)),
-    };
+    let bytes = read_input(alloc, set)?;
+    let text = read_input(alloc, certificate)?;
     check_bytes(alloc, &bytes, &text)
 }
 

@@ -1,17 +1,17 @@
 //! Reading an input whole.
 ghost use Rattle.std.specs.Prelude.{◌≡◌, ℕ, ◌<◌, ◌≤◌, ◌++◌, true, false, Err, IfOk, IfSome, vec_len, length};
 ghost use Rattle.std.specs.Io.KnownBytes.{Consumes, IsAtEnd};
-ghost use Rattle.desk_cli.specs.Inputs.{IsReadFrom};
+ghost use Rattle.desk_cli.specs.Inputs.{IsReadFrom, IsTooLong};
 
 use certificate::Watched;
 use std::alloc::Global;
 use std::io::{ErrorKind, Read};
 
-/// The most bytes that an input has.
-pub const INPUT_LIMIT: usize = 16_777_216;
+// The most bytes that an input has.
+const INPUT_LIMIT: usize = 16_777_216;
 
-/// The most turns that reading it takes, interrupted reads among them.
-pub const TURN_LIMIT: usize = 33_554_432;
+// The most turns that reading it takes, interrupted reads among them.
+const TURN_LIMIT: usize = 33_554_432;
 
 /// Why an input was not read.
 #[derive(Clone, Copy, Debug, PartialEq, Eq)]
@@ -30,12 +30,12 @@ pub fn read_input<R: Read + Drop>(
     reader: &mut Watched<R>,
 ) -> Result<Vec<u8>, InputFault>
     ensures whole { IfOk result (λ bytes. IsReadFrom (R.remaining reader.old.inner) bytes.items) }
-    ensures too_long { result ≡ Err InputFault.TooLong → IfSome (R.remaining reader.old.inner) (λ all. 16777216 < length all) }
+    ensures too_long { result ≡ Err InputFault.TooLong → IsTooLong (R.remaining reader.old.inner) }
     ensures failed { result ≡ Err InputFault.ReadFailed → reader.new.has_failed ≡ true }
 {
     let mut bytes = Vec::new(alloc);
     let mut chunk = [0; 65536];
-    for _turn in 0..TURN_LIMIT {
+    for _ in 0..TURN_LIMIT {
         match reader.read(&mut chunk) {
             Ok(0) => return Ok(bytes),
             Ok(count) => {
@@ -46,11 +46,10 @@ pub fn read_input<R: Read + Drop>(
                     return Err(InputFault::OutOfMemory);
                 }
             }
-            Err(error) => {
-                if error.kind() != ErrorKind::Interrupted {
-                    return Err(InputFault::ReadFailed);
-                }
+            Err(error) if error.kind() != ErrorKind::Interrupted => {
+                return Err(InputFault::ReadFailed);
             }
+            Err(_) => {}
         }
     }
     Err(InputFault::ReadFailed)

@@ -1,22 +1,21 @@
 //! The commands of `desk`, as functions over readers and writers that give the exit status.
 #![tactic(auto)]
 
-pub mod admission;
-pub mod answer;
-pub mod certification;
-pub mod checking;
-pub mod input;
-pub mod output;
-pub mod refusal;
-pub mod releases;
-pub mod simulation;
-pub mod status;
+mod admission;
+mod answer;
+mod certification;
+mod checking;
+mod input;
+mod output;
+mod refusal;
+mod releases;
+mod simulation;
+mod status;
 mod text;
 mod tracing;
-pub mod words;
+mod words;
 
 pub use admission::admit;
-pub use answer::verdict_text;
 pub use certificate::Watched;
 pub use certification::certify;
 pub use checking::check_files;

@@ -1,6 +1,7 @@
 //! Why a command was refused, and the line that says so.
 ghost use Rattle.std.specs.Prelude.{◌≡◌, Some};
 ghost use Rattle.std.specs.Fmt.{DisplaysOnOk};
+ghost use Rattle.desk_cli.specs.declared.refusal.Refusal.TheVariants.{Certificate, Check, Input, OutOfMemory, Run, Set, Text};
 ghost use Rattle.desk_cli.specs.Refusals.{cause_words, certificate_words, check_words, fault_words, refusal_line, run_words, status_of, text_words, words_of};
 
 use crate::input::InputFault;
@@ -9,6 +10,7 @@ use crate::status::Status;
 use ceiling_kernel::RunFault;
 use cert_checker::CheckFault;
 use certificate::CertFault;
+use std::alloc::{AllocError, AllocFailed};
 use std::fmt;
 use task_sheet::{SetFault, SheetCause};
 
@@ -29,6 +31,70 @@ pub enum Refusal {
     Run(RunFault),
     /// Memory ran out after the inputs were read.
     OutOfMemory,
+}
+
+impl From<InputFault> for Refusal {
+    ghost from_gives = { λ fault refusal. refusal ≡ Input fault };
+
+    fn from(fault: InputFault) -> Refusal {
+        Refusal::Input(fault)
+    }
+}
+
+impl From<SetFault> for Refusal {
+    ghost from_gives = { λ fault refusal. refusal ≡ Set fault };
+
+    fn from(fault: SetFault) -> Refusal {
+        Refusal::Set(fault)
+    }
+}
+
+impl From<CertFault> for Refusal {
+    ghost from_gives = { λ fault refusal. refusal ≡ Certificate fault };
+
+    fn from(fault: CertFault) -> Refusal {
+        Refusal::Certificate(fault)
+    }
+}
+
+impl From<CheckFault> for Refusal {
+    ghost from_gives = { λ fault refusal. refusal ≡ Check fault };
+
+    fn from(fault: CheckFault) -> Refusal {
+        Refusal::Check(fault)
+    }
+}
+
+impl From<TextFault> for Refusal {
+    ghost from_gives = { λ fault refusal. refusal ≡ Text fault };
+
+    fn from(fault: TextFault) -> Refusal {
+        Refusal::Text(fault)
+    }
+}
+
+impl From<RunFault> for Refusal {
+    ghost from_gives = { λ fault refusal. refusal ≡ Run fault };
+
+    fn from(fault: RunFault) -> Refusal {
+        Refusal::Run(fault)
+    }
+}
+
+impl From<AllocError> for Refusal {
+    ghost from_gives = { λ _ refusal. refusal ≡ OutOfMemory };
+
+    fn from(_e: AllocError) -> Refusal {
+        Refusal::OutOfMemory
+    }
+}
+
+impl<T: Drop> From<AllocFailed<T>> for Refusal {
+    ghost from_gives = { λ _ refusal. refusal ≡ OutOfMemory };
+
+    fn from(_e: AllocFailed<T>) -> Refusal {
+        Refusal::OutOfMemory
+    }
 }
 
 impl Refusal {

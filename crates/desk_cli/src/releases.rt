@@ -1,13 +1,15 @@
 //! Release lists as text: `until N`, and then a line `TIME NAME` for each release.
-ghost use Rattle.std.specs.Prelude.{◌≡◌, ◌+◌, ◌<◌, ◌^◌, ◌∷◌, [], length, Ok, Err, IfSome, MatchOption, MatchResult};
+ghost use Rattle.std.specs.Prelude.{◌≡◌, ◌+◌, ◌<◌, ◌∷◌, [], length, Ok, Err, IfSome, MatchOption, MatchResult};
 ghost use Rattle.certificate.specs.Words.{words};
 ghost use Rattle.desk_cli.specs.ReleasesText.{list_from, list_in, release_in, releases_from, until_in, with_until};
 ghost use Rattle.desk_cli.specs.TextFaults.{IsFault};
+ghost use Rattle.desk_cli.specs.declared.releases.TextFault.TheVariants.{OutOfMemory};
 ghost use Rattle.desk_cli.specs.Text.{lines_of};
 
-use crate::text::{cut, is_skipped, next_line, number_of};
+use crate::text::{is_skipped, next_line};
 use ceiling_kernel::Release;
-use std::alloc::Global;
+use certificate::{Place, cut, number_of};
+use std::alloc::{AllocFailed, Global};
 use task_sheet::Name;
 
 /// Why a text is no release list, or want of memory. Lines are counted from 1.
@@ -15,7 +17,16 @@ use task_sheet::Name;
 pub enum TextFault {
     /// The line is not one that may stand there; one past the last where the line `until N` is missing.
     BadLine { line: u64 },
+    /// A growth was refused.
     OutOfMemory,
+}
+
+impl<T: Drop> From<AllocFailed<T>> for TextFault {
+    ghost from_gives = { λ _ fault. fault ≡ OutOfMemory };
+
+    fn from(_e: AllocFailed<T>) -> TextFault {
+        TextFault::OutOfMemory
+    }
 }
 
 // The number of a line `until N`.
@@ -42,14 +53,6 @@ fn release_of(line: &[u8]) -> Option<Release>
             _ => None,
         },
     }
-}
-
-// Where a reader stands: the bytes that are left, and the number of the next line.
-#[derive(Clone, Copy)]
-struct Place<'a> {
-    rest: &'a [u8],
-    line: u64,
-    ghost counted: { line + length rest.now < 2 ^ 64 },
 }
 
 // The next line, and the place behind it.
@@ -100,9 +103,7 @@ fn releases_at<'a>(alloc: Global, at: Place<'a>) -> Result<Vec<Release>, TextFau
             let Some(release) = release_of(line) else {
                 return Err(TextFault::BadLine { line: at.line });
             };
-            if releases.push(release).is_err() {
-                return Err(TextFault::OutOfMemory);
-            }
+            releases.push(release)?;
         }
         at = after;
     }
@@ -122,8 +123,6 @@ pub fn read_releases(alloc: Global, text: &[u8]) -> Result<(u64, Vec<Release>), 
         Ok(found) => found,
         Err(line) => return Err(TextFault::BadLine { line }),
     };
-    match releases_at(alloc, after) {
-        Ok(releases) => Ok((until, releases)),
-        Err(fault) => Err(fault),
-    }
+    let releases = releases_at(alloc, after)?;
+    Ok((until, releases))
 }

@@ -30,11 +30,11 @@ pub enum Simulated {
 fn order_of(alloc: Global, assignment: &Assignment) -> Result<Vec<usize>, AllocError>
     ensures { IfOk result (λ order. order.items ≡ map (λ l. l.task) assignment.now.levels) }
 {
-    assignment
-        .levels()
-        .iter()
-        .map(|level| level.task)
-        .collect(alloc)
+    let mut order = Vec::new(alloc);
+    for level in assignment.levels() {
+        order.push(level.task)?;
+    }
+    Ok(order)
 }
 
 // Runs the tasks at the levels of their best order.
@@ -46,42 +46,28 @@ fn run(
 ) -> Result<Trace, Refusal>
     ensures { RunsOrder assignment.now.set assignment.now.levels releases.now until result }
 {
-    let Ok(order) = order_of(alloc, assignment) else {
-        return Err(Refusal::OutOfMemory);
-    };
+    let order = order_of(alloc, assignment)?;
     let kernel = match Kernel::new(alloc, assignment.set(), &order) {
         Ok(kernel) => kernel,
         Err(KernelFault::OutOfMemory) => return Err(Refusal::OutOfMemory),
         Err(KernelFault::WrongOrder) => unreachable!(),
     };
-    match kernel.run(alloc, releases, until) {
-        Ok(trace) => Ok(trace),
-        Err(fault) => Err(Refusal::Run(fault)),
-    }
+    let trace = kernel.run(alloc, releases, until)?;
+    Ok(trace)
 }
 
 // What a set's bytes and a release list's bytes give.
 fn simulate_bytes(alloc: Global, bytes: &[u8], text: &[u8]) -> Result<Simulated, Refusal>
     ensures { SimulatesBytes bytes.now text.now result }
 {
-    let tasks = match read_set(alloc, bytes) {
-        Ok(tasks) => tasks,
-        Err(fault) => return Err(Refusal::Set(fault)),
-    };
-    let (until, releases) = match read_releases(alloc, text) {
-        Ok(list) => list,
-        Err(fault) => return Err(Refusal::Text(fault)),
-    };
-    let Ok(tasks) = Arc::new(alloc, tasks) else {
-        return Err(Refusal::OutOfMemory);
-    };
-    match assign(alloc, tasks) {
-        Err(_) => Err(Refusal::OutOfMemory),
-        Ok(Verdict::Infeasible(obstruction)) => Ok(Simulated::Infeasible(obstruction)),
-        Ok(Verdict::Admitted(assignment)) => match run(alloc, &assignment, until, &releases) {
-            Ok(trace) => Ok(Simulated::Ran(trace)),
-            Err(refusal) => Err(refusal),
-        },
+    let tasks = read_set(alloc, bytes)?;
+    let (until, releases) = read_releases(alloc, text)?;
+    match assign(alloc, Arc::new(alloc, tasks)?)? {
+        Verdict::Infeasible(obstruction) => Ok(Simulated::Infeasible(obstruction)),
+        Verdict::Admitted(assignment) => {
+            let trace = run(alloc, &assignment, until, &releases)?;
+            Ok(Simulated::Ran(trace))
+        }
     }
 }
 
@@ -94,14 +80,8 @@ fn simulated_of<R: Read + Drop, S: Read + Drop>(
     ensures answer { Simulates (R.remaining set.old.inner) (S.remaining releases.old.inner) result }
     ensures failed { result ≡ Err (Refusal.Input InputFault.ReadFailed) → (set.new.has_failed ≡ true) ⊎ (releases.new.has_failed ≡ true) }
 {
-    let bytes = match read_input(alloc, set) {
-        Ok(bytes) => bytes,
-        Err(fault) => return Err(Refusal::Input(fault)),
-    };
-    let text = match read_input(alloc, releases) {
-        Ok(text) => text,
-        Err(fault) => return Err(Refusal::Input(fault)),
-    };
+    let bytes = read_input(alloc, set)?;
+    let text = read_input(alloc, releases)?;
     simulate_bytes(alloc, &bytes, &text)
 }
 

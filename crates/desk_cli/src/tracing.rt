@@ -1,13 +1,14 @@
 //! The lines of a trace.
 ghost use Rattle.std.specs.Prelude.{◌≡◌, ◌++◌, slice_index_or, OnOk, IfOk, string_bytes};
-ghost use Rattle.desk_cli.specs.TraceLines.{finish_words, job_line, job_lines, no_job, slice_line, slice_lines, trace_lines};
+ghost use Rattle.ceiling_kernel.specs.Runs.{no_record};
+ghost use Rattle.desk_cli.specs.TraceLines.{finish_words, job_line, job_lines, slice_line, slice_lines, trace_lines};
 
 use ceiling_kernel::{JobRecord, Slice, Trace};
 use std::alloc::{AllocError, Global};
 
 // The name of the job at a place; nothing past the end.
 fn push_job_name(text: &mut String, jobs: &[JobRecord], place: usize) -> Result<(), AllocError>
-    ensures { OnOk result (string_bytes text.new ≡ string_bytes text.old ++ (slice_index_or jobs.now place no_job).name) }
+    ensures { OnOk result (string_bytes text.new ≡ string_bytes text.old ++ (slice_index_or jobs.now place no_record).name) }
 {
     match jobs.get(place) {
         Some(job) => {

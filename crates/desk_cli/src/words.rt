@@ -103,7 +103,8 @@ fn bare_command<'a>(alloc: Global) -> Result<Command<'a>, AllocError>
     ensures app { IfOk result (λ c. app_of c ≡ bare_app) }
     ensures local { IfOk result (λ c. (fields_of c).has_globals ≡ false) }
 {
-    let about = "An admission desk for the periodic tasks of one processor";
+    let about =
+        "An admission desk for the periodic tasks of one processor; without a command: admit -";
     let bare = new_command(alloc, "desk", about)
         .no_binary_name(true)
         .subcommand_required(true);

@@ -2,9 +2,9 @@ use Rattle.std.proofs.Common.{◌≡◌, ◌≤◌, false, vec_len}
 use Rattle.std.specs.Io.KnownBytes.{Consumes}
 use Rattle.desk_cli.proofs.input.read_input.Given as goal
 
-abbrev pub invariant-loop-turn : goal.invariant-loop-turn
-invariant-loop-turn g l = record {
+abbrev pub invariant-loop : goal.invariant-loop
+invariant-loop g l = record {
   limit : vec_len l.bytes ≤ 16777216;
   read : Consumes (g.R.Read.remaining l.initial.reader.inner) (g.R.Read.remaining l.reader.inner) l.bytes.items;
-  turns : l.reader.has_failed ≡ false → l._turn ≤ vec_len l.bytes;
+  turns : l.reader.has_failed ≡ false → l.counter ≤ vec_len l.bytes;
 }
