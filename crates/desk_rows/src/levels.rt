@@ -86,18 +86,19 @@ fn first_level(
     Ok(level)
 }
 
-// Whether a level closed to a task with this response, and with the failures of these tasks.
-fn is_chosen(closed: &Closed, task: usize, response: u64, fails: &[usize]) -> bool {
+// The failures of the first level of the three tasks.
+const FAILURES: [(usize, &[u64]); 2] = [(A, &[1, 11000]), (B, &[1, 11000, 14000])];
+
+// Whether a level closed to a task with this response, and with these failures: tasks and their chains.
+fn is_chosen(closed: &Closed, task: usize, response: u64, fails: &[(usize, &[u64])]) -> bool {
     match closed {
         Closed::Chosen(level) => {
             level.task == task
                 && level.response == response
                 && level.fails.len() == fails.len()
-                && level
-                    .fails
-                    .iter()
-                    .zip(fails)
-                    .all(|(failure, task)| failure.task == *task)
+                && level.fails.iter().zip(fails).all(|(failure, (task, chain))| failure.task
+                    == *task
+                    && failure.chain.as_slice() == *chain)
         }
         Closed::Obstruction(_) => false,
     }
@@ -121,11 +122,11 @@ fn findings_in_any_order(rt: HostRuntime) -> Result<(), Fail> {
     assert!(rt; matches!(&lower, Err(TakeFault::Stranger { .. })));
     assert!(rt; level.take(finding_on(&rt, alloc, &set, all, A)?).is_ok());
     let closed = level.close().ok().ok_or("not all")?;
-    assert!(rt; is_chosen(&closed, C, 20000, &[A, B]));
+    assert!(rt; is_chosen(&closed, C, 20000, &FAILURES));
 
     let rising = first_level(&rt, alloc, &set, &[A, B, C])?;
     let closed = rising.close().ok().ok_or("not all")?;
-    assert!(rt; is_chosen(&closed, C, 20000, &[A, B]));
+    assert!(rt; is_chosen(&closed, C, 20000, &FAILURES));
 
     let alone = first_level(&rt, alloc, &set, &[C])?;
     assert!(rt; alone.close().is_err());
@@ -141,6 +142,27 @@ fn enough_findings_of_the_second_level(rt: HostRuntime) -> Result<(), Fail> {
     assert!(rt; level.take(finding_on(&rt, alloc, &set, left, A)?).is_ok());
     let closed = level.close().ok().ok_or("not all")?;
     assert!(rt; is_chosen(&closed, A, 6000, &[]));
+    Ok(())
+}
+
+#[test]
+fn candidates_without_a_finding(rt: HostRuntime) -> Result<(), Fail> {
+    let alloc = rt.alloc();
+    let set = shared_set(alloc, examples::THREE_TASKS)?;
+    let level = first_level(&rt, alloc, &set, &[B])?;
+    let missing = level.missing();
+    assert_eq!(rt; missing.len(), 2);
+    assert!(rt; missing.has(A));
+    assert!(rt; missing.has(C));
+    assert_eq!(rt; level.candidate(1), Some(B));
+    assert_eq!(rt; level.candidate(3), None);
+
+    let left = left_of(&rt, &set, &[A]);
+    let second = Level::start(alloc, set, left)?;
+    assert_eq!(rt; second.missing().len(), 2);
+    assert_eq!(rt; second.candidate(0), Some(B));
+    assert_eq!(rt; second.candidate(1), Some(C));
+    assert_eq!(rt; second.candidate(2), None);
     Ok(())
 }
 

@@ -18,4 +18,6 @@ mod responses;
 #[cfg(test)]
 mod sheets;
 #[cfg(test)]
+mod streams;
+#[cfg(test)]
 mod verdicts;

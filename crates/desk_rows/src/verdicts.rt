@@ -2,8 +2,9 @@
 use crate::examples::{self, shared_set};
 use assignment::{Failure, Verdict, assign};
 use std::alloc::{AllocError, Global};
+use std::sync::Arc;
 use std::test::Fail;
-use task_sheet::TaskSet;
+use task_sheet::{Name, TaskSet};
 
 // The name of the task at an index.
 fn push_name(text: &mut String, set: &TaskSet, task: usize) -> Result<(), AllocError> {
@@ -83,5 +84,16 @@ fn verdicts_of_the_examples(rt: HostRuntime) -> Result<(), Fail> {
         let line = line_of(rt.alloc(), &verdict)?;
         assert_eq!(rt; line.as_str(), want);
     }
+    Ok(())
+}
+
+#[test]
+fn shared_lock_without_hi(rt: HostRuntime) -> Result<(), Fail> {
+    let set = examples::set_of(rt.alloc(), examples::SHARED_LOCK)?;
+    let hi = Name::read(b"hi").ok().ok_or("no name")?;
+    let rest = set.without(rt.alloc(), hi)?;
+    let verdict = assign(rt.alloc(), Arc::new(rt.alloc(), rest)?)?;
+    let line = line_of(rt.alloc(), &verdict)?;
+    assert_eq!(rt; line.as_str(), "lo 24000;mid 2000;");
     Ok(())
 }
