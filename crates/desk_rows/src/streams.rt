@@ -133,10 +133,9 @@ fn as_many_tasks_as_a_set_has(rt: HostRuntime) -> Result<(), Fail> {
 fn many_releases(rt: HostRuntime) -> Result<(), Fail> {
     let set = "task = [{ name = 'x', period = 10000, deadline = 10000, cost = 1000 }]";
     let mut list = String::from_str(rt.alloc(), "until 60000000\n")?;
-    let mut time = 0;
-    for _ in 0..6000 {
+    for release in 0..6000_u64 {
+        let time = release.saturating_mul(10_000);
         write!(list, "{time} x\n")?;
-        time += 10_000;
     }
     let (printed, status) = simulated(rt.alloc(), set.as_bytes(), list.as_bytes())?;
     assert!(rt; printed.as_str().starts_with("0 1000 x\n10000 11000 x\n"));
