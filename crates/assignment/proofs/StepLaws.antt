@@ -14,8 +14,8 @@ steps_left c = members.len c.left + (if c.stuck then 0 else 1)
 
 steps-placed : (old new : ClimbState) → old.stuck ≡ false → IsPlaced old new → steps_left new < steps_left old
 steps-placed old new goes_on placed =
-    let fewer = len-remove_member old.left placed.task placed.chosen.member in
-    let left : members.len new.left ≡ members.len (members.remove old.left placed.task) = ap (λ (c : ClimbState). members.len c.left) placed.after in
+    let fewer = len-remove_member old.left placed.level.task placed.chosen.member in
+    let left : members.len new.left ≡ members.len (members.remove old.left placed.level.task) = ap (λ (c : ClimbState). members.len c.left) placed.after in
     let stuck : new.stuck ≡ false = ap (λ (c : ClimbState). c.stuck) placed.after in
     rw (goes_on, stuck) (omega arith)
 

@@ -1,5 +1,5 @@
 -- One more answer on a level.
-use Rattle.std.proofs.Common.{◌≡◌, ℕ, ◌<◌, inl, inr, List, length, set, get_or, Option, None, Some, sym, ◌∙◌, ap, subst, arith}
+use Rattle.std.proofs.Common.{◌≡◌, ℕ, ◌<◌, inl, inr, List, length, set, get_or, Option, None, Some, IsFalse, sym, ◌∙◌, ap, subst, arith}
 use Rattle.std.specs.Ordering.{nat_cmp}
 use Rattle.std.specs.FinSet as members
 use Rattle.std.proofs.lemmas.Bool.{cases_eq, ne_eqb, eq-eqb}
@@ -8,11 +8,13 @@ use Rattle.std.proofs.Math.Bool.{and-false, and-true}
 use Rattle.task_sheet.specs.Sheet.{Task, task_at}
 use Rattle.task_sheet.specs.Indexes.{Indexes, indexes_of, without_index}
 use Rattle.task_sheet.specs.Demand.{demand_of, limit_of}
-use Rattle.task_sheet.proofs.MembersIndexes.{indexes_of-remove}
+use Rattle.task_sheet.proofs.MembersIndexes.{indexes_of-remove, same_members}
+use Rattle.task_sheet.proofs.IndexLaws.{without-gone, without-kept}
+use Rattle.std.proofs.Math.Path.{fun_ext}
 use Rattle.response_time.specs.Answers.{IsAnswer}
 use Rattle.response_time.specs.declared.Answer.{Answer}
 use Rattle.assignment.specs.Questions.{QuestionData, IsRight}
-use Rattle.assignment.specs.Levels.{LevelState, IsAsked, IsRightAt, AreRight, AreMissing}
+use Rattle.assignment.specs.Levels.{LevelState, IsAsked, IsRightAt, AreRight, AreMissing, with_finding}
 
 -- the answer to the question on a candidate is right for it
 pub IsRightAt-asked : (l : LevelState) (q : QuestionData) (answer : Answer) → IsAsked l q → IsRight q answer → IsRightAt l.set (indexes_of l.left) q.task (Some answer)
@@ -43,3 +45,13 @@ AreMissing-set left missing answers i answer lt are k =
           removed ∙ rw (eq-eqb k i e, here) (and-false _ ∙ sym (and-false _))
       | inr ne ↦ removed ∙ rw (ne_eqb k i ne, get_or-set_other answers i k (Some answer) None ne) (and-true _ ∙ are k)
     ]
+
+-- one more finding on a candidate that has one changes nothing
+pub found_again : (l : LevelState) (i : ℕ) → IsFalse (members.contains l.missing i) → with_finding l i ≡ l
+found_again l i found =
+    let same : indexes_of (members.remove l.missing i) ≡ indexes_of l.missing = indexes_of-remove l.missing i ∙ fun_ext (λ k. elim (cases_eq k i) [
+      | inl e ↦ without-gone (indexes_of l.missing) i k e ∙ sym (ap (λ j. members.contains l.missing j) e ∙ found)
+      | inr ne ↦ without-kept (indexes_of l.missing) i k ne
+    ]) in
+    let rest : members.remove l.missing i ≡ l.missing = same_members (members.remove l.missing i) l.missing same in
+    λ t. let h : LevelState = record { set = l.set; left = l.left; missing = rest t } in h

@@ -1,17 +1,19 @@
 -- The climb from the lowest level up (Audsley 1991).
-use Rattle.std.specs.Prelude.{◌≡◌, ℕ, Bool, true, false, List, IsTrue}
+use Rattle.std.specs.Prelude.{◌≡◌, ℕ, Bool, true, false, List, [], ◌∷◌, ◌++◌, IsTrue}
 use Rattle.std.specs.Ordering.{nat_cmp}
 use Rattle.std.specs.FinSet.{FinSet, contains, remove}
 use Rattle.task_sheet.specs.Sheet.{Task}
 use Rattle.task_sheet.specs.Indexes.{indexes_of}
 use Rattle.task_sheet.specs.Orders.{all_of}
 use Rattle.task_sheet.specs.Levels.{IsChosen, NoneStands, left_after, AllChosen}
-use Rattle.task_sheet.specs.Verdicts.{LevelData, order_of, AllLevels}
+use Rattle.task_sheet.specs.Verdicts.{LevelData, order_of, IsLevel, AllLevels}
 use Rattle.assignment.specs.Levels.{LevelState}
 
--- a set, its tasks that are not yet placed, and whether none of them may stand below the others
+-- a set, its levels that are closed, from the lowest up, its tasks that are not yet placed, and whether none of these may stand
+-- below the others
 pub record ClimbState : Type 0 where
   pub set : List Task
+  pub levels : List LevelData
   pub left : FinSet nat_cmp
   pub stuck : Bool
 
@@ -23,14 +25,15 @@ pub record IsNext (c : ClimbState) (l : LevelState) : Type 0 where
 
 -- one level more: its task is placed
 pub record IsPlaced (old new : ClimbState) : Type 0 where
-  pub task : ℕ
-  pub chosen : IsChosen old.set (indexes_of old.left) task
-  pub after : new ≡ (let c : ClimbState = record { set = old.set; left = remove old.left task; stuck = false } in c)
+  pub level : LevelData
+  pub chosen : IsChosen old.set (indexes_of old.left) level.task
+  pub right : IsLevel old.set (indexes_of old.left) level
+  pub after : new ≡ (let c : ClimbState = record { set = old.set; levels = old.levels ++ level ∷ []; left = remove old.left level.task; stuck = false } in c)
 
 -- no task may stand at the level
 pub record IsEnded (old new : ClimbState) : Type 0 where
   pub none : NoneStands old.set (indexes_of old.left)
-  pub after : new ≡ (let c : ClimbState = record { set = old.set; left = old.left; stuck = true } in c)
+  pub after : new ≡ (let c : ClimbState = record { set = old.set; levels = old.levels; left = old.left; stuck = true } in c)
 
 -- tasks are left, and some of them may yet stand below the others
 pub record IsUnfinished (c : ClimbState) : Type 0 where

@@ -10,7 +10,6 @@ ghost use Rattle.assignment.specs.Verdict.{set_of, verdict_of};
 
 use crate::climb::Climb;
 use crate::level::Level;
-use crate::question::Question;
 use crate::verdict::Verdict;
 use ceilings::LockTable;
 use std::alloc::{AllocError, Global};
@@ -18,27 +17,18 @@ use std::sync::Arc;
 use task_sheet::{Members, TaskSet};
 
 // Answers the question on a candidate, and takes the finding.
-fn ask(
-    alloc: Global,
-    set: &Arc<TaskSet>,
-    table: &LockTable,
-    level: &mut Level,
-    task: usize,
-) -> Result<(), AllocError>
-    requires same { level.old.set ≡ set.now.value }
-    requires table { IsTableOf set.now.value table.now }
+fn ask(alloc: Global, table: &LockTable, level: &mut Level, task: usize) -> Result<(), AllocError>
+    requires table { IsTableOf level.old.set table.now }
     requires candidate { IsTrue (contains level.old.left task) }
     requires missing { IsTrue (contains level.old.missing task) }
     ensures { IfOk result (λ _. level.new ≡ with_finding level.old task) }
 {
-    let question = Question::new(set.clone()?, level.left().without(task), task);
+    let question = level.question(task)?;
     let Ok(finding) = question.answer_by(alloc, table) else {
         return Err(AllocError);
     };
-    match level.take(finding) {
-        Ok(()) => Ok(()),
-        Err(_) => unreachable!(),
-    }
+    level.accept(finding);
+    Ok(())
 }
 
 // The level of these candidates, decided: they are asked by rank, up to the first that passes.
@@ -58,7 +48,7 @@ fn decide(
     let mut level = Level::start(alloc, set.clone()?, left)?;
     for task in 0..set.len() {
         if left.has(task) {
-            ask(alloc, set, table, &mut level, task)?;
+            ask(alloc, table, &mut level, task)?;
             if level.decided() {
                 return Ok(level);
             }

@@ -1,11 +1,11 @@
 //! The climb from the lowest level up (Audsley 1991).
-ghost use Rattle.std.specs.Prelude.{◌≡◌, ◌↔◌, ◌<◌, false, length, IsTrue, IfOk};
+ghost use Rattle.std.specs.Prelude.{◌≡◌, ◌↔◌, ◌<◌, false, [], ◌∷◌, ◌++◌, length, is_some, IsTrue, IfOk, IfSome};
 ghost use Rattle.std.specs.FinSet.{len, remove};
 ghost use Rattle.task_sheet.specs.MembersWords.{all_below};
-ghost use Rattle.task_sheet.specs.Indexes.{indexes_of, IsPart};
+ghost use Rattle.task_sheet.specs.Indexes.{indexes_of, listed_below, IsPart};
 ghost use Rattle.task_sheet.specs.Orders.{all_of};
 ghost use Rattle.task_sheet.specs.Levels.{IsChosen};
-ghost use Rattle.task_sheet.specs.Verdicts.{IsLevel};
+ghost use Rattle.task_sheet.specs.Verdicts.{tasks_of, IsLevel, IsStuck};
 ghost use Rattle.assignment.specs.Climbs.{IsClimbing, IsNext, IsUnfinished};
 ghost use Rattle.assignment.specs.Climbing.{ClosesLevel, Finishes};
 
@@ -60,7 +60,7 @@ pub struct Unfinished {
 impl Climb {
     /// A climb with all tasks of the set left. The error is want of memory; nothing else of the climb takes memory.
     pub fn start(alloc: Global, set: Arc<TaskSet>) -> Result<Climb, AllocError>
-        ensures { IfOk result (λ climb. climb ≡ record { set = set.value; left = all_below (length set.value); stuck = false }) }
+        ensures { IfOk result (λ climb. climb ≡ record { set = set.value; levels = []; left = all_below (length set.value); stuck = false }) }
     {
         let left = Members::all(set.sheets().len());
         let levels = Vec::with_capacity(alloc, left.len())?;
@@ -82,9 +82,22 @@ impl Climb {
 
     /// The levels that are closed, the lowest first.
     pub fn levels(&self) -> &[LevelRecord]
-        ensures { IsClimbing self.now.set self.now.left result.now }
+        ensures same { result.now ≡ self.now.levels }
+        ensures right { IsClimbing self.now.set self.now.left self.now.levels }
     {
         &self.levels
+    }
+
+    /// The members of the obstruction that was closed, by rank: the tasks that are left. None where no obstruction was closed.
+    pub fn members(&self) -> Option<&[Failure]>
+        ensures stuck { IfSome result (λ members. IsStuck self.now.set members.now) }
+        ensures rest { IfSome result (λ members. tasks_of members.now ≡ listed_below (length self.now.set) (indexes_of self.now.left)) }
+        ensures some { is_some result ≡ self.now.stuck }
+    {
+        match &self.members {
+            Some(members) => Some(members),
+            None => None,
+        }
     }
 
     // Whether this is the next level.
@@ -99,7 +112,7 @@ impl Climb {
         requires chosen { IsChosen self.old.set (indexes_of self.old.left) level.task }
         requires level { IsLevel self.old.set (indexes_of self.old.left) level }
         requires goes_on { self.old.stuck ≡ false }
-        ensures { self.new ≡ record { set = self.old.set; left = remove self.old.left level.task; stuck = false } }
+        ensures { self.new ≡ record { set = self.old.set; levels = self.old.levels ++ level ∷ []; left = remove self.old.left level.task; stuck = false } }
     {
         self.left = self.left.without(level.task);
         self.levels.push_reserved(level);
@@ -126,8 +139,8 @@ impl Climb {
         }
     }
 
-    // Whether tasks are left, and no obstruction was closed.
-    pub(crate) fn is_unfinished(&self) -> bool
+    /// Whether tasks are left, and no obstruction was closed.
+    pub fn is_unfinished(&self) -> bool
         ensures { IsTrue result ↔ IsUnfinished self.now }
     {
         self.members.is_none() && self.left.len() > 0

@@ -3,7 +3,7 @@ ghost use Rattle.std.specs.Prelude.{◌≡◌, ◌↔◌, ◌<◌, ◌≤◌, []
 ghost use Rattle.std.specs.FinSet.{contains, len};
 ghost use Rattle.task_sheet.specs.Indexes.{indexes_of, listed_below, IsPart};
 ghost use Rattle.task_sheet.specs.Orders.{all_of};
-ghost use Rattle.assignment.specs.Levels.{IsAsked, IsDecided, IsEnough, AreRight, lets_stand};
+ghost use Rattle.assignment.specs.Levels.{with_finding, IsAsked, IsDecided, IsEnough, AreRight, lets_stand};
 ghost use Rattle.assignment.specs.Closes.{IsClosed};
 ghost use Rattle.assignment.specs.Takes.{IsTaken};
 
@@ -184,6 +184,16 @@ impl Level {
         None
     }
 
+    /// The question on a candidate, with the others that are left above it. The error is want of memory.
+    pub fn question(&self, task: usize) -> Result<Question, AllocError>
+        requires { IsTrue (contains self.now.left task) }
+        ensures asked { IfOk result (λ question. IsAsked self.now question) }
+        ensures task { IfOk result (λ question. question.task ≡ task) }
+    {
+        let set = self.set.clone()?;
+        Ok(Question::new(set, self.left.without(task), task))
+    }
+
     /// The candidates without a finding.
     pub fn missing(&self) -> Members
         ensures same { result ≡ self.now.missing }
@@ -209,13 +219,23 @@ impl Level {
         if !self.asks(finding.question()) {
             return Err(TakeFault::Stranger { finding });
         }
-        let task = finding.question().task();
-        if !self.missing.has(task) {
+        if !self.missing.has(finding.question().task()) {
             return Err(TakeFault::Twice { finding });
         }
-        self.missing = self.missing.without(task);
-        self.answers[task] = Some(finding.into_answer());
+        self.accept(finding);
         Ok(())
+    }
+
+    /// Takes a finding that is known to answer the level's question: no sets are compared. A double changes nothing.
+    pub fn accept(&mut self, finding: Finding)
+        requires asked { IsAsked self.old finding.question }
+        ensures { self.new ≡ with_finding self.old finding.question.task }
+    {
+        let task = finding.question().task();
+        if self.missing.has(task) {
+            self.missing = self.missing.without(task);
+            self.answers[task] = Some(finding.into_answer());
+        }
     }
 
     /// Whether some candidate passes while all of smaller rank have a finding, or all candidates have one.

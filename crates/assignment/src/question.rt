@@ -1,7 +1,7 @@
 //! Questions whether a task passes, and findings on them.
-ghost use Rattle.std.specs.Prelude.{◌≡◌, ◌<◌, length, IsFalse, IfOk, IfErr};
+ghost use Rattle.std.specs.Prelude.{◌≡◌, ◌↔◌, ◌<◌, length, IsTrue, IsFalse, IfOk, IfErr};
 ghost use Rattle.task_sheet.specs.Indexes.{indexes_of, IsPart};
-ghost use Rattle.task_sheet.specs.Orders.{all_of};
+ghost use Rattle.task_sheet.specs.Orders.{all_of, Stands};
 ghost use Rattle.ceilings.specs.IsTableOf.{IsTableOf};
 ghost use Rattle.assignment.specs.Questions.{IsQuestion, IsRight};
 
@@ -107,8 +107,8 @@ impl Question {
         self.answer_by(alloc, &table)
     }
 
-    // The answer to the question, by the table of its set.
-    pub(crate) fn answer_by(self, alloc: Global, table: &LockTable) -> Result<Finding, AnswerFault>
+    /// The answer to the question, by the table of its set's locks. The fault is want of memory.
+    pub fn answer_by(self, alloc: Global, table: &LockTable) -> Result<Finding, AnswerFault>
         requires { IsTableOf self.set table.now }
         ensures ok { IfOk result (λ finding. finding.question ≡ self) }
         ensures err { IfErr result (λ fault. fault.question ≡ self) }
@@ -132,6 +132,19 @@ fn answer_to(alloc: Global, question: &Question, table: &LockTable) -> Result<An
     Ok(response.answer)
 }
 
+// Whether the right answer to a question lets its task stand there.
+fn lets_pass(question: &Question, answer: &Answer) -> bool
+    requires { IsRight question.now answer.now }
+    ensures { IsTrue result ↔ Stands question.now.set question.now.task (indexes_of question.now.above) }
+{
+    // The set is valid: the proof has it from its sheets.
+    let _ = question.set().sheets();
+    match answer {
+        Answer::Pass { .. } => true,
+        Answer::Fail { .. } => false,
+    }
+}
+
 impl Finding {
     /// The question.
     pub fn question(&self) -> &Question
@@ -146,6 +159,13 @@ impl Finding {
         ensures right { IsRight self.now.question self.now.answer }
     {
         &self.answer
+    }
+
+    /// Whether the task may stand there: the answer is a response.
+    pub fn passes(&self) -> bool
+        ensures { IsTrue result ↔ Stands self.now.question.set self.now.question.task (indexes_of self.now.question.above) }
+    {
+        lets_pass(&self.question, &self.answer)
     }
 
     // The answer, out of the finding.
