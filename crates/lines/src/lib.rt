@@ -1,0 +1,18 @@
+//! Lines of a text, their words, and the numbers and names that words are: what certificates, release lists and
+//! scripts share.
+#![tactic(auto)]
+
+mod cutting;
+mod kept;
+pub mod laws;
+mod next;
+mod numbers;
+mod place;
+mod words;
+
+pub use cutting::cut;
+pub use kept::{KeptLine, next_kept};
+pub use next::{complete_line, next_line};
+pub use numbers::{name_of, number_of};
+pub use place::Place;
+pub use words::Words;
