@@ -16,8 +16,9 @@ use Rattle.std.proofs.lemmas.Fmt.{digits_decimal}
 use Rattle.task_sheet.specs.Name.{is_name, is_name_byte, IsName}
 use Rattle.certificate.specs.Body.{Chain, IsShort, IsChainText}
 use Rattle.certificate.specs.Spelling.{numbers_text}
-use Rattle.certificate.specs.Words.{◌>>=◌, words, numbers_in, chain_in}
-use Rattle.certificate.proofs.Numbers.{own}
+use Rattle.lines.specs.Words.{words}
+use Rattle.certificate.specs.Words.{◌>>=◌, numbers_in, chain_in}
+use Rattle.lines.proofs.Digits.{own}
 use Rattle.certificate.proofs.WordLaws.{bind_some, cond_given, numbers_take, numbers_again}
 
 -- a line without its end

@@ -4,8 +4,9 @@ use Rattle.std.specs.Prelude.{bytes_eq, IsTrue}
 use Rattle.std.proofs.Math.Bool.{and-false}
 use Rattle.task_sheet.specs.Name.{is_name, IsName}
 use Rattle.certificate.specs.Body.{Chain}
-use Rattle.certificate.specs.Words.{◌>>=◌, words, numbers_in, chain_in}
-use Rattle.certificate.proofs.NumberLoops.{words_some}
+use Rattle.lines.specs.Words.{words}
+use Rattle.certificate.specs.Words.{◌>>=◌, numbers_in, chain_in}
+use Rattle.lines.proofs.Parts.{words_some}
 
 pub no_space : (word line : List ℕ) → words line ≡ line ∷ [] → None ≡ chain_in word (words line)
 unfolding chain_in

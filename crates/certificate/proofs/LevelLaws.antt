@@ -13,10 +13,13 @@ use Rattle.std.proofs.lemmas.List.Splits.{slice_split_at, slice_split_none, join
 use Rattle.task_sheet.specs.Name.{is_name, IsName}
 use Rattle.certificate.specs.Body.{Chain, Level, IsShort, IsChainText, IsLevelText}
 use Rattle.certificate.specs.Spelling.{chain_line, chain_lines, level_line, level_lines}
-use Rattle.certificate.specs.Words.{words, parts, number_in, chain_in}
+use Rattle.lines.specs.Lines.{parts}
+use Rattle.lines.specs.Words.{words, number_in}
+use Rattle.certificate.specs.Words.{chain_in}
 use Rattle.certificate.specs.Lines.{◌>>=◌, At, line_from, wanted, level_of, level_in, fails_case, fails_from, level_at, levels_at}
-use Rattle.certificate.proofs.WordLaws.{cond_given, number_takes, number_again}
-use Rattle.certificate.proofs.MemberLoops.{parts_some}
+use Rattle.lines.proofs.NumberLaws.{number_takes, number_again}
+use Rattle.certificate.proofs.WordLaws.{cond_given}
+use Rattle.lines.proofs.Parts.{parts_some}
 use Rattle.certificate.proofs.LevelLoops.{fails_line}
 use Rattle.certificate.proofs.ChainLaws.{chain_text, chain_takes, chain_again, decimal_lacks, name_lacks}
 use Rattle.certificate.proofs.LineLaws.{left, bind_ok, ok_is, wanted_ok, line_takes, line_end, line_again}

@@ -3,7 +3,8 @@ use Rattle.std.proofs.Common.{◌≡◌, ℕ, ◌+◌, ◌<◌, List, [], ◌∷
 use Rattle.std.specs.Prelude.{codes}
 use Rattle.std.proofs.lemmas.List.{append-nil}
 use Rattle.certificate.specs.Body.{Chain}
-use Rattle.certificate.specs.Words.{words, chain_in}
+use Rattle.lines.specs.Words.{words}
+use Rattle.certificate.specs.Words.{chain_in}
 use Rattle.certificate.specs.Lines.{At, fails_from, fails_case, level_in}
 
 abbrev pub onto : List Chain → List Chain × At → List Chain × At

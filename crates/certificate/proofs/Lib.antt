@@ -1,5 +1,3 @@
-pub mod Cuts
-pub mod Numbers
 pub mod NumberLoops
 pub mod Chains
 pub mod WordLaws

@@ -11,12 +11,15 @@ use Rattle.std.proofs.lemmas.List.Elements.{All-from_recursion}
 use Rattle.std.proofs.lemmas.List.Splits.{slice_split_at, slice_split_none, join_with_byte-slice_split}
 use Rattle.certificate.specs.Body.{Chain}
 use Rattle.certificate.specs.Spelling.{chain_line}
-use Rattle.certificate.specs.Words.{words, parts, number_in}
+use Rattle.lines.specs.Lines.{parts}
+use Rattle.lines.specs.Words.{words, number_in}
 use Rattle.certificate.specs.Lines.{◌>>=◌, At, line_from, wanted, count_in, few, at_most_32, end_at, is_over}
 use Rattle.certificate.specs.declared.fault.CertFault.{CertFault}
 use Rattle.certificate.specs.declared.fault.CertFault.TheVariants.{BadHead, BadLine, Trailing}
-use Rattle.certificate.proofs.WordLaws.{cond_given, number_takes, number_again}
-use Rattle.certificate.proofs.MemberLoops.{parts_some, line_is, over_is}
+use Rattle.lines.proofs.NumberLaws.{number_takes, number_again}
+use Rattle.certificate.proofs.WordLaws.{cond_given}
+use Rattle.lines.proofs.Parts.{parts_some}
+use Rattle.certificate.proofs.MemberLoops.{line_is, over_is}
 use Rattle.certificate.proofs.ChainLaws.{chain_text, decimal_lacks}
 
 -- the bytes that are left

@@ -8,7 +8,9 @@ use Rattle.std.proofs.lemmas.List.Concat.{flat_map-cons}
 use Rattle.std.proofs.lemmas.List.Elements.{All-append, All-from_recursion}
 use Rattle.certificate.specs.Body.{Chain, IsShort, IsChainText}
 use Rattle.certificate.specs.Spelling.{numbers_text, chain_line, chain_lines}
-use Rattle.certificate.specs.Words.{words, parts, chain_in}
+use Rattle.lines.specs.Lines.{parts}
+use Rattle.lines.specs.Words.{words}
+use Rattle.certificate.specs.Words.{chain_in}
 use Rattle.certificate.specs.Lines.{◌>>=◌, At, line_from, wanted, member_at, members_at}
 use Rattle.certificate.proofs.ChainLaws.{numbers_text-cons, chain_text, chain_takes, chain_again, decimal_lacks, name_lacks}
 use Rattle.certificate.proofs.LineLaws.{left, bind_ok, ok_is, wanted_ok, line_takes, line_end, line_again}

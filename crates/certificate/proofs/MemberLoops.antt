@@ -4,10 +4,11 @@ use Rattle.std.proofs.lemmas.List.{append-nil}
 use Rattle.certificate.specs.declared.fault.CertFault.{CertFault}
 use Rattle.certificate.specs.declared.fault.CertFault.TheVariants.{BadHead, BadLine, Truncated, Trailing, OutOfMemory}
 use Rattle.std.specs.Option.{ok_or}
-use Rattle.certificate.specs.declared.place.Place.{Place}
+use Rattle.lines.specs.declared.place.Place.{Place}
+use Rattle.lines.proofs.Parts.{parts_some}
 use Rattle.certificate.specs.Body.{Chain}
-use Rattle.std.proofs.lemmas.List.Splits.{length-slice_split, join_with_byte-slice_split}
-use Rattle.certificate.specs.Words.{parts}
+use Rattle.std.proofs.lemmas.List.Splits.{join_with_byte-slice_split}
+use Rattle.lines.specs.Lines.{parts}
 use Rattle.certificate.specs.Lines.{◌>>=◌, At, Fails, Gives, at_place, line_at, line_from, is_over, count_in, member_at, members_at}
 
 -- what was read before, and what is still read
@@ -50,9 +51,6 @@ with_front_last front count i at total le so_far =
     sym so_far ∙ one
 
 -- ---- a line and the place behind it
-pub parts_some : (bytes : List ℕ) → 0 < length (parts bytes)
-parts_some bytes = omega (arith, length-slice_split {X = ℕ} (λ b. b == 10) bytes)
-
 pub line_is : (l : List ℕ) (xs : List (List ℕ)) (n : ℕ) → 0 < length xs → line_from (l ∷ xs) n ≡ Ok (l, record { parts = xs; line = n + 1 })
 unfolding line_from
 line_is l [] n some = absurd (omega arith)

@@ -1,10 +1,7 @@
 -- Reading numbers one after the other, as a loop does.
-use Rattle.std.proofs.Common.{◌≡◌, ℕ, ◌<◌, ◌==◌, List, [], ◌∷◌, ◌++◌, length, Option, Some, None, refl, sym, ap, ◌∙◌, append_assoc, arith}
-use Rattle.std.proofs.lemmas.List.Splits.{length-slice_split}
-use Rattle.certificate.specs.Words.{◌>>=◌, words, number_in, numbers_in, before}
-
-pub words_some : (line : List ℕ) → 0 < length (words line)
-words_some line = omega (arith, length-slice_split {X = ℕ} (λ b. b == 32) line)
+use Rattle.std.proofs.Common.{◌≡◌, ℕ, List, [], ◌∷◌, ◌++◌, Option, Some, None, refl, sym, ap, ◌∙◌, append_assoc}
+use Rattle.lines.specs.Words.{number_in}
+use Rattle.certificate.specs.Words.{◌>>=◌, numbers_in, before}
 
 before-bind : (front : List ℕ) (n : ℕ) (o : Option (List ℕ)) → before front (o >>= λ ns. Some (n ∷ ns)) ≡ before (front ++ n ∷ []) o
 before-bind front n None = refl

@@ -9,7 +9,9 @@ use Rattle.std.proofs.lemmas.List.Elements.{All-append, All-from_recursion}
 use Rattle.std.proofs.lemmas.List.Splits.{slice_split_at, slice_split_none, join_with_byte-slice_split}
 use Rattle.certificate.specs.Body.{Chain, Level, HasSpelling, Body, Best, NoOrder}
 use Rattle.certificate.specs.Spelling.{chain_lines, count_line, head_line, level_lines, spelling}
-use Rattle.certificate.specs.Words.{words, parts, chain_in}
+use Rattle.lines.specs.Lines.{parts}
+use Rattle.lines.specs.Words.{words}
+use Rattle.certificate.specs.Words.{chain_in}
 use Rattle.certificate.specs.Lines.{◌>>=◌, At, line_from, certificate_in, count_in, end_at, members_at, levels_at, best_of, members_of, body_case, Gives}
 use Rattle.certificate.specs.declared.fault.CertFault.{CertFault}
 use Rattle.certificate.specs.declared.fault.CertFault.TheVariants.{BadHead, Trailing}

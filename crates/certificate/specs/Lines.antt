@@ -3,10 +3,12 @@ use Rattle.std.specs.Prelude.{◌≡◌, ℕ, zero, suc, ◌+◌, List, [], ◌�
 use Rattle.std.specs.List.{join_with_byte}
 use Rattle.task_sheet.specs.Name.{is_name}
 use Rattle.certificate.specs.Body.{Chain, Level, Body, Best, NoOrder}
-use Rattle.certificate.specs.Words.{words, parts, number_in, chain_in}
+use Rattle.lines.specs.Lines.{parts}
+use Rattle.lines.specs.Words.{words, number_in}
+use Rattle.lines.specs.declared.place.Place.{Place}
+use Rattle.certificate.specs.Words.{chain_in}
 use Rattle.certificate.specs.declared.fault.CertFault.{CertFault}
 use Rattle.certificate.specs.declared.fault.CertFault.TheVariants.{BadHead, BadLine, Truncated, Trailing, OutOfMemory}
-use Rattle.certificate.specs.declared.place.Place.{Place}
 
 -- the parts that are left, of which the last is no complete line, and the number of the next line
 pub record At : Type 0 where

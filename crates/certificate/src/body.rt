@@ -6,9 +6,9 @@ ghost use Rattle.certificate.specs.Lines.{Gives, at_place, best_of, members_of, 
 
 use crate::fault::CertFault;
 use crate::levels::levels;
-use crate::lines::{count_of, end, is_word, members, next_line};
-use crate::place::Place;
+use crate::reading::{count_of, end, is_word, members, next_line};
 use crate::value::{CertChain, CertLevel};
+use lines::Place;
 use std::alloc::Global;
 
 /// What a certificate says.
@@ -46,11 +46,7 @@ fn members_of<'a>(alloc: Global, count: u64, at: Place<'a>) -> Result<CertBody, 
 pub fn certificate_in(alloc: Global, bytes: &[u8]) -> Result<CertBody, CertFault>
     ensures { Gives body_of result (certificate_in bytes.now) }
 {
-    let start = Place {
-        rest: bytes,
-        line: 1,
-    };
-    let (head, after) = next_line(start)?;
+    let (head, after) = next_line(Place::start(bytes))?;
     if !is_word(head, b"desk-certificate 1") {
         return Err(CertFault::BadHead);
     }

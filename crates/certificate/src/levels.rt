@@ -1,14 +1,14 @@
 //! Reading levels.
 ghost use Rattle.std.specs.Prelude.{◌≡◌, ◌+◌, ◌<◌, ◌≤◌, ◌^◌, ℕ, Ok, IfOk, length};
 ghost use Rattle.certificate.specs.Body.{Chain, Level, Body};
-ghost use Rattle.certificate.specs.Words.{words, parts};
+ghost use Rattle.lines.specs.Words.{words};
 ghost use Rattle.certificate.specs.Lines.{Gives, at_place, level_in, level_of, fails_from, level_at, levels_at};
 
 use crate::fault::CertFault;
-use crate::lines::{is_word, line_of, next_line};
-use crate::place::Place;
+use crate::reading::{is_word, next_line};
 use crate::value::{CertChain, CertLevel};
-use crate::words::{chain_of, cut, number_of};
+use crate::words::chain_of;
+use lines::{Place, complete_line, cut, number_of};
 use std::alloc::{AllocError, Global};
 use task_sheet::Name;
 
@@ -19,7 +19,7 @@ fn fails<'a>(alloc: Global, at: Place<'a>) -> Result<(Vec<CertChain>, Place<'a>)
     let mut fails = Vec::new(alloc);
     let mut at = at;
     loop {
-        let Some((line, after)) = line_of(at) else {
+        let Some((line, after)) = complete_line(at) else {
             return Ok((fails, at));
         };
         let Some(chain) = chain_of(alloc, b"fails", line)? else {

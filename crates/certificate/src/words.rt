@@ -1,52 +1,12 @@
-//! The words of a line.
-ghost use Rattle.std.specs.Prelude.{◌≡◌, ◌+◌, ◌<◌, ◌==◌, ◌++◌, ◌∷◌, [], List, length, Option, MatchOption, OnOk, IfOk, IfSome};
-ghost use Rattle.std.specs.List.{slice_split, list_all};
-ghost use Rattle.std.specs.Char.{is_ascii_digit};
-ghost use Rattle.certificate.specs.Words.{words, number_in, is_number, numbers_in, chain_in, found};
+//! The words of a line with a chain.
+ghost use Rattle.std.specs.Prelude.{◌≡◌, IfOk};
+ghost use Rattle.lines.specs.Words.{words};
+ghost use Rattle.certificate.specs.Words.{numbers_in, chain_in, found};
 
 use crate::value::CertChain;
+use lines::{cut, number_of};
 use std::alloc::{AllocError, Global};
 use task_sheet::Name;
-
-/// The bytes before the first such byte, and those after it; `None` where there is none.
-pub fn cut(bytes: &[u8], byte: u8) -> Option<(&[u8], &[u8])>
-    ensures parts { MatchOption result (slice_split (λ b. b == byte) bytes.now ≡ bytes.now ∷ []) (λ x. slice_split (λ b. b == byte) bytes.now ≡ x.0.now ∷ slice_split (λ b. b == byte) x.1.now) }
-    ensures less { IfSome result (λ x. length x.1.now < length bytes.now) }
-{
-    for (i, b) in bytes.iter().enumerate() {
-        if *b == byte {
-            let (front, rest) = bytes.split_at(i);
-            return Some((front, &rest[1..]));
-        }
-    }
-    None
-}
-
-fn are_digits(text: &[u8]) -> bool
-    ensures { result ≡ list_all is_ascii_digit text.now }
-{
-    text.iter().all(|b| b.is_ascii_digit())
-}
-
-fn is_number(text: &[u8]) -> bool
-    ensures { result ≡ is_number text.now }
-{
-    !text.is_empty() && text.len() <= 10 && (text.len() == 1 || text[0] != b'0') && are_digits(text)
-}
-
-/// The number that 1 to 10 digits spell, with no zero in front of others; `None` for any other word.
-pub fn number_of(text: &[u8]) -> Option<u64>
-    ensures { result ≡ number_in text.now }
-{
-    if !is_number(text) {
-        return None;
-    }
-    let mut number = 0;
-    for b in text {
-        number = number * 10 + u64::from(*b - b'0');
-    }
-    Some(number)
-}
 
 /// The numbers between spaces; `None` where a word is no number.
 pub fn numbers_of(alloc: Global, text: &[u8]) -> Result<Option<Vec<u64>>, AllocError>

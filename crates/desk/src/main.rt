@@ -1,18 +1,16 @@
-//! `desk`: opens the inputs that its words name, runs the command, and ends with the command's status.
+//! `desk`: runs the call that its words name on the files and streams of the process, and ends with its status.
 #![tactic(auto)]
 
+ghost use Rattle.std.specs.Prelude.{None};
+
 use desk_cli::{
-    Call, Input, InputFault, Refusal, Status, Watched, admit, certify, check_files, read_words,
-    refuse, refuse_words, simulate,
+    Input, NotOpened, Opens, Refusal, Status, Watched, read_words, refuse, refuse_words, run_call,
 };
 use either::{Either, Left, Right};
 use std::fs::File;
 use std::io::{self, ErrorKind, Stderr, Stdin, Stdout};
 use std::process::ExitCode;
 use std::{env, fs};
-
-/// What a file that cannot be opened is refused as.
-const NOT_OPENED: Refusal = Refusal::Input(InputFault::ReadFailed);
 
 /// An input, opened.
 type Source = Either<File, Stdin>;
@@ -35,10 +33,11 @@ fn run(rt: &HostRuntime) -> Status {
             return refuse(Refusal::OutOfMemory, &mut output);
         }
     }
-    // Takes the number of a standard stream that is closed, so that no input gets it: a folder is neither read nor written.
+    // Takes the number of a standard stream that is closed, so that no input gets it: a folder is neither read nor
+    // written.
     let _folder = fs::open(rt, "/");
     match read_words(rt.alloc(), &texts) {
-        Ok(call) => run_call(rt, call, &mut output),
+        Ok(call) => run_call(rt.alloc(), call, &Process { rt }, &mut output),
         Err(fault) => refuse_words(&fault, &mut output, &mut errors),
     }
 }
@@ -67,48 +66,25 @@ fn refuse_system(
     }
 }
 
-fn open(rt: &HostRuntime, input: Input<'_>) -> io::Result<Watched<Source>> {
-    match input {
-        Input::Standard => Ok(Watched::new(Right(rt.stdin()))),
-        Input::File(path) => Ok(Watched::new(Left(fs::open(rt, path)?))),
-    }
+// The files and the standard input of a process.
+#[derive(Clone, Copy)]
+struct Process<'a> {
+    rt: &'a HostRuntime,
 }
 
-// The second input is opened only where the first was.
-fn open_both(
-    rt: &HostRuntime,
-    first: Input<'_>,
-    second: Input<'_>,
-) -> io::Result<(Watched<Source>, Watched<Source>)> {
-    let first = open(rt, first)?;
-    let second = open(rt, second)?;
-    Ok((first, second))
-}
+impl<'a> Opens for Process<'a> {
+    type Source = Source;
 
-// Opens the inputs of a call, and runs it.
-fn run_call(rt: &HostRuntime, call: Call<'_>, output: &mut Watched<Stdout>) -> Status {
-    let alloc = rt.alloc();
-    match call {
-        Call::Admit { set } => match open(rt, set) {
-            Ok(mut set) => admit(alloc, &mut set, output),
-            Err(_) => refuse(NOT_OPENED, output),
-        },
-        Call::Certify { set } => match open(rt, set) {
-            Ok(mut set) => certify(alloc, &mut set, output),
-            Err(_) => refuse(NOT_OPENED, output),
-        },
-        Call::Check { set, certificate } => match open_both(rt, set, certificate) {
-            Ok((mut set, mut certificate)) => check_files(
-                alloc,
-                &mut set,
-                &mut certificate,
-                output,
-            ),
-            Err(_) => refuse(NOT_OPENED, output),
-        },
-        Call::Simulate { set, releases } => match open_both(rt, set, releases) {
-            Ok((mut set, mut releases)) => simulate(alloc, &mut set, &mut releases, output),
-            Err(_) => refuse(NOT_OPENED, output),
-        },
+    // No contract can say what a file has.
+    ghost bytes = { λ _ _. None };
+
+    fn open(&self, input: Input<'_>) -> Result<Source, NotOpened> {
+        match input {
+            Input::Standard => Ok(Right(self.rt.stdin())),
+            Input::File(path) => match fs::open(self.rt, path) {
+                Ok(file) => Ok(Left(file)),
+                Err(_) => Err(NotOpened),
+            },
+        }
     }
 }

@@ -2,4 +2,3 @@ pub mod Inputs
 pub mod Matches
 pub mod Help
 pub mod Commands
-pub mod LineLaws

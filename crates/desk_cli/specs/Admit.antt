@@ -23,11 +23,8 @@ Admits known (Err (refusal.Set fault)) = (bytes : List ℕ) × IsReadFrom known 
 Admits known (Err (refusal.Input input.TooLong)) = IsTooLong known
 Admits known (Err (refusal.Input input.ReadFailed)) = Unit {0}
 Admits known (Err (refusal.Input input.OutOfMemory)) = Unit {0}
-Admits known (Err (refusal.Certificate fault)) = ⊥
-Admits known (Err (refusal.Check fault)) = ⊥
-Admits known (Err (refusal.Text fault)) = ⊥
-Admits known (Err (refusal.Run fault)) = ⊥
 Admits known (Err refusal.OutOfMemory) = Unit {0}
+Admits known _ = ⊥
 
 -- the exit status of a verdict
 abbrev pub verdict_status : Verdict → Status

@@ -32,10 +32,8 @@ ChecksBytes bytes text (Err (refusal.Set fault)) = ReadsSet bytes (Err fault)
 ChecksBytes bytes text (Err (refusal.Certificate fault)) = (U : List Task) × ReadsSet bytes (Ok U) × Fails fault (certificate_in text)
 ChecksBytes bytes text (Err (refusal.Check fault)) =
     (U : List Task) × (c : Body) × ReadsSet bytes (Ok U) × (certificate_in text ≡ Ok c) × (check_fault U c ≡ Some fault)
-ChecksBytes bytes text (Err (refusal.Input fault)) = ⊥
-ChecksBytes bytes text (Err (refusal.Text fault)) = ⊥
-ChecksBytes bytes text (Err (refusal.Run fault)) = ⊥
 ChecksBytes bytes text (Err refusal.OutOfMemory) = Unit {0}
+ChecksBytes bytes text _ = ⊥
 
 -- the bytes are those that the readers had
 abbrev pub ChecksRead : Option (List ℕ) → Option (List ℕ) → Result Checked Refusal → Type 0
@@ -46,13 +44,8 @@ abbrev pub Checks : Option (List ℕ) → Option (List ℕ) → Result Checked R
 Checks set certificate (Err (refusal.Input input.TooLong)) = IsTooLong set ⊎ IsTooLong certificate
 Checks set certificate (Err (refusal.Input input.ReadFailed)) = Unit {0}
 Checks set certificate (Err (refusal.Input input.OutOfMemory)) = Unit {0}
-Checks set certificate (Err (refusal.Set fault)) = ChecksRead set certificate (Err (refusal.Set fault))
-Checks set certificate (Err (refusal.Certificate fault)) = ChecksRead set certificate (Err (refusal.Certificate fault))
-Checks set certificate (Err (refusal.Check fault)) = ChecksRead set certificate (Err (refusal.Check fault))
-Checks set certificate (Err (refusal.Text fault)) = ⊥
-Checks set certificate (Err (refusal.Run fault)) = ⊥
 Checks set certificate (Err refusal.OutOfMemory) = Unit {0}
-Checks set certificate (Ok kind) = ChecksRead set certificate (Ok kind)
+Checks set certificate answer = ChecksRead set certificate answer
 
 -- the line of what a certificate shows
 abbrev pub checked_line : Checked → List ℕ

@@ -9,6 +9,6 @@ pub mod Refusals
 pub mod ReleasesText
 pub mod Simulate
 pub mod Statuses
-pub mod Text
 pub mod TextFaults
 pub mod TraceLines
+pub mod Running

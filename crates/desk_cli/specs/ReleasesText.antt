@@ -1,9 +1,8 @@
 -- Release lists as text.
-use Rattle.std.specs.Prelude.{ℕ, ◌+◌, List, [], ◌∷◌, ◌++◌, Option, Some, None, Result, Ok, Err, bytes_eq, codes, if◌then◌else◌}
-use Rattle.task_sheet.specs.Name.{is_name}
-use Rattle.certificate.specs.Words.{number_in, words}
+use Rattle.std.specs.Prelude.{ℕ, ◌+◌, List, [], ◌∷◌, ◌++◌, length, Option, Some, None, Result, Ok, Err, bytes_eq, codes, if◌then◌else◌}
+use Rattle.lines.specs.Lines.{kept_lines, lines_of}
+use Rattle.lines.specs.Words.{name_in, number_in, words}
 use Rattle.ceiling_kernel.specs.declared.trace.Release.{Release}
-use Rattle.desk_cli.specs.Text.{is_skipped, lines_of}
 
 -- the number of a line `until N`
 abbrev pub until_in : List (List ℕ) → Option ℕ
@@ -12,16 +11,17 @@ until_in (word ∷ []) = None
 until_in (word ∷ number ∷ []) = if bytes_eq word (codes "until") then number_in number else None
 until_in (word ∷ number ∷ more ∷ rest) = None
 
--- a release, where both its words are right
-abbrev pub release_at : Option ℕ → List ℕ → Option Release
+-- a release, where its first word is a number and its second a name
+abbrev pub release_at : Option ℕ → Option (List ℕ) → Option Release
 release_at None name = None
-release_at (Some time) name = if is_name name then Some (record { time = time; name = name }) else None
+release_at (Some time) None = None
+release_at (Some time) (Some name) = Some (record { time = time; name = name })
 
 -- the release of a line `TIME NAME`
 abbrev pub release_in : List (List ℕ) → Option Release
 release_in [] = None
 release_in (time ∷ []) = None
-release_in (time ∷ name ∷ []) = release_at (number_in time) name
+release_in (time ∷ name ∷ []) = release_at (number_in time) (name_in name)
 release_in (time ∷ name ∷ more ∷ rest) = None
 
 -- these, and then the releases that are found; a faulty line stays the fault
@@ -34,11 +34,10 @@ abbrev pub with_release : ℕ → Option Release → Result (List Release) ℕ �
 with_release line None rest = Err line
 with_release line (Some r) rest = before (r ∷ []) rest
 
--- the releases of lines, of which the first has a number; or the number of the first faulty line
-abbrev pub releases_from : ℕ → List (List ℕ) → Result (List Release) ℕ
-releases_from line [] = Ok []
-releases_from line (l ∷ ls) =
-    if is_skipped l then releases_from (line + 1) ls else with_release line (release_in (words l)) (releases_from (line + 1) ls)
+-- the releases of numbered lines, or the number of the first faulty line
+abbrev pub releases_from : List (ℕ × List ℕ) → Result (List Release) ℕ
+releases_from [] = Ok []
+releases_from (l ∷ ls) = with_release l.0 (release_in (words l.1)) (releases_from ls)
 
 -- the end of the run with its releases
 abbrev pub with_until : ℕ → Result (List Release) ℕ → Result (ℕ × List Release) ℕ
@@ -46,15 +45,15 @@ with_until n (Ok rs) = Ok (n, rs)
 with_until n (Err line) = Err line
 
 -- the releases behind the line of the end
-abbrev pub after_until : ℕ → Option ℕ → List (List ℕ) → Result (ℕ × List Release) ℕ
-after_until line None ls = Err line
-after_until line (Some n) ls = with_until n (releases_from (line + 1) ls)
+abbrev pub after_until : ℕ → Option ℕ → Result (List Release) ℕ → Result (ℕ × List Release) ℕ
+after_until line None releases = Err line
+after_until line (Some n) releases = with_until n releases
 
--- the first line that is not skipped is `until N`
-abbrev pub list_from : ℕ → List (List ℕ) → Result (ℕ × List Release) ℕ
-list_from line [] = Err line
-list_from line (l ∷ ls) = if is_skipped l then list_from (line + 1) ls else after_until line (until_in (words l)) ls
+-- of numbered lines the first is `until N`, and each other is a release; where there is no line, a given number is at fault
+abbrev pub list_from : ℕ → List (ℕ × List ℕ) → Result (ℕ × List Release) ℕ
+list_from past [] = Err past
+list_from past (l ∷ ls) = after_until l.0 (until_in (words l.1)) (releases_from ls)
 
--- a text's end and releases, or the number of its first faulty line
+-- a text's end and releases, or the number of its first faulty line: where the first is missing, the one past the last
 abbrev pub list_in : List ℕ → Result (ℕ × List Release) ℕ
-list_in text = list_from 1 (lines_of text)
+list_in text = list_from (1 + length (lines_of text)) (kept_lines text)

@@ -27,11 +27,7 @@ abbrev pub RunsOrder : List Task → List LevelData → List Release → ℕ →
 RunsOrder U levels rs until (Ok trace) = Runs (node_in U (map (λ l. l.task) levels)) rs until (Ok trace)
 RunsOrder U levels rs until (Err (refusal.Run fault)) = Runs (node_in U (map (λ l. l.task) levels)) rs until (Err fault)
 RunsOrder U levels rs until (Err refusal.OutOfMemory) = Unit {0}
-RunsOrder U levels rs until (Err (refusal.Input fault)) = ⊥
-RunsOrder U levels rs until (Err (refusal.Set fault)) = ⊥
-RunsOrder U levels rs until (Err (refusal.Certificate fault)) = ⊥
-RunsOrder U levels rs until (Err (refusal.Check fault)) = ⊥
-RunsOrder U levels rs until (Err (refusal.Text fault)) = ⊥
+RunsOrder U levels rs until _ = ⊥
 
 -- the bytes say a set with a best order, and a release list
 pub record IsRun (bytes text : List ℕ) (U : List Task) (levels : List LevelData) (until : ℕ) (rs : List Release) : Type 0 where
@@ -53,9 +49,7 @@ SimulatesBytes bytes text (Err (refusal.Set fault)) = ReadsSet bytes (Err fault)
 SimulatesBytes bytes text (Err (refusal.Text fault)) = (U : List Task) × ReadsSet bytes (Ok U) × IsFault fault (list_in text)
 SimulatesBytes bytes text (Err (refusal.Run fault)) = RunsBest bytes text (Err (refusal.Run fault))
 SimulatesBytes bytes text (Err refusal.OutOfMemory) = Unit {0}
-SimulatesBytes bytes text (Err (refusal.Input fault)) = ⊥
-SimulatesBytes bytes text (Err (refusal.Certificate fault)) = ⊥
-SimulatesBytes bytes text (Err (refusal.Check fault)) = ⊥
+SimulatesBytes bytes text _ = ⊥
 
 -- the bytes are those that the readers had
 abbrev pub SimulatesRead : Option (List ℕ) → Option (List ℕ) → Result Simulated Refusal → Type 0
@@ -67,12 +61,7 @@ Simulates set releases (Err (refusal.Input input.TooLong)) = IsTooLong set ⊎ I
 Simulates set releases (Err (refusal.Input input.ReadFailed)) = Unit {0}
 Simulates set releases (Err (refusal.Input input.OutOfMemory)) = Unit {0}
 Simulates set releases (Err refusal.OutOfMemory) = Unit {0}
-Simulates set releases (Err (refusal.Set fault)) = SimulatesRead set releases (Err (refusal.Set fault))
-Simulates set releases (Err (refusal.Text fault)) = SimulatesRead set releases (Err (refusal.Text fault))
-Simulates set releases (Err (refusal.Run fault)) = SimulatesRead set releases (Err (refusal.Run fault))
-Simulates set releases (Err (refusal.Certificate fault)) = ⊥
-Simulates set releases (Err (refusal.Check fault)) = ⊥
-Simulates set releases (Ok simulated) = SimulatesRead set releases (Ok simulated)
+Simulates set releases answer = SimulatesRead set releases answer
 
 -- what is printed of an answer
 abbrev pub simulated_said : Result Simulated Refusal → List ℕ

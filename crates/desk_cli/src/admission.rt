@@ -2,6 +2,7 @@
 ghost use Rattle.std.specs.Prelude.{◌≡◌, ◌⊎◌, true, false, Err, Result};
 ghost use Rattle.std.specs.Io.KnownBytes.{Appends};
 ghost use Rattle.desk_cli.specs.Admit.{Admits, Says, lines_of, verdict_status};
+ghost use Rattle.desk_cli.specs.Inputs.{IsDisturbed, IsWithinTurns};
 
 use crate::answer::verdict_text;
 use crate::input::{InputFault, read_input};
@@ -21,7 +22,9 @@ pub(crate) fn decide<R: Read + Drop>(
     set: &mut Watched<R>,
 ) -> Result<Verdict, Refusal>
     ensures answer { Admits (R.remaining set.old.inner) result }
-    ensures failed { result ≡ Err (Refusal.Input InputFault.ReadFailed) → set.new.has_failed ≡ true }
+    ensures failed { result ≡ Err (Refusal.Input InputFault.ReadFailed) → IsDisturbed set.new }
+    ensures answered { set.old.has_failed ≡ false → set.new.has_failed ≡ true → result ≡ Err (Refusal.Input InputFault.ReadFailed) }
+    ensures turns { IsWithinTurns set.old set.new }
 {
     let bytes = read_input(alloc, set)?;
     let tasks = read_set(alloc, &bytes)?;
@@ -45,9 +48,13 @@ pub fn admit<R: Read + Drop, W: Write + Drop>(
     set: &mut Watched<R>,
     output: &mut Watched<W>,
 ) -> Status
-    ensures printed { output.new.has_failed ≡ false → Says lines_of (R.remaining set.old.inner) (W.contents output.old.inner) (W.contents output.new.inner) result }
-    ensures failed { result ≡ Status.InputOrOutputFailed → (set.new.has_failed ≡ true) ⊎ (output.new.has_failed ≡ true) }
+    ensures printed { output.new.has_failed ≡ false
+        → Says lines_of (R.remaining set.old.inner) (W.contents output.old.inner) (W.contents output.new.inner) result }
+    ensures failed { result ≡ Status.InputOrOutputFailed → IsDisturbed set.new ⊎ (output.new.has_failed ≡ true) }
+    ensures unread { set.old.has_failed ≡ false → set.new.has_failed ≡ true → output.old.has_failed ≡ false
+        → result ≡ Status.InputOrOutputFailed }
     ensures unwritten { output.old.has_failed ≡ false → output.new.has_failed ≡ true → result ≡ Status.InputOrOutputFailed }
+    ensures turns { IsWithinTurns set.old set.new }
 {
     match decide(alloc, set) {
         Ok(verdict) => match verdict_text(alloc, &verdict) {

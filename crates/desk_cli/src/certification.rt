@@ -4,6 +4,7 @@ ghost use Rattle.std.specs.Io.KnownBytes.{Appends};
 ghost use Rattle.certificate.specs.Spelling.{spelling};
 ghost use Rattle.desk_cli.specs.Admit.{Says};
 ghost use Rattle.desk_cli.specs.Certify.{certificate_lines};
+ghost use Rattle.desk_cli.specs.Inputs.{IsDisturbed, IsWithinTurns};
 
 use crate::admission::{decide, status_of};
 use crate::output::refuse;
@@ -36,9 +37,13 @@ pub fn certify<R: Read + Drop, W: Write + Drop>(
     set: &mut Watched<R>,
     output: &mut Watched<W>,
 ) -> Status
-    ensures printed { output.new.has_failed ≡ false → Says certificate_lines (R.remaining set.old.inner) (W.contents output.old.inner) (W.contents output.new.inner) result }
-    ensures failed { result ≡ Status.InputOrOutputFailed → (set.new.has_failed ≡ true) ⊎ (output.new.has_failed ≡ true) }
+    ensures printed { output.new.has_failed ≡ false
+        → Says certificate_lines (R.remaining set.old.inner) (W.contents output.old.inner) (W.contents output.new.inner) result }
+    ensures failed { result ≡ Status.InputOrOutputFailed → IsDisturbed set.new ⊎ (output.new.has_failed ≡ true) }
+    ensures unread { set.old.has_failed ≡ false → set.new.has_failed ≡ true → output.old.has_failed ≡ false
+        → result ≡ Status.InputOrOutputFailed }
     ensures unwritten { output.old.has_failed ≡ false → output.new.has_failed ≡ true → result ≡ Status.InputOrOutputFailed }
+    ensures turns { IsWithinTurns set.old set.new }
 {
     match decide(alloc, set) {
         Ok(verdict) => match Certificate::of(alloc, &verdict) {

@@ -1,6 +1,7 @@
 //! `desk check`.
-ghost use Rattle.std.specs.Prelude.{◌≡◌, ◌⊎◌, true, false, codes, Err};
+ghost use Rattle.std.specs.Prelude.{◌≡◌, ◌⊎◌, ◌<◌, ℕ, List, length, Some, true, false, Err};
 ghost use Rattle.desk_cli.specs.Check.{Checks, ChecksBytes, SaysChecked, checked_line};
+ghost use Rattle.desk_cli.specs.Inputs.{IsDisturbed, IsWithinTurns};
 
 use crate::input::{InputFault, read_input};
 use crate::output::{print, refuse};
@@ -29,7 +30,12 @@ fn checked<R: Read + Drop, S: Read + Drop>(
     certificate: &mut Watched<S>,
 ) -> Result<Checked, Refusal>
     ensures answer { Checks (R.remaining set.old.inner) (S.remaining certificate.old.inner) result }
-    ensures failed { result ≡ Err (Refusal.Input InputFault.ReadFailed) → (set.new.has_failed ≡ true) ⊎ (certificate.new.has_failed ≡ true) }
+    ensures failed { result ≡ Err (Refusal.Input InputFault.ReadFailed) → IsDisturbed set.new ⊎ IsDisturbed certificate.new }
+    ensures answered { set.old.has_failed ≡ false → certificate.old.has_failed ≡ false
+        → (set.new.has_failed ≡ true) ⊎ (certificate.new.has_failed ≡ true) → result ≡ Err (Refusal.Input InputFault.ReadFailed) }
+    ensures turns { IsWithinTurns set.old set.new × IsWithinTurns certificate.old certificate.new }
+    ensures first_too_long { (all : List ℕ) → R.remaining set.old.inner ≡ Some all → 16777216 < length all → certificate.new ≡ certificate.old }
+    ensures first_failed { set.old.has_failed ≡ false → set.new.has_failed ≡ true → certificate.new ≡ certificate.old }
 {
     let bytes = read_input(alloc, set)?;
     let text = read_input(alloc, certificate)?;
@@ -47,7 +53,7 @@ fn line_of(checked: Checked) -> &'static [u8]
 }
 
 /// `desk check`: reads a task set and a certificate, and prints what the certificate shows of the set,
-/// or why one of them was refused. Both are read before either is parsed.
+/// or why one of them was refused. Both are read before either is parsed, the set first.
 pub fn check_files<R: Read + Drop, S: Read + Drop, W: Write + Drop>(
     alloc: Global,
     set: &mut Watched<R>,
@@ -55,10 +61,17 @@ pub fn check_files<R: Read + Drop, S: Read + Drop, W: Write + Drop>(
     output: &mut Watched<W>,
 ) -> Status
     ensures printed { output.new.has_failed ≡ false
-        → SaysChecked (R.remaining set.old.inner) (S.remaining certificate.old.inner) (W.contents output.old.inner) (W.contents output.new.inner) result }
+        → SaysChecked (R.remaining set.old.inner) (S.remaining certificate.old.inner)
+        (W.contents output.old.inner) (W.contents output.new.inner) result }
     ensures failed { result ≡ Status.InputOrOutputFailed
-        → (set.new.has_failed ≡ true) ⊎ ((certificate.new.has_failed ≡ true) ⊎ (output.new.has_failed ≡ true)) }
+        → IsDisturbed set.new ⊎ (IsDisturbed certificate.new ⊎ (output.new.has_failed ≡ true)) }
+    ensures unread { set.old.has_failed ≡ false → certificate.old.has_failed ≡ false
+        → (set.new.has_failed ≡ true) ⊎ (certificate.new.has_failed ≡ true) → output.old.has_failed ≡ false
+        → result ≡ Status.InputOrOutputFailed }
     ensures unwritten { output.old.has_failed ≡ false → output.new.has_failed ≡ true → result ≡ Status.InputOrOutputFailed }
+    ensures turns { IsWithinTurns set.old set.new × IsWithinTurns certificate.old certificate.new }
+    ensures first_too_long { (all : List ℕ) → R.remaining set.old.inner ≡ Some all → 16777216 < length all → certificate.new ≡ certificate.old }
+    ensures first_failed { set.old.has_failed ≡ false → set.new.has_failed ≡ true → certificate.new ≡ certificate.old }
 {
     match checked(alloc, set, certificate) {
         Ok(checked) => print(line_of(checked), Status::Done, output),

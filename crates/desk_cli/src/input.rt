@@ -1,16 +1,15 @@
 //! Reading an input whole.
-ghost use Rattle.std.specs.Prelude.{◌≡◌, ℕ, ◌<◌, ◌≤◌, ◌++◌, true, false, Err, IfOk, IfSome, vec_len, length};
-ghost use Rattle.std.specs.Io.KnownBytes.{Consumes, IsAtEnd};
-ghost use Rattle.desk_cli.specs.Inputs.{IsReadFrom, IsTooLong};
+ghost use Rattle.std.specs.Prelude.{◌≡◌, ◌+◌, ◌^◌, ◌<◌, true, false, Err, IfOk};
+ghost use Rattle.desk_cli.specs.Inputs.{IsDisturbed, IsReadFrom, IsTooLong, IsWithinTurns};
 
-use certificate::Watched;
+use certificate::{ReadFault, Watched};
 use std::alloc::Global;
-use std::io::{ErrorKind, Read};
+use std::io::Read;
 
 // The most bytes that an input has.
 const INPUT_LIMIT: usize = 16_777_216;
 
-// The most turns that reading it takes, interrupted reads among them.
+// The most reads that it takes, interrupted ones among them.
 const TURN_LIMIT: usize = 33_554_432;
 
 /// Why an input was not read.
@@ -24,14 +23,19 @@ pub enum InputFault {
     ReadFailed,
 }
 
-/// Reads all that the reader has, in at most 33,554,432 turns. An interrupted read is tried again.
+/// Reads all that the reader has, in at most 33,554,432 reads. A failed read is answered at once; an interrupted one
+/// is tried again, until no turn is left.
 pub fn read_input<R: Read + Drop>(
     alloc: Global,
     reader: &mut Watched<R>,
 ) -> Result<Vec<u8>, InputFault>
     ensures whole { IfOk result (λ bytes. IsReadFrom (R.remaining reader.old.inner) bytes.items) }
     ensures too_long { result ≡ Err InputFault.TooLong → IsTooLong (R.remaining reader.old.inner) }
-    ensures failed { result ≡ Err InputFault.ReadFailed → reader.new.has_failed ≡ true }
+    ensures failed { result ≡ Err InputFault.ReadFailed → IsDisturbed reader.new }
+    ensures answered { reader.old.has_failed ≡ false → reader.new.has_failed ≡ true → result ≡ Err InputFault.ReadFailed }
+    ensures tried_again { result ≡ Err InputFault.ReadFailed → reader.new.has_failed ≡ false
+        → reader.old.reads + 33554432 < 2 ^ 64 → reader.new.reads ≡ reader.old.reads + 33554432 }
+    ensures turns { IsWithinTurns reader.old reader.new }
 {
     let mut bytes = Vec::new(alloc);
     let mut chunk = [0; 65536];
@@ -46,10 +50,8 @@ pub fn read_input<R: Read + Drop>(
                     return Err(InputFault::OutOfMemory);
                 }
             }
-            Err(error) if error.kind() != ErrorKind::Interrupted => {
-                return Err(InputFault::ReadFailed);
-            }
-            Err(_) => {}
+            Err(ReadFault::Failed) => return Err(InputFault::ReadFailed),
+            Err(ReadFault::Interrupted) => {}
         }
     }
     Err(InputFault::ReadFailed)

@@ -9,9 +9,9 @@ mod input;
 mod output;
 mod refusal;
 mod releases;
+mod running;
 mod simulation;
 mod status;
-mod text;
 mod tracing;
 mod words;
 
@@ -23,6 +23,7 @@ pub use input::{InputFault, read_input};
 pub use output::refuse;
 pub use refusal::Refusal;
 pub use releases::{TextFault, read_releases};
+pub use running::{NotOpened, Opens, run_call};
 pub use simulation::simulate;
 pub use status::Status;
 pub use words::{Call, Input, WordsFault, read_words, refuse_words};

@@ -1,6 +1,7 @@
 //! `desk simulate`.
-ghost use Rattle.std.specs.Prelude.{◌≡◌, ◌⊎◌, map, true, false, Err, IfOk};
+ghost use Rattle.std.specs.Prelude.{◌≡◌, ◌⊎◌, ◌<◌, ℕ, List, length, map, Some, true, false, Err, IfOk};
 ghost use Rattle.desk_cli.specs.Simulate.{RunsOrder, SaysSimulated, Simulates, SimulatesBytes};
+ghost use Rattle.desk_cli.specs.Inputs.{IsDisturbed, IsWithinTurns};
 
 use crate::answer::infeasible_text;
 use crate::input::{InputFault, read_input};
@@ -78,7 +79,12 @@ fn simulated_of<R: Read + Drop, S: Read + Drop>(
     releases: &mut Watched<S>,
 ) -> Result<Simulated, Refusal>
     ensures answer { Simulates (R.remaining set.old.inner) (S.remaining releases.old.inner) result }
-    ensures failed { result ≡ Err (Refusal.Input InputFault.ReadFailed) → (set.new.has_failed ≡ true) ⊎ (releases.new.has_failed ≡ true) }
+    ensures failed { result ≡ Err (Refusal.Input InputFault.ReadFailed) → IsDisturbed set.new ⊎ IsDisturbed releases.new }
+    ensures answered { set.old.has_failed ≡ false → releases.old.has_failed ≡ false
+        → (set.new.has_failed ≡ true) ⊎ (releases.new.has_failed ≡ true) → result ≡ Err (Refusal.Input InputFault.ReadFailed) }
+    ensures turns { IsWithinTurns set.old set.new × IsWithinTurns releases.old releases.new }
+    ensures first_too_long { (all : List ℕ) → R.remaining set.old.inner ≡ Some all → 16777216 < length all → releases.new ≡ releases.old }
+    ensures first_failed { set.old.has_failed ≡ false → set.new.has_failed ≡ true → releases.new ≡ releases.old }
 {
     let bytes = read_input(alloc, set)?;
     let text = read_input(alloc, releases)?;
@@ -87,7 +93,7 @@ fn simulated_of<R: Read + Drop, S: Read + Drop>(
 
 /// `desk simulate`: reads a task set and a release list, and prints what the simulated kernel does at the levels of
 /// the set's best order, in microseconds; or the tasks of its greatest obstruction; or why one of them was refused.
-/// Both are read before either is parsed.
+/// Both are read before either is parsed, the set first.
 pub fn simulate<R: Read + Drop, S: Read + Drop, W: Write + Drop>(
     alloc: Global,
     set: &mut Watched<R>,
@@ -95,10 +101,17 @@ pub fn simulate<R: Read + Drop, S: Read + Drop, W: Write + Drop>(
     output: &mut Watched<W>,
 ) -> Status
     ensures printed { output.new.has_failed ≡ false
-        → SaysSimulated (R.remaining set.old.inner) (S.remaining releases.old.inner) (W.contents output.old.inner) (W.contents output.new.inner) result }
+        → SaysSimulated (R.remaining set.old.inner) (S.remaining releases.old.inner)
+        (W.contents output.old.inner) (W.contents output.new.inner) result }
     ensures failed { result ≡ Status.InputOrOutputFailed
-        → (set.new.has_failed ≡ true) ⊎ ((releases.new.has_failed ≡ true) ⊎ (output.new.has_failed ≡ true)) }
+        → IsDisturbed set.new ⊎ (IsDisturbed releases.new ⊎ (output.new.has_failed ≡ true)) }
+    ensures unread { set.old.has_failed ≡ false → releases.old.has_failed ≡ false
+        → (set.new.has_failed ≡ true) ⊎ (releases.new.has_failed ≡ true) → output.old.has_failed ≡ false
+        → result ≡ Status.InputOrOutputFailed }
     ensures unwritten { output.old.has_failed ≡ false → output.new.has_failed ≡ true → result ≡ Status.InputOrOutputFailed }
+    ensures turns { IsWithinTurns set.old set.new × IsWithinTurns releases.old releases.new }
+    ensures first_too_long { (all : List ℕ) → R.remaining set.old.inner ≡ Some all → 16777216 < length all → releases.new ≡ releases.old }
+    ensures first_failed { set.old.has_failed ≡ false → set.new.has_failed ≡ true → releases.new ≡ releases.old }
 {
     match simulated_of(alloc, set, releases) {
         Ok(Simulated::Ran(trace)) => match trace_text(alloc, &trace) {

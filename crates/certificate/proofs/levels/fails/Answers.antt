@@ -1,5 +1,5 @@
-use Rattle.certificate.specs.Words.{parts}
-use Rattle.certificate.proofs.MemberLoops.{parts_some}
+use Rattle.lines.specs.Lines.{parts}
+use Rattle.lines.proofs.Parts.{parts_some}
 use Rattle.certificate.proofs.LevelLoops.{onto_end, onto_other, onto_next}
 use Rattle.certificate.proofs.levels.fails.Goals as goal
 

@@ -1,5 +1,5 @@
-use Rattle.certificate.specs.Words.{words}
-use Rattle.certificate.proofs.NumberLoops.{words_some}
+use Rattle.lines.specs.Words.{words}
+use Rattle.lines.proofs.Parts.{words_some}
 use Rattle.certificate.proofs.LevelLoops.{too_long}
 use Rattle.certificate.proofs.levels.level_in.Goals as goal
 

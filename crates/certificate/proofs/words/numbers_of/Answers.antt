@@ -1,5 +1,5 @@
 use Rattle.std.proofs.Common.{sym}
-use Rattle.certificate.specs.Words.{words}
+use Rattle.lines.specs.Words.{words}
 use Rattle.certificate.proofs.NumberLoops.{before_next, before_none, before_last}
 use Rattle.certificate.proofs.words.numbers_of.Goals as goal
 

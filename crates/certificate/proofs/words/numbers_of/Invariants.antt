@@ -1,5 +1,6 @@
 use Rattle.std.proofs.Common.{◌≡◌, length}
-use Rattle.certificate.specs.Words.{words, numbers_in, before}
+use Rattle.lines.specs.Words.{words}
+use Rattle.certificate.specs.Words.{numbers_in, before}
 use Rattle.certificate.proofs.words.numbers_of.Given as goal
 
 abbrev pub invariant-loop-word : goal.invariant-loop-word

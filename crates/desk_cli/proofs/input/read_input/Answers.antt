@@ -3,7 +3,7 @@ use Rattle.std.proofs.lemmas.Grind.{common_steps}
 use Rattle.std.proofs.KnownBytes.{Consumes-trans, Consumes-kept}
 use Rattle.desk_cli.proofs.Inputs.{whole, longer}
 use Rattle.desk_cli.proofs.input.read_input.Goals as goal
-use Rattle.desk_cli.proofs.input.read_input.Goals.{in-Ok+else-count-len+else-is_err, in-Err+else-ne}
+use Rattle.desk_cli.proofs.input.read_input.Goals.{in-Ok+else-count-len+else-is_err, in-Err-Interrupted}
 
 pub returns-in-Ok-eq0-clause-whole : goal.returns-in-Ok-eq0-clause-whole
 returns-in-Ok-eq0-clause-whole g c =
@@ -30,10 +30,16 @@ loop-preserved g c =
             limit = search rules;
             read = rw grown (Consumes-trans (g.R.Read.remaining c.args.reader.now.inner) (g.R.Read.remaining c.loop.reader.inner) (g.R.Read.remaining c.read.new.self.inner) _ _ c.loop.invariant.read w.in-Ok.ensures.bytes.0);
             turns = search rules;
+            within = search rules;
+            counted = search rules;
+            sound = search rules;
           }
-      | in-Err+else-ne w ↦ record {
+      | in-Err-Interrupted w ↦ record {
         limit = search rules;
         read = search (rules, Consumes-kept);
         turns = search rules;
+        within = search rules;
+        counted = search rules;
+        sound = search rules;
       }
     ]

@@ -1,36 +1,21 @@
 //! Reading line after line.
-ghost use Rattle.std.specs.Prelude.{◌≡◌, ◌+◌, ◌<◌, ◌≤◌, ℕ, Ok, IfOk, IfSome, MatchOption, ◌∷◌, [], length, bytes_eq};
+ghost use Rattle.std.specs.Prelude.{◌≡◌, ◌<◌, ◌≤◌, IfOk, IfSome, length, bytes_eq};
 ghost use Rattle.certificate.specs.Body.{Chain};
-ghost use Rattle.certificate.specs.Words.{words, parts};
+ghost use Rattle.lines.specs.Words.{words};
 ghost use Rattle.certificate.specs.Lines.{Gives, at_place, line_at, member_at, members_at, end_at, count_in, few};
 
 use crate::fault::CertFault;
-use crate::place::Place;
 use crate::value::CertChain;
-use crate::words::{chain_of, cut, number_of};
+use crate::words::chain_of;
+use lines::{Place, complete_line, cut, number_of};
 use std::alloc::Global;
-
-/// The next complete line, and the place behind it.
-pub fn line_of<'a>(at: Place<'a>) -> Option<(&'a [u8], Place<'a>)>
-    ensures line { MatchOption result (parts at.entry.rest.now ≡ at.entry.rest.now ∷ []) (λ x. (parts at.entry.rest.now ≡ x.0.now ∷ parts x.1.rest.now) × (x.1.line ≡ at.entry.line + 1)) }
-    ensures less { IfSome result (λ x. length x.1.rest.now < length at.entry.rest.now) }
-{
-    let (line, rest) = cut(at.rest, b'\n')?;
-    Some((
-        line,
-        Place {
-            rest,
-            line: at.line + 1,
-        },
-    ))
-}
 
 /// The next complete line, and the place behind it; `Truncated` where there is none.
 pub fn next_line<'a>(at: Place<'a>) -> Result<(&'a [u8], Place<'a>), CertFault>
     ensures line { Gives (λ x. (x.0.now, at_place x.1)) result (line_at (at_place at.entry)) }
     ensures less { IfOk result (λ x. length x.1.rest.now < length at.entry.rest.now) }
 {
-    line_of(at).ok_or(CertFault::Truncated)
+    complete_line(at).ok_or(CertFault::Truncated)
 }
 
 // The next line as a member, and the place behind it.

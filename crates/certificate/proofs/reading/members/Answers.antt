@@ -1,7 +1,7 @@
 use Rattle.std.proofs.lemmas.Result.{err_from_is_err_and}
 use Rattle.certificate.specs.Lines.{members_at, at_place}
 use Rattle.certificate.proofs.MemberLoops.{with_front_next, Fails-with_front, with_front_last}
-use Rattle.certificate.proofs.lines.members.Goals as goal
+use Rattle.certificate.proofs.reading.members.Goals as goal
 
 pub returns-in_err-chain : goal.returns-in_err-chain
 returns-in_err-chain c =

@@ -1,5 +1,0 @@
-use Rattle.certificate.proofs.MemberLoops.{line_at_given}
-use Rattle.certificate.proofs.lines.next_line.Goals as goal
-
-pub returns-clause-line : goal.returns-clause-line
-returns-clause-line c = rw c.ok_or.ensures.value (line_at_given c.line_of.result c.args.at c.line_of.ensures.line)

@@ -1,0 +1,17 @@
+-- What a call prints and how it ends, on the inputs that it names.
+use Rattle.std.specs.Prelude.{ℕ, List, Option}
+use Rattle.desk_cli.specs.Admit.{Says, lines_of}
+use Rattle.desk_cli.specs.Certify.{certificate_lines}
+use Rattle.desk_cli.specs.Check.{SaysChecked}
+use Rattle.desk_cli.specs.Simulate.{SaysSimulated}
+use Rattle.desk_cli.specs.declared.words.Input.{Input}
+use Rattle.desk_cli.specs.declared.words.Call.{Call}
+use Rattle.desk_cli.specs.declared.words.Call.TheVariants.{Admit, Certify, Check, Simulate}
+use Rattle.desk_cli.specs.declared.status.Status.{Status}
+
+-- where inputs have some bytes, the answer of the call's command is printed after what the writer held, and the status is the answer's
+abbrev pub CallSays : (Input → Option (List ℕ)) → Call → Option (List ℕ) → Option (List ℕ) → Status → Type 0
+CallSays has (Admit set) before after s = Says lines_of (has set) before after s
+CallSays has (Certify set) before after s = Says certificate_lines (has set) before after s
+CallSays has (Check set certificate) before after s = SaysChecked (has set) (has certificate) before after s
+CallSays has (Simulate set releases) before after s = SaysSimulated (has set) (has releases) before after s
