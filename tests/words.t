@@ -1,0 +1,137 @@
+The words of a command line. Wrong words end with status 2, and what is wrong stands on standard error, in the words of
+the library `clap`; what those are isn't compared. `desk_says` says on which stream something is said.
+
+  $ said() { test ! -s output || echo output; test ! -s errors || echo errors; }
+  $ desk_says() { desk "$@" > output 2> errors; status=$?; said; return $status; }
+
+No words are `desk admit -`:
+
+  $ desk < examples/blocked-out-repaired.toml
+  admitted 2
+  1 lo 14000
+  2 hi 4500
+
+Help is no mistake:
+
+  $ desk_says --help
+  output
+  $ desk_says -h
+  output
+  $ desk_says help
+  output
+  $ for command in admit certify check simulate; do desk_says $command --help; desk_says help $command; done | uniq
+  output
+
+It names each command, and of a command its inputs:
+
+  $ desk --help > output
+  $ for command in admit certify check simulate; do grep -q "^  $command  *[A-Z]" output || echo $command; done
+  $ desk admit --help | grep -c '<SET>$'
+  1
+  $ desk certify --help | grep -c '<SET>$'
+  1
+  $ desk check --help | grep -c '<SET> <CERT>$'
+  1
+  $ desk simulate --help | grep -c '<SET> <RELEASES>$'
+  1
+
+No such command, also in other letters; a word too few; a word too many; an option that isn't there:
+
+  $ desk_says x
+  errors
+  [2]
+  $ desk_says ''
+  errors
+  [2]
+  $ desk_says ADMIT examples/three-tasks.toml
+  errors
+  [2]
+  $ desk_says -
+  errors
+  [2]
+  $ desk_says examples/three-tasks.toml
+  errors
+  [2]
+  $ desk_says --version
+  errors
+  [2]
+  $ desk_says admit
+  errors
+  [2]
+  $ desk_says certify
+  errors
+  [2]
+  $ desk_says check examples/three-tasks.toml
+  errors
+  [2]
+  $ desk_says simulate examples/three-tasks.toml
+  errors
+  [2]
+  $ desk_says admit examples/three-tasks.toml examples/three-tasks.toml
+  errors
+  [2]
+  $ desk_says certify examples/three-tasks.toml examples/three-tasks.toml
+  errors
+  [2]
+  $ desk_says check examples/three-tasks.toml examples/three-tasks.cert x
+  errors
+  [2]
+  $ desk_says simulate examples/three-tasks.toml examples/shared-lock.releases x
+  errors
+  [2]
+  $ desk_says admit --all examples/three-tasks.toml
+  errors
+  [2]
+  $ desk_says admit -- --help
+  output
+  [7]
+
+That last one is a file with the name `--help`, which isn't there:
+
+  $ desk admit -- --help
+  refused: ReadFailed
+  [7]
+
+Standard input can't be named twice:
+
+  $ desk check - - < examples/three-tasks.toml
+  standard input named twice
+  [2]
+  $ desk_says check - - < examples/three-tasks.toml
+  errors
+  [2]
+  $ desk simulate - - < examples/three-tasks.toml
+  standard input named twice
+  [2]
+  $ desk_says simulate - - < examples/three-tasks.toml
+  errors
+  [2]
+
+A word that isn't UTF-8:
+
+  $ desk admit "$(printf 'a\377')"
+  error: a word is not UTF-8
+  [2]
+  $ desk_says admit "$(printf 'a\377')"
+  errors
+  [2]
+  $ desk_says "$(printf '\377')" admit
+  errors
+  [2]
+
+Where what is wrong can't be said, a write has failed:
+
+  $ desk x 2> /dev/full
+  [7]
+  $ desk x 2>&-
+  [7]
+  $ desk check - - 2> /dev/full
+  [7]
+  $ desk admit "$(printf 'a\377')" 2> /dev/full
+  [7]
+  $ desk admit "$(printf 'a\377')" 2>&-
+  [7]
+  $ desk --help > /dev/full
+  [7]
+  $ desk --help >&-
+  [7]
