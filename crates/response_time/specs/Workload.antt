@@ -1,22 +1,26 @@
--- The demand of a task in a window, from its parts.
-use Rattle.std.specs.Prelude.{ℕ, ◌+◌, ◌*◌, ◌<◌, ◌≤◌, List, sum_by}
+-- The demand of a task in a window, from its parts, and how it is carried from a window to a longer one.
+use Rattle.std.specs.Prelude.{◌≡◌, ℕ, ◌+◌, ◌-◌, ◌*◌, ◌<◌, ◌≤◌, List, All, sum_by}
 use Rattle.task_sheet.specs.Demand.{jobs_within}
 
--- how often a task above comes, and what it takes each time
+-- how often a task above comes, what it takes each time, and the end of the last window whose jobs are counted
 pub record ShareData : Type 0 where
   pub period : ℕ
   pub cost : ℕ
+  pub end : ℕ
 
--- within the limits of a sheet
+-- within the limits of a sheet, and of the windows that serve a task
 pub record IsShare (s : ShareData) : Type 0 where
   pub some : 0 < s.period
   pub short : s.period ≤ 10000000
   pub within : s.cost ≤ s.period
+  pub reach : s.end ≤ 20000000
 
--- what is executed once, the cost and the blocking, and the shares of the tasks above
+-- what is executed once, the cost and the blocking, the shares of the tasks above, and the demand in the last window
 pub record WorkloadData : Type 0 where
   pub always : ℕ
   pub shares : List ShareData
+  pub time : ℕ
+  pub total : ℕ
 
 -- what a share takes within a window
 abbrev pub share_within : ℕ → ShareData → ℕ
@@ -25,3 +29,28 @@ share_within time s = jobs_within s.period time * s.cost
 -- the demand in a window: what is executed once, and what the shares take
 abbrev pub work_within : ℕ → WorkloadData → ℕ
 work_within time w = w.always + sum_by (share_within time) w.shares
+
+-- ---- from a window to a longer one
+-- how many jobs of a share are released within the window after those that are counted
+abbrev pub further_jobs : ℕ → ShareData → ℕ
+further_jobs time s = jobs_within s.period (time - s.end)
+
+-- what they take
+abbrev pub further_work : ℕ → ShareData → ℕ
+further_work time s = further_jobs time s * s.cost
+
+-- the share with these jobs counted
+abbrev pub counted_to : ℕ → ShareData → ShareData
+counted_to time s = record { period = s.period; cost = s.cost; end = s.end + further_jobs time s * s.period }
+
+-- the jobs within the window are counted, and no other; the share is within the limits of a sheet
+pub record IsCountedTo (time : ℕ) (s : ShareData) : Type 0 where
+  pub some : 0 < s.period
+  pub short : s.period ≤ 10000000
+  pub within : s.cost ≤ s.period
+  pub all : s.end ≡ jobs_within s.period time * s.period
+
+-- the demand is that of the last window
+pub record IsCarried (w : WorkloadData) : Type 0 where
+  pub counted : All (IsCountedTo w.time) w.shares
+  pub total : w.total ≡ work_within w.time w

@@ -53,7 +53,7 @@ pub fn demand(set: &TaskSet, table: &LockTable, task: usize, above: Members, tim
     requires time { time ≤ 10000000 }
     ensures { result ≡ demand_of set.now task (indexes_of above) time }
 {
-    Workload::new(set, table, task, above).within(time)
+    Workload::new(set, table, task, above).advance(time)
 }
 
 /// Whether a task passes with these above it: some window within its deadline covers its demand (Audsley et al. 1993).
@@ -63,15 +63,15 @@ pub fn passes(set: &TaskSet, table: &LockTable, task: usize, above: Members) -> 
     requires task { task < length set.now }
     ensures { IsTrue result ↔ Passes set.now task (indexes_of above) }
 {
-    let work = Workload::new(set, table, task, above);
+    let mut work = Workload::new(set, table, task, above);
     let limit = limit_of(set, task);
     let mut window = 1;
     while window <= limit {
-        let next = work.within(window);
+        let next = work.advance(window);
         if next <= window {
             return true;
         }
-        window = next;
+        window = next.max(work.least_window(window));
     }
     false
 }
@@ -91,13 +91,13 @@ pub fn respond(
     ensures evaluations { IfOk result (λ r. (trail : List ℕ) × IsTrail (demand_of set.now task (indexes_of above)) (limit_of (task_at set.now task)) trail × (r.evaluations ≡ length trail)) }
     ensures bound { IfOk result (λ r. r.evaluations ≤ evaluation_bound set.now (indexes_of above) (limit_of (task_at set.now task))) }
 {
-    let work = Workload::new(set, table, task, above);
+    let mut work = Workload::new(set, table, task, above);
     let limit = limit_of(set, task);
     let mut numbers = Vec::new(alloc);
     let mut time = 1;
     while time <= limit {
         numbers.push(time)?;
-        let next = work.within(time);
+        let next = work.advance(time);
         if next == time {
             return Ok(Response {
                 answer: Answer::Pass { response: time },

@@ -1,21 +1,23 @@
-//! The demand of one task below others, made ready to be asked for again and again.
-ghost use Rattle.std.specs.Prelude.{◌≡◌, ◌<◌, ◌≤◌, ℕ, length};
+//! The demand of one task below others, carried from a window to a longer one.
+ghost use Rattle.std.specs.Prelude.{◌≡◌, ◌+◌, ◌*◌, ◌<◌, ◌≤◌, ℕ, length, map, sum_by};
 ghost use Rattle.task_sheet.specs.Sheet.{IsValidSheet};
 ghost use Rattle.task_sheet.specs.Indexes.{indexes_of};
 ghost use Rattle.task_sheet.specs.Demand.{interference_of, demand_of};
 ghost use Rattle.ceilings.specs.IsTableOf.{IsTableOf};
-ghost use Rattle.response_time.specs.Workload.{share_within, work_within};
+ghost use Rattle.response_time.specs.Workload.{share_within, work_within, further_work, counted_to, IsCountedTo};
 
 use blocking::blocking;
 use ceilings::LockTable;
 use std::marker::Model;
 use task_sheet::{Members, Sheet, TASK_LIMIT, TaskSet};
 
-// How often a task above comes, and what it takes each time, in microseconds.
+// How often a task above comes, what it takes each time, and the end of the last window whose jobs are counted, in
+// microseconds.
 #[derive(Clone, Copy)]
 struct Share {
     period: u64,
     cost: u64,
+    end: u64,
 }
 
 impl Model for Share {
@@ -23,59 +25,108 @@ impl Model for Share {
 
     ghost Value = { ShareData };
 
-    ghost view = { λ s. record { period = s.period; cost = s.cost } };
+    ghost view = { λ s. record { period = s.period; cost = s.cost; end = s.end } };
 
-    ghost invariant = { λ s. IsShare record { period = s.period; cost = s.cost } };
+    ghost invariant = { λ s. IsShare record { period = s.period; cost = s.cost; end = s.end } };
 
-    ghost inverse = { λ d. record { period = d.period; cost = d.cost } };
+    ghost inverse = { λ d. record { period = d.period; cost = d.cost; end = d.end } };
 }
 
 impl Share {
     // No work at all.
     fn none() -> Share
-        ensures { (time : ℕ) → share_within time result ≡ 0 }
+        ensures nothing { (time : ℕ) → share_within time result ≡ 0 }
+        ensures start { IsCountedTo 0 result }
     {
-        Share { period: 1, cost: 0 }
+        Share {
+            period: 1,
+            cost: 0,
+            end: 0,
+        }
     }
 
-    // The share of a task above.
+    // The share of a task above, no job counted.
     fn of(sheet: &Sheet) -> Share
         requires { IsValidSheet sheet.now }
-        ensures { (time : ℕ) → share_within time result ≡ interference_of sheet.now time }
+        ensures is { (time : ℕ) → share_within time result ≡ interference_of sheet.now time }
+        ensures start { IsCountedTo 0 result }
     {
         Share {
             period: sheet.period(),
             cost: sheet.cost(),
+            end: 0,
         }
     }
 
-    // What it takes within a window of some microseconds.
-    fn within(&self, time: u64) -> u64
+    // Counts the jobs within a window: what those take that were not counted. Most often there are none, or one.
+    #[inline(always)]
+    fn count_to(&mut self, time: u64) -> u64
         requires { time ≤ 10000000 }
-        ensures is { result ≡ share_within time self.now }
+        ensures counted { self.new ≡ counted_to time self.old }
+        ensures work { result ≡ further_work time self.old }
         ensures fits { result ≤ 20000000 }
     {
-        time.div_ceil(self.period) * self.cost
+        if time <= self.end {
+            return 0;
+        }
+        if time <= self.end + self.period {
+            self.end += self.period;
+            return self.cost;
+        }
+        let jobs = (time - self.end).div_ceil(self.period);
+        self.end += jobs * self.period;
+        jobs * self.cost
+    }
+
+    // What it takes of each window at least, in parts of the whole, rounded down.
+    fn parts(&self) -> u64
+        ensures fits { result ≤ 4294967296 }
+        ensures least { (time : ℕ) → time * result ≤ 4294967296 * share_within time self.now }
+    {
+        self.cost * WHOLE / self.period
     }
 }
 
-/// What must be executed for a task: its cost and its blocking once, and the shares of the tasks above it.
+// How many parts a window is thought to have.
+const WHOLE: u64 = 1 << 32;
+
+// Counts the jobs of the shares within a window: what those take that were not counted.
+#[inline(always)]
+fn count_all(shares: &mut [Share], time: u64) -> u64
+    requires few { length shares.old ≤ 32 }
+    requires time { time ≤ 10000000 }
+    ensures counted { shares.new ≡ map (counted_to time) shares.old }
+    ensures work { result ≡ sum_by (further_work time) shares.old }
+    ensures fits { result ≤ 640000000 }
+{
+    let mut work = 0;
+    for share in shares.iter_mut() {
+        work += share.count_to(time);
+    }
+    work
+}
+
+/// What must be executed for a task: its cost and its blocking once, and the shares of the tasks above it. The demand is
+/// carried from a window to a longer one, so that only what is released between the two is counted.
 #[derive(Drop)]
 pub(crate) struct Workload {
     always: u64,
     shares: [Share; TASK_LIMIT],
     count: usize,
+    time: u64,
+    total: u64,
 }
 
 impl Model for Workload {
     ghost use Rattle.std.specs.Prelude.{◌≤◌, take};
-    ghost use Rattle.response_time.specs.Workload.{WorkloadData};
+    ghost use Rattle.response_time.specs.Workload.{WorkloadData, IsCarried};
 
     ghost Value = { WorkloadData };
 
-    ghost view = { λ w. record { always = w.always; shares = take w.count w.shares } };
+    ghost view = { λ w. record { always = w.always; shares = take w.count w.shares; time = w.time; total = w.total } };
 
-    ghost invariant = { λ w. (w.count ≤ 32) × (w.always ≤ 20000000) };
+    ghost invariant = { λ w. (w.count ≤ 32) × (w.always ≤ 20000000) × (w.time ≤ 10000000)
+        × IsCarried record { always = w.always; shares = take w.count w.shares; time = w.time; total = w.total } };
 }
 
 impl Workload {
@@ -83,7 +134,8 @@ impl Workload {
     pub(crate) fn new(set: &TaskSet, table: &LockTable, task: usize, above: Members) -> Workload
         requires table { IsTableOf set.now table.now }
         requires task { task < length set.now }
-        ensures { (time : ℕ) → work_within time result ≡ demand_of set.now task (indexes_of above) time }
+        ensures is { (time : ℕ) → work_within time result ≡ demand_of set.now task (indexes_of above) time }
+        ensures start { result.time ≡ 0 }
     {
         let sheets = set.sheets();
         let mut shares = [Share::none(); TASK_LIMIT];
@@ -94,22 +146,58 @@ impl Workload {
                 count += 1;
             }
         }
+        let always = sheets[task].cost() + blocking(set, table, task, above);
         Workload {
-            always: sheets[task].cost() + blocking(set, table, task, above),
+            always,
             shares,
             count,
+            time: 0,
+            total: always,
         }
     }
 
-    /// The demand in a window of some microseconds.
-    pub(crate) fn within(&self, time: u64) -> u64
-        requires { time ≤ 10000000 }
-        ensures { result ≡ work_within time self.now }
+    /// The demand in a window of some microseconds, which is no shorter than the last one.
+    pub(crate) fn advance(&mut self, time: u64) -> u64
+        requires time { time ≤ 10000000 }
+        requires longer { self.old.time ≤ time }
+        ensures is { result ≡ work_within time self.old }
+        ensures same { (t : ℕ) → work_within t self.new ≡ work_within t self.old }
+        ensures time { self.new.time ≡ time }
     {
-        let mut total = self.always;
+        let work = count_all(&mut self.shares[..self.count], time);
+        self.total += work;
+        self.time = time;
+        self.total
+    }
+
+    // What is executed once in each window at least, and in parts of the whole what the rest takes of it at least: tasks whose
+    // period is at least the split count once, the others by parts.
+    fn least(&self, split: u64) -> (u64, u64)
+        ensures once { result.0 ≤ 340000000 }
+        ensures parts { result.1 ≤ 137438953472 }
+        ensures least { (time : ℕ) → 1 ≤ time → time * result.1 + 4294967296 * result.0 ≤ 4294967296 * work_within time self.now }
+    {
+        let mut once = self.always;
+        let mut parts = 0;
         for share in &self.shares[..self.count] {
-            total += share.within(time);
+            if share.period >= split {
+                once += share.cost;
+            } else {
+                parts += share.parts();
+            }
         }
-        total
+        (once, parts)
+    }
+
+    /// A window below which none covers its demand. Each window has to hold what is executed once beside the parts of it that
+    /// the rest takes.
+    pub(crate) fn least_window(&self, split: u64) -> u64
+        ensures { (time : ℕ) → 1 ≤ time → work_within time self.now ≤ time → result ≤ time }
+    {
+        let (once, parts) = self.least(split);
+        if parts >= WHOLE {
+            return 1;
+        }
+        (once * WHOLE).div_ceil(WHOLE - parts)
     }
 }

@@ -1,11 +1,14 @@
-use Rattle.std.proofs.Common.{◌+◌, ◌-◌, ◌≤◌, ℕ}
+use Rattle.std.proofs.Common.{◌≡◌, ◌+◌, ◌-◌, ◌≤◌, ℕ}
 use Rattle.task_sheet.specs.Indexes.{indexes_of}
 use Rattle.task_sheet.specs.Demand.{demand_of}
+use Rattle.response_time.specs.Workload.{work_within}
 use Rattle.response_time.proofs.passes.Given as goal
 
 -- no time that covers its demand is below
 abbrev pub invariant-loop-window : goal.invariant-loop-window
 invariant-loop-window l = record {
+  demand : (t : ℕ) → work_within t l.work ≡ demand_of l.set l.task (indexes_of l.fn.above) t;
+  carried : l.work.time ≤ l.window;
   positive : 1 ≤ l.window;
   first : (s : ℕ) → 1 ≤ s → demand_of l.set l.task (indexes_of l.fn.above) s ≤ s → l.window ≤ s;
 }

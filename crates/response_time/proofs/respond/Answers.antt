@@ -19,7 +19,7 @@ returns-then-next-time-clause-evaluations c =
     let steady = demand_does_not_fall U valid i H c.requires.task in
     let limit = limit_of (task_at U i) in
     let inv = c.loop-time.invariant in
-    let fixed : demand_of U i H c.loop-time.time ≡ c.loop-time.time = sym (c.within-next.ensures ∙ c.new-work.ensures c.loop-time.time) ∙ c.if-next-time.true in
+    let fixed : demand_of U i H c.loop-time.time ≡ c.loop-time.time = sym (c.advance-next.ensures.is ∙ c.loop-time.invariant.demand c.loop-time.time) ∙ c.if-next-time.true in
     let trail = run_passes (demand_of U i H) steady limit c.loop-time.numbers.items c.loop-time.time inv.climb inv.within fixed (omega (arith, c.limit_of-limit.ensures.is, c.loop-time-test.true)) in
     (c.loop-time.numbers.items ++ c.loop-time.time ∷ [], trail, c.len.ensures ∙ c.push.new.self.ok.0 ∙ ap length c.in_ok-push.ensures.items)
 
@@ -47,7 +47,7 @@ loop-time-smaller c =
     let limit = limit_of (task_at U i) in
     let inv = c.loop-time.invariant in
     let more = next_is_no_less (demand_of U i H) steady limit c.loop-time.numbers.items c.loop-time.time inv.climb inv.within in
-    omega (arith, more, c.within-next.ensures, c.new-work.ensures c.loop-time.time, c.if-next-time.false, c.loop-time-test.true)
+    omega (arith, more, c.advance-next.ensures.is, c.loop-time.invariant.demand c.loop-time.time, c.if-next-time.false, c.loop-time-test.true)
 
 pub loop-time-preserved : goal.loop-time-preserved
 loop-time-preserved c =
@@ -60,14 +60,16 @@ loop-time-preserved c =
     let inv = c.loop-time.invariant in
     let items = c.loop-time.numbers.items ++ c.loop-time.time ∷ [] in
     let more = next_is_no_less (demand_of U i H) steady limit c.loop-time.numbers.items c.loop-time.time inv.climb inv.within in
-    let rises : c.loop-time.time < c.within-next.result = omega (arith, more, c.within-next.ensures, c.new-work.ensures c.loop-time.time, c.if-next-time.false) in
-    let climb = run_next (demand_of U i H) steady limit c.loop-time.numbers.items c.loop-time.time inv.climb inv.within c.within-next.result (c.within-next.ensures ∙ c.new-work.ensures c.loop-time.time) rises in
+    let rises : c.loop-time.time < c.advance-next.result = omega (arith, more, c.advance-next.ensures.is, c.loop-time.invariant.demand c.loop-time.time, c.if-next-time.false) in
+    let climb = run_next (demand_of U i H) steady limit c.loop-time.numbers.items c.loop-time.time inv.climb inv.within c.advance-next.result (c.advance-next.ensures.is ∙ c.loop-time.invariant.demand c.loop-time.time) rises in
     let within = within_push (demand_of U i H) c.loop-time.numbers.items limit c.loop-time.time inv.within (omega (arith, c.limit_of-limit.ensures.is, c.loop-time-test.true)) in
     let pushed = c.in_ok-push.ensures.items in
     record {
-      climb = subst (λ ns. IsClimb (demand_of U i H) (ns ++ c.within-next.result ∷ [])) (sym pushed) climb;
+      demand = λ t. c.advance-next.ensures.same t ∙ inv.demand t;
+      carried = omega (arith, rises, c.advance-next.ensures.time);
+      climb = subst (λ ns. IsClimb (demand_of U i H) (ns ++ c.advance-next.result ∷ [])) (sym pushed) climb;
       within = subst (λ ns. AllWithinLimit limit ns) (sym pushed) within;
-      first = λ s pos covers. omega (arith, c.within-next.ensures, c.new-work.ensures c.loop-time.time, demand-mono U valid i H c.loop-time.time s (inv.first s pos covers), covers);
+      first = λ s pos covers. omega (arith, c.advance-next.ensures.is, c.loop-time.invariant.demand c.loop-time.time, demand-mono U valid i H c.loop-time.time s (inv.first s pos covers), covers);
     }
 
 pub returns-clause-answer : goal.returns-clause-answer
@@ -115,7 +117,7 @@ returns-then-next-time-clause-answer c =
     let H = indexes_of c.args.above in
     let steady = demand_does_not_fall U (AllTasks-from_set U c.limit_of-limit.ensures.kept) i H c.requires.task in
     let inv = c.loop-time.invariant in
-    let fixed : demand_of U i H c.loop-time.time ≡ c.loop-time.time = sym (c.within-next.ensures ∙ c.new-work.ensures c.loop-time.time) ∙ c.if-next-time.true in (
+    let fixed : demand_of U i H c.loop-time.time ≡ c.loop-time.time = sym (c.advance-next.ensures.is ∙ c.loop-time.invariant.demand c.loop-time.time) ∙ c.if-next-time.true in (
       record {
         positive = omega (arith, steady.positive c.loop-time.time, fixed);
         fixed = fixed;

@@ -1,13 +1,16 @@
-use Rattle.std.proofs.Common.{◌+◌, ◌-◌, ◌≤◌, ℕ, ◌++◌, ◌∷◌, []}
+use Rattle.std.proofs.Common.{◌≡◌, ◌+◌, ◌-◌, ◌≤◌, ℕ, ◌++◌, ◌∷◌, []}
 use Rattle.task_sheet.specs.Sheet.{task_at}
 use Rattle.task_sheet.specs.Indexes.{indexes_of}
 use Rattle.task_sheet.specs.Demand.{demand_of, limit_of}
 use Rattle.task_sheet.proofs.Trails.{IsClimb, AllWithinLimit}
+use Rattle.response_time.specs.Workload.{work_within}
 use Rattle.response_time.proofs.respond.Given as goal
 
 -- the numbers and the next one are the first iterates
 abbrev pub invariant-loop-time : goal.invariant-loop-time
 invariant-loop-time l = record {
+  demand : (t : ℕ) → work_within t l.work ≡ demand_of l.set l.task (indexes_of l.fn.above) t;
+  carried : l.work.time ≤ l.time;
   climb : IsClimb (demand_of l.set l.task (indexes_of l.fn.above)) (l.numbers.items ++ l.time ∷ []);
   within : AllWithinLimit (limit_of (task_at l.set l.task)) l.numbers.items;
   first : (s : ℕ) → 1 ≤ s → demand_of l.set l.task (indexes_of l.fn.above) s ≤ s → l.time ≤ s;

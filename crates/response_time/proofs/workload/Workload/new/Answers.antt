@@ -2,14 +2,15 @@ use Rattle.std.proofs.Common.{◌≡◌, ◌≤◌, ◌<◌, ℕ, ◌+◌, cond,
 use Rattle.std.proofs.Math.ListN.{length-set}
 use Rattle.std.proofs.lemmas.Bool.{cond-true, cond-false}
 use Rattle.std.proofs.lemmas.List.{get_or_read}
+use Rattle.std.proofs.lemmas.List.Elements.{All-set, All-take}
 use Rattle.task_sheet.specs.Sheet.{Task, no_task, task_at}
 use Rattle.task_sheet.specs.Indexes.{indexes_of, sum_below}
 use Rattle.task_sheet.specs.Demand.{interference_of, demand_of}
 use Rattle.task_sheet.proofs.Below.{sum_step}
 use Rattle.task_sheet.proofs.DemandFits.{cost-fits}
 use Rattle.task_sheet.proofs.TaskLaws.{task_read}
-use Rattle.response_time.specs.Workload.{share_within}
-use Rattle.response_time.proofs.Shares.{share_added}
+use Rattle.response_time.specs.Workload.{IsCountedTo, share_within}
+use Rattle.response_time.proofs.Shares.{share_added, sum-none}
 use Rattle.response_time.proofs.workload.Workload.new.Goals as goal
 use Rattle.response_time.proofs.workload.Workload.new.Goals.{then-has, else-has}
 
@@ -24,16 +25,18 @@ loop-index-preserved c =
     elim c.if-has.branch [
       | then-has w ↦ record {
         whole = rw w.shares-is (length-set c.loop-index.shares c.loop-index.count w.of.result ∙ c.loop-index.invariant.whole);
+        counted = rw w.shares-is (All-set (IsCountedTo 0) c.loop-index.shares c.loop-index.count w.of.result w.of.ensures.start c.loop-index.invariant.counted);
         few = omega (arith, c.loop-index.invariant.few, w.count-is);
         sum = λ time.
             let f : ℕ → ℕ = λ h. cond (H h) (interference_of (task_at U h) time) 0 in
             let here : f n ≡ interference_of (task_at U n) time = cond-true {A = ℕ} (H n) (interference_of (task_at U n) time) 0 (sym c.has.ensures ∙ w.if-has.true) in
             let total = sum_by (share_within time) (take c.loop-index.count c.loop-index.shares) in
-            let more = share_added time c.loop-index.shares c.loop-index.count w.of.result room ∙ ap (λ m. total + m) (w.of.ensures time ∙ ap (λ t. interference_of t time) is) in
+            let more = share_added time c.loop-index.shares c.loop-index.count w.of.result room ∙ ap (λ m. total + m) (w.of.ensures.is time ∙ ap (λ t. interference_of t time) is) in
             sum_step n f total (interference_of (task_at U n) time) (sum_by (share_within time) (take c.if-has.count c.if-has.shares)) (c.loop-index.invariant.sum time) here (rw (w.count-is, w.shares-is) more);
       }
       | else-has w ↦ record {
         whole = rw w.shares-is c.loop-index.invariant.whole;
+        counted = rw w.shares-is c.loop-index.invariant.counted;
         few = omega (arith, c.loop-index.invariant.few, w.count-is);
         sum = λ time.
             let f : ℕ → ℕ = λ h. cond (H h) (interference_of (task_at U h) time) 0 in
@@ -44,8 +47,8 @@ loop-index-preserved c =
       }
     ]
 
-pub overflow_add-result : goal.overflow_add-result
-overflow_add-result c =
+pub overflow_add-always : goal.overflow_add-always
+overflow_add-always c =
     let U = c.args.set.now in
     let kept = c.sheets-sheets.ensures.kept in
     let is = task_read U c.sheets-sheets.result.now c.args.task c.index-sheets-task.result c.sheets-sheets.ensures.same c.requires.task c.index-sheets-task.is in
@@ -58,11 +61,16 @@ invariant_of-result c =
     let is = task_read U c.sheets-sheets.result.now c.args.task c.index-sheets-task.result c.sheets-sheets.ensures.same c.requires.task c.index-sheets-task.is in (
       omega (arith, c.loop-index.invariant.few, c.requires.table.few, ap (λ (V : List Task). length V) c.sheets-sheets.ensures.same),
       omega (arith, c.blocking.ensures.short, c.cost.ensures, cost-fits U kept c.args.task c.requires.task, ap (λ t. t.cost) is),
+      omega arith,
+      record {
+        counted = All-take (IsCountedTo 0) c.loop-index.count c.loop-index.shares c.loop-index.invariant.counted;
+        total = omega (arith, sum-none (take c.loop-index.count c.loop-index.shares) (All-take (IsCountedTo 0) c.loop-index.count c.loop-index.shares c.loop-index.invariant.counted));
+      },
     )
 
-pub returns : goal.returns
+pub returns-clause-is : goal.returns-clause-is
 unfolding demand_of
-returns c = λ time.
+returns-clause-is c = λ time.
     let U = c.args.set.now in
     let H = indexes_of c.args.above in
     let items = c.sheets-sheets.result.now in
