@@ -1,5 +1,5 @@
 -- How far a climb is from its end.
-use Rattle.std.proofs.Common.{◌≡◌, ℕ, ◌+◌, ◌<◌, inl, inr, true, false, if◌then◌else◌, Result, Ok, Err, is_err, refl, ap, arith}
+use Rattle.std.proofs.Common.{◌≡◌, ℕ, ◌+◌, ◌<◌, ◌⊎◌, inl, inr, true, false, if◌then◌else◌, Result, Ok, Err, is_err, refl, ap, arith}
 use Rattle.std.specs.FinSet as members
 use Rattle.std.proofs.lemmas.Bool.{both_ways}
 use Rattle.task_sheet.proofs.MembersIndexes.{len-remove_member}
@@ -25,9 +25,10 @@ steps-ended old new goes_on ended =
     let stuck : new.stuck ≡ true = ap (λ (c : ClimbState). c.stuck) ended.after in
     rw (goes_on, stuck) (omega arith)
 
+pub steps-fewer : (old new : ClimbState) → old.stuck ≡ false → IsPlaced old new ⊎ IsEnded old new → steps_left new < steps_left old
+steps-fewer old new goes_on (inl placed) = steps-placed old new goes_on placed
+steps-fewer old new goes_on (inr ended) = steps-ended old new goes_on ended
+
 pub steps-closed : (old : ClimbState) (level : LevelState) (new : ClimbState) (result : Result (Unit {0}) ClimbFault) → is_err result ≡ false → ClosesLevel old level new result → steps_left new < steps_left old
-steps-closed old level new (Ok done) is closed = elim closed.2 [
-  | inl placed ↦ steps-placed old new closed.0.goes_on placed
-  | inr ended ↦ steps-ended old new closed.0.goes_on ended
-]
+steps-closed old level new (Ok done) is closed = steps-fewer old new closed.0.goes_on closed.2
 steps-closed old level new (Err fault) is closed = absurd (both_ways true is refl)

@@ -14,7 +14,7 @@ use crate::verdict::Verdict;
 use ceilings::LockTable;
 use std::alloc::{AllocError, Global};
 use std::sync::Arc;
-use task_sheet::{Members, TaskSet};
+use task_sheet::TaskSet;
 
 // Answers the question on a candidate, and takes the finding.
 fn ask(alloc: Global, table: &LockTable, level: &mut Level, task: usize) -> Result<(), AllocError>
@@ -31,22 +31,16 @@ fn ask(alloc: Global, table: &LockTable, level: &mut Level, task: usize) -> Resu
     Ok(())
 }
 
-// The level of these candidates, decided: they are asked by rank, up to the first that passes.
-fn decide(
-    alloc: Global,
-    set: &Arc<TaskSet>,
-    table: &LockTable,
-    left: Members,
-) -> Result<Level, AllocError>
-    requires table { IsTableOf set.now.value table.now }
-    requires part { IsPart (indexes_of left) (all_of set.now.value) }
-    requires some { 0 < len left }
-    ensures same { IfOk result (λ level. level.set ≡ set.now.value) }
-    ensures rest { IfOk result (λ level. level.left ≡ left) }
-    ensures decided { IfOk result (λ level. IsDecided level) }
+// The level, decided: its candidates are asked by rank, up to the first that passes.
+fn decide(alloc: Global, table: &LockTable, mut level: Level) -> Result<Level, AllocError>
+    requires table { IsTableOf level.set table.now }
+    requires fresh { level.missing ≡ level.left }
+    ensures same { IfOk result (λ decided. decided.set ≡ level.set) }
+    ensures rest { IfOk result (λ decided. decided.left ≡ level.left) }
+    ensures decided { IfOk result (λ decided. IsDecided decided) }
 {
-    let mut level = Level::start(alloc, set.clone()?, left)?;
-    for task in 0..set.len() {
+    let left = level.left();
+    for task in 0..level.set().len() {
         if left.has(task) {
             ask(alloc, table, &mut level, task)?;
             if level.decided() {
@@ -64,12 +58,10 @@ pub fn assign(alloc: Global, set: Arc<TaskSet>) -> Result<Verdict, AllocError>
     ensures verdict { IfOk result (λ verdict. IsVerdictOf set.value (verdict_of verdict)) }
 {
     let table = LockTable::new(alloc, &set)?;
-    let mut climb = Climb::start(alloc, set.clone()?)?;
+    let mut climb = Climb::start(alloc, set)?;
     while climb.is_unfinished() {
-        let level = decide(alloc, &set, &table, climb.left())?;
-        if climb.close(level).is_err() {
-            unreachable!();
-        }
+        let level = decide(alloc, &table, climb.start_level(alloc)?)?;
+        climb.close_own(level);
     }
     match climb.finish() {
         Ok(verdict) => Ok(verdict),

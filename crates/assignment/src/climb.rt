@@ -1,15 +1,16 @@
 //! The climb from the lowest level up (Audsley 1991).
-ghost use Rattle.std.specs.Prelude.{◌≡◌, ◌↔◌, ◌<◌, false, [], ◌∷◌, ◌++◌, length, is_some, IsTrue, IfOk, IfSome};
+ghost use Rattle.std.specs.Prelude.{◌≡◌, ◌↔◌, ◌<◌, ◌⊎◌, false, [], ◌∷◌, ◌++◌, length, is_some, IsTrue, IfOk, IfSome};
 ghost use Rattle.std.specs.FinSet.{len, remove};
 ghost use Rattle.task_sheet.specs.MembersWords.{all_below};
 ghost use Rattle.task_sheet.specs.Indexes.{indexes_of, listed_below, IsPart};
 ghost use Rattle.task_sheet.specs.Orders.{all_of};
 ghost use Rattle.task_sheet.specs.Levels.{IsChosen};
 ghost use Rattle.task_sheet.specs.Verdicts.{tasks_of, IsLevel, IsStuck};
-ghost use Rattle.assignment.specs.Climbs.{IsClimbing, IsNext, IsUnfinished};
+ghost use Rattle.assignment.specs.Climbs.{IsClimbing, IsNext, IsPlaced, IsEnded, IsUnfinished};
+ghost use Rattle.assignment.specs.Levels.{IsDecided};
 ghost use Rattle.assignment.specs.Climbing.{ClosesLevel, Finishes};
 
-use crate::level::{Closed, Level, NotAll};
+use crate::level::{Closed, Level};
 use crate::verdict::{Assignment, Failure, LevelRecord, Obstruction, Verdict};
 use std::alloc::{AllocError, Global};
 use std::marker::Model;
@@ -118,6 +119,14 @@ impl Climb {
         self.levels.push_reserved(level);
     }
 
+    /// The next level, without findings. The error is want of memory.
+    pub fn start_level(&self, alloc: Global) -> Result<Level, AllocError>
+        requires { IsUnfinished self.now }
+        ensures { IfOk result (λ level. level ≡ record { set = self.now.set; left = self.now.left; missing = self.now.left }) }
+    {
+        Level::start(alloc, self.set.clone()?, self.left())
+    }
+
     /// Closes the next level: its task is placed, or the climb ends at an obstruction.
     /// Refused in this order: `Stranger`, `NotAll`; the climb is then unchanged.
     pub fn close(&mut self, level: Level) -> Result<(), ClimbFault>
@@ -126,16 +135,23 @@ impl Climb {
         if !self.expects(&level) {
             return Err(ClimbFault::Stranger { level });
         }
+        if !level.decided() {
+            return Err(ClimbFault::NotAll { level });
+        }
+        self.close_own(level);
+        Ok(())
+    }
+
+    /// Closes a level that is known to be the next one and decided, as one from `start_level` is: no sets are compared.
+    pub fn close_own(&mut self, level: Level)
+        requires next { IsNext self.old level }
+        requires decided { IsDecided level }
+        ensures { IsPlaced self.old self.new ⊎ IsEnded self.old self.new }
+    {
         match level.close() {
-            Ok(Closed::Chosen(record)) => {
-                self.place(record);
-                Ok(())
-            }
-            Ok(Closed::Obstruction(members)) => {
-                self.members = Some(members);
-                Ok(())
-            }
-            Err(NotAll { level }) => Err(ClimbFault::NotAll { level }),
+            Ok(Closed::Chosen(record)) => self.place(record),
+            Ok(Closed::Obstruction(members)) => self.members = Some(members),
+            Err(_) => unreachable!(),
         }
     }
 

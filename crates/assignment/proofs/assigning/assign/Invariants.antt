@@ -3,7 +3,7 @@ use Rattle.assignment.proofs.StepLaws.{steps_left}
 use Rattle.assignment.proofs.assigning.assign.Given as goal
 
 abbrev pub invariant-loop-alloc : goal.invariant-loop-alloc
-invariant-loop-alloc l = l.climb.set ≡ l.set.value
+invariant-loop-alloc l = l.climb.set ≡ l.fn.set.value
 
 abbrev pub decreases-loop-alloc : goal.decreases-loop-alloc
 decreases-loop-alloc l = steps_left l.climb

@@ -2,4 +2,4 @@ use Rattle.assignment.proofs.AskLaws.{IsAsking}
 use Rattle.assignment.proofs.assigning.decide.Given as goal
 
 abbrev pub invariant-loop-task : goal.invariant-loop-task
-invariant-loop-task l = IsAsking l.set.value l.left l.level l.task
+invariant-loop-task l = IsAsking l.fn.level.set l.fn.level.left l.level l.task

@@ -1,5 +1,4 @@
-use Rattle.std.proofs.Common.{false, refl, subst}
-use Rattle.std.proofs.lemmas.Bool.{both_ways}
+use Rattle.std.proofs.Common.{subst}
 use Rattle.task_sheet.specs.TaskSet.{IsTaskSet}
 use Rattle.task_sheet.specs.Indexes.{indexes_of}
 use Rattle.response_time.specs.declared.Answer.{Answer}
