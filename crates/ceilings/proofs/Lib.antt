@@ -2,3 +2,4 @@ pub mod Growth
 pub mod WholeTable
 pub mod Highest
 pub mod Reached
+pub mod HoldLaws

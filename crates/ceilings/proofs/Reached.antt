@@ -11,7 +11,7 @@ use Rattle.task_sheet.specs.Locks.{uses, reaches}
 use Rattle.task_sheet.proofs.Below.{some_below-none}
 use Rattle.task_sheet.proofs.MembersMeet.{some_below-congr}
 use Rattle.ceilings.specs.Table.{Table, users_in, some_uses}
-use Rattle.ceilings.specs.IsTableOf.{IsTableOf}
+use Rattle.ceilings.specs.IsTableOf.{AreUsersOf}
 use Rattle.ceilings.proofs.WholeTable.{past_none}
 
 swapped : (a b c d : Bool) → ((a || b) || (c || d)) ≡ ((a || c) || (b || d))
@@ -45,7 +45,7 @@ none_of : (x b : Bool) → b ≡ false → (x && b) ≡ false
 none_of true b e = e
 none_of false b e = refl
 
-module _ (U : List Task) (table : Table) (is_table : IsTableOf U table) (members : set.FinSet nat_cmp) where
+module _ (U : List Task) (table : Table) (is_table : AreUsersOf U table) (members : set.FinSet nat_cmp) where
   abbrev uses_one : List (List ℕ) → ℕ → Bool
   uses_one locks k = indexes_of members k && list_any (λ lock. uses (task_at U k) lock) locks
 

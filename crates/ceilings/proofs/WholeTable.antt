@@ -12,7 +12,7 @@ use Rattle.task_sheet.specs.Sheet.{Task, no_task, task_at}
 use Rattle.task_sheet.specs.Indexes.{indexes_of}
 use Rattle.task_sheet.specs.Locks.{uses}
 use Rattle.ceilings.specs.Table.{Table, locks_in, users_in, with_task}
-use Rattle.ceilings.specs.IsTableOf.{with_name, first_sights, names_in, IsTableOf}
+use Rattle.ceilings.specs.IsTableOf.{with_name, first_sights, names_in, AreUsersOf}
 use Rattle.ceilings.proofs.Growth.{task_added, task_noted}
 
 -- the table of the first n tasks
@@ -48,7 +48,7 @@ past_none U k lock le = ap (λ t. uses t lock) (get_or-eq_default U no_task le)
 within : (k n : ℕ) (p : Bool) → (n ≤ k → p ≡ false) → (nat_lt k n && p) ≡ p
 within k n p h = grind (arith, nat_tests)
 
-pub all_noted : (U : List Task) (table : Table) → length U ≤ 32 → IsTableOfFirst U (length U) table → IsTableOf U table
+pub all_noted : (U : List Task) (table : Table) → length U ≤ 32 → IsTableOfFirst U (length U) table → AreUsersOf U table
 all_noted U table few h = record {
   few = few;
   locks = rw (take_all (length U) U (omega arith)) at h.locks;

@@ -1,10 +1,13 @@
 -- The table of a set's locks.
 use Rattle.std.specs.Prelude.{◌≡◌, ℕ, ◌≤◌, List, [], ◌∷◌, ◌++◌, length, flat_map, fold, if◌then◌else◌}
 use Rattle.std.specs.List.{list_any}
+use Rattle.std.specs.FinSet as set
+use Rattle.std.specs.Ordering.{nat_cmp}
 use Rattle.task_sheet.specs.Sheet.{Task, same_bytes, task_at}
 use Rattle.task_sheet.specs.Indexes.{indexes_of}
 use Rattle.task_sheet.specs.Locks.{uses}
 use Rattle.ceilings.specs.Table.{Table, locks_in, users_in}
+use Rattle.ceilings.specs.Holds.{TableData, longest_held, longest_outside}
 
 -- some names with one more, unless it is among them
 abbrev pub with_name : List (List ℕ) → List ℕ → List (List ℕ)
@@ -22,8 +25,14 @@ names_in U = flat_map (λ t. flat_map (λ s. s.locks) t.sections) U
 abbrev pub locks_of : List Task → List (List ℕ)
 locks_of U = first_sights (names_in U)
 
--- the table has the set's locks in order, and the users of each lock are exactly the tasks that use it
-pub record IsTableOf (U : List Task) (table : Table) : Type 0 where
+-- the set's locks in order, and the users of each are exactly the tasks that use it
+pub record AreUsersOf (U : List Task) (table : Table) : Type 0 where
   pub few : length U ≤ 32
   pub locks : locks_in table ≡ locks_of U
   pub users : (lock : List ℕ) (k : ℕ) → indexes_of (users_in table lock) k ≡ uses (task_at U k) lock
+
+-- the table has the users of the set's locks, and what its sections hold
+pub record IsTableOf (U : List Task) (table : TableData) : Type 0 where
+  pub few : length U ≤ 32
+  pub users : AreUsersOf U table.users
+  pub holds : (members : set.FinSet nat_cmp) → longest_held table.holds members ≡ longest_outside U (indexes_of members)

@@ -2,34 +2,40 @@
 //! `PTHREAD_PRIO_PROTECT`).
 #![tactic(auto)]
 
-ghost use Rattle.std.specs.Prelude.{◌≡◌, ◌<◌, ◌≤◌, ℕ, List, length, position, All, IfOk, OnOk};
+ghost use Rattle.std.specs.Prelude.{◌≡◌, ◌<◌, ◌≤◌, ℕ, List, length, position, All, IfOk};
 ghost use Rattle.task_sheet.specs.Sheet.{Task, same_bytes, task_at};
 ghost use Rattle.task_sheet.specs.Indexes.{indexes_of};
 ghost use Rattle.task_sheet.specs.Locks.{uses, reaches, ceiling_of};
-ghost use Rattle.ceilings.specs.Table.{locks_in, users_in, some_uses, with_user, with_section, with_task};
+ghost use Rattle.ceilings.specs.Holds.{longest_outside};
 ghost use Rattle.ceilings.specs.IsTableOf.{IsTableOf, locks_of};
 
-use indexmap::IndexMap;
+mod holds;
+mod users;
+
+use crate::holds::{Hold, holds_of, longest_held};
+use crate::users::LockUsers;
 use std::alloc::{AllocError, Global};
 use std::marker::Model;
-use task_sheet::{Members, Name, Section, Sheet, TaskSet};
+use task_sheet::{Members, Name, Section, TaskSet};
 
-/// Each lock of a set, in the order of first sight, with the tasks that use it.
+/// Each lock of a set, in the order of first sight, with the tasks that use it; and what each section holds. It is made
+/// once a set, and lent to each question.
 #[derive(Drop)]
 pub struct LockTable {
-    users: IndexMap<Name, Members>,
+    users: LockUsers,
+    holds: Vec<Hold>,
 }
 
 impl Model for LockTable {
-    ghost use Rattle.std.specs.Coded.{coded×, coded_list, coded_ℕ};
-    ghost use Rattle.std.specs.FinSet as set;
-    ghost use Rattle.ceilings.specs.Table.{Table};
+    ghost use Rattle.std.specs.Coded.{codes};
+    ghost use Rattle.task_sheet.specs.contracts.members.Members as members;
+    ghost use Rattle.ceilings.specs.Holds.{TableData};
 
-    ghost Value = { Table };
+    ghost Value = { TableData };
 
-    ghost coded = { coded_list (coded× (coded_list coded_ℕ) (set.code coded_ℕ)) };
+    ghost coded = { Prim.hlevel (codes, members.the_row.coded) };
 
-    ghost view = { λ t. t.users.entries };
+    ghost view = { λ t. record { users = t.users; holds = t.holds.items } };
 }
 
 impl LockTable {
@@ -37,87 +43,44 @@ impl LockTable {
     pub fn new(alloc: Global, set: &TaskSet) -> Result<LockTable, AllocError>
         ensures { IfOk result (λ table. IsTableOf set.now table) }
     {
-        let mut table = LockTable {
-            users: IndexMap::new(alloc),
-        };
-        for (index, sheet) in set.sheets().iter().enumerate() {
-            table.note_task(index, sheet)?;
-        }
-        Ok(table)
-    }
-
-    // Notes the task at an index as a user of the locks of its sections.
-    fn note_task(&mut self, index: usize, sheet: &Sheet) -> Result<(), AllocError>
-        requires { index < 32 }
-        ensures { OnOk result (self.new ≡ with_task index self.old sheet.now) }
-    {
-        for section in sheet.sections() {
-            self.note_section(index, section)?;
-        }
-        Ok(())
-    }
-
-    // Notes the task at an index as a user of the section's locks.
-    fn note_section(&mut self, index: usize, section: &Section) -> Result<(), AllocError>
-        requires { index < 32 }
-        ensures { OnOk result (self.new ≡ with_section index self.old section.now) }
-    {
-        for lock in &section.locks {
-            self.note_user(index, *lock)?;
-        }
-        Ok(())
-    }
-
-    // Notes the task at an index as a user of the lock.
-    fn note_user(&mut self, index: usize, lock: Name) -> Result<(), AllocError>
-        requires { index < 32 }
-        ensures { OnOk result (self.new ≡ with_user index self.old lock) }
-    {
-        let users = self.users(lock).with(index);
-        self.users.insert(lock, users)?;
-        Ok(())
+        let users = LockUsers::new(alloc, set)?;
+        let holds = holds_of(alloc, set, &users)?;
+        Ok(LockTable { users, holds })
     }
 
     /// The tasks that use a lock: none for a lock that nobody names.
     pub fn users(&self, lock: Name) -> Members
-        ensures noted { result ≡ users_in self.now lock }
-        ensures uses { (U : List Task) → IsTableOf U self.now → (k : ℕ) → indexes_of result k ≡ uses (task_at U k) lock }
+        ensures { (U : List Task) → IsTableOf U self.now → (k : ℕ) → indexes_of result k ≡ uses (task_at U k) lock }
     {
-        match self.users.get(&lock) {
-            Some(users) => *users,
-            None => Members::empty(),
-        }
+        self.users.users(lock)
     }
 
     /// How many locks the set has.
     pub fn count(&self) -> usize
-        ensures noted { result ≡ length (locks_in self.now) }
-        ensures locks { (U : List Task) → IsTableOf U self.now → result ≡ length (locks_of U) }
+        ensures { (U : List Task) → IsTableOf U self.now → result ≡ length (locks_of U) }
     {
-        self.users.len()
+        self.users.count()
     }
 
     /// The place of a lock in the order of first sight, from 0; none for a lock that nobody names.
     pub fn index_of(&self, lock: Name) -> Option<usize>
-        ensures noted { result ≡ position (same_bytes lock) (locks_in self.now) }
-        ensures first_sight { (U : List Task) → IsTableOf U self.now → result ≡ position (same_bytes lock) (locks_of U) }
+        ensures { (U : List Task) → IsTableOf U self.now → result ≡ position (same_bytes lock) (locks_of U) }
     {
-        self.users.get_index_of(&lock)
-    }
-
-    // Whether some member uses one of the locks.
-    fn some_uses(&self, locks: &[Name], members: Members) -> bool
-        ensures { result ≡ some_uses self.now members locks.now }
-    {
-        locks.iter().any(|lock| self.users(*lock).meets(members))
+        self.users.index_of(lock)
     }
 
     /// Whether some member uses one of the section's locks.
     pub fn reaches(&self, section: &Section, members: Members) -> bool
-        ensures noted { result ≡ some_uses self.now members section.now.locks }
-        ensures reaches { (U : List Task) → IsTableOf U self.now → result ≡ reaches U (indexes_of members) section.now }
+        ensures { (U : List Task) → IsTableOf U self.now → result ≡ reaches U (indexes_of members) section.now }
     {
-        self.some_uses(&section.locks, members)
+        self.users.reaches(section, members)
+    }
+
+    /// The length of the longest section, of a task that is no member, that the members reach; 0 if there is none.
+    pub fn longest_outside(&self, members: Members) -> u64
+        ensures { (U : List Task) → IsTableOf U self.now → result ≡ longest_outside U (indexes_of members) }
+    {
+        longest_held(&self.holds, members)
     }
 
     /// The ceiling of a lock where the tasks stand in this order, lowest first: the level, from 1, of its highest user;
@@ -127,13 +90,6 @@ impl LockTable {
         requires few { length order.now ≤ 32 }
         ensures { (U : List Task) → IsTableOf U self.now → result ≡ ceiling_of U order.now lock }
     {
-        let users = self.users(lock);
-        let mut highest = None;
-        for (below, index) in order.iter().enumerate() {
-            if users.has(*index) {
-                highest = Some(below as u32 + 1);
-            }
-        }
-        highest
+        self.users.ceiling(lock, order)
     }
 }

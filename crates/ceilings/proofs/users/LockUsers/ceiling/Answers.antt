@@ -2,8 +2,8 @@ use Rattle.std.proofs.Common.{◌≡◌, ℕ, Some, cond, ◌+◌, slice_index_o
 use Rattle.std.proofs.lemmas.List.{get_or_default}
 use Rattle.task_sheet.specs.Indexes.{indexes_of}
 use Rattle.ceilings.proofs.Highest.{highest_more, ceiling_found}
-use Rattle.ceilings.proofs.LockTable.ceiling.Goals as goal
-use Rattle.ceilings.proofs.LockTable.ceiling.Goals.{then-has, else-has}
+use Rattle.ceilings.proofs.users.LockUsers.ceiling.Goals as goal
+use Rattle.ceilings.proofs.users.LockUsers.ceiling.Goals.{then-has, else-has}
 
 pub loop-below-preserved : goal.loop-below-preserved
 loop-below-preserved c =

@@ -3,7 +3,7 @@ use Rattle.std.proofs.lemmas.List.{get_or_read}
 use Rattle.task_sheet.specs.Sheet.{no_task}
 use Rattle.ceilings.specs.Table.{Table}
 use Rattle.ceilings.proofs.WholeTable.{IsTableOfFirst, none_noted, one_noted, all_noted}
-use Rattle.ceilings.proofs.LockTable.new.Goals as goal
+use Rattle.ceilings.proofs.users.LockUsers.new.Goals as goal
 
 pub loop-index-init : goal.loop-index-init
 loop-index-init c = rw (c.new.ensures.empty) (none_noted c.sheets-sheet-items.result.now)

@@ -1,7 +1,7 @@
 use Rattle.std.proofs.Common.{rules, ◌≡◌, ◌∙◌}
 use Rattle.ceilings.specs.Table.{some_uses}
 use Rattle.ceilings.proofs.Reached.{reached}
-use Rattle.ceilings.proofs.LockTable.reaches.Goals as goal
+use Rattle.ceilings.proofs.users.LockUsers.reaches.Goals as goal
 
 pub returns-clause-reaches : goal.returns-clause-reaches
 returns-clause-reaches c = λ U table.
