@@ -1,23 +1,12 @@
-//! The worked examples of docs/EXAMPLES.md, as tests.
+//! The commands, where no stored command line can show it: failing, interrupted and short readers and writers, the lines of
+//! refusals that no typed words reach, and the calls that words name, as values.
 #![tactic(auto)]
 
 #[cfg(test)]
-mod certificates;
-#[cfg(test)]
 mod commands;
 #[cfg(test)]
-mod documents;
-#[cfg(test)]
-mod examples;
-#[cfg(test)]
-mod kernel;
-#[cfg(test)]
-mod levels;
-#[cfg(test)]
-mod responses;
-#[cfg(test)]
-mod sheets;
+mod refusals;
 #[cfg(test)]
 mod streams;
 #[cfg(test)]
-mod verdicts;
+mod words;

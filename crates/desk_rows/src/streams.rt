@@ -1,7 +1,6 @@
-//! Readers and writers that fail or are interrupted, and inputs that are long.
-use crate::commands::{admitted, certified, checked, simulated};
-use crate::examples;
+//! Readers and writers that fail, are interrupted or take little at a time.
 use desk_cli::{Status, Watched, admit};
+use example_sets::THREE_TASKS;
 use std::alloc::Global;
 use std::io::{self, ErrorKind, Read, Write};
 use std::test::Fail;
@@ -60,7 +59,7 @@ fn admitted_with(
 ) -> Result<(String, Status), Fail> {
     let mut printed = Vec::new(alloc);
     let mut reader = Watched::new(FaultyReader {
-        text: examples::THREE_TASKS.as_bytes(),
+        text: THREE_TASKS.as_bytes(),
         reads: 0,
         from,
         errors,
@@ -93,58 +92,17 @@ fn an_interrupted_read_is_tried_again(rt: HostRuntime) -> Result<(), Fail> {
     Ok(())
 }
 
+// The status of `admit` on the three tasks where the writer fails after so many writes.
+fn status_after(alloc: Global, writes: usize) -> Status {
+    let mut reader = Watched::new(THREE_TASKS.as_bytes());
+    let mut writer = Watched::new(FaultyWriter { writes });
+    admit(alloc, &mut reader, &mut writer)
+}
+
 #[test]
-fn a_failed_write_is_answered(rt: HostRuntime) -> Result<(), Fail> {
+fn a_failed_write_is_answered(rt: HostRuntime) {
     for writes in 0..4 {
-        let mut reader = Watched::new(examples::THREE_TASKS.as_bytes());
-        let mut writer = Watched::new(FaultyWriter { writes });
-        let status = admit(rt.alloc(), &mut reader, &mut writer);
+        let status = status_after(rt.alloc(), writes);
         assert_eq!(rt; status, Status::InputOrOutputFailed, "at {writes}");
     }
-    Ok(())
-}
-
-#[test]
-fn as_many_tasks_as_a_set_has(rt: HostRuntime) -> Result<(), Fail> {
-    let mut document = String::new(rt.alloc());
-    for task in 0..32 {
-        write!(
-            document,
-            "[[task]]\nname = 't{task}'\nperiod = 10000\ndeadline = 10000\ncost = 100\n"
-        )?;
-    }
-    let (printed, status) = admitted(rt.alloc(), document.as_bytes())?;
-    assert!(rt;
-        printed
-            .as_str()
-            .starts_with("admitted 32\n1 t0 3200\n2 t1 3100\n3 t10 3000\n")
-    );
-    assert!(rt; printed.as_str().ends_with("\n31 t8 200\n32 t9 100\n"));
-    assert_eq!(rt; status, Status::Done);
-    let (certificate, status) = certified(rt.alloc(), document.as_bytes())?;
-    assert_eq!(rt; status, Status::Done);
-    let (printed, status) = checked(rt.alloc(), document.as_bytes(), certificate.as_bytes())?;
-    assert_eq!(rt; printed.as_str(), "best\n");
-    assert_eq!(rt; status, Status::Done);
-    Ok(())
-}
-
-#[test]
-fn many_releases(rt: HostRuntime) -> Result<(), Fail> {
-    let set = "task = [{ name = 'x', period = 10000, deadline = 10000, cost = 1000 }]";
-    let mut list = String::from_str(rt.alloc(), "until 60000000\n")?;
-    for release in 0..6000_u64 {
-        let time = release.saturating_mul(10_000);
-        write!(list, "{time} x\n")?;
-    }
-    let (printed, status) = simulated(rt.alloc(), set.as_bytes(), list.as_bytes())?;
-    assert!(rt; printed.as_str().starts_with("0 1000 x\n10000 11000 x\n"));
-    assert!(rt;
-        printed
-            .as_str()
-            .ends_with("job x 59980000 59981000\njob x 59990000 59991000\n")
-    );
-    assert_eq!(rt; printed.as_str().lines().count(), 12000);
-    assert_eq!(rt; status, Status::Done);
-    Ok(())
 }

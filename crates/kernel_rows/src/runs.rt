@@ -1,6 +1,6 @@
-//! The simulated kernel.
-use crate::examples::{self, name, set_of};
-use ceiling_kernel::{Kernel, KernelFault, Release, RunFault, Trace};
+//! Runs of the simulated kernel.
+use ceiling_kernel::{Kernel, KernelFault, Release, RunFault, Slice, Trace};
+use example_sets::{name, set_of};
 use std::alloc::{AllocError, Global};
 use std::test::Fail;
 
@@ -29,13 +29,17 @@ fn push_fault(line: &mut String, fault: RunFault) -> Result<(), AllocError> {
     }
 }
 
+fn push_slice(line: &mut String, slice: &Slice) -> Result<(), AllocError> {
+    let start = slice.start;
+    let stop = slice.stop;
+    let job = slice.job;
+    write!(line, "{start} {stop} {job};")
+}
+
 // Each slice as `START STOP JOB;`, a job by its place among the releases, and then each job's finish as ` FINISH`.
 fn push_trace(line: &mut String, trace: &Trace) -> Result<(), AllocError> {
     for slice in &trace.slices {
-        let start = slice.start;
-        let stop = slice.stop;
-        let job = slice.job;
-        write!(line, "{start} {stop} {job};")?;
+        push_slice(line, slice)?;
     }
     for job in &trace.jobs {
         match job.finish {
@@ -47,7 +51,17 @@ fn push_trace(line: &mut String, trace: &Trace) -> Result<(), AllocError> {
 }
 
 // A run in a line: its trace, or why there is none.
-fn line_of(
+fn line_of(alloc: Global, ran: Result<Trace, RunFault>) -> Result<String, AllocError> {
+    let mut line = String::new(alloc);
+    match ran {
+        Ok(trace) => push_trace(&mut line, &trace)?,
+        Err(fault) => push_fault(&mut line, fault)?,
+    }
+    Ok(line)
+}
+
+// What comes of releases of a document's set in an order.
+fn run_of(
     alloc: Global,
     document: &str,
     order: &[usize],
@@ -57,12 +71,7 @@ fn line_of(
     let set = set_of(alloc, document)?;
     let kernel = Kernel::new(alloc, &set, order).ok().ok_or("a wrong order")?;
     let releases = releases_of(alloc, list)?;
-    let mut line = String::new(alloc);
-    match kernel.run(alloc, &releases, until) {
-        Ok(trace) => push_trace(&mut line, &trace)?,
-        Err(fault) => push_fault(&mut line, fault)?,
-    }
-    Ok(line)
+    Ok(line_of(alloc, kernel.run(alloc, &releases, until))?)
 }
 
 const ONE: &str = "task = [{ name = 'x', period = 10000, deadline = 10000, cost = 1000 }]";
@@ -105,14 +114,14 @@ type Row = (
 
 const ROWS: [Row; 16] = [
     (
-        examples::BLOCKED_OUT_REPAIRED,
+        example_sets::BLOCKED_OUT_REPAIRED,
         &[1, 0],
         &[(0, "lo"), (1001, "hi")],
         20000,
         "0 3500 0;3500 5500 1;5500 12000 0; 12000 5500",
     ),
     (
-        examples::BLOCKED_OUT_REPAIRED,
+        example_sets::BLOCKED_OUT_REPAIRED,
         &[1, 0],
         &[(0, "lo"), (1000, "hi")],
         20000,
@@ -148,57 +157,57 @@ const ROWS: [Row; 16] = [
         "0 600 1;600 1000 0; - 600",
     ),
     (
-        examples::SHARED_LOCK,
+        example_sets::SHARED_LOCK,
         &[0, 1, 2],
         &[(0, "lo"), (200, "mid"), (300, "hi")],
         100000,
         "0 4100 0;4100 5100 2;5100 7100 1;7100 23000 0; 23000 7100 5100",
     ),
-    (examples::THREE_TASKS, &[2, 0, 1], &[], 0, ""),
+    (example_sets::THREE_TASKS, &[2, 0, 1], &[], 0, ""),
     (
-        examples::BLOCKED_OUT_REPAIRED,
+        example_sets::BLOCKED_OUT_REPAIRED,
         &[1, 0],
         &[(0, "lo")],
         60_000_001,
         "PastHorizon",
     ),
     (
-        examples::BLOCKED_OUT_REPAIRED,
+        example_sets::BLOCKED_OUT_REPAIRED,
         &[1, 0],
         &[(20000, "lo")],
         20000,
         "PastHorizon",
     ),
     (
-        examples::BLOCKED_OUT_REPAIRED,
+        example_sets::BLOCKED_OUT_REPAIRED,
         &[1, 0],
         &[(0, "z")],
         20000,
         "UnknownTask 1",
     ),
     (
-        examples::BLOCKED_OUT_REPAIRED,
+        example_sets::BLOCKED_OUT_REPAIRED,
         &[1, 0],
         &[(5, "lo"), (4, "z")],
         20000,
         "Unsorted 2",
     ),
     (
-        examples::BLOCKED_OUT_REPAIRED,
+        example_sets::BLOCKED_OUT_REPAIRED,
         &[1, 0],
         &[(4, "lo"), (5, "z")],
         4,
         "UnknownTask 2",
     ),
     (
-        examples::BLOCKED_OUT_REPAIRED,
+        example_sets::BLOCKED_OUT_REPAIRED,
         &[1, 0],
         &[(4, "lo"), (5, "lo")],
         4,
         "TooSoon 2",
     ),
     (
-        examples::BLOCKED_OUT_REPAIRED,
+        example_sets::BLOCKED_OUT_REPAIRED,
         &[0, 1],
         &[(0, "lo"), (1000, "hi")],
         20000,
@@ -209,7 +218,7 @@ const ROWS: [Row; 16] = [
 #[test]
 fn runs_of_the_examples(rt: HostRuntime) -> Result<(), Fail> {
     for (document, order, list, until, want) in ROWS {
-        let line = line_of(rt.alloc(), document, order, list, until)?;
+        let line = run_of(rt.alloc(), document, order, list, until)?;
         assert_eq!(rt; line.as_str(), want);
     }
     Ok(())
@@ -217,7 +226,7 @@ fn runs_of_the_examples(rt: HostRuntime) -> Result<(), Fail> {
 
 #[test]
 fn wrong_orders(rt: HostRuntime) -> Result<(), Fail> {
-    let set = set_of(rt.alloc(), examples::THREE_TASKS)?;
+    let set = set_of(rt.alloc(), example_sets::THREE_TASKS)?;
     for order in [&[0, 1][..], &[0, 0, 1][..], &[0, 1, 2, 3][..]] {
         let refused = Kernel::new(rt.alloc(), &set, order);
         assert!(rt; matches!(&refused, Err(KernelFault::WrongOrder)));
@@ -225,30 +234,26 @@ fn wrong_orders(rt: HostRuntime) -> Result<(), Fail> {
     Ok(())
 }
 
-#[test]
-fn ten_thousand_releases_and_one_more(rt: HostRuntime) -> Result<(), Fail> {
+// Runs of x that comes every 1000, with so many releases.
+fn long_run(alloc: Global, count: u64) -> Result<Result<Trace, RunFault>, Fail> {
     let document = "task = [{ name = 'x', period = 1000, deadline = 1000, cost = 1 }]";
-    let set = set_of(rt.alloc(), document)?;
-    let kernel = Kernel::new(rt.alloc(), &set, &[0])
-        .ok()
-        .ok_or("a wrong order")?;
-    let mut releases = Vec::new(rt.alloc());
-    for k in 0..10_000 {
+    let set = set_of(alloc, document)?;
+    let kernel = Kernel::new(alloc, &set, &[0]).ok().ok_or("a wrong order")?;
+    let mut releases = Vec::new(alloc);
+    for place in 0..count {
         releases.push(Release {
-            time: k * 1000,
+            time: place.saturating_mul(1000),
             name: name("x")?,
         })?;
     }
-    let trace = kernel
-        .run(rt.alloc(), &releases, 20_000_000)
-        .ok()
-        .ok_or("refused")?;
+    Ok(kernel.run(alloc, &releases, 20_000_000))
+}
+
+#[test]
+fn ten_thousand_releases_and_one_more(rt: HostRuntime) -> Result<(), Fail> {
+    let trace = long_run(rt.alloc(), 10_000)?.ok().ok_or("refused")?;
     assert_eq!(rt; trace.slices.len(), 10_000);
-    releases.push(Release {
-        time: 10_000_000,
-        name: name("x")?,
-    })?;
-    let refused = kernel.run(rt.alloc(), &releases, 20_000_000);
+    let refused = long_run(rt.alloc(), 10_001)?;
     assert!(rt; matches!(&refused, Err(RunFault::TooMany)));
     Ok(())
 }

@@ -1,8 +1,8 @@
-use Rattle.std.proofs.Common.{ap, sym, ◌∙◌, ℕ, Bool, true, ◌≡◌}
+use Rattle.std.proofs.Common.{ap, sym, ◌∙◌, ℕ, Bool}
 use Rattle.task_sheet.specs.Indexes.{below, indexes_of}
 use Rattle.task_sheet.proofs.MembersIndexes.{indexes_of-all_below}
 use Rattle.assignment.proofs.AskLaws.{remove-part}
-use Rattle.desk_rows.proofs.levels.left_of.Goals as goal
+use Rattle.analysis_rows.proofs.findings.left_of.Goals as goal
 
 pub loop-task-init : goal.loop-task-init
 loop-task-init g c =

@@ -1,13 +1,17 @@
-//! The sets of the examples, as documents.
+//! The sets of docs/EXAMPLES.md, as documents, and what tests make of a document.
+#![tactic(auto)]
+
 use std::alloc::Global;
 use std::sync::Arc;
 use std::test::Fail;
 use task_sheet::{Name, TaskSet, read_set};
 
+/// One task whose cost is its period.
 pub const FILLS_ITS_PERIOD: &str = "
 task = [{ name = 'x', period = 1000, deadline = 1000, cost = 1000 }]
 ";
 
+/// Two tasks; the demand of p at its deadline is above the deadline, and yet p passes.
 pub const DEMAND_OF_THE_DEADLINE: &str = "
 [[task]]
 name = 'p'
@@ -21,10 +25,12 @@ deadline = 10000
 cost = 5000
 ";
 
+/// One task that can't meet its deadline.
 pub const COST_PAST_THE_DEADLINE: &str = "
 task = [{ name = 'x', period = 10000, deadline = 2000, cost = 3000 }]
 ";
 
+/// The same task beside one that is harmless.
 pub const OBSTRUCTION_OF_ONE: &str = "
 [[task]]
 name = 'x'
@@ -38,6 +44,7 @@ deadline = 100000
 cost = 1000
 ";
 
+/// Three tasks, of which c alone passes at the lowest level.
 pub const THREE_TASKS: &str = "
 [[task]]
 name = 'a'
@@ -56,6 +63,7 @@ deadline = 20000
 cost = 5000
 ";
 
+/// The same, where a is wanted higher than b.
 pub const THREE_TASKS_WEIGHTED: &str = "
 [[task]]
 name = 'a'
@@ -77,6 +85,7 @@ deadline = 20000
 cost = 5000
 ";
 
+/// The same, where c passes nowhere below the others.
 pub const THREE_TASKS_TOO_TIGHT: &str = "
 [[task]]
 name = 'a'
@@ -95,6 +104,7 @@ deadline = 19000
 cost = 5000
 ";
 
+/// hi and lo share a lock, for which mid is blocked.
 pub const SHARED_LOCK: &str = "
 [[task]]
 name = 'hi'
@@ -117,6 +127,7 @@ cost = 20000
 section = [{ locks = ['m'], at = 100, len = 4000 }]
 ";
 
+/// hi is blocked past its deadline.
 pub const BLOCKED_OUT: &str = "
 [[task]]
 name = 'hi'
@@ -135,6 +146,7 @@ at = 1000
 len = 2500
 ";
 
+/// The same, with a deadline that holds the blocking.
 pub const BLOCKED_OUT_REPAIRED: &str = "
 [[task]]
 name = 'hi'
@@ -153,6 +165,7 @@ at = 1000
 len = 2500
 ";
 
+/// Two tasks that share a lock: above x, y blocks it no more.
 pub const EXCHANGE_WITH_EQUALITY: &str = "
 [[task]]
 name = 'x'
@@ -168,7 +181,7 @@ cost = 2000
 section = [{ locks = ['m'], at = 0, len = 2000 }]
 ";
 
-/// The set of a document.
+/// The set of a document, or why it is none, as a test's failure.
 pub fn set_of(alloc: Global, text: &str) -> Result<TaskSet, Fail> {
     let set = read_set(alloc, text.as_bytes())?;
     Ok(set)

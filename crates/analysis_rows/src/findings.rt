@@ -1,0 +1,181 @@
+//! Findings in any order.
+ghost use Rattle.std.specs.Prelude.{◌<◌};
+ghost use Rattle.std.specs.FinSet.{len};
+ghost use Rattle.task_sheet.specs.Indexes.{IsPart, indexes_of};
+ghost use Rattle.task_sheet.specs.Orders.{all_of};
+
+use assignment::{Closed, Finding, Level, LevelRecord, TakeFault};
+use example_sets::{THREE_TASKS, THREE_TASKS_TOO_TIGHT, shared_set};
+use std::alloc::Global;
+use std::process::Abort;
+use std::test::Fail;
+use task_sheet::{Members, TaskSet};
+
+/// The index of the task a of the three tasks.
+pub const A: usize = 0;
+
+/// The index of b.
+pub const B: usize = 1;
+
+/// The index of c.
+pub const C: usize = 2;
+
+// The tasks of a set without some.
+fn left_of(rt: &impl Abort, set: &TaskSet, gone: &[usize]) -> Members
+    ensures part { IsPart (indexes_of result) (all_of set.now) }
+    ensures some { 0 < len result }
+{
+    let mut left = Members::all(set.len());
+    for task in gone {
+        assert!(rt; *task < 32);
+        left = left.without(*task);
+    }
+    assert!(rt; left.len() > 0);
+    left
+}
+
+// The finding on a candidate of a level.
+fn finding_on(rt: &impl Abort, alloc: Global, level: &Level, task: usize) -> Result<Finding, Fail> {
+    assert!(rt; task < 32);
+    assert!(rt; level.left().has(task));
+    let question = level.question(task)?;
+    let finding = question.answer(alloc).ok().ok_or("memory")?;
+    Ok(finding)
+}
+
+/// The level of a document's set where some tasks are gone, with the findings on some of the others, taken in this order.
+pub fn level_of(
+    rt: &impl Abort,
+    alloc: Global,
+    document: &str,
+    gone: &[usize],
+    found: &[usize],
+) -> Result<Level, Fail> {
+    let set = shared_set(alloc, document)?;
+    let left = left_of(rt, &set, gone);
+    let mut level = Level::start(alloc, set, left)?;
+    for task in found {
+        let finding = finding_on(rt, alloc, &level, *task)?;
+        assert!(rt; level.take(finding).is_ok());
+    }
+    Ok(level)
+}
+
+#[test]
+fn findings_that_pass(rt: HostRuntime) -> Result<(), Fail> {
+    for (gone, task, want) in [(&[][..], C, true), (&[][..], A, false), (&[C][..], A, true)] {
+        let level = level_of(&rt, rt.alloc(), THREE_TASKS, gone, &[])?;
+        let finding = finding_on(&rt, rt.alloc(), &level, task)?;
+        assert_eq!(rt; finding.passes(), want);
+    }
+    Ok(())
+}
+
+// Whether a level closed to a task with this response, and with these failures: tasks and their chains.
+fn is_record(level: &LevelRecord, task: usize, response: u64, fails: &[(usize, &[u64])]) -> bool {
+    level.task == task
+        && level.response == response
+        && level.fails.len() == fails.len()
+        && level.fails.iter().zip(fails).all(|(failure, (task, chain))| {
+            failure.task == *task && failure.chain.as_slice() == *chain
+        })
+}
+
+fn closes_to(level: Level, task: usize, response: u64, fails: &[(usize, &[u64])]) -> bool {
+    match level.close() {
+        Ok(Closed::Chosen(record)) => is_record(&record, task, response, fails),
+        Ok(Closed::Obstruction(_)) => false,
+        Err(_) => false,
+    }
+}
+
+// The failures of the first level of the three tasks.
+const FAILURES: [(usize, &[u64]); 2] = [(A, &[1, 11000]), (B, &[1, 11000, 14000])];
+
+#[test]
+fn findings_in_any_order(rt: HostRuntime) -> Result<(), Fail> {
+    for found in [[A, B, C], [C, B, A], [B, A, C], [C, A, B]] {
+        let level = level_of(&rt, rt.alloc(), THREE_TASKS, &[], &found)?;
+        assert!(rt; level.decided());
+        assert!(rt; closes_to(level, C, 20000, &FAILURES));
+    }
+    Ok(())
+}
+
+#[test]
+fn too_few_findings(rt: HostRuntime) -> Result<(), Fail> {
+    for found in [&[][..], &[C][..], &[C, B][..], &[A, B][..]] {
+        let level = level_of(&rt, rt.alloc(), THREE_TASKS, &[], found)?;
+        assert!(rt; !level.decided());
+        assert!(rt; level.close().is_err());
+    }
+    Ok(())
+}
+
+#[test]
+fn enough_findings_of_the_second_level(rt: HostRuntime) -> Result<(), Fail> {
+    let level = level_of(&rt, rt.alloc(), THREE_TASKS, &[C], &[A])?;
+    assert!(rt; closes_to(level, A, 6000, &[]));
+    Ok(())
+}
+
+// Delivers to a level the finding on a candidate of another level, and says what came of it.
+fn deliver(
+    rt: &impl Abort,
+    alloc: Global,
+    level: &mut Level,
+    asked: &Level,
+    task: usize,
+) -> Result<&'static str, Fail> {
+    let finding = finding_on(rt, alloc, asked, task)?;
+    Ok(match level.take(finding) {
+        Ok(()) => "taken",
+        Err(TakeFault::Twice { .. }) => "twice",
+        Err(TakeFault::Stranger { .. }) => "stranger",
+    })
+}
+
+// A document, the tasks that are gone at its level, a candidate there, and what comes of the finding on it at the first level
+// of the three tasks, which has those on b and c.
+const DELIVERED: [(&str, &[usize], usize, &str); 5] = [
+    (THREE_TASKS, &[], B, "twice"),
+    (THREE_TASKS_TOO_TIGHT, &[], A, "stranger"),
+    (THREE_TASKS, &[C], A, "stranger"),
+    (THREE_TASKS, &[], A, "taken"),
+    (THREE_TASKS, &[], A, "twice"),
+];
+
+#[test]
+fn doubles_and_strangers(rt: HostRuntime) -> Result<(), Fail> {
+    let mut level = level_of(&rt, rt.alloc(), THREE_TASKS, &[], &[C, B])?;
+    for (document, gone, task, want) in DELIVERED {
+        let asked = level_of(&rt, rt.alloc(), document, gone, &[])?;
+        assert_eq!(rt; deliver(&rt, rt.alloc(), &mut level, &asked, task)?, want);
+    }
+    assert!(rt; closes_to(level, C, 20000, &FAILURES));
+    Ok(())
+}
+
+#[test]
+fn candidates_without_a_finding(rt: HostRuntime) -> Result<(), Fail> {
+    let level = level_of(&rt, rt.alloc(), THREE_TASKS, &[], &[B])?;
+    assert!(rt; level.missing() == Members::empty().with(A).with(C));
+    let second = level_of(&rt, rt.alloc(), THREE_TASKS, &[A], &[])?;
+    assert!(rt; second.missing() == Members::empty().with(B).with(C));
+    Ok(())
+}
+
+#[test]
+fn candidates_by_place(rt: HostRuntime) -> Result<(), Fail> {
+    for (gone, place, want) in [
+        (&[][..], 1, Some(B)),
+        (&[][..], 3, None),
+        (&[A][..], 0, Some(B)),
+        (&[A][..], 1, Some(C)),
+        (&[A][..], 2, None),
+    ] {
+        let level = level_of(&rt, rt.alloc(), THREE_TASKS, gone, &[])?;
+        assert_eq!(rt; level.candidate(place), want);
+    }
+    Ok(())
+}

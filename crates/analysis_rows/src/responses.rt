@@ -1,0 +1,122 @@
+//! Ceilings, blocking, demands, and how many numbers lead to a response.
+use blocking::blocking;
+use ceilings::LockTable;
+use example_sets::{name, set_of};
+use response_time::{Answer, demand, passes, respond};
+use std::alloc::Global;
+use std::process::Abort;
+use std::test::Fail;
+use task_sheet::Members;
+
+// The tasks with these indexes.
+fn members_of(rt: &impl Abort, indexes: &[usize]) -> Members {
+    let mut members = Members::empty();
+    for index in indexes {
+        assert!(rt; *index < 32);
+        members = members.with(*index);
+    }
+    members
+}
+
+// Whether a task of a document passes with these above it, and its evaluations.
+fn response_of(
+    rt: &impl Abort,
+    alloc: Global,
+    document: &str,
+    task: usize,
+    above: &[usize],
+) -> Result<(bool, usize), Fail> {
+    let set = set_of(alloc, document)?;
+    let table = LockTable::new(alloc, &set)?;
+    let above = members_of(rt, above);
+    assert!(rt; task < set.len());
+    let response = respond(alloc, &set, &table, task, above)?;
+    let does_pass = matches!(&response.answer, Answer::Pass { .. });
+    assert!(rt; passes(&set, &table, task, above) == does_pass);
+    Ok((does_pass, response.evaluations))
+}
+
+// An example, a task of it, the tasks above it, whether it passes, and its evaluations.
+type Row = (&'static str, usize, &'static [usize], bool, usize);
+
+const ROWS: [Row; 10] = [
+    (example_sets::FILLS_ITS_PERIOD, 0, &[], true, 2),
+    (example_sets::DEMAND_OF_THE_DEADLINE, 0, &[1], true, 2),
+    (example_sets::COST_PAST_THE_DEADLINE, 0, &[], false, 1),
+    (example_sets::THREE_TASKS, 0, &[1, 2], false, 1),
+    (example_sets::THREE_TASKS, 1, &[0, 2], false, 2),
+    (example_sets::THREE_TASKS, 2, &[0, 1], true, 5),
+    (example_sets::THREE_TASKS, 0, &[1], true, 2),
+    (example_sets::THREE_TASKS_TOO_TIGHT, 2, &[0, 1], false, 4),
+    (example_sets::SHARED_LOCK, 0, &[1, 2], true, 3),
+    (example_sets::BLOCKED_OUT, 0, &[], false, 1),
+];
+
+#[test]
+fn evaluations_of_the_examples(rt: HostRuntime) -> Result<(), Fail> {
+    for (document, task, above, does_pass, evaluations) in ROWS {
+        let found = response_of(&rt, rt.alloc(), document, task, above)?;
+        assert_eq!(rt; found, (does_pass, evaluations));
+    }
+    Ok(())
+}
+
+#[test]
+fn ceilings_of_the_shared_lock(rt: HostRuntime) -> Result<(), Fail> {
+    let set = set_of(rt.alloc(), example_sets::SHARED_LOCK)?;
+    let table = LockTable::new(rt.alloc(), &set)?;
+    for (lock, ceiling, users, index) in [("m", Some(3), 2, Some(0)), ("z", None, 0, None)] {
+        let lock = name(lock)?;
+        assert_eq!(rt; table.ceiling(lock, &[0, 1, 2]), ceiling);
+        assert_eq!(rt; table.users(lock).len(), users);
+        assert_eq!(rt; table.index_of(lock), index);
+    }
+    Ok(())
+}
+
+#[test]
+fn blocking_of_the_shared_lock(rt: HostRuntime) -> Result<(), Fail> {
+    let set = set_of(rt.alloc(), example_sets::SHARED_LOCK)?;
+    let table = LockTable::new(rt.alloc(), &set)?;
+    assert!(rt; set.len() == 3);
+    assert_eq!(rt; blocking(&set, &table, 1, members_of(&rt, &[2])), 4000);
+    assert_eq!(rt; blocking(&set, &table, 0, members_of(&rt, &[1, 2])), 0);
+    Ok(())
+}
+
+// The demand of the first task of a document in a window, with these above it.
+fn demand_in(
+    rt: &impl Abort,
+    alloc: Global,
+    document: &str,
+    above: &[usize],
+    time: u64,
+) -> Result<u64, Fail> {
+    let set = set_of(alloc, document)?;
+    let table = LockTable::new(alloc, &set)?;
+    let above = members_of(rt, above);
+    assert!(rt; set.len() > 0);
+    assert!(rt; time <= 20001);
+    Ok(demand(&set, &table, 0, above, time))
+}
+
+// A document, the tasks above its first, a window and the first task's demand in it: the exchange with equality, with y below x
+// and above it, and the demand of the deadline above the deadline.
+const DEMANDS: [(&str, &[usize], u64, u64); 7] = [
+    (example_sets::EXCHANGE_WITH_EQUALITY, &[], 1, 3000),
+    (example_sets::EXCHANGE_WITH_EQUALITY, &[], 20000, 3000),
+    (example_sets::EXCHANGE_WITH_EQUALITY, &[], 20001, 3000),
+    (example_sets::EXCHANGE_WITH_EQUALITY, &[1], 1, 3000),
+    (example_sets::EXCHANGE_WITH_EQUALITY, &[1], 20000, 3000),
+    (example_sets::EXCHANGE_WITH_EQUALITY, &[1], 20001, 5000),
+    (example_sets::DEMAND_OF_THE_DEADLINE, &[1], 11000, 14000),
+];
+
+#[test]
+fn demands_of_the_examples(rt: HostRuntime) -> Result<(), Fail> {
+    for (document, above, time, want) in DEMANDS {
+        let found = demand_in(&rt, rt.alloc(), document, above, time)?;
+        assert_eq!(rt; found, want);
+    }
+    Ok(())
+}

@@ -1,0 +1,212 @@
+//! The limits of a sheet and of a set, and sets with one task more or less.
+use example_sets::{name, set_of};
+use std::alloc::Global;
+use std::test::Fail;
+use task_sheet::{
+    Name, Section, SetFault, Sheet, SheetCause, TaskSet, WithCause, WithoutFault, read_set,
+};
+
+// Why these values are no sheet.
+fn fault_of(
+    weight: u64,
+    period: u64,
+    deadline: u64,
+    cost: u64,
+    sections: Vec<Section>,
+) -> Result<Option<SheetCause>, Fail> {
+    let found = match Sheet::new(name("a")?, weight, period, deadline, cost, sections) {
+        Ok(_) => None,
+        Err(fault) => Some(fault.cause),
+    };
+    Ok(found)
+}
+
+#[test]
+fn limits_of_a_sheet(rt: HostRuntime) -> Result<(), Fail> {
+    for (weight, period, deadline, cost, want) in [
+        (0, 999, 999, 1, Some(SheetCause::BadPeriod)),
+        (0, 1000, 1000, 1000, None),
+        (0, 10_000_000, 10000, 5000, None),
+        (0, 10_000_001, 10000, 5000, Some(SheetCause::BadPeriod)),
+        (0, 10000, 0, 5000, Some(SheetCause::DeadlineZero)),
+        (0, 10000, 10001, 5000, Some(SheetCause::DeadlinePastPeriod)),
+        (0, 10000, 10000, 0, Some(SheetCause::CostZero)),
+        (0, 10000, 10000, 10001, Some(SheetCause::CostPastPeriod)),
+        (1000, 10000, 10000, 5000, None),
+        (1001, 10000, 10000, 5000, Some(SheetCause::BadWeight)),
+    ] {
+        let sections = Vec::new(rt.alloc());
+        assert_eq!(rt; fault_of(weight, period, deadline, cost, sections)?, want);
+    }
+    Ok(())
+}
+
+// The locks of a section, where it begins and how long it is.
+type SectionRow = (&'static [&'static str], u64, u64);
+
+fn names_of(alloc: Global, words: &[&str]) -> Result<Vec<Name>, Fail> {
+    let mut names = Vec::new(alloc);
+    for word in words {
+        names.push(name(*word)?)?;
+    }
+    Ok(names)
+}
+
+fn sections_of(alloc: Global, list: &[SectionRow]) -> Result<Vec<Section>, Fail> {
+    let mut sections = Vec::new(alloc);
+    for (locks, at, len) in list {
+        sections.push(Section {
+            locks: names_of(alloc, *locks)?,
+            at: *at,
+            len: *len,
+        })?;
+    }
+    Ok(sections)
+}
+
+// Some sections, and the fault of the sheet (10000, 10000, 5000) with them.
+const SECTIONS: [(&[SectionRow], Option<SheetCause>); 10] = [
+    (&[(&["m"], 1000, 4000)], None),
+    (
+        &[(&["m"], 1000, 4001)],
+        Some(SheetCause::SectionPastCost { section: 1 }),
+    ),
+    (&[(&["m"], 0, 500), (&["m"], 500, 500)], None),
+    (
+        &[(&["m"], 0, 501), (&["n"], 500, 500)],
+        Some(SheetCause::Overlap { section: 2 }),
+    ),
+    (
+        &[(&["m", "m"], 0, 1)],
+        Some(SheetCause::LockTwice { section: 1 }),
+    ),
+    (&[(&["a", "b", "c", "d"], 0, 1)], None),
+    (
+        &[(&["a", "b", "c", "d", "e"], 0, 1)],
+        Some(SheetCause::TooManyLocks { section: 1 }),
+    ),
+    (&[(&[], 0, 1)], Some(SheetCause::NoLocks { section: 1 })),
+    (&[(&["m"], 0, 0)], Some(SheetCause::LenZero { section: 1 })),
+    (
+        &[
+            (&["m"], 0, 1),
+            (&["m"], 1, 1),
+            (&["m"], 2, 1),
+            (&["m"], 3, 1),
+            (&["m"], 4, 1),
+            (&["m"], 5, 1),
+            (&["m"], 6, 1),
+            (&["m"], 7, 1),
+            (&["m"], 8, 1),
+        ],
+        Some(SheetCause::TooManySections),
+    ),
+];
+
+#[test]
+fn limits_of_sections(rt: HostRuntime) -> Result<(), Fail> {
+    for (list, want) in SECTIONS {
+        let sections = sections_of(rt.alloc(), list)?;
+        assert_eq!(rt; fault_of(0, 10000, 10000, 5000, sections)?, want);
+    }
+    Ok(())
+}
+
+// A document of so many tasks that are alike but for their names.
+fn alike(alloc: Global, count: u64) -> Result<String, Fail> {
+    let mut document = String::new(alloc);
+    for task in 0..count {
+        write!(
+            document,
+            "[[task]]\nname = 't{task}'\nperiod = 10000\ndeadline = 10000\ncost = 100\n"
+        )?;
+    }
+    Ok(document)
+}
+
+#[test]
+fn as_many_tasks_as_a_set_has(rt: HostRuntime) -> Result<(), Fail> {
+    for count in [0, 1, 31, 32] {
+        let document = alike(rt.alloc(), count)?;
+        let set = set_of(rt.alloc(), document.as_str())?;
+        assert_eq!(rt; set.len() as u64, count);
+    }
+    Ok(())
+}
+
+// Why bytes are no set, none where they are one.
+fn refusal_of(alloc: Global, bytes: &[u8]) -> Option<SetFault> {
+    match read_set(alloc, bytes) {
+        Ok(_) => None,
+        Err(fault) => Some(fault),
+    }
+}
+
+#[test]
+fn one_task_more(rt: HostRuntime) -> Result<(), Fail> {
+    let document = alike(rt.alloc(), 33)?;
+    let refused = refusal_of(rt.alloc(), document.as_bytes());
+    assert_eq!(rt; refused, Some(SetFault::TooManyTasks));
+    Ok(())
+}
+
+const PAIR: &[u8] = b"
+task = [
+    { name = 'a', period = 10000, deadline = 10000, cost = 5000 },
+    { name = 'a', period = 10000, deadline = 10000, cost = 5000 },
+]
+";
+
+#[test]
+fn refusals_that_want_of_memory_may_not_take(rt: HostRuntime) {
+    assert_eq!(rt; refusal_of(rt.alloc(), b"\xff"), Some(SetFault::Syntax));
+    assert_eq!(rt; refusal_of(rt.alloc(), b"name = "), Some(SetFault::Syntax));
+    assert_eq!(rt;
+        refusal_of(rt.alloc(), PAIR),
+        Some(SetFault::SameName { task: 2 })
+    );
+}
+
+// The sheet of hi, of the shared lock.
+fn hi_of(alloc: Global, set: &TaskSet) -> Result<Sheet, Fail> {
+    let place = set.find(name("hi")?).ok_or("no hi")?;
+    let hi = set.get(place).ok_or("no sheet")?;
+    Ok(hi.copy(alloc)?)
+}
+
+// The shared lock without hi.
+fn without_hi(alloc: Global) -> Result<TaskSet, Fail> {
+    let set = set_of(alloc, example_sets::SHARED_LOCK)?;
+    Ok(set.without(alloc, name("hi")?)?)
+}
+
+#[test]
+fn shared_lock_without_hi(rt: HostRuntime) -> Result<(), Fail> {
+    let rest = without_hi(rt.alloc())?;
+    assert_eq!(rt; rest.len(), 2);
+    let twice = rest.without(rt.alloc(), name("hi")?).err();
+    assert_eq!(rt; twice, Some(WithoutFault::NoSuchTask));
+    Ok(())
+}
+
+#[test]
+fn shared_lock_with_hi_again(rt: HostRuntime) -> Result<(), Fail> {
+    let set = set_of(rt.alloc(), example_sets::SHARED_LOCK)?;
+    let rest = without_hi(rt.alloc())?;
+    assert!(rt; !rest.is_same(&set));
+    let again = rest.with(rt.alloc(), hi_of(rt.alloc(), &set)?).ok();
+    let again = again.ok_or("refused")?;
+    assert!(rt; again.is_same(&set));
+    Ok(())
+}
+
+#[test]
+fn shared_lock_with_hi_twice(rt: HostRuntime) -> Result<(), Fail> {
+    let set = set_of(rt.alloc(), example_sets::SHARED_LOCK)?;
+    let copy = set.copy(rt.alloc())?;
+    assert!(rt; copy.is_same(&set));
+    let twice = copy.with(rt.alloc(), hi_of(rt.alloc(), &set)?).err();
+    let cause = twice.map(|fault| fault.cause);
+    assert_eq!(rt; cause, Some(WithCause::SameName));
+    Ok(())
+}

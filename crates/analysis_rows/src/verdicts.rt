@@ -1,0 +1,108 @@
+//! Verdicts, whole: each level with its response and the chains of those of smaller rank, or each member with its chain.
+use assignment::{Failure, LevelRecord, Verdict, assign};
+use example_sets::{name, set_of, shared_set};
+use std::alloc::{AllocError, Global};
+use std::sync::Arc;
+use std::test::Fail;
+use task_sheet::TaskSet;
+
+// The name of the task at an index.
+fn push_name(text: &mut String, set: &TaskSet, task: usize) -> Result<(), AllocError> {
+    match set.get(task) {
+        Some(sheet) => {
+            let name = sheet.name();
+            write!(text, "{name}")
+        }
+        None => write!(text, "?"),
+    }
+}
+
+// The name of a task and the numbers of its chain.
+fn push_failure(text: &mut String, set: &TaskSet, failure: &Failure) -> Result<(), AllocError> {
+    write!(text, " ")?;
+    push_name(text, set, failure.task)?;
+    for number in &failure.chain {
+        write!(text, ",{number}")?;
+    }
+    Ok(())
+}
+
+fn push_failures(text: &mut String, set: &TaskSet, failures: &[Failure]) -> Result<(), AllocError> {
+    for failure in failures {
+        push_failure(text, set, failure)?;
+    }
+    Ok(())
+}
+
+// The name of a level's task, its response and its failures.
+fn push_level(text: &mut String, set: &TaskSet, level: &LevelRecord) -> Result<(), AllocError> {
+    push_name(text, set, level.task)?;
+    let response = level.response;
+    write!(text, " {response}")?;
+    push_failures(text, set, &level.fails)?;
+    write!(text, ";")
+}
+
+/// A verdict in a line: each level as `NAME RESPONSE FAILURES;`, or `none FAILURES`, a failure as `NAME,NUMBER,..`.
+pub fn line_of(alloc: Global, verdict: &Verdict) -> Result<String, AllocError> {
+    let mut text = String::new(alloc);
+    match verdict {
+        Verdict::Admitted(best) => {
+            for level in best.levels() {
+                push_level(&mut text, best.set(), level)?;
+            }
+        }
+        Verdict::Infeasible(stuck) => {
+            write!(text, "none")?;
+            push_failures(&mut text, stuck.set(), stuck.members())?;
+        }
+    }
+    Ok(text)
+}
+
+// A document and its verdict.
+const VERDICTS: [(&str, &str); 11] = [
+    ("", ""),
+    (example_sets::FILLS_ITS_PERIOD, "x 1000;"),
+    (example_sets::DEMAND_OF_THE_DEADLINE, "p 9000;q 5000;"),
+    (example_sets::COST_PAST_THE_DEADLINE, "none x,1,3000"),
+    (example_sets::OBSTRUCTION_OF_ONE, "none x,1,3000"),
+    (
+        example_sets::THREE_TASKS,
+        "c 20000 a,1,11000 b,1,11000,14000;a 6000;b 3000;",
+    ),
+    (
+        example_sets::THREE_TASKS_WEIGHTED,
+        "c 20000 b,1,11000,14000;b 6000;a 3000;",
+    ),
+    (
+        example_sets::THREE_TASKS_TOO_TIGHT,
+        "none a,1,11000 b,1,11000,14000 c,1,11000,14000,17000,20000",
+    ),
+    (example_sets::SHARED_LOCK, "lo 27000;mid 7000;hi 5000;"),
+    (example_sets::BLOCKED_OUT, "none hi,1,4500"),
+    (
+        example_sets::BLOCKED_OUT_REPAIRED,
+        "lo 14000 hi,1,12000;hi 4500;",
+    ),
+];
+
+#[test]
+fn verdicts_of_the_examples(rt: HostRuntime) -> Result<(), Fail> {
+    for (document, want) in VERDICTS {
+        let verdict = assign(rt.alloc(), shared_set(rt.alloc(), document)?)?;
+        let line = line_of(rt.alloc(), &verdict)?;
+        assert_eq!(rt; line.as_str(), want, "at {document}");
+    }
+    Ok(())
+}
+
+#[test]
+fn verdict_of_the_shared_lock_without_hi(rt: HostRuntime) -> Result<(), Fail> {
+    let set = set_of(rt.alloc(), example_sets::SHARED_LOCK)?;
+    let rest = set.without(rt.alloc(), name("hi")?)?;
+    let verdict = assign(rt.alloc(), Arc::new(rt.alloc(), rest)?)?;
+    let line = line_of(rt.alloc(), &verdict)?;
+    assert_eq!(rt; line.as_str(), "lo 24000;mid 2000;");
+    Ok(())
+}

@@ -1,0 +1,35 @@
+//! The lines of refusals that no typed words reach.
+use ceiling_kernel::RunFault;
+use desk_cli::{Refusal, Status, Watched, refuse};
+use example_sets::name;
+use std::alloc::Global;
+use std::test::Fail;
+
+// The line of a refusal, and its status.
+fn refused(alloc: Global, refusal: Refusal) -> Result<(String, Status), Fail> {
+    let mut printed = Vec::new(alloc);
+    let mut writer = Watched::new(&mut printed);
+    let status = refuse(refusal, &mut writer);
+    Ok((String::from_utf8(printed)?, status))
+}
+
+#[test]
+fn want_of_memory(rt: HostRuntime) -> Result<(), Fail> {
+    let (printed, status) = refused(rt.alloc(), Refusal::OutOfMemory)?;
+    assert_eq!(rt; printed.as_str(), "refused: OutOfMemory\n");
+    assert_eq!(rt; status, Status::OutOfMemory);
+    Ok(())
+}
+
+// `simulate` runs passing orders alone, which have no overrun.
+#[test]
+fn overrun(rt: HostRuntime) -> Result<(), Fail> {
+    let fault = RunFault::Overrun {
+        name: name("x")?,
+        time: 500,
+    };
+    let (printed, status) = refused(rt.alloc(), Refusal::Run(fault))?;
+    assert_eq!(rt; printed.as_str(), "refused: Overrun x 500\n");
+    assert_eq!(rt; status, Status::BadInput);
+    Ok(())
+}

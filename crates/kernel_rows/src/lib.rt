@@ -1,0 +1,5 @@
+//! The kernel's runs of docs/EXAMPLES.md, as tests.
+#![tactic(auto)]
+
+#[cfg(test)]
+mod runs;
