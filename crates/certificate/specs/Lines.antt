@@ -104,7 +104,8 @@ level_in k [] = None
 level_in k (w ∷ []) = None
 level_in k (w ∷ m ∷ []) = None
 level_in k (w ∷ m ∷ name ∷ []) = None
-level_in k (w ∷ m ∷ name ∷ n ∷ []) = if bytes_eq w (codes "level") then level_of k name (number_in m) (number_in n) else None
+level_in k (w ∷ m ∷ name ∷ n ∷ []) =
+    if bytes_eq w (codes "level") then level_of k name (number_in m) (number_in n) else None
 level_in k (w ∷ m ∷ name ∷ n ∷ x ∷ xs) = None
 
 -- one failure more, or the end of them
@@ -116,7 +117,9 @@ fails_case (Some c) here rest = (c ∷ rest.0, rest.1)
 unfoldable pub fails_from : List (List ℕ) → ℕ → List Chain × At
 fails_from [] line = ([], record { parts = []; line = line })
 fails_from (l ∷ []) line = ([], record { parts = l ∷ []; line = line })
-fails_from (l ∷ x ∷ xs) line = fails_case (chain_in (codes "fails") (words l)) (record { parts = l ∷ x ∷ xs; line = line }) (fails_from (x ∷ xs) (line + 1))
+fails_from (l ∷ x ∷ xs) line =
+    fails_case (chain_in (codes "fails") (words l))
+    (record { parts = l ∷ x ∷ xs; line = line }) (fails_from (x ∷ xs) (line + 1))
 
 -- the next lines as level k with its failures
 unfoldable pub level_at : ℕ → At → Result (Level × At) CertFault

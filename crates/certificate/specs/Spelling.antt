@@ -35,5 +35,7 @@ count_line word n = word ++ 32 ∷ decimal n ++ 10 ∷ []
 
 -- the bytes of a certificate
 abbrev pub spelling : Body → List ℕ
-spelling (Best levels) = head_line ++ (count_line (codes "best") (length levels) ++ (level_lines 1 levels ++ codes "end\n"))
-spelling (NoOrder members) = head_line ++ (count_line (codes "none") (length members) ++ (chain_lines (codes "member") members ++ codes "end\n"))
+spelling (Best levels) =
+    head_line ++ (count_line (codes "best") (length levels) ++ (level_lines 1 levels ++ codes "end\n"))
+spelling (NoOrder members) =
+    head_line ++ (count_line (codes "none") (length members) ++ (chain_lines (codes "member") members ++ codes "end\n"))

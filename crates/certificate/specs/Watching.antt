@@ -1,7 +1,8 @@
 -- What a watched reader or writer is.
 use Rattle.std.specs.Prelude.{ℕ, Bool}
 
--- a reader or a writer; whether a call of it has failed, whether a read of it was interrupted, and how many reads there were
+-- a reader or a writer; whether a call of it has failed, whether a read of it was interrupted, and how many
+-- reads there were
 pub record WatchedData (T : Type 0) : Type 0 where
   pub inner : T
   pub has_failed : Bool

@@ -24,7 +24,9 @@ unfoldable pub chain_in : List ℕ → List (List ℕ) → Option Chain
 chain_in word [] = None
 chain_in word (w ∷ []) = None
 chain_in word (w ∷ name ∷ []) = None
-chain_in word (w ∷ name ∷ n ∷ ns) = if bytes_eq w word && is_name name then (numbers_in (n ∷ ns) >>= λ numbers. Some (record { name = name; numbers = numbers })) else None
+chain_in word (w ∷ name ∷ n ∷ ns) =
+    if bytes_eq w word && is_name name then
+    (numbers_in (n ∷ ns) >>= λ numbers. Some (record { name = name; numbers = numbers })) else None
 
 -- the items of a vector, if there is one
 abbrev pub found : Option (Vec ℕ) → Option (List ℕ)

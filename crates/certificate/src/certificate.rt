@@ -54,10 +54,11 @@ impl Certificate {
         &self.body
     }
 
-    /// Writes the spelling, through a buffer of 4096 bytes, and takes no memory. The error comes where the writer fails:
+    /// Writes the spelling, through a buffer of 4096 bytes. The error comes where the writer fails, or has failed:
     /// how much of the spelling went out is then open.
     pub fn write<W: Write + Drop>(&self, out: &mut Watched<W>) -> Result<(), WriteFailed>
-        ensures written { OnOk result (Appends (W.contents out.old.inner) (W.contents out.new.inner) (spelling self.now)) }
+        ensures written { OnOk result
+            (Appends (W.contents out.old.inner) (W.contents out.new.inner) (spelling self.now)) }
         ensures ok { OnOk result (out.new.has_failed ≡ out.old.has_failed) }
         ensures failed { OnErr result (out.new.has_failed ≡ true) }
     {

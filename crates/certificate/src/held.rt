@@ -85,7 +85,8 @@ pub fn put<W: Write + Drop>(
     out: &mut Watched<W>,
 ) -> Result<(), WriteFailed>
     requires { length text.now ≤ 64 }
-    ensures sent { OnOk result (Sends (W.contents out.old.inner) held.old (W.contents out.new.inner) held.new text.now) }
+    ensures sent { OnOk result
+        (Sends (W.contents out.old.inner) held.old (W.contents out.new.inner) held.new text.now) }
     ensures ok { OnOk result (out.new.has_failed ≡ out.old.has_failed) }
     ensures failed { OnErr result (out.new.has_failed ≡ true) }
 {

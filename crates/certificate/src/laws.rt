@@ -7,11 +7,13 @@ ghost use Rattle.certificate.specs.declared.fault.CertFault.TheVariants.{Trailin
 
 /// No spelling is a proper prefix of another, and certificates with one spelling are equal.
 pub fn no_spelling_is_a_prefix()
-    ensures { (b c : Body) (rest : List ℕ) → HasSpelling b → HasSpelling c → spelling c ≡ spelling b ++ rest → (rest ≡ []) × (b ≡ c) }
+    ensures { (b c : Body) (rest : List ℕ) → HasSpelling b → HasSpelling c → spelling c ≡ spelling b ++ rest
+        → (rest ≡ []) × (b ≡ c) }
 {}
 
 /// A spelling reads back, and with anything behind it that is what trails.
 pub fn spelling_is_read()
     ensures back { (b : Body) → HasSpelling b → certificate_in (spelling b) ≡ Ok b }
-    ensures trailing { (b : Body) (x : ℕ) (rest : List ℕ) → HasSpelling b → certificate_in (spelling b ++ x ∷ rest) ≡ Err Trailing }
+    ensures trailing { (b : Body) (x : ℕ) (rest : List ℕ) → HasSpelling b
+        → certificate_in (spelling b ++ x ∷ rest) ≡ Err Trailing }
 {}

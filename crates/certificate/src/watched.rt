@@ -105,7 +105,8 @@ impl<W: Write + Drop> Watched<W> {
 
     /// What `write!` calls: writes a value as its `Display` gives it; nothing once a call has failed.
     pub fn write_fmt<D: Display + Drop>(&mut self, text: D) -> Result<(), WriteFailed>
-        ensures written { OnOk result (IfSome (D.output text) (Appends (W.contents self.old.inner) (W.contents self.new.inner))) }
+        ensures written { OnOk result
+            (IfSome (D.output text) (Appends (W.contents self.old.inner) (W.contents self.new.inner))) }
         ensures ok { OnOk result (self.new.has_failed ≡ self.old.has_failed) }
         ensures failed { OnErr result (self.new.has_failed ≡ true) }
         ensures stuck { self.old.has_failed ≡ true → IsErr result × (self.new ≡ self.old) }

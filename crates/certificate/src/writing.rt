@@ -20,7 +20,8 @@ fn put_number<W: Write + Drop>(
     held: &mut Held,
     out: &mut Watched<W>,
 ) -> Result<(), WriteFailed>
-    ensures sent { OnOk result (Sends (W.contents out.old.inner) held.old (W.contents out.new.inner) held.new (decimal number)) }
+    ensures sent { OnOk result
+        (Sends (W.contents out.old.inner) held.old (W.contents out.new.inner) held.new (decimal number)) }
     ensures ok { OnOk result (out.new.has_failed ≡ out.old.has_failed) }
     ensures failed { OnErr result (out.new.has_failed ≡ true) }
 {
@@ -47,7 +48,8 @@ fn put_numbers<W: Write + Drop>(
     held: &mut Held,
     out: &mut Watched<W>,
 ) -> Result<(), WriteFailed>
-    ensures sent { OnOk result (Sends (W.contents out.old.inner) held.old (W.contents out.new.inner) held.new (numbers_text numbers.now)) }
+    ensures sent { OnOk result
+        (Sends (W.contents out.old.inner) held.old (W.contents out.new.inner) held.new (numbers_text numbers.now)) }
     ensures ok { OnOk result (out.new.has_failed ≡ out.old.has_failed) }
     ensures failed { OnErr result (out.new.has_failed ≡ true) }
 {
@@ -66,7 +68,8 @@ fn put_chain<W: Write + Drop>(
     out: &mut Watched<W>,
 ) -> Result<(), WriteFailed>
     requires { length word.now ≤ 64 }
-    ensures sent { OnOk result (Sends (W.contents out.old.inner) held.old (W.contents out.new.inner) held.new (chain_line word.now chain.now)) }
+    ensures sent { OnOk result (Sends (W.contents out.old.inner) held.old
+        (W.contents out.new.inner) held.new (chain_line word.now chain.now)) }
     ensures ok { OnOk result (out.new.has_failed ≡ out.old.has_failed) }
     ensures failed { OnErr result (out.new.has_failed ≡ true) }
 {
@@ -85,7 +88,8 @@ fn put_chains<W: Write + Drop>(
     out: &mut Watched<W>,
 ) -> Result<(), WriteFailed>
     requires { length word.now ≤ 64 }
-    ensures sent { OnOk result (Sends (W.contents out.old.inner) held.old (W.contents out.new.inner) held.new (chain_lines word.now chains.now)) }
+    ensures sent { OnOk result (Sends (W.contents out.old.inner) held.old
+        (W.contents out.new.inner) held.new (chain_lines word.now chains.now)) }
     ensures ok { OnOk result (out.new.has_failed ≡ out.old.has_failed) }
     ensures failed { OnErr result (out.new.has_failed ≡ true) }
 {
@@ -103,7 +107,8 @@ fn put_place<W: Write + Drop>(
     out: &mut Watched<W>,
 ) -> Result<(), WriteFailed>
     requires { length word.now ≤ 64 }
-    ensures sent { OnOk result (Sends (W.contents out.old.inner) held.old (W.contents out.new.inner) held.new (word.now ++ decimal k ++ 32 ∷ [])) }
+    ensures sent { OnOk result (Sends (W.contents out.old.inner) held.old
+        (W.contents out.new.inner) held.new (word.now ++ decimal k ++ 32 ∷ [])) }
     ensures ok { OnOk result (out.new.has_failed ≡ out.old.has_failed) }
     ensures failed { OnErr result (out.new.has_failed ≡ true) }
 {
@@ -119,7 +124,8 @@ fn put_time<W: Write + Drop>(
     held: &mut Held,
     out: &mut Watched<W>,
 ) -> Result<(), WriteFailed>
-    ensures sent { OnOk result (Sends (W.contents out.old.inner) held.old (W.contents out.new.inner) held.new (name ++ 32 ∷ decimal t ++ 10 ∷ [])) }
+    ensures sent { OnOk result (Sends (W.contents out.old.inner) held.old
+        (W.contents out.new.inner) held.new (name ++ 32 ∷ decimal t ++ 10 ∷ [])) }
     ensures ok { OnOk result (out.new.has_failed ≡ out.old.has_failed) }
     ensures failed { OnErr result (out.new.has_failed ≡ true) }
 {
@@ -136,7 +142,8 @@ fn put_level<W: Write + Drop>(
     held: &mut Held,
     out: &mut Watched<W>,
 ) -> Result<(), WriteFailed>
-    ensures sent { OnOk result (Sends (W.contents out.old.inner) held.old (W.contents out.new.inner) held.new (level_line k level.now)) }
+    ensures sent { OnOk result
+        (Sends (W.contents out.old.inner) held.old (W.contents out.new.inner) held.new (level_line k level.now)) }
     ensures ok { OnOk result (out.new.has_failed ≡ out.old.has_failed) }
     ensures failed { OnErr result (out.new.has_failed ≡ true) }
 {
@@ -150,7 +157,8 @@ fn put_levels<W: Write + Drop>(
     held: &mut Held,
     out: &mut Watched<W>,
 ) -> Result<(), WriteFailed>
-    ensures sent { OnOk result (Sends (W.contents out.old.inner) held.old (W.contents out.new.inner) held.new (level_lines 1 levels.now)) }
+    ensures sent { OnOk result
+        (Sends (W.contents out.old.inner) held.old (W.contents out.new.inner) held.new (level_lines 1 levels.now)) }
     ensures ok { OnOk result (out.new.has_failed ≡ out.old.has_failed) }
     ensures failed { OnErr result (out.new.has_failed ≡ true) }
 {
@@ -169,7 +177,8 @@ fn put_count<W: Write + Drop>(
     out: &mut Watched<W>,
 ) -> Result<(), WriteFailed>
     requires { length word.now ≤ 64 }
-    ensures sent { OnOk result (Sends (W.contents out.old.inner) held.old (W.contents out.new.inner) held.new (count_line word.now count)) }
+    ensures sent { OnOk result
+        (Sends (W.contents out.old.inner) held.old (W.contents out.new.inner) held.new (count_line word.now count)) }
     ensures ok { OnOk result (out.new.has_failed ≡ out.old.has_failed) }
     ensures failed { OnErr result (out.new.has_failed ≡ true) }
 {
@@ -202,7 +211,8 @@ fn put_none<W: Write + Drop>(
     out: &mut Watched<W>,
 ) -> Result<(), WriteFailed>
     ensures sent { OnOk result (Sends (W.contents out.old.inner) held.old (W.contents out.new.inner) held.new
-        (count_line (codes "none") (length members.now) ++ (chain_lines (codes "member") members.now ++ codes "end\n"))) }
+        (count_line (codes "none") (length members.now)
+        ++ (chain_lines (codes "member") members.now ++ codes "end\n"))) }
     ensures ok { OnOk result (out.new.has_failed ≡ out.old.has_failed) }
     ensures failed { OnErr result (out.new.has_failed ≡ true) }
 {
@@ -217,7 +227,8 @@ pub fn put_body<W: Write + Drop>(
     held: &mut Held,
     out: &mut Watched<W>,
 ) -> Result<(), WriteFailed>
-    ensures sent { OnOk result (Sends (W.contents out.old.inner) held.old (W.contents out.new.inner) held.new (spelling (body_of body.now))) }
+    ensures sent { OnOk result
+        (Sends (W.contents out.old.inner) held.old (W.contents out.new.inner) held.new (spelling (body_of body.now))) }
     ensures ok { OnOk result (out.new.has_failed ≡ out.old.has_failed) }
     ensures failed { OnErr result (out.new.has_failed ≡ true) }
 {

@@ -18,7 +18,8 @@ use Rattle.desk_cli.specs.declared.status.Status.TheVariants as status
 -- the answer on what a reader has: the verdict of the set that its bytes say, or the first fault of its bytes.
 -- Want of memory may come at any time, and the function's own clause says where a failed read is answered.
 abbrev pub Admits : Option (List ℕ) → Result Verdict Refusal → Type 0
-Admits known (Ok v) = (bytes : List ℕ) × IsReadFrom known bytes × ReadsSet bytes (Ok (set_of v)) × IsVerdictOf (set_of v) (verdict_of v)
+Admits known (Ok v) =
+    (bytes : List ℕ) × IsReadFrom known bytes × ReadsSet bytes (Ok (set_of v)) × IsVerdictOf (set_of v) (verdict_of v)
 Admits known (Err (refusal.Set fault)) = (bytes : List ℕ) × IsReadFrom known bytes × ReadsSet bytes (Err fault)
 Admits known (Err (refusal.Input input.TooLong)) = IsTooLong known
 Admits known (Err (refusal.Input input.ReadFailed)) = Unit {0}
@@ -43,7 +44,9 @@ status_said (Err r) = status_of r
 
 -- an answer on what the reader had is printed after what the writer held, and the status is the answer's
 abbrev pub Says : (Verdict → List ℕ) → Option (List ℕ) → Option (List ℕ) → Option (List ℕ) → Status → Type 0
-Says lines known before after s = (answer : Result Verdict Refusal) × Admits known answer × Appends before after (said lines answer) × (s ≡ status_said answer)
+Says lines known before after s =
+    (answer : Result Verdict Refusal) × Admits known answer × Appends before after (said lines answer)
+    × (s ≡ status_said answer)
 
 -- the lines of a verdict
 abbrev pub lines_of : Verdict → List ℕ

@@ -27,5 +27,9 @@ pair_app name second = with_rule (set_app name) (input_rule second)
 abbrev pub desk_app : App
 desk_app =
     with_subcommand
-    (with_subcommand (with_subcommand (with_subcommand bare_app (set_app (codes "admit")).top) (set_app (codes "certify")).top) (pair_app (codes "check") (codes "CERT")).top)
+    (with_subcommand
+    (with_subcommand
+    (with_subcommand bare_app (set_app (codes "admit")).top)
+    (set_app (codes "certify")).top)
+    (pair_app (codes "check") (codes "CERT")).top)
     (pair_app (codes "simulate") (codes "RELEASES")).top

@@ -22,7 +22,9 @@ Names (Some word) (File path) = (path.now ≡ word) × (word ≢ codes "-")
 -- a command of the program is named
 abbrev pub IsCommand : Option (Text × List Row) → Type 0
 IsCommand None = ⊥
-IsCommand (Some found) = (found.0 ≡ codes "admit") ⊎ ((found.0 ≡ codes "certify") ⊎ ((found.0 ≡ codes "check") ⊎ (found.0 ≡ codes "simulate")))
+IsCommand (Some found) =
+    (found.0 ≡ codes "admit") ⊎
+    ((found.0 ≡ codes "certify") ⊎ ((found.0 ≡ codes "check") ⊎ (found.0 ≡ codes "simulate")))
 
 -- the call that a command names, with what was found of its arguments
 abbrev pub IsCall : Option (Text × List Row) → Call → Type 0
@@ -30,9 +32,11 @@ IsCall None call = ⊥
 IsCall (Some found) (Admit set) = (found.0 ≡ codes "admit") × Names (first_of (codes "SET") found.1) set
 IsCall (Some found) (Certify set) = (found.0 ≡ codes "certify") × Names (first_of (codes "SET") found.1) set
 IsCall (Some found) (Check set certificate) =
-    (found.0 ≡ codes "check") × Names (first_of (codes "SET") found.1) set × Names (first_of (codes "CERT") found.1) certificate
+    (found.0 ≡ codes "check") × Names (first_of (codes "SET") found.1) set
+    × Names (first_of (codes "CERT") found.1) certificate
 IsCall (Some found) (Simulate set releases) =
-    (found.0 ≡ codes "simulate") × Names (first_of (codes "SET") found.1) set × Names (first_of (codes "RELEASES") found.1) releases
+    (found.0 ≡ codes "simulate") × Names (first_of (codes "SET") found.1) set
+    × Names (first_of (codes "RELEASES") found.1) releases
 
 -- no words call `admit` of standard input; else they call what `clap`'s matches of them name
 abbrev pub Calls : List Text → Call → Type 0
@@ -55,7 +59,8 @@ is_twice (Simulate set releases) = is_standard set && is_standard releases
 abbrev pub IsTaken : List Text → Type 0
 IsTaken words = (words ≡ []) ⊎ (fault_of desk_app words ≡ [])
 
--- `clap` gives an error of a kind that the words have, or for want of memory; or it takes them, and their call names standard input twice
+-- `clap` gives an error of a kind that the words have, or for want of memory; or it takes them, and their
+-- call names standard input twice
 abbrev pub IsWordsFault : List Text → WordsFault → Type 0
 IsWordsFault words (fault.Clap error) = (words ≢ []) × HasKind (fault_of desk_app words) error
 IsWordsFault words fault.InputTwice = IsTaken words × (call : Call) × Calls words call × (is_twice call ≡ true)

@@ -27,9 +27,11 @@ Shows U c NoOrder = ¬ IsFeasible U
 -- the answer on the bytes of a set and of a certificate
 abbrev pub ChecksBytes : List ℕ → List ℕ → Result Checked Refusal → Type 0
 ChecksBytes bytes text (Ok kind) =
-    (U : List Task) × (c : Body) × ReadsSet bytes (Ok U) × (certificate_in text ≡ Ok c) × IsReady U c × (kind ≡ kind_of c) × Shows U c kind
+    (U : List Task) × (c : Body) × ReadsSet bytes (Ok U) × (certificate_in text ≡ Ok c) × IsReady U c
+    × (kind ≡ kind_of c) × Shows U c kind
 ChecksBytes bytes text (Err (refusal.Set fault)) = ReadsSet bytes (Err fault)
-ChecksBytes bytes text (Err (refusal.Certificate fault)) = (U : List Task) × ReadsSet bytes (Ok U) × Fails fault (certificate_in text)
+ChecksBytes bytes text (Err (refusal.Certificate fault)) =
+    (U : List Task) × ReadsSet bytes (Ok U) × Fails fault (certificate_in text)
 ChecksBytes bytes text (Err (refusal.Check fault)) =
     (U : List Task) × (c : Body) × ReadsSet bytes (Ok U) × (certificate_in text ≡ Ok c) × (check_fault U c ≡ Some fault)
 ChecksBytes bytes text (Err refusal.OutOfMemory) = Unit {0}
@@ -37,7 +39,8 @@ ChecksBytes bytes text _ = ⊥
 
 -- the bytes are those that the readers had
 abbrev pub ChecksRead : Option (List ℕ) → Option (List ℕ) → Result Checked Refusal → Type 0
-ChecksRead set certificate r = (bytes : List ℕ) × (text : List ℕ) × IsReadFrom set bytes × IsReadFrom certificate text × ChecksBytes bytes text r
+ChecksRead set certificate r =
+    (bytes : List ℕ) × (text : List ℕ) × IsReadFrom set bytes × IsReadFrom certificate text × ChecksBytes bytes text r
 
 -- the answer on what the readers have of a set and of a certificate
 abbrev pub Checks : Option (List ℕ) → Option (List ℕ) → Result Checked Refusal → Type 0
@@ -65,4 +68,5 @@ checked_status (Err r) = status_of r
 -- an answer on what the readers had is printed after what the writer held, and the status is the answer's
 abbrev pub SaysChecked : Option (List ℕ) → Option (List ℕ) → Option (List ℕ) → Option (List ℕ) → Status → Type 0
 SaysChecked set certificate before after s =
-    (answer : Result Checked Refusal) × Checks set certificate answer × Appends before after (checked_said answer) × (s ≡ checked_status answer)
+    (answer : Result Checked Refusal) × Checks set certificate answer × Appends before after (checked_said answer)
+    × (s ≡ checked_status answer)

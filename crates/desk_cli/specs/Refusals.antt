@@ -32,7 +32,8 @@ at_section name task section = name ++ codes " " ++ decimal task ++ codes " " ++
 
 -- a name, two places and a key
 abbrev pub at_key : List ℕ → ℕ → ℕ → Key → List ℕ
-at_key name task section key = name ++ codes " " ++ decimal task ++ codes " " ++ decimal section ++ codes " " ++ word_of key
+at_key name task section key =
+    name ++ codes " " ++ decimal task ++ codes " " ++ decimal section ++ codes " " ++ word_of key
 
 -- a name, a level and the name of a task
 abbrev pub at_name : List ℕ → ℕ → List ℕ → List ℕ

@@ -49,7 +49,8 @@ abbrev pub after_until : ℕ → Option ℕ → Result (List Release) ℕ → Re
 after_until line None releases = Err line
 after_until line (Some n) releases = with_until n releases
 
--- of numbered lines the first is `until N`, and each other is a release; where there is no line, a given number is at fault
+-- of numbered lines the first is `until N`, and each other is a release; where there is no line, a given
+-- number is at fault
 abbrev pub list_from : ℕ → List (ℕ × List ℕ) → Result (ℕ × List Release) ℕ
 list_from past [] = Err past
 list_from past (l ∷ ls) = after_until l.0 (until_in (words l.1)) (releases_from ls)

@@ -9,7 +9,8 @@ use Rattle.desk_cli.specs.declared.words.Call.{Call}
 use Rattle.desk_cli.specs.declared.words.Call.TheVariants.{Admit, Certify, Check, Simulate}
 use Rattle.desk_cli.specs.declared.status.Status.{Status}
 
--- where inputs have some bytes, the answer of the call's command is printed after what the writer held, and the status is the answer's
+-- where inputs have some bytes, the answer of the call's command is printed after what the writer held, and
+-- the status is the answer's
 abbrev pub CallSays : (Input → Option (List ℕ)) → Call → Option (List ℕ) → Option (List ℕ) → Status → Type 0
 CallSays has (Admit set) before after s = Says lines_of (has set) before after s
 CallSays has (Certify set) before after s = Says certificate_lines (has set) before after s

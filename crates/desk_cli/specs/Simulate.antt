@@ -30,7 +30,8 @@ RunsOrder U levels rs until (Err refusal.OutOfMemory) = Unit {0}
 RunsOrder U levels rs until _ = ⊥
 
 -- the bytes say a set with a best order, and a release list
-pub record IsRun (bytes text : List ℕ) (U : List Task) (levels : List LevelData) (until : ℕ) (rs : List Release) : Type 0 where
+pub record IsRun (bytes text : List ℕ) (U : List Task) (levels : List LevelData) (until : ℕ)
+    (rs : List Release) : Type 0 where
   pub set : ReadsSet bytes (Ok U)
   pub order : IsBestOrder U levels
   pub releases : list_in text ≡ Ok (until, rs)
@@ -44,16 +45,19 @@ RunsBest bytes text r = (U : List Task) × (levels : List LevelData) × (until :
 abbrev pub SimulatesBytes : List ℕ → List ℕ → Result Simulated Refusal → Type 0
 SimulatesBytes bytes text (Ok (Ran trace)) = RunsBest bytes text (Ok trace)
 SimulatesBytes bytes text (Ok (Infeasible o)) =
-    ReadsSet bytes (Ok o.set) × IsStuck o.set o.members × ((until : ℕ) × (rs : List Release) × (list_in text ≡ Ok (until, rs)))
+    ReadsSet bytes (Ok o.set) × IsStuck o.set o.members
+    × ((until : ℕ) × (rs : List Release) × (list_in text ≡ Ok (until, rs)))
 SimulatesBytes bytes text (Err (refusal.Set fault)) = ReadsSet bytes (Err fault)
-SimulatesBytes bytes text (Err (refusal.Text fault)) = (U : List Task) × ReadsSet bytes (Ok U) × IsFault fault (list_in text)
+SimulatesBytes bytes text (Err (refusal.Text fault)) =
+    (U : List Task) × ReadsSet bytes (Ok U) × IsFault fault (list_in text)
 SimulatesBytes bytes text (Err (refusal.Run fault)) = RunsBest bytes text (Err (refusal.Run fault))
 SimulatesBytes bytes text (Err refusal.OutOfMemory) = Unit {0}
 SimulatesBytes bytes text _ = ⊥
 
 -- the bytes are those that the readers had
 abbrev pub SimulatesRead : Option (List ℕ) → Option (List ℕ) → Result Simulated Refusal → Type 0
-SimulatesRead set releases r = (bytes : List ℕ) × (text : List ℕ) × IsReadFrom set bytes × IsReadFrom releases text × SimulatesBytes bytes text r
+SimulatesRead set releases r =
+    (bytes : List ℕ) × (text : List ℕ) × IsReadFrom set bytes × IsReadFrom releases text × SimulatesBytes bytes text r
 
 -- the answer on what the readers have of a set and of a release list
 abbrev pub Simulates : Option (List ℕ) → Option (List ℕ) → Result Simulated Refusal → Type 0
@@ -78,4 +82,5 @@ simulated_status (Err r) = status_of r
 -- an answer on what the readers had is printed after what the writer held, and the status is the answer's
 abbrev pub SaysSimulated : Option (List ℕ) → Option (List ℕ) → Option (List ℕ) → Option (List ℕ) → Status → Type 0
 SaysSimulated set releases before after s =
-    (answer : Result Simulated Refusal) × Simulates set releases answer × Appends before after (simulated_said answer) × (s ≡ simulated_status answer)
+    (answer : Result Simulated Refusal) × Simulates set releases answer × Appends before after (simulated_said answer)
+    × (s ≡ simulated_status answer)

@@ -23,7 +23,8 @@ pub(crate) fn decide<R: Read + Drop>(
 ) -> Result<Verdict, Refusal>
     ensures answer { Admits (R.remaining set.old.inner) result }
     ensures failed { result ≡ Err (Refusal.Input InputFault.ReadFailed) → IsDisturbed set.new }
-    ensures answered { set.old.has_failed ≡ false → set.new.has_failed ≡ true → result ≡ Err (Refusal.Input InputFault.ReadFailed) }
+    ensures answered { set.old.has_failed ≡ false → set.new.has_failed ≡ true
+        → result ≡ Err (Refusal.Input InputFault.ReadFailed) }
     ensures turns { IsWithinTurns set.old set.new }
 {
     let bytes = read_input(alloc, set)?;
@@ -53,7 +54,8 @@ pub fn admit<R: Read + Drop, W: Write + Drop>(
     ensures failed { result ≡ Status.InputOrOutputFailed → IsDisturbed set.new ⊎ (output.new.has_failed ≡ true) }
     ensures unread { set.old.has_failed ≡ false → set.new.has_failed ≡ true → output.old.has_failed ≡ false
         → result ≡ Status.InputOrOutputFailed }
-    ensures unwritten { output.old.has_failed ≡ false → output.new.has_failed ≡ true → result ≡ Status.InputOrOutputFailed }
+    ensures unwritten { output.old.has_failed ≡ false → output.new.has_failed ≡ true
+        → result ≡ Status.InputOrOutputFailed }
     ensures turns { IsWithinTurns set.old set.new }
 {
     match decide(alloc, set) {

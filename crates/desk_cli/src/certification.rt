@@ -20,10 +20,13 @@ fn print_certificate<W: Write + Drop>(
     status: Status,
     output: &mut Watched<W>,
 ) -> Status
-    ensures printed { output.new.has_failed ≡ false → Appends (W.contents output.old.inner) (W.contents output.new.inner) (spelling certificate.now) }
+    ensures printed { output.new.has_failed ≡ false
+        → Appends (W.contents output.old.inner) (W.contents output.new.inner) (spelling certificate.now) }
     ensures status { output.new.has_failed ≡ false → result ≡ status }
-    ensures failed { result ≡ Status.InputOrOutputFailed → (status ≡ Status.InputOrOutputFailed) ⊎ (output.new.has_failed ≡ true) }
-    ensures unwritten { output.old.has_failed ≡ false → output.new.has_failed ≡ true → result ≡ Status.InputOrOutputFailed }
+    ensures failed { result ≡ Status.InputOrOutputFailed
+        → (status ≡ Status.InputOrOutputFailed) ⊎ (output.new.has_failed ≡ true) }
+    ensures unwritten { output.old.has_failed ≡ false → output.new.has_failed ≡ true
+        → result ≡ Status.InputOrOutputFailed }
 {
     match certificate.write(output) {
         Ok(()) => status,
@@ -38,11 +41,13 @@ pub fn certify<R: Read + Drop, W: Write + Drop>(
     output: &mut Watched<W>,
 ) -> Status
     ensures printed { output.new.has_failed ≡ false
-        → Says certificate_lines (R.remaining set.old.inner) (W.contents output.old.inner) (W.contents output.new.inner) result }
+        → Says certificate_lines (R.remaining set.old.inner)
+        (W.contents output.old.inner) (W.contents output.new.inner) result }
     ensures failed { result ≡ Status.InputOrOutputFailed → IsDisturbed set.new ⊎ (output.new.has_failed ≡ true) }
     ensures unread { set.old.has_failed ≡ false → set.new.has_failed ≡ true → output.old.has_failed ≡ false
         → result ≡ Status.InputOrOutputFailed }
-    ensures unwritten { output.old.has_failed ≡ false → output.new.has_failed ≡ true → result ≡ Status.InputOrOutputFailed }
+    ensures unwritten { output.old.has_failed ≡ false → output.new.has_failed ≡ true
+        → result ≡ Status.InputOrOutputFailed }
     ensures turns { IsWithinTurns set.old set.new }
 {
     match decide(alloc, set) {

@@ -30,11 +30,14 @@ fn checked<R: Read + Drop, S: Read + Drop>(
     certificate: &mut Watched<S>,
 ) -> Result<Checked, Refusal>
     ensures answer { Checks (R.remaining set.old.inner) (S.remaining certificate.old.inner) result }
-    ensures failed { result ≡ Err (Refusal.Input InputFault.ReadFailed) → IsDisturbed set.new ⊎ IsDisturbed certificate.new }
+    ensures failed { result ≡ Err (Refusal.Input InputFault.ReadFailed)
+        → IsDisturbed set.new ⊎ IsDisturbed certificate.new }
     ensures answered { set.old.has_failed ≡ false → certificate.old.has_failed ≡ false
-        → (set.new.has_failed ≡ true) ⊎ (certificate.new.has_failed ≡ true) → result ≡ Err (Refusal.Input InputFault.ReadFailed) }
+        → (set.new.has_failed ≡ true) ⊎ (certificate.new.has_failed ≡ true)
+        → result ≡ Err (Refusal.Input InputFault.ReadFailed) }
     ensures turns { IsWithinTurns set.old set.new × IsWithinTurns certificate.old certificate.new }
-    ensures first_too_long { (all : List ℕ) → R.remaining set.old.inner ≡ Some all → 16777216 < length all → certificate.new ≡ certificate.old }
+    ensures first_too_long { (all : List ℕ) → R.remaining set.old.inner ≡ Some all → 16777216 < length all
+        → certificate.new ≡ certificate.old }
     ensures first_failed { set.old.has_failed ≡ false → set.new.has_failed ≡ true → certificate.new ≡ certificate.old }
 {
     let bytes = read_input(alloc, set)?;
@@ -68,9 +71,11 @@ pub fn check_files<R: Read + Drop, S: Read + Drop, W: Write + Drop>(
     ensures unread { set.old.has_failed ≡ false → certificate.old.has_failed ≡ false
         → (set.new.has_failed ≡ true) ⊎ (certificate.new.has_failed ≡ true) → output.old.has_failed ≡ false
         → result ≡ Status.InputOrOutputFailed }
-    ensures unwritten { output.old.has_failed ≡ false → output.new.has_failed ≡ true → result ≡ Status.InputOrOutputFailed }
+    ensures unwritten { output.old.has_failed ≡ false → output.new.has_failed ≡ true
+        → result ≡ Status.InputOrOutputFailed }
     ensures turns { IsWithinTurns set.old set.new × IsWithinTurns certificate.old certificate.new }
-    ensures first_too_long { (all : List ℕ) → R.remaining set.old.inner ≡ Some all → 16777216 < length all → certificate.new ≡ certificate.old }
+    ensures first_too_long { (all : List ℕ) → R.remaining set.old.inner ≡ Some all → 16777216 < length all
+        → certificate.new ≡ certificate.old }
     ensures first_failed { set.old.has_failed ≡ false → set.new.has_failed ≡ true → certificate.new ≡ certificate.old }
 {
     match checked(alloc, set, certificate) {

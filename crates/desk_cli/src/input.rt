@@ -32,7 +32,8 @@ pub fn read_input<R: Read + Drop>(
     ensures whole { IfOk result (λ bytes. IsReadFrom (R.remaining reader.old.inner) bytes.items) }
     ensures too_long { result ≡ Err InputFault.TooLong → IsTooLong (R.remaining reader.old.inner) }
     ensures failed { result ≡ Err InputFault.ReadFailed → IsDisturbed reader.new }
-    ensures answered { reader.old.has_failed ≡ false → reader.new.has_failed ≡ true → result ≡ Err InputFault.ReadFailed }
+    ensures answered { reader.old.has_failed ≡ false → reader.new.has_failed ≡ true
+        → result ≡ Err InputFault.ReadFailed }
     ensures tried_again { result ≡ Err InputFault.ReadFailed → reader.new.has_failed ≡ false
         → reader.old.reads + 33554432 < 2 ^ 64 → reader.new.reads ≡ reader.old.reads + 33554432 }
     ensures turns { IsWithinTurns reader.old reader.new }

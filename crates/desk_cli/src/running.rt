@@ -58,7 +58,8 @@ pub fn run_call<O: Opens, W: Write + Drop>(
 ) -> Status
     ensures printed { output.new.has_failed ≡ false
         → CallSays (O.bytes inputs.now) call.entry (W.contents output.old.inner) (W.contents output.new.inner) result }
-    ensures unwritten { output.old.has_failed ≡ false → output.new.has_failed ≡ true → result ≡ Status.InputOrOutputFailed }
+    ensures unwritten { output.old.has_failed ≡ false → output.new.has_failed ≡ true
+        → result ≡ Status.InputOrOutputFailed }
 {
     match call {
         Call::Admit { set } => match inputs.open(set) {

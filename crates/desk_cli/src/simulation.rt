@@ -79,11 +79,14 @@ fn simulated_of<R: Read + Drop, S: Read + Drop>(
     releases: &mut Watched<S>,
 ) -> Result<Simulated, Refusal>
     ensures answer { Simulates (R.remaining set.old.inner) (S.remaining releases.old.inner) result }
-    ensures failed { result ≡ Err (Refusal.Input InputFault.ReadFailed) → IsDisturbed set.new ⊎ IsDisturbed releases.new }
+    ensures failed { result ≡ Err (Refusal.Input InputFault.ReadFailed)
+        → IsDisturbed set.new ⊎ IsDisturbed releases.new }
     ensures answered { set.old.has_failed ≡ false → releases.old.has_failed ≡ false
-        → (set.new.has_failed ≡ true) ⊎ (releases.new.has_failed ≡ true) → result ≡ Err (Refusal.Input InputFault.ReadFailed) }
+        → (set.new.has_failed ≡ true) ⊎ (releases.new.has_failed ≡ true)
+        → result ≡ Err (Refusal.Input InputFault.ReadFailed) }
     ensures turns { IsWithinTurns set.old set.new × IsWithinTurns releases.old releases.new }
-    ensures first_too_long { (all : List ℕ) → R.remaining set.old.inner ≡ Some all → 16777216 < length all → releases.new ≡ releases.old }
+    ensures first_too_long { (all : List ℕ) → R.remaining set.old.inner ≡ Some all → 16777216 < length all
+        → releases.new ≡ releases.old }
     ensures first_failed { set.old.has_failed ≡ false → set.new.has_failed ≡ true → releases.new ≡ releases.old }
 {
     let bytes = read_input(alloc, set)?;
@@ -108,9 +111,11 @@ pub fn simulate<R: Read + Drop, S: Read + Drop, W: Write + Drop>(
     ensures unread { set.old.has_failed ≡ false → releases.old.has_failed ≡ false
         → (set.new.has_failed ≡ true) ⊎ (releases.new.has_failed ≡ true) → output.old.has_failed ≡ false
         → result ≡ Status.InputOrOutputFailed }
-    ensures unwritten { output.old.has_failed ≡ false → output.new.has_failed ≡ true → result ≡ Status.InputOrOutputFailed }
+    ensures unwritten { output.old.has_failed ≡ false → output.new.has_failed ≡ true
+        → result ≡ Status.InputOrOutputFailed }
     ensures turns { IsWithinTurns set.old set.new × IsWithinTurns releases.old releases.new }
-    ensures first_too_long { (all : List ℕ) → R.remaining set.old.inner ≡ Some all → 16777216 < length all → releases.new ≡ releases.old }
+    ensures first_too_long { (all : List ℕ) → R.remaining set.old.inner ≡ Some all → 16777216 < length all
+        → releases.new ≡ releases.old }
     ensures first_failed { set.old.has_failed ≡ false → set.new.has_failed ≡ true → releases.new ≡ releases.old }
 {
     match simulated_of(alloc, set, releases) {

@@ -8,7 +8,8 @@ use std::alloc::{AllocError, Global};
 
 // The name of the job at a place; nothing past the end.
 fn push_job_name(text: &mut String, jobs: &[JobRecord], place: usize) -> Result<(), AllocError>
-    ensures { OnOk result (string_bytes text.new ≡ string_bytes text.old ++ (slice_index_or jobs.now place no_record).name) }
+    ensures { OnOk result
+        (string_bytes text.new ≡ string_bytes text.old ++ (slice_index_or jobs.now place no_record).name) }
 {
     match jobs.get(place) {
         Some(job) => {
@@ -30,7 +31,8 @@ fn push_slice(text: &mut String, jobs: &[JobRecord], slice: Slice) -> Result<(),
 }
 
 fn push_slices(text: &mut String, trace: &Trace) -> Result<(), AllocError>
-    ensures { OnOk result (string_bytes text.new ≡ string_bytes text.old ++ slice_lines trace.now.jobs.items trace.now.slices.items) }
+    ensures { OnOk result
+        (string_bytes text.new ≡ string_bytes text.old ++ slice_lines trace.now.jobs.items trace.now.slices.items) }
 {
     for slice in &trace.slices {
         push_slice(text, &trace.jobs, *slice)?;

@@ -260,7 +260,8 @@ pub fn read_words<'a>(alloc: Global, words: &'a [&'a str]) -> Result<Call<'a>, W
 // Prints the text of `clap`'s error.
 fn show<W: Write + Drop>(error: &Error, status: Status, writer: &mut Watched<W>) -> Status
     ensures status { writer.new.has_failed ≡ false → result ≡ status }
-    ensures unwritten { writer.old.has_failed ≡ false → writer.new.has_failed ≡ true → result ≡ Status.InputOrOutputFailed }
+    ensures unwritten { writer.old.has_failed ≡ false → writer.new.has_failed ≡ true
+        → result ≡ Status.InputOrOutputFailed }
 {
     match write!(writer, "{error}") {
         Ok(()) => status,
