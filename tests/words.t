@@ -94,13 +94,13 @@ That last one is a file with the name `--help`, which isn't there:
 
 Standard input can't be named twice:
 
-  $ desk check - - < examples/three-tasks.toml
+  $ desk check - - 2>&1 < examples/three-tasks.toml
   standard input named twice
   [2]
   $ desk_says check - - < examples/three-tasks.toml
   errors
   [2]
-  $ desk simulate - - < examples/three-tasks.toml
+  $ desk simulate - - 2>&1 < examples/three-tasks.toml
   standard input named twice
   [2]
   $ desk_says simulate - - < examples/three-tasks.toml
@@ -109,7 +109,7 @@ Standard input can't be named twice:
 
 A word that isn't UTF-8:
 
-  $ desk admit "$(printf 'a\377')"
+  $ desk admit "$(printf 'a\377')" 2>&1
   error: a word is not UTF-8
   [2]
   $ desk_says admit "$(printf 'a\377')"
