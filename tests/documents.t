@@ -57,6 +57,10 @@ Numbers in any spelling that TOML has, and tables in any spelling:
   admitted 1
   1 a 5000
 
+  $ document 'task = [{\n  name = "a", period = 10000,\n  deadline = 10000, cost = 5000,\n}]'
+  admitted 1
+  1 a 5000
+
 Periods from 1,000 to 10,000,000; deadlines and costs from 1 to the period; a cost past the deadline is no fault:
 
   $ task "name = 'a', period = 1000, deadline = 1000, cost = 1000"
@@ -115,6 +119,16 @@ An integer past 64 bits, a key that stands twice:
   refused: Syntax
   [4]
   $ more 'weight = 1, weight = 1'
+  refused: Syntax
+  [4]
+
+Nested more than 80 deep:
+
+  $ deep() { printf '[%.0s' $(seq $1); printf ']%.0s' $(seq $1); }
+  $ document "x = $(deep 80)"
+  refused: UnknownKey 0 0
+  [4]
+  $ document "x = $(deep 81)"
   refused: Syntax
   [4]
 
