@@ -37,7 +37,7 @@ lo takes the lock at 100, so mid waits until 4100, and hi goes before mid:
   job mid 200 7100
   job hi 300 5100
 
-hi's bound of 5000 is missed by one tick where it is released at 101, right after lo has taken the lock. At 100 lo
+Released at 101, right after lo has taken the lock, hi and mid stay one below their bounds of 5000 and 7000. At 100 lo
 hasn't, and hi preempts it:
 
   $ run examples/shared-lock.toml 'until 100000\n0 lo\n101 mid\n101 hi\n'
