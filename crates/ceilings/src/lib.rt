@@ -6,6 +6,7 @@ ghost use Rattle.std.specs.Prelude.{◌≡◌, ◌<◌, ◌≤◌, ℕ, List, le
 ghost use Rattle.task_sheet.specs.Sheet.{Task, same_bytes, task_at};
 ghost use Rattle.task_sheet.specs.Indexes.{indexes_of};
 ghost use Rattle.task_sheet.specs.Locks.{uses, reaches, ceiling_of};
+ghost use Rattle.ceilings.specs.Table.{locks_in, users_in, some_uses};
 ghost use Rattle.ceilings.specs.Holds.{longest_outside};
 ghost use Rattle.ceilings.specs.IsTableOf.{IsTableOf, locks_of};
 
@@ -50,28 +51,32 @@ impl LockTable {
 
     /// The tasks that use a lock: none for a lock that nobody names.
     pub fn users(&self, lock: Name) -> Members
-        ensures { (U : List Task) → IsTableOf U self.now → (k : ℕ) → indexes_of result k ≡ uses (task_at U k) lock }
+        ensures noted { result ≡ users_in self.now.users lock }
+        ensures uses { (U : List Task) → IsTableOf U self.now → (k : ℕ) → indexes_of result k ≡ uses (task_at U k) lock }
     {
         self.users.users(lock)
     }
 
     /// How many locks the set has.
     pub fn count(&self) -> usize
-        ensures { (U : List Task) → IsTableOf U self.now → result ≡ length (locks_of U) }
+        ensures noted { result ≡ length (locks_in self.now.users) }
+        ensures locks { (U : List Task) → IsTableOf U self.now → result ≡ length (locks_of U) }
     {
         self.users.count()
     }
 
     /// The place of a lock in the order of first sight, from 0; none for a lock that nobody names.
     pub fn index_of(&self, lock: Name) -> Option<usize>
-        ensures { (U : List Task) → IsTableOf U self.now → result ≡ position (same_bytes lock) (locks_of U) }
+        ensures noted { result ≡ position (same_bytes lock) (locks_in self.now.users) }
+        ensures first_sight { (U : List Task) → IsTableOf U self.now → result ≡ position (same_bytes lock) (locks_of U) }
     {
         self.users.index_of(lock)
     }
 
     /// Whether some member uses one of the section's locks.
     pub fn reaches(&self, section: &Section, members: Members) -> bool
-        ensures { (U : List Task) → IsTableOf U self.now → result ≡ reaches U (indexes_of members) section.now }
+        ensures noted { result ≡ some_uses self.now.users members section.now.locks }
+        ensures reaches { (U : List Task) → IsTableOf U self.now → result ≡ reaches U (indexes_of members) section.now }
     {
         self.users.reaches(section, members)
     }

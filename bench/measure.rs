@@ -1,0 +1,92 @@
+//! Runs `desk` and the plain program as whole processes in turn and prints a table of the least times:
+//! `measure DESK PLAIN FOLDER RUNS`.
+
+use std::process::{Command, Stdio};
+use std::time::{Duration, Instant};
+use std::{env, fs};
+
+struct Bench {
+    desk: String,
+    plain: String,
+    folder: String,
+    runs: usize,
+}
+
+// How long a process takes, and what it wrote.
+fn run(program: &str, words: &[String]) -> (Duration, Vec<u8>) {
+    let begin = Instant::now();
+    let output = Command::new(program).args(words).stdin(Stdio::null()).output().unwrap();
+    (begin.elapsed(), output.stdout)
+}
+
+impl Bench {
+    fn words(&self, command: &str, files: &[&str]) -> Vec<String> {
+        let paths = files.iter().map(|file| format!("{}/{file}", self.folder));
+        [command.to_string()].into_iter().chain(paths).collect()
+    }
+
+    // The least times of the plain program and of `desk`, in turn, in milliseconds. The answers have to agree where they should.
+    fn pair(&self, plain: &[String], desk: &[String], agree: bool) -> (f64, f64) {
+        let mut least = [Duration::MAX; 2];
+        for _ in 0..self.runs {
+            let (one, said) = run(&self.plain, plain);
+            let (other, answered) = run(&self.desk, desk);
+            assert!(!agree || said == answered, "the answers differ: {desk:?}");
+            least = [least[0].min(one), least[1].min(other)];
+        }
+        (least[0].as_secs_f64() * 1e3, least[1].as_secs_f64() * 1e3)
+    }
+
+    fn row(&self, name: &str, plain: (&str, &[&str]), desk: (&str, &[&str])) -> (f64, f64) {
+        let agree = plain.0 != "read";
+        let times = self.pair(&self.words(plain.0, plain.1), &self.words(desk.0, desk.1), agree);
+        println!("| {name} | {:.1} | {:.1} | {:.2} |", times.0, times.1, times.1 / times.0);
+        times
+    }
+
+    fn admit(&self) {
+        let sets = ["chains", "harmonic", "late-no", "longest", "sections", "spread"];
+        let mut sums = (0.0, 0.0);
+        for set in sets {
+            let file = format!("{set}.toml");
+            let times = self.row(&format!("admit {set}"), ("admit", &[&file]), ("admit", &[&file]));
+            sums = (sums.0 + times.0, sums.1 + times.1);
+        }
+        println!("| admit, sum | {:.1} | {:.1} | {:.2} |", sums.0, sums.1, sums.1 / sums.0);
+    }
+
+    fn certificates(&self) {
+        let set = ["longest.toml"];
+        self.row("certify longest", ("certify", &set), ("certify", &set));
+        let (_, text) = run(&self.desk, &self.words("certify", &set));
+        fs::write(format!("{}/longest.certificate", self.folder), &text).unwrap();
+        let both = ["longest.toml", "longest.certificate"];
+        self.row(&format!("check longest ({} bytes)", text.len()), ("check", &both), ("check", &both));
+    }
+
+    fn against_reading(&self) {
+        for name in ["first", "both"] {
+            let files = ["held.toml", &format!("{name}.releases")];
+            let count = fs::read_to_string(format!("{}/{}", self.folder, files[1])).unwrap().lines().count() - 1;
+            self.row(&format!("simulate {count} releases, beside reading"), ("read", &files), ("simulate", &files));
+        }
+        for name in ["comment", "string", "headers", "keys", "tasks"] {
+            let file = [&*format!("{name}.toml")];
+            self.row(&format!("refuse 16 M: {name}, beside reading"), ("read", &file), ("admit", &file));
+        }
+    }
+}
+
+fn main() {
+    let words: Vec<String> = env::args().collect();
+    let bench = Bench {
+        desk: words[1].clone(),
+        plain: words[2].clone(),
+        folder: words[3].clone(),
+        runs: words[4].parse().unwrap(),
+    };
+    println!("| Work | plain, ms | desk, ms | ratio |\n|---|---|---|---|");
+    bench.admit();
+    bench.certificates();
+    bench.against_reading();
+}
