@@ -1,5 +1,6 @@
 pub mod SeenSteps
 pub mod WorkSteps
+pub mod RequestLaws
 pub mod ChainSteps
 pub mod LevelSteps
 pub mod ChainTests

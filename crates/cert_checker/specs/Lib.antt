@@ -2,4 +2,5 @@ pub mod Naming
 pub mod Chains
 pub mod Faults
 pub mod Work
+pub mod Requests
 pub mod Answers

@@ -1,44 +1,41 @@
 //! The numbers that show that a task fails, or passes.
-ghost use Rattle.std.specs.Prelude.{◌≡◌, ◌<◌, ◌≤◌, ◌+◌, ◌&&◌, nat_le, length};
+ghost use Rattle.std.specs.Prelude.{◌≡◌, ◌<◌, ◌≤◌, ◌+◌, ◌&&◌, ℕ, nat_le, length};
 ghost use Rattle.task_sheet.specs.Sheet.{task_at};
 ghost use Rattle.task_sheet.specs.Indexes.{indexes_of, without_index};
 ghost use Rattle.task_sheet.specs.Demand.{demand_of, limit_of};
 ghost use Rattle.cert_checker.specs.Naming.{task_of};
-ghost use Rattle.cert_checker.specs.Work.{work_within};
+ghost use Rattle.cert_checker.specs.Requests.{requests_within};
 ghost use Rattle.cert_checker.specs.Chains.{may_follow, goes_past, is_chain};
 ghost use Rattle.cert_checker.specs.Faults.{does_pass, is_refuted, bad_chain};
 
 use crate::fault::CheckFault;
 use crate::naming::task_of;
+use crate::requests::Requests;
 use crate::work::{base_demand, limit_of, work_within};
 use certificate::CertChain;
 use task_sheet::{Members, TaskSet};
 
 // Whether the number may stand behind the last one.
-fn may_follow(set: &TaskSet, above: Members, once: u64, limit: u64, last: u64, number: u64) -> bool
-    requires once { once ≤ 20000000 }
+#[inline(always)]
+fn may_follow(requests: &mut Requests, limit: u64, last: u64, number: u64) -> bool
     requires limit { limit ≤ 10000000 }
-    ensures { result ≡ may_follow (work_within set.now (indexes_of above) once) limit last number }
+    requires longer { requests.old.time ≤ last }
+    ensures is { result ≡ may_follow (λ t. requests_within t requests.old) limit last number }
+    ensures same { (t : ℕ) → requests_within t requests.new ≡ requests_within t requests.old }
+    ensures carried { requests.new.time ≤ last }
 {
-    last <= limit && last < number && number <= work_within(set, above, once, last)
+    last <= limit && last < number && number <= requests.advance(last)
 }
 
 // Whether the numbers climb past the limit from the last one.
-fn goes_past(
-    set: &TaskSet,
-    above: Members,
-    once: u64,
-    limit: u64,
-    first: u64,
-    numbers: &[u64],
-) -> bool
-    requires once { once ≤ 20000000 }
+fn goes_past(mut requests: Requests, limit: u64, first: u64, numbers: &[u64]) -> bool
     requires limit { limit ≤ 10000000 }
-    ensures { result ≡ goes_past (work_within set.now (indexes_of above) once) limit first numbers.now }
+    requires longer { requests.time ≤ first }
+    ensures { result ≡ goes_past (λ t. requests_within t requests) limit first numbers.now }
 {
     let mut last = first;
     for number in numbers {
-        if !may_follow(set, above, once, limit, last, *number) {
+        if !may_follow(&mut requests, limit, last, *number) {
             return false;
         }
         last = *number;
@@ -58,8 +55,8 @@ fn is_chain(set: &TaskSet, task: usize, above: Members, numbers: &[u64]) -> bool
         return false;
     }
     let limit = limit_of(&set.sheets()[task]);
-    let once = base_demand(set, task, above);
-    goes_past(set, above, once, limit, 1, rest)
+    let requests = Requests::new(set, above, base_demand(set, task, above));
+    goes_past(requests, limit, 1, rest)
 }
 
 /// Whether the time is from 1 to the limit of the task, and covers its demand below the others that are left.
