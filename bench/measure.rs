@@ -45,7 +45,7 @@ impl Bench {
     }
 
     fn admit(&self) {
-        let sets = ["chains", "harmonic", "late-no", "longest", "sections", "spread"];
+        let sets = ["chains", "harmonic", "late-no", "longest", "sections", "document"];
         let mut sums = (0.0, 0.0);
         for set in sets {
             let file = format!("{set}.toml");

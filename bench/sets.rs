@@ -46,11 +46,11 @@ fn document(tasks: &[Task]) -> String {
     text
 }
 
-// The least window that covers the demand of all these tasks.
+// The least window that covers the demand of all these tasks, and one microsecond of blocking.
 fn busy(tasks: &[Task]) -> u64 {
     let mut time = 1;
     loop {
-        let next = tasks.iter().map(|t| u64::div_ceil(time, t.period) * t.cost).sum();
+        let next = tasks.iter().map(|t| u64::div_ceil(time, t.period) * t.cost).sum::<u64>() + 1;
         if next == time {
             return time;
         }
@@ -75,26 +75,33 @@ fn staircase(random: &mut Random, periods: &[(u64, u64)], slow: usize, base: u64
     tasks
 }
 
-fn spread(random: &mut Random, sections: usize, locks: u64) -> Vec<Task> {
+// Names of one to four locks out of so many.
+fn names(random: &mut Random, locks: u64) -> Vec<String> {
+    let count = random.within(1, 4) as usize;
+    let mut names: Vec<String> = Vec::new();
+    while names.len() < count {
+        let name = format!("lock{:03}", random.within(0, locks - 1));
+        if !names.contains(&name) {
+            names.push(name);
+        }
+    }
+    names
+}
+
+// The tasks with seven short sections each.
+fn with_sections(random: &mut Random, mut tasks: Vec<Task>, locks: u64) -> Vec<Task> {
+    for t in &mut tasks {
+        t.sections = (0..7).map(|k| (k * 2, 1, names(random, locks))).collect();
+    }
+    tasks
+}
+
+// Tasks of ordinary periods, which take few demands.
+fn ordinary(random: &mut Random) -> Vec<Task> {
     (0..32)
         .map(|place| {
             let period = random.within(1 + place as u64 / 2, 2 + place as u64) * 10_000;
-            let cost = period / 48;
-            let mut t = task(place, period, period, cost);
-            t.weight = random.within(0, 9);
-            let len = cost / sections.max(1) as u64;
-            for k in 0..sections {
-                let count = random.within(1, 4) as usize;
-                let mut names: Vec<String> = Vec::new();
-                while names.len() < count {
-                    let name = format!("lock{:03}", random.within(0, locks - 1));
-                    if !names.contains(&name) {
-                        names.push(name);
-                    }
-                }
-                t.sections.push((k as u64 * len, 1 + random.within(0, len / 8), names));
-            }
-            t
+            task(place, period, period, period / 48)
         })
         .collect()
 }
@@ -138,11 +145,13 @@ fn main() {
     let powers: Vec<(u64, u64)> = (0..12).map(|k| (1000 << (k / 2), 253)).collect();
     save("harmonic", staircase(&mut random, &powers, 20, 8000, 300));
     save("longest", staircase(&mut random, &[(1000, 600), (2000, 600), (4000, 399)], 29, 2100, 8));
-    let mut late = staircase(&mut random, &[(1000, 700), (2000, 598)], 24, 500, 90);
+    let mut late = staircase(&mut random, &[(1000, 700), (2000, 598)], 28, 3000, 60);
     late[0].cost = 701;
     save("late-no", late);
-    save("sections", spread(&mut random, 7, 200));
-    save("spread", spread(&mut random, 2, 40));
+    let held = staircase(&mut random, &[(1000, 600), (2000, 400), (4000, 796)], 29, 4000, 80);
+    save("sections", with_sections(&mut random, held, 200));
+    let tasks = ordinary(&mut random);
+    save("document", with_sections(&mut random, tasks, 200));
     let short: Vec<Task> = (0..32).map(|k| task(k, 180_000 + k as u64, 180_000, 5000)).collect();
     let mut held = short;
     for (place, t) in held.iter_mut().enumerate() {
