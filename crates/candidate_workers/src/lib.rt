@@ -7,9 +7,13 @@ mod claims;
 mod crew;
 mod deciding;
 mod gate;
+mod gathering;
 mod view;
 
+pub use asking::WorkFault;
 pub use assaying::{AssayFault, assay};
 pub use claims::{ClaimSeat, ClaimTable};
+pub use crew::share_out;
 pub use gate::{Gate, OpenGate};
+pub use gathering::{Claimed, Crew, Handed};
 pub use view::View;

@@ -1,0 +1,9 @@
+use Rattle.std.proofs.Common.{◌++◌, ◌∷◌, [], cond, take}
+use Rattle.candidate_workers.specs.declared.assaying.AssayFault.TheVariants.{ThreadRefused}
+use Rattle.candidate_workers.specs.Crews.{work_faults, IsFirstFault}
+use Rattle.candidate_workers.proofs.gathering.Crew.fault.Given as goal
+
+abbrev pub invariant-loop-handed : goal.invariant-loop-handed
+invariant-loop-handed l = record {
+  first : IsFirstFault (cond l.self.refused (ThreadRefused ∷ []) [] ++ work_faults (take l.handed-index l.self.handed.items)) l.first;
+}

@@ -1,0 +1,62 @@
+-- What came of the workers of a level, all together.
+use Rattle.std.specs.Prelude.{◌≡◌, ℕ, ◌+◌, ◌<◌, ◌≤◌, true, false, cond, List, [], ◌∷◌, ◌++◌, map, Option, None, Some, Result, Ok, Err, All}
+use Rattle.std.specs.List.{Contains}
+use Rattle.std.specs.Global.{Vec}
+use Rattle.assignment.specs.Questions.{FindingData}
+use Rattle.assignment.specs.Levels.{LevelState}
+use Rattle.candidate_workers.specs.declared.asking.WorkFault.{WorkFault}
+use Rattle.candidate_workers.specs.declared.assaying.AssayFault.{AssayFault}
+use Rattle.candidate_workers.specs.declared.assaying.AssayFault.TheVariants.{BadWorkers, ThreadRefused, GateShut, OutOfMemory}
+use Rattle.candidate_workers.specs.declared.gathering.Claimed.{Claimed}
+use Rattle.candidate_workers.specs.declared.gathering.Crew.{Crew}
+use Rattle.candidate_workers.specs.declared.view.View.{View}
+use Rattle.candidate_workers.specs.Claims.{count_of, candidate_at, passes_at, times, once_below, settled, IsLeastPassing}
+use Rattle.candidate_workers.specs.Seats.{seat_view, task_of}
+use Rattle.candidate_workers.specs.Faults.{fault_of}
+
+-- the tasks of the findings that the workers handed on, worker by worker
+abbrev pub tasks_handed : List (Result (Vec FindingData) WorkFault) → List ℕ
+tasks_handed [] = []
+tasks_handed (Ok findings ∷ rest) = map task_of findings.items ++ tasks_handed rest
+tasks_handed (Err fault ∷ rest) = tasks_handed rest
+
+-- the faults of the workers
+abbrev pub work_faults : List (Result (Vec FindingData) WorkFault) → List AssayFault
+work_faults [] = []
+work_faults (Ok findings ∷ rest) = work_faults rest
+work_faults (Err fault ∷ rest) = fault_of fault ∷ work_faults rest
+
+-- the faults of a crew: a thread that was refused, and the faults of its workers
+abbrev pub faults_of : Crew → List AssayFault
+faults_of crew = cond crew.refused (ThreadRefused ∷ []) [] ++ work_faults crew.handed.items
+
+-- the place of a fault in the order in which faults are answered
+abbrev pub rank_of : AssayFault → ℕ
+rank_of BadWorkers = 0
+rank_of ThreadRefused = 1
+rank_of (GateShut task) = 2
+rank_of OutOfMemory = 3
+
+-- one of the faults, with none of smaller rank among them, or there are none
+abbrev pub IsFirstFault : List AssayFault → Option AssayFault → Type 0
+IsFirstFault faults None = faults ≡ []
+IsFirstFault faults (Some fault) = Contains faults fault × All (λ other. rank_of fault ≤ rank_of other) faults
+
+-- the view of all that the workers of a level did at its claim table
+abbrev pub whole_view : Claimed → View
+whole_view claimed = seat_view claimed.seat.value
+
+-- the workers drew the numbers below the counter, each once; each number of a candidate became one of passed, failed and cut;
+-- the tasks of the findings handed on are the candidates at the failed and the passed places; the least word is the least
+-- place whose candidate passes, or the number of candidates
+pub record AreClaims (level : LevelState) (tasks : List ℕ) (claimed : Claimed) : Type 0 where
+  pub each_once : (x : ℕ) → times x (whole_view claimed).drawn ≡ once_below x claimed.counter
+  pub near : claimed.counter ≤ count_of level + 8
+  pub least : IsLeastPassing (count_of level) (passes_at level) claimed.least
+  pub one_fate : (k : ℕ) → k < count_of level → settled (whole_view claimed) k ≡ once_below k claimed.counter
+  pub passing : (k : ℕ) → 0 < times k (whole_view claimed).passed → passes_at level k ≡ true
+  pub failing : (k : ℕ) → 0 < times k (whole_view claimed).failed → passes_at level k ≡ false
+  pub cut_above : (k : ℕ) → 0 < times k (whole_view claimed).cut → claimed.least < k
+  pub told :
+      (j : ℕ) →
+      times j tasks ≡ times j (map (candidate_at level) (whole_view claimed).failed) + times j (map (candidate_at level) (whole_view claimed).passed)
