@@ -1,0 +1,194 @@
+//! Claims at a table by hand.
+ghost use Rattle.std.specs.Prelude.{◌≡◌, ◌<◌, ◌≤◌, false, None, Some, IfOk, OnOk};
+ghost use Rattle.assignment.specs.Levels.{IsAsked};
+ghost use Rattle.candidate_workers.specs.Claims.{count_of, passes_at, late, IsDone};
+ghost use Rattle.candidate_workers.specs.Seats.{seat_view, level_of, SitsAt, IsFindingAt};
+
+use crate::sets::{THREE_TASKS, THREE_TASKS_TOO_TIGHT, lowest_level, set_of};
+use assignment::{Climb, Finding, Level};
+use candidate_workers::{ClaimSeat, ClaimTable};
+use std::alloc::Global;
+use std::process::Abort;
+use std::sync::Arc;
+use std::test::Fail;
+use task_sheet::TaskSet;
+
+// The finding on the candidate at a place.
+fn finding_at(rt: &impl Abort, alloc: Global, level: &Level, place: u64) -> Result<Finding, Fail>
+    ensures { IfOk result (λ finding. IsFindingAt level.now place finding) }
+{
+    let Some(task) = level.candidate(place as usize) else {
+        return Err("a candidate")?;
+    };
+    finding_on(rt, alloc, level, task)
+}
+
+// The finding on a candidate.
+fn finding_on(rt: &impl Abort, alloc: Global, level: &Level, task: usize) -> Result<Finding, Fail>
+    ensures { IfOk result (λ finding. IsAsked level.now finding.question × (finding.question.task ≡ task)) }
+{
+    assert!(rt; task < 32);
+    assert!(rt; level.left().has(task));
+    let question = level.question(task)?;
+    match question.answer(alloc) {
+        Ok(finding) => Ok(finding),
+        Err(_) => Err("memory")?,
+    }
+}
+
+// Whether the candidate at a place fails, by its finding.
+fn fails_at(rt: &impl Abort, alloc: Global, level: &Level, place: u64) -> Result<(), Fail>
+    ensures { OnOk result (passes_at level.now place ≡ false) }
+{
+    let finding = finding_at(rt, alloc, level, place)?;
+    if finding.passes() {
+        return Err("a candidate that fails")?;
+    }
+    Ok(())
+}
+
+// Draws this number with a seat whose open candidate, if it has one, fails.
+fn draw(
+    rt: &impl Abort,
+    alloc: Global,
+    level: &Level,
+    claims: &ClaimTable,
+    seat: &mut ClaimSeat,
+    held: Option<u64>,
+    want: u64,
+) -> Result<(), Fail>
+    requires level { level_of claims.now ≡ level.now }
+    requires seat { SitsAt claims.now seat.old × (seat.old.held ≡ held) }
+    requires room { late (seat_view seat.old) < (seat_view seat.old).spare }
+    ensures seat { OnOk result (SitsAt claims.now seat.new) }
+    ensures spare { OnOk result ((seat_view seat.new).spare ≡ (seat_view seat.old).spare) }
+    ensures open { OnOk result (want < count_of level.now → (seat.new.held ≡ Some want) × (late (seat_view seat.new) ≡ late (seat_view seat.old))) }
+    ensures past { OnOk result (count_of level.now ≤ want → (seat.new.held ≡ None) × IsDone (seat_view seat.new)) }
+{
+    if let Some(place) = held {
+        fails_at(rt, alloc, level, place)?;
+    }
+    let number = claims.claim(seat);
+    if number != want {
+        return Err("this number")?;
+    }
+    Ok(())
+}
+
+// Lowers the least word to the open candidate, which passes.
+fn lower_to(
+    rt: &impl Abort,
+    alloc: Global,
+    level: &Level,
+    claims: &ClaimTable,
+    seat: &mut ClaimSeat,
+    place: u64,
+) -> Result<(), Fail>
+    requires level { level_of claims.now ≡ level.now }
+    requires seat { SitsAt claims.now seat.old × (seat.old.held ≡ Some place) }
+    ensures seat { OnOk result (SitsAt claims.now seat.new × (seat.new.held ≡ None) × IsDone (seat_view seat.new) × ((seat_view seat.new).spare ≡ (seat_view seat.old).spare)) }
+{
+    let finding = finding_at(rt, alloc, level, place)?;
+    if !finding.passes() {
+        return Err("a candidate that passes")?;
+    }
+    claims.lower(seat, &finding);
+    Ok(())
+}
+
+// The lowest level of a set of three tasks.
+fn three_candidates(rt: &impl Abort, alloc: Global, text: &str) -> Result<Level, Fail>
+    ensures { IfOk result (λ level. count_of level ≡ 3) }
+{
+    let level = lowest_level(alloc, &set_of(alloc, text)?)?;
+    assert!(rt; level.left().len() == 3);
+    Ok(level)
+}
+
+// Those left once the lowest level of the three tasks is closed: a and b.
+fn above_the_lowest(rt: &impl Abort, alloc: Global, set: &Arc<TaskSet>) -> Result<Climb, Fail>
+    ensures { IfOk result (λ climb. climb.set ≡ set.now.value) }
+{
+    let mut climb = Climb::start(alloc, set.clone()?)?;
+    let left = climb.left();
+    assert!(rt; left.len() == 3);
+    let mut level = Level::start(alloc, set.clone()?, left)?;
+    for task in 0..3usize {
+        let finding = finding_on(rt, alloc, &level, task)?;
+        assert!(rt; level.take(finding).is_ok());
+    }
+    assert!(rt; climb.close(level).is_ok());
+    Ok(climb)
+}
+
+// The level of a and b, with c below them.
+fn two_candidates(rt: &impl Abort, alloc: Global) -> Result<Level, Fail>
+    ensures { IfOk result (λ level. count_of level ≡ 2) }
+{
+    let set = set_of(alloc, THREE_TASKS)?;
+    let climb = above_the_lowest(rt, alloc, &set)?;
+    let left = climb.left();
+    assert!(rt; left.len() == 2 && !left.has(2));
+    let level = Level::start(alloc, set, left)?;
+    Ok(level)
+}
+
+// s draws 0, t draws 1, s draws 2 and lowers the least word to it, t draws 3.
+fn two_seats(rt: &impl Abort, alloc: Global) -> Result<(u64, u64), Fail> {
+    let level = three_candidates(rt, alloc, THREE_TASKS)?;
+    let (claims, mut s) = ClaimTable::new(alloc, &level)?;
+    let mut t = claims.split(&mut s);
+    draw(rt, alloc, &level, &claims, &mut s, None, 0)?;
+    draw(rt, alloc, &level, &claims, &mut t, None, 1)?;
+    draw(rt, alloc, &level, &claims, &mut s, Some(0), 2)?;
+    lower_to(rt, alloc, &level, &claims, &mut s, 2)?;
+    draw(rt, alloc, &level, &claims, &mut t, Some(1), 3)?;
+    claims.join(&mut s, t);
+    Ok(claims.finish(s))
+}
+
+// s draws 0 and lowers the least word to it, t draws 1 and sees that.
+fn cut(rt: &impl Abort, alloc: Global) -> Result<(u64, u64), Fail> {
+    let level = two_candidates(rt, alloc)?;
+    let (claims, mut s) = ClaimTable::new(alloc, &level)?;
+    let mut t = claims.split(&mut s);
+    draw(rt, alloc, &level, &claims, &mut s, None, 0)?;
+    lower_to(rt, alloc, &level, &claims, &mut s, 0)?;
+    draw(rt, alloc, &level, &claims, &mut t, None, 1)?;
+    let least = claims.look(&mut t);
+    assert!(rt; least == 0);
+    claims.join(&mut s, t);
+    Ok(claims.finish(s))
+}
+
+// One seat draws 0, 1, 2 and 3, where no candidate passes.
+fn nobody(rt: &impl Abort, alloc: Global) -> Result<(u64, u64), Fail> {
+    let level = three_candidates(rt, alloc, THREE_TASKS_TOO_TIGHT)?;
+    let (claims, mut seat) = ClaimTable::new(alloc, &level)?;
+    draw(rt, alloc, &level, &claims, &mut seat, None, 0)?;
+    draw(rt, alloc, &level, &claims, &mut seat, Some(0), 1)?;
+    draw(rt, alloc, &level, &claims, &mut seat, Some(1), 2)?;
+    draw(rt, alloc, &level, &claims, &mut seat, Some(2), 3)?;
+    Ok(claims.finish(seat))
+}
+
+#[test]
+fn two_seats_draw(rt: HostRuntime) -> Result<(), Fail> {
+    let found = two_seats(&rt, rt.alloc())?;
+    assert!(rt; found == (4, 2));
+    Ok(())
+}
+
+#[test]
+fn cut_short(rt: HostRuntime) -> Result<(), Fail> {
+    let found = cut(&rt, rt.alloc())?;
+    assert!(rt; found == (2, 0));
+    Ok(())
+}
+
+#[test]
+fn nobody_passes(rt: HostRuntime) -> Result<(), Fail> {
+    let found = nobody(&rt, rt.alloc())?;
+    assert!(rt; found == (4, 3));
+    Ok(())
+}
