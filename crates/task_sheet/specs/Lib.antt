@@ -21,3 +21,4 @@ pub mod Orders
 pub mod Levels
 pub mod Verdicts
 pub mod Ready
+pub mod Choices

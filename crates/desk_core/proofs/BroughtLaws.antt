@@ -1,0 +1,39 @@
+-- What is answered to a finding that is brought to a draft.
+use Rattle.std.proofs.Common.{◌≡◌, ◌<◌, List, Result, Ok, Err, IfOk, length, refl, sym, subst}
+use Rattle.std.proofs.lemmas.Bool.{ltb-true}
+use Rattle.assignment.specs.Questions.{QuestionData, FindingData}
+use Rattle.drafts.specs.declared.state.Owned.{Owned}
+use Rattle.drafts.specs.declared.change.Refusal.{Refusal}
+use Rattle.desk_core.specs.declared.events.Reply.{Reply}
+use Rattle.desk_core.specs.declared.events.Reply.TheVariants as reply
+use Rattle.desk_core.specs.declared.events.Cause.TheVariants as cause
+use Rattle.desk_core.specs.declared.asked.Asked.{Asked}
+use Rattle.desk_core.specs.declared.told.Told.{Told}
+use Rattle.desk_core.specs.declared.told.Told.TheVariants.{Stranger, Twice, Taken, LevelDone, Tested}
+use Rattle.desk_core.specs.declared.stage.Stage.TheVariants.{Trying}
+use Rattle.desk_core.specs.Findings.{asked_of, IsTold, IsTested, found_after}
+use Rattle.desk_core.specs.Trials.{TrialData}
+use Rattle.desk_core.specs.World.{IsFoundAnswer, IsToldReply, IsTestedOn}
+use Rattle.desk_core.specs.Stages.{IsStage}
+use Rattle.desk_core.specs.Brought.{IsTelling, IsBrought}
+use Rattle.task_sheet.proofs.ChosenLaws.{level_at-part}
+
+pub telling : (old new : TrialData) (q : QuestionData) (told : Told) → IsTold old.set old.found q told → new.set ≡ old.set → new.found ≡ found_after old.found (asked_of q) told → IsTelling new told
+telling old new q Stranger is same found = tt
+telling old new q Twice is same found = tt
+telling old new q Taken is same found = tt
+telling old new q (LevelDone level task response) is same found =
+    let within = ltb-true task (length old.set) (level_at-part old.set is.0 task is.2.chosen.member) in
+    subst (λ U. task < length U) (sym same) within
+telling old new q Tested is same found = subst (λ U. IsTested U new.found) (sym same) (subst (λ xs. IsTested old.set xs) (sym found) is.2)
+
+pub brought-answer : (outcome : Result (List Owned) Refusal) (trial : TrialData) (found : List Asked) (q : QuestionData) (result : Result Reply FindingData) → IsStage outcome (Trying trial) → trial.found ≡ found → IfOk result (λ r. IsBrought trial q r) → IfOk result (λ r. IsFoundAnswer outcome found q r)
+brought-answer outcome trial found q (Err back) so same is = tt
+brought-answer (Err refusal) trial found q (Ok r) so same is = absurd so
+brought-answer (Ok tasks) trial found q (Ok r) so same is =
+    subst (λ xs. IsFoundAnswer (Ok tasks) xs q r) same (subst (λ U. (t : Told) × IsTold U trial.found q t × IsToldReply U t r) so is)
+
+-- a finding for a draft that is tested is a stranger
+pub tested-stranger : (outcome : Result (List Owned) Refusal) (found : List Asked) (q : QuestionData) → IsTestedOn outcome found → IsFoundAnswer outcome found q (reply.Refused cause.Stranger)
+tested-stranger (Err refusal) found q tested = absurd tested
+tested-stranger (Ok tasks) found q tested = (Stranger, (λ k present. absurd (present.undecided (tested k))), refl)

@@ -1,0 +1,11 @@
+pub mod FindingLaws
+pub mod ProgressLaws
+pub mod ToldLaws
+pub mod ClosingLaws
+pub mod StepLaws
+pub mod StageLaws
+pub mod BroughtLaws
+pub mod BasedLaws
+pub mod RunLaws
+pub mod ToldOne
+pub mod AskingLaws

@@ -1,0 +1,20 @@
+-- The question that a trial asks next.
+use Rattle.std.specs.Prelude.{ℕ, ◌<◌, List, Option, None, Some, IsTrue, IsFalse}
+use Rattle.std.specs.FinSet.{contains}
+use Rattle.task_sheet.specs.Sheet.{Task}
+use Rattle.assignment.specs.Questions.{QuestionData}
+use Rattle.assignment.specs.Levels.{IsAsked}
+use Rattle.desk_core.specs.declared.asked.Asked.{Asked}
+use Rattle.desk_core.specs.Findings.{level_of, IsPresent, IsTested}
+
+-- the question on the missing candidate of least rank at the present level
+pub record IsNextAsked (U : List Task) (found : List Asked) (q : QuestionData) (k : ℕ) : Type 0 where
+  pub present : IsPresent U found k
+  pub asked : IsAsked (level_of U found k) q
+  pub missing : IsTrue (contains (level_of U found k).missing q.task)
+  pub least : (j : ℕ) → j < q.task → IsFalse (contains (level_of U found k).missing j)
+
+-- there is none where the verdict is complete
+abbrev pub IsAsking : List Task → List Asked → Option QuestionData → Type 0
+IsAsking U found None = IsTested U found
+IsAsking U found (Some q) = (k : ℕ) × IsNextAsked U found q k

@@ -1,0 +1,12 @@
+-- Bases of drafts: states that the book had. A base of the present version is the present state.
+use Rattle.std.specs.Prelude.{◌≡◌, ◌≤◌, List, [], ◌∷◌, Option, None, Some}
+use Rattle.drafts.specs.Machine.{Desk}
+use Rattle.desk_core.specs.World.{Live}
+
+abbrev pub IsBased : Desk → Option Live → Type 0
+IsBased desk None = Unit {0}
+IsBased desk (Some l) = (l.draft.base.version ≤ desk.version) × (l.draft.base.version ≡ desk.version → l.draft.base ≡ desk)
+
+abbrev pub AllBased : Desk → List (Option Live) → Type 0
+AllBased desk [] = Unit {0}
+AllBased desk (slot ∷ slots) = IsBased desk slot × AllBased desk slots

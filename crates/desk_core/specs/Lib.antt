@@ -1,0 +1,13 @@
+pub mod Findings
+pub mod Progress
+pub mod Trials
+pub mod TrialFields
+pub mod Closing
+pub mod World
+pub mod Stages
+pub mod LiveFields
+pub mod Based
+pub mod Brought
+pub mod CoreFields
+pub mod Asking
+pub mod Standings

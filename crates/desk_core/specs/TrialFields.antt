@@ -1,0 +1,16 @@
+-- How a `Trial` keeps its climb.
+use Rattle.std.specs.Prelude.{◌≡◌, false}
+use Rattle.assignment.specs.Levels.{LevelState}
+use Rattle.desk_core.specs.Progress.{present_of, IsProgress}
+use Rattle.desk_core.specs.Trials.{TrialData}
+use Rattle.desk_core.specs.declared.trial.Trial.TheInside.{Inside}
+
+-- what callers see of a trial
+abbrev pub trial_of : Inside → TrialData
+trial_of a = record { set = a.set.value; found = a.found.items }
+
+-- the climb is as far as the findings are, and the level that is kept, if any, is the present one
+pub record IsKept (a : Inside) : Type 0 where
+  pub present : LevelState
+  pub progress : IsProgress a.set.value a.climb present a.found.items
+  pub kept : a.climb.stuck ≡ false → present ≡ present_of a.climb a.level

@@ -1,0 +1,232 @@
+//! The core: the book, and the drafts by number.
+
+ghost use Rattle.std.specs.Prelude.{◌≡◌, ◌<◌, ◌+◌, None, IfOk, IfErr, OnErr, IsSome, MatchOption, length, slice_index_or};
+ghost use Rattle.desk_core.specs.declared.events.Event.TheVariants.{Open, Put, Remove, Found, Commit, Abandon};
+ghost use Rattle.desk_core.specs.World.{live_at, IsReply, happens, start, IsRun, after_all};
+ghost use Rattle.drafts.specs.Machine.{empty_desk, IsLegal, replay, admissions};
+
+use crate::events::{Cause, Event, Reply};
+use crate::live::{Live, abandon_in, commit_in, found_in, put_in, remove_in};
+use assignment::Finding;
+use drafts::{Book, Team};
+use std::alloc::{AllocError, Global};
+use std::marker::Model;
+use task_sheet::{Name, Sheet};
+
+/// The book, and the drafts by number, from 1.
+#[derive(Drop)]
+pub struct Core {
+    book: Book,
+    drafts: Vec<Option<Live>>,
+}
+
+impl Model for Core {
+    ghost use Rattle.std.specs.Coded.{codes};
+    ghost use Rattle.task_sheet.specs.contracts.members.Members as chosen;
+    ghost use Rattle.desk_core.specs.World.{World};
+
+    ghost Value = { World };
+
+    ghost coded = { Prim.hlevel (codes, chosen.the_row.coded) };
+
+    ghost use Rattle.desk_core.specs.CoreFields.{world_of, IsKept};
+
+    ghost view = { world_of };
+
+    ghost invariant = { IsKept };
+}
+
+/// Memory was wanting; the event is handed back, and the core is as it was.
+#[derive(Drop)]
+pub struct StepFault {
+    pub event: Event,
+}
+
+// The place of a draft that is live.
+fn place_of(drafts: &[Option<Live>], number: usize) -> Option<usize>
+    ensures { MatchOption result (live_at drafts.now number ≡ None) (λ i. (i + 1 ≡ number) × (i < length drafts.now) × (live_at drafts.now number ≡ slice_index_or drafts.now i None) × IsSome (live_at drafts.now number)) }
+{
+    if number == 0 {
+        return None;
+    }
+    let i = number - 1;
+    if i < drafts.len() && drafts[i].is_some() {
+        Some(i)
+    } else {
+        None
+    }
+}
+
+impl Core {
+    /// A core without drafts over an empty book.
+    pub fn new(alloc: Global) -> Result<Core, AllocError>
+        ensures { IfOk result (λ core. core ≡ start) }
+    {
+        Ok(Core {
+            book: Book::new(alloc)?,
+            drafts: Vec::new(alloc),
+        })
+    }
+
+    /// The book.
+    pub fn book(&self) -> &Book
+        ensures { result.now ≡ self.now.book }
+    {
+        &self.book
+    }
+
+    // A draft on the present state.
+    fn open(&mut self, alloc: Global, team: Team) -> Result<Reply, AllocError>
+        ensures reply { IfOk result (λ r. IsReply self.old (Open team) r) }
+        ensures ok { IfOk result (λ r. self.new ≡ happens self.old (Open team) r) }
+        ensures err { OnErr result (self.new ≡ self.old) }
+    {
+        let version = self.book.state().version();
+        let base = self.book.state().copy(alloc)?;
+        match self.drafts.push(Some(Live::new(alloc, team, base))) {
+            Ok(()) => Ok(Reply::Opened {
+                draft: self.drafts.len(),
+                version,
+            }),
+            Err(_) => Err(AllocError),
+        }
+    }
+
+    // A sheet put into a draft.
+    fn put(&mut self, draft: usize, sheet: Sheet) -> Result<Reply, Sheet>
+        ensures reply { IfOk result (λ r. IsReply self.old (Put draft sheet) r) }
+        ensures ok { IfOk result (λ r. self.new ≡ happens self.old (Put draft sheet) r) }
+        ensures err { OnErr result (self.new ≡ self.old) }
+        ensures back { IfErr result (λ back. back ≡ sheet) }
+    {
+        match place_of(&self.drafts, draft) {
+            None => {
+                let cause = Cause::NoSuchDraft;
+                Ok(Reply::Refused { cause })
+            }
+            Some(i) => put_in(&mut self.drafts[i], sheet),
+        }
+    }
+
+    // A task removed in a draft.
+    fn remove(&mut self, draft: usize, name: Name) -> Result<Reply, AllocError>
+        ensures reply { IfOk result (λ r. IsReply self.old (Remove draft name) r) }
+        ensures ok { IfOk result (λ r. self.new ≡ happens self.old (Remove draft name) r) }
+        ensures err { OnErr result (self.new ≡ self.old) }
+    {
+        match place_of(&self.drafts, draft) {
+            None => {
+                let cause = Cause::NoSuchDraft;
+                Ok(Reply::Refused { cause })
+            }
+            Some(i) => remove_in(&mut self.drafts[i], name),
+        }
+    }
+
+    // A finding brought to a draft.
+    fn found(&mut self, alloc: Global, draft: usize, finding: Finding) -> Result<Reply, Finding>
+        ensures reply { IfOk result (λ r. IsReply self.old (Found draft finding) r) }
+        ensures ok { IfOk result (λ r. self.new ≡ happens self.old (Found draft finding) r) }
+        ensures err { OnErr result (self.new ≡ self.old) }
+        ensures back { IfErr result (λ back. back ≡ finding) }
+    {
+        match place_of(&self.drafts, draft) {
+            None => {
+                let cause = Cause::NoSuchDraft;
+                Ok(Reply::Refused { cause })
+            }
+            Some(i) => found_in(alloc, &mut self.drafts[i], finding),
+        }
+    }
+
+    // A commit.
+    fn commit(&mut self, alloc: Global, draft: usize) -> Result<Reply, AllocError>
+        ensures reply { IfOk result (λ r. IsReply self.old (Commit draft) r) }
+        ensures ok { IfOk result (λ r. self.new ≡ happens self.old (Commit draft) r) }
+        ensures err { OnErr result (self.new ≡ self.old) }
+    {
+        match place_of(&self.drafts, draft) {
+            None => {
+                let cause = Cause::NoSuchDraft;
+                Ok(Reply::Refused { cause })
+            }
+            Some(i) => commit_in(alloc, &mut self.book, &mut self.drafts[i]),
+        }
+    }
+
+    // A draft ended without a decision.
+    fn abandon(&mut self, draft: usize) -> Reply
+        ensures reply { IsReply self.old (Abandon draft) result }
+        ensures ok { self.new ≡ happens self.old (Abandon draft) result }
+    {
+        match place_of(&self.drafts, draft) {
+            None => {
+                let cause = Cause::NoSuchDraft;
+                Reply::Refused { cause }
+            }
+            Some(i) => abandon_in(&mut self.drafts[i]),
+        }
+    }
+
+    /// Answers one event.
+    pub fn step(&mut self, alloc: Global, event: Event) -> Result<Reply, StepFault>
+        ensures reply { IfOk result (λ r. IsReply self.old event r) }
+        ensures ok { IfOk result (λ r. self.new ≡ happens self.old event r) }
+        ensures err { OnErr result (self.new ≡ self.old) }
+        ensures back { IfErr result (λ fault. fault.event ≡ event) }
+    {
+        match event {
+            Event::Open { team } => match self.open(alloc, team) {
+                Ok(reply) => Ok(reply),
+                Err(_) => Err(StepFault {
+                    event: Event::Open { team },
+                }),
+            },
+            Event::Put { draft, sheet } => match self.put(draft, sheet) {
+                Ok(reply) => Ok(reply),
+                Err(sheet) => Err(StepFault {
+                    event: Event::Put { draft, sheet },
+                }),
+            },
+            Event::Remove { draft, name } => match self.remove(draft, name) {
+                Ok(reply) => Ok(reply),
+                Err(_) => Err(StepFault {
+                    event: Event::Remove { draft, name },
+                }),
+            },
+            Event::Found { draft, finding } => match self.found(alloc, draft, finding) {
+                Ok(reply) => Ok(reply),
+                Err(finding) => Err(StepFault {
+                    event: Event::Found { draft, finding },
+                }),
+            },
+            Event::Commit { draft } => match self.commit(alloc, draft) {
+                Ok(reply) => Ok(reply),
+                Err(_) => Err(StepFault {
+                    event: Event::Commit { draft },
+                }),
+            },
+            Event::Abandon { draft } => Ok(self.abandon(draft)),
+        }
+    }
+}
+
+/// Answers events in their order, from an empty book on.
+pub fn run(alloc: Global, events: Vec<Event>) -> Result<(Core, Vec<Reply>), AllocError>
+    ensures replies { IfOk result (λ r. IsRun start events.items r.1.items) }
+    ensures world { IfOk result (λ r. r.0 ≡ after_all start events.items r.1.items) }
+    ensures legal { IfOk result (λ r. IsLegal empty_desk r.0.book.log) }
+    ensures replay { IfOk result (λ r. replay empty_desk r.0.book.log ≡ r.0.book.desk) }
+    ensures version { IfOk result (λ r. r.0.book.desk.version ≡ admissions r.0.book.log) }
+{
+    let mut core = Core::new(alloc)?;
+    let mut replies = Vec::new(alloc);
+    for event in events {
+        let Ok(reply) = core.step(alloc, event) else {
+            return Err(AllocError);
+        };
+        replies.push(reply)?;
+    }
+    let _ = core.book().state();
+    Ok((core, replies))
+}

@@ -1,0 +1,286 @@
+//! The test of a set by findings that come in any order.
+
+ghost use Rattle.std.specs.Prelude.{◌≡◌, ◌↔◌, ◌<◌, ◌≤◌, ◌+◌, [], ◌∷◌, ◌++◌, List, length, map, None, Some, ℕ, IsTrue, IsFalse, MatchOption, IfOk, IfErr, OnOk, OnErr, vec_len, vec_capacity};
+ghost use Rattle.std.specs.FinSet.{contains};
+ghost use Rattle.desk_core.specs.Asking.{IsAsking};
+ghost use Rattle.task_sheet.specs.Indexes.{indexes_of, listed_below, IsPart};
+ghost use Rattle.task_sheet.specs.Sheet.{task_at};
+ghost use Rattle.task_sheet.specs.Orders.{all_of};
+ghost use Rattle.task_sheet.specs.Verdicts.{LevelData, IsVerdictOf};
+ghost use Rattle.assignment.specs.Levels.{IsDecided};
+ghost use Rattle.assignment.specs.Climbs.{ClimbState, IsNext, IsUnfinished};
+ghost use Rattle.assignment.specs.Verdict.{set_of, verdict_of};
+ghost use Rattle.desk_core.specs.Progress.{present_of};
+ghost use Rattle.desk_core.specs.Findings.{asked_of, IsTold, found_after, IsTested};
+ghost use Rattle.desk_core.specs.World.{IsShown};
+ghost use Rattle.desk_core.specs.Closing.{IsClosing, IsTakenAt};
+
+use crate::asked::Asked;
+use crate::told::Told;
+use assignment::{Climb, Finding, Level, LevelRecord, Question, TakeFault, Verdict};
+use std::alloc::{AllocError, Global};
+use std::marker::Model;
+use std::sync::Arc;
+use task_sheet::{Members, Name, TaskSet};
+
+/// A climb over a set, which goes on as findings decide its levels. The present level is kept from its first finding on.
+#[derive(Drop)]
+pub struct Trial {
+    set: Arc<TaskSet>,
+    climb: Climb,
+    level: Option<Level>,
+    found: Vec<Asked>,
+}
+
+impl Model for Trial {
+    ghost use Rattle.std.specs.Coded.{codes};
+    ghost use Rattle.task_sheet.specs.contracts.members.Members as chosen;
+    ghost use Rattle.desk_core.specs.Trials.{TrialData};
+
+    ghost Value = { TrialData };
+
+    ghost coded = { Prim.hlevel (codes, chosen.the_row.coded) };
+
+    ghost use Rattle.desk_core.specs.TrialFields.{trial_of, IsKept};
+
+    ghost view = { trial_of };
+
+    ghost invariant = { IsKept };
+}
+
+// Starts the present level where it is not kept yet, and makes room for one finding.
+fn make_room(
+    alloc: Global,
+    set: &Arc<TaskSet>,
+    climb: &Climb,
+    level: &mut Option<Level>,
+    found: &mut Vec<Asked>,
+) -> Result<(), AllocError>
+    requires same { climb.now.set ≡ set.now.value }
+    requires going { IsUnfinished climb.now }
+    ensures ok { OnOk result (level.new ≡ Some (present_of climb.now level.old)) }
+    ensures room { OnOk result (vec_len found.new < vec_capacity found.new) }
+    ensures kept { found.new.items ≡ found.old.items }
+    ensures err { OnErr result (level.new ≡ level.old) }
+{
+    found.reserve(1)?;
+    if level.is_none() {
+        *level = Some(Level::start(alloc, set.clone()?, climb.left())?);
+    }
+    Ok(())
+}
+
+// The task of a closed level, and its response.
+fn read_level(level: &LevelRecord) -> (usize, u64)
+    ensures task { result.0 ≡ level.now.task }
+    ensures response { result.1 ≡ level.now.response }
+{
+    (level.task, level.response)
+}
+
+// Closes a level that is decided.
+fn close_level(climb: &mut Climb, level: Level) -> Told
+    requires next { IsNext climb.old level }
+    requires decided { IsDecided level }
+    ensures { IsClosing climb.old climb.new result }
+{
+    if climb.close(level).is_err() {
+        unreachable!();
+    }
+    if !climb.is_unfinished() {
+        return Told::Tested;
+    }
+    let levels = climb.levels();
+    let (task, response) = read_level(&levels[levels.len() - 1]);
+    Told::LevelDone {
+        level: levels.len(),
+        task,
+        response,
+    }
+}
+
+// Brings a finding to the present level.
+fn take_at(climb: &mut Climb, mut level: Level, finding: Finding) -> (Told, Option<Level>)
+    requires { IsNext climb.old level }
+    ensures { IsTakenAt climb.old level finding.question climb.new result.1 result.0 }
+{
+    match level.take(finding) {
+        Err(TakeFault::Stranger { finding: _ }) => (Told::Stranger, Some(level)),
+        Err(TakeFault::Twice { finding: _ }) => (Told::Twice, Some(level)),
+        Ok(()) if level.decided() => (close_level(climb, level), None),
+        Ok(()) => (Told::Taken, Some(level)),
+    }
+}
+
+// Notes a finding where it was taken.
+fn note(found: &mut Vec<Asked>, asked: Asked, told: Told)
+    requires { vec_len found.old < vec_capacity found.old }
+    ensures { found.new.items ≡ found_after found.old.items asked told }
+{
+    match told {
+        Told::Stranger | Told::Twice => {}
+        Told::Taken | Told::LevelDone { .. } | Told::Tested => found.push_reserved(asked),
+    }
+}
+
+// Which question a finding answers.
+fn asked_by(finding: &Finding) -> Asked
+    ensures { result ≡ asked_of finding.now.question }
+{
+    let question = finding.question();
+    Asked {
+        above: question.above(),
+        task: question.task(),
+    }
+}
+
+// The candidates of the present level without a finding.
+fn missing_of(climb: &Climb, level: &Option<Level>) -> Members
+    ensures { result ≡ (present_of climb.now level.now).missing }
+{
+    match level {
+        Some(level) => level.missing(),
+        None => climb.left(),
+    }
+}
+
+// The least member below a number.
+fn least(members: Members, count: usize) -> Option<usize>
+    requires { count ≤ 32 }
+    ensures { MatchOption result ((j : ℕ) → j < count → IsFalse (contains members j)) (λ i. (i < count) × IsTrue (contains members i) × ((j : ℕ) → j < i → IsFalse (contains members j))) }
+{
+    for i in 0..count {
+        if members.has(i) {
+            return Some(i);
+        }
+    }
+    None
+}
+
+// The names of tasks, by rank, into a list with room for them.
+fn list_names(set: &TaskSet, tasks: Members, mut names: Vec<Name>) -> Vec<Name>
+    requires empty { names.items ≡ [] }
+    requires room { length set.now ≤ vec_capacity names }
+    ensures { result.items ≡ map (λ i. (task_at set.now i).name) (listed_below (length set.now) (indexes_of tasks)) }
+{
+    for task in 0..set.sheets().len() {
+        if tasks.has(task) {
+            names.push_reserved(set.sheets()[task].name());
+        }
+    }
+    names
+}
+
+impl Trial {
+    /// A trial without findings.
+    pub fn begin(alloc: Global, set: Arc<TaskSet>) -> Result<Trial, AllocError>
+        ensures { IfOk result (λ trial. trial ≡ record { set = set.value; found = [] }) }
+    {
+        let climb = Climb::start(alloc, set.clone()?)?;
+        Ok(Trial {
+            set,
+            climb,
+            level: None,
+            found: Vec::new(alloc),
+        })
+    }
+
+    /// Whether the verdict is complete.
+    pub fn is_tested(&self) -> bool
+        ensures { IsTrue result ↔ IsTested self.now.set self.now.found }
+    {
+        !self.climb.is_unfinished()
+    }
+
+    /// The set that is tested.
+    pub fn set(&self) -> &TaskSet
+        ensures { result.now ≡ self.now.set }
+    {
+        &self.set
+    }
+
+    /// The question on the missing candidate of least rank at the present level; none where the verdict is complete.
+    pub fn asking(&self) -> Result<Option<Question>, AllocError>
+        ensures { IfOk result (λ question. IsAsking self.now.set self.now.found question) }
+    {
+        if !self.climb.is_unfinished() {
+            return Ok(None);
+        }
+        let left = self.climb.left();
+        let missing = missing_of(&self.climb, &self.level);
+        match least(missing, self.set.len()) {
+            Some(task) => {
+                let set = self.set.clone()?;
+                Ok(Some(Question::new(set, left.without(task), task)))
+            }
+            None => unreachable!(),
+        }
+    }
+
+    // The names that the complete verdict shows, into a list with room for them.
+    pub(crate) fn infeasible(&self, names: Vec<Name>) -> Vec<Name>
+        requires tested { IsTested self.now.set self.now.found }
+        requires empty { names.items ≡ [] }
+        requires room { length self.now.set ≤ vec_capacity names }
+        ensures { IsShown self.now.set result.items }
+    {
+        match self.climb.members() {
+            Some(_) => list_names(&self.set, self.climb.left(), names),
+            None => {
+                let _ = self.climb.levels();
+                names
+            }
+        }
+    }
+
+    /// The verdict and the findings, once it is complete.
+    pub fn finish(self) -> (Verdict, Vec<Asked>)
+        requires { IsTested self.set self.found }
+        ensures of_set { set_of result.0 ≡ self.set }
+        ensures verdict { IsVerdictOf self.set (verdict_of result.0) }
+        ensures found { result.1.items ≡ self.found }
+    {
+        let Trial {
+            set: _,
+            climb,
+            level: _,
+            found,
+        } = self;
+        match climb.finish() {
+            Ok(verdict) => (verdict, found),
+            Err(_) => unreachable!(),
+        }
+    }
+
+    /// Takes a finding. Want of memory leaves the trial as it was, and hands the finding back.
+    pub fn take(&mut self, alloc: Global, finding: Finding) -> Result<Told, Finding>
+        ensures told { IfOk result (λ told. IsTold self.old.set self.old.found finding.question told) }
+        ensures same { self.new.set ≡ self.old.set }
+        ensures found { IfOk result (λ told. self.new.found ≡ found_after self.old.found (asked_of finding.question) told) }
+        ensures err { OnErr result (self.new ≡ self.old) }
+        ensures back { IfErr result (λ back. back ≡ finding) }
+    {
+        if !self.climb.is_unfinished() {
+            return Ok(Told::Stranger);
+        }
+        if make_room(
+            alloc,
+            &self.set,
+            &self.climb,
+            &mut self.level,
+            &mut self.found,
+        )
+        .is_err()
+        {
+            return Err(finding);
+        }
+        let Some(level) = self.level.take() else {
+            unreachable!();
+        };
+        let asked = asked_by(&finding);
+        let (told, kept) = take_at(&mut self.climb, level, finding);
+        self.level = kept;
+        note(&mut self.found, asked, told);
+        Ok(told)
+    }
+}

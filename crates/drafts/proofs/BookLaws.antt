@@ -1,0 +1,105 @@
+-- One entry more.
+use Rattle.std.proofs.Common.{◌≡◌, ℕ, ◌+◌, ◌^◌, ◌<◌, ◌≤◌, List, [], ◌∷◌, ◌++◌, length, Option, Result, Ok, Err, refl, sym, ◌∙◌, ap, subst, arith}
+use Rattle.task_sheet.specs.TaskSet.{IsTaskSet}
+use Rattle.task_sheet.specs.Verdicts as verdict
+use Rattle.task_sheet.proofs.TaskLaws.{AllTasks-from_set}
+use Rattle.task_sheet.proofs.ObstructionLaws.{IsObstruction-fails}
+use Rattle.drafts.specs.declared.state.Owned.{Owned}
+use Rattle.drafts.specs.declared.change.Refusal.{Refusal}
+use Rattle.drafts.specs.declared.entry.Decision.{Decision}
+use Rattle.drafts.specs.declared.entry.Decision.TheVariants.{Admitted, Refused, Infeasible}
+use Rattle.drafts.specs.declared.judging.Judged.{Judged}
+use Rattle.drafts.specs.declared.judging.Judged.TheVariants as judged
+use Rattle.drafts.specs.Applied.{set_of, applied}
+use Rattle.drafts.specs.Machine.{Desk, empty_desk, Entry, IsAnswer, IsDecision, moved, after_entry, IsLegal, replay, one_if_admitted, admissions}
+use Rattle.drafts.specs.Books.{Book, logged, IsNextEntry}
+use Rattle.drafts.specs.Changes.{Draft}
+use Rattle.drafts.specs.Outcomes.{IsJudged, IsSaid, IsNextState, IsEntryOf, after_next}
+
+pub replay-push : (desk : Desk) (log : List Entry) (e : Entry) → replay desk (log ++ e ∷ []) ≡ after_entry (replay desk log) e
+replay-push desk [] e = refl
+replay-push desk (x ∷ log) e = replay-push (after_entry desk x) log e
+
+pub IsLegal-push : (desk : Desk) (log : List Entry) (e : Entry) → IsLegal desk log → IsDecision (replay desk log) e.team e.changes e.decision → IsLegal desk (log ++ e ∷ [])
+IsLegal-push desk [] e legal next = (next, tt)
+IsLegal-push desk (x ∷ log) e legal next = (legal.0, IsLegal-push (after_entry desk x) log e legal.1 next)
+
+-- what was judged is decided as the machine decides
+pub said-answer : (version : ℕ) (outcome : Result (List Owned) Refusal) (j : Judged) (d : Decision) → IsJudged outcome j → IsSaid version j d → IsAnswer version outcome d
+said-answer version (Err refusal) (judged.Refused told) (Refused again) h said = said ∙ h
+said-answer version (Err refusal) (judged.Refused told) (Admitted again) h said = said
+said-answer version (Err refusal) (judged.Refused told) (Infeasible again) h said = said
+said-answer version (Err refusal) (judged.Best a) d h said = absurd h
+said-answer version (Err refusal) (judged.Stuck o) d h said = absurd h
+said-answer version (Ok tasks) (judged.Refused told) d h said = absurd h
+said-answer version (Ok tasks) (judged.Best a) (Admitted again) h said = ((verdict.order_of a.value.levels, h.1.best.passing), said)
+said-answer version (Ok tasks) (judged.Best a) (Refused again) h said = said
+said-answer version (Ok tasks) (judged.Best a) (Infeasible again) h said = absurd said
+said-answer version (Ok tasks) (judged.Stuck o) (Infeasible again) h said =
+    let valid : IsTaskSet (set_of tasks) = subst IsTaskSet h.0 said.1 in (
+      IsObstruction-fails (set_of tasks) (AllTasks-from_set (set_of tasks) valid) _ h.1.greatest.obstruction,
+      ap (λ p. p.set) said.0 ∙ h.0,
+      subst (λ p. verdict.IsVerdictOf (set_of tasks) (verdict.Infeasible p.members)) (sym said.0) h.1,
+    )
+said-answer version (Ok tasks) (judged.Stuck o) (Refused again) h said = said
+said-answer version (Ok tasks) (judged.Stuck o) (Admitted again) h said = absurd said
+
+-- and the state moves as the machine moves
+pub next-moved : (desk : Desk) (outcome : Result (List Owned) Refusal) (j : Judged) (d : Decision) (next : Option Desk) → IsSaid desk.version j d → IsNextState desk outcome j next → after_next desk next ≡ moved desk d outcome
+next-moved desk outcome (judged.Refused told) (Refused again) next said is = ap (λ o. after_next desk o) is
+next-moved desk outcome (judged.Refused told) (Admitted again) next said is = absurd said
+next-moved desk outcome (judged.Refused told) (Infeasible again) next said is = absurd said
+next-moved desk outcome (judged.Best a) (Admitted again) next said is = ap (λ o. after_next desk o) is
+next-moved desk outcome (judged.Best a) (Refused again) next said is = absurd said
+next-moved desk outcome (judged.Best a) (Infeasible again) next said is = absurd said
+next-moved desk outcome (judged.Stuck o) (Infeasible again) next said is = ap (λ o. after_next desk o) is
+next-moved desk outcome (judged.Stuck o) (Refused again) next said is = absurd said
+next-moved desk outcome (judged.Stuck o) (Admitted again) next said is = absurd said
+
+-- a book stays legal, and its log's replay is its state
+pub logged-legal : (b : Book) (e : Entry) → IsLegal empty_desk b.log → replay empty_desk b.log ≡ b.desk → IsDecision b.desk e.team e.changes e.decision → IsLegal empty_desk (logged b e).log × (replay empty_desk (logged b e).log ≡ (logged b e).desk)
+logged-legal b e legal same next = (
+  IsLegal-push empty_desk b.log e legal (subst (λ d. IsDecision d e.team e.changes e.decision) (sym same) next),
+  replay-push empty_desk b.log e ∙ ap (λ d. after_entry d e) same,
+)
+
+-- ---- the version counts the admitted entries
+answered-version : (desk : Desk) (outcome : Result (List Owned) Refusal) (d : Decision) → IsAnswer desk.version outcome d → (moved desk d outcome).version ≡ desk.version + one_if_admitted d
+answered-version desk (Ok tasks) (Admitted told) h = refl
+answered-version desk (Err refusal) (Admitted told) h = absurd h
+answered-version desk outcome (Refused told) h = omega arith
+answered-version desk outcome (Infeasible o) h = omega arith
+
+pub replay-version : (desk : Desk) (log : List Entry) → IsLegal desk log → (replay desk log).version ≡ desk.version + admissions log
+replay-version desk [] legal = omega arith
+replay-version desk (e ∷ log) legal = omega (arith, replay-version (after_entry desk e) log legal.1, answered-version desk (applied e.team desk.tasks e.changes) e.decision legal.0)
+
+one-small : (d : Decision) → one_if_admitted d ≤ 1
+one-small (Admitted told) = omega arith
+one-small (Refused told) = omega arith
+one-small (Infeasible o) = omega arith
+
+admissions-few : (log : List Entry) → admissions log ≤ length log
+admissions-few [] = omega arith
+admissions-few (e ∷ log) = omega (arith, one-small e.decision, admissions-few log)
+
+-- so the next version fits
+pub version_room : (desk : Desk) (log : List Entry) → IsLegal empty_desk log → replay empty_desk log ≡ desk → length log < 2 ^ 63 → desk.version + 1 < 2 ^ 64
+version_room desk log legal same few = let e = ap (λ (d : Desk). d.version) same in omega (arith, replay-version empty_desk log legal, admissions-few log)
+
+-- ---- an entry of what was judged, and the state that follows
+module _ (b : Book) (legal : IsLegal empty_desk b.log) (same : replay empty_desk b.log ≡ b.desk) (d : Draft) (j : Judged) (judged : IsJudged (applied d.team b.desk.tasks d.changes) j) (e : Entry) (is : IsEntryOf b.desk.version d j e) where
+  pub entered-next : (place : ℕ) → place ≡ length b.log + 1 → IsNextEntry b d place e
+  entered-next place at = (at, is.0, is.1, said-answer b.desk.version (applied d.team b.desk.tasks d.changes) j e.decision judged is.2)
+
+  outcome : applied d.team b.desk.tasks d.changes ≡ applied e.team b.desk.tasks e.changes
+  outcome = ap (λ t. applied t b.desk.tasks d.changes) (sym is.0) ∙ ap (λ cs. applied e.team b.desk.tasks cs) (sym is.1)
+
+  pub entered-kept : IsLegal empty_desk (logged b e).log × (replay empty_desk (logged b e).log ≡ (logged b e).desk)
+  entered-kept = logged-legal b e legal same (subst (λ o. IsAnswer b.desk.version o e.decision) outcome (said-answer b.desk.version (applied d.team b.desk.tasks d.changes) j e.decision judged is.2))
+
+  pub entered-desk : (next : Option Desk) → IsNextState b.desk (applied d.team b.desk.tasks d.changes) j next → after_next b.desk next ≡ (logged b e).desk
+  entered-desk next to = next-moved b.desk (applied d.team b.desk.tasks d.changes) j e.decision next is.2 to ∙ ap (λ o. moved b.desk e.decision o) outcome
+
+pub version-counts : (b : Book) → IsLegal empty_desk b.log → replay empty_desk b.log ≡ b.desk → b.desk.version ≡ admissions b.log
+version-counts b legal same = let e = ap (λ (d : Desk). d.version) same in omega (arith, replay-version empty_desk b.log legal)

@@ -1,0 +1,5 @@
+pub mod OwnedLaws
+pub mod ChangeLaws
+pub mod BookLaws
+pub mod OwnedFinds
+pub mod MapLaws

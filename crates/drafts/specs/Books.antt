@@ -1,0 +1,19 @@
+-- The book, and what an entry makes of it.
+use Rattle.std.specs.Prelude.{◌≡◌, ℕ, ◌+◌, length, List, [], ◌∷◌, ◌++◌}
+use Rattle.drafts.specs.Machine.{Desk, empty_desk, Entry, after_entry, IsDecision}
+use Rattle.drafts.specs.Changes.{Draft}
+
+pub record Book : Type 0 where
+  pub desk : Desk
+  pub log : List Entry
+
+abbrev pub empty_book : Book
+empty_book = record { desk = empty_desk; log = [] }
+
+-- one machine step, logged
+abbrev pub logged : Book → Entry → Book
+logged b e = record { desk = after_entry b.desk e; log = b.log ++ e ∷ [] }
+
+-- the entry is the next one, with the machine's decision on the draft's changes
+abbrev pub IsNextEntry : Book → Draft → ℕ → Entry → Type 0
+IsNextEntry b d place e = (place ≡ length b.log + 1) × (e.team ≡ d.team) × (e.changes ≡ d.changes) × IsDecision b.desk d.team d.changes e.decision

@@ -1,0 +1,13 @@
+pub mod Teams
+pub mod Applied
+pub mod Machine
+pub mod Books
+pub mod Changes
+pub mod StateFields
+pub mod Outcomes
+pub mod DraftFields
+pub mod EditFaults
+pub mod BookFields
+pub mod Proposals
+pub mod ProposalFields
+pub mod Settling

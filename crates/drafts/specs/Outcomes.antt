@@ -1,0 +1,67 @@
+-- What the code's answers say of what changes come to.
+use Rattle.std.specs.Prelude.{◌≡◌, ℕ, ◌+◌, List, length, Option, None, Some, Result, Ok, Err}
+use Rattle.task_sheet.specs.TaskSet.{IsTaskSet}
+use Rattle.task_sheet.specs.Verdicts.{IsVerdictOf, Admitted, Infeasible}
+use Rattle.assignment.specs.declared.verdict.Verdict.{Verdict}
+use Rattle.assignment.specs.declared.verdict.Verdict.TheVariants as verdict
+use Rattle.drafts.specs.declared.state.Owned.{Owned}
+use Rattle.drafts.specs.declared.change.Refusal.{Refusal}
+use Rattle.drafts.specs.declared.entry.Decision.{Decision}
+use Rattle.drafts.specs.declared.entry.Decision.TheVariants as decision
+use Rattle.drafts.specs.declared.applying.Applied.{Applied}
+use Rattle.drafts.specs.declared.applying.Applied.TheVariants.{Tasks, Refused}
+use Rattle.drafts.specs.declared.judging.Judged.{Judged}
+use Rattle.drafts.specs.declared.judging.Judged.TheVariants as judged
+use Rattle.drafts.specs.Applied.{owned_of, set_of}
+use Rattle.drafts.specs.Machine.{Desk, Entry, admitted}
+use Rattle.drafts.specs.Changes.{Draft}
+
+-- the changes are refused, or come to these tasks with their teams
+abbrev pub IsApplied : Result (List Owned) Refusal → Applied → Type 0
+IsApplied (Err refusal) (Refused told) = told ≡ refusal
+IsApplied (Ok tasks) (Tasks set teams) = (owned_of set.value teams.items ≡ tasks) × (set.value ≡ set_of tasks) × (length teams.items ≡ length set.value)
+IsApplied (Err refusal) (Tasks set teams) = ⊥
+IsApplied (Ok tasks) (Refused told) = ⊥
+
+-- the refusal, or the verdict on the set that the changes come to
+abbrev pub IsJudged : Result (List Owned) Refusal → Judged → Type 0
+IsJudged (Err refusal) (judged.Refused told) = told ≡ refusal
+IsJudged (Ok tasks) (judged.Best a) = (a.value.set ≡ set_of tasks) × IsVerdictOf (set_of tasks) (Admitted a.value.levels)
+IsJudged (Ok tasks) (judged.Stuck o) = (o.value.set ≡ set_of tasks) × IsVerdictOf (set_of tasks) (Infeasible o.value.members)
+IsJudged (Err refusal) (judged.Best a) = ⊥
+IsJudged (Err refusal) (judged.Stuck o) = ⊥
+IsJudged (Ok tasks) (judged.Refused told) = ⊥
+
+-- the decision says what was judged, of a set that is valid
+abbrev pub IsSaid : ℕ → Judged → Decision → Type 0
+IsSaid version (judged.Refused refusal) (decision.Refused told) = told ≡ refusal
+IsSaid version (judged.Best a) (decision.Admitted told) = told ≡ version + 1
+IsSaid version (judged.Stuck o) (decision.Infeasible told) = (told.value ≡ o.value) × IsTaskSet o.value.set
+IsSaid version j d = ⊥
+
+-- the judgement is the verdict, shared
+abbrev pub IsShared : Verdict → Judged → Type 0
+IsShared (verdict.Admitted a) (judged.Best b) = b.value ≡ a
+IsShared (verdict.Infeasible o) (judged.Stuck p) = p.value ≡ o
+IsShared v j = ⊥
+
+-- where it is admitted, the state moves to the tasks that the changes come to
+abbrev pub IsNextState : Desk → Result (List Owned) Refusal → Judged → Option Desk → Type 0
+IsNextState desk outcome (judged.Best a) next = next ≡ Some (admitted desk outcome)
+IsNextState desk outcome (judged.Refused refusal) next = next ≡ None
+IsNextState desk outcome (judged.Stuck o) next = next ≡ None
+
+-- the line of a draft's changes that were judged at a version
+abbrev pub IsEntryOf : ℕ → Draft → Judged → Entry → Type 0
+IsEntryOf version d j e = (e.team ≡ d.team) × (e.changes ≡ d.changes) × IsSaid version j e.decision
+
+abbrev pub after_next : Desk → Option Desk → Desk
+after_next desk None = desk
+after_next desk (Some next) = next
+
+-- the same judgement
+abbrev pub IsAgain : Judged → Judged → Type 0
+IsAgain (judged.Refused told) (judged.Refused again) = again ≡ told
+IsAgain (judged.Best a) (judged.Best b) = b.value ≡ a.value
+IsAgain (judged.Stuck a) (judged.Stuck b) = b.value ≡ a.value
+IsAgain a b = ⊥

@@ -1,0 +1,21 @@
+-- Proposals, and what settling one does.
+use Rattle.std.specs.Prelude.{◌≡◌, ◌<◌, ◌⊎◌}
+use Rattle.drafts.specs.declared.judging.Judged.{Judged}
+use Rattle.drafts.specs.Applied.{applied}
+use Rattle.drafts.specs.Books.{Book}
+use Rattle.drafts.specs.Changes.{Draft, on_base}
+use Rattle.drafts.specs.Outcomes.{IsJudged}
+
+-- a draft, and what its changes come to on its base, with the verdict
+pub record ProposalData : Type 0 where
+  pub draft : Draft
+  pub judged : Judged
+
+abbrev pub IsProposal : ProposalData → Type 0
+IsProposal p = IsJudged (on_base p.draft) p.judged
+
+-- its base is above the present version, or equal while the changes come to something else on the present state
+abbrev pub IsStrange : Book → ProposalData → Type 0
+IsStrange b p =
+    (b.desk.version < p.draft.base.version)
+    ⊎ ((p.draft.base.version ≡ b.desk.version) × (¬ IsJudged (applied p.draft.team b.desk.tasks p.draft.changes) p.judged))

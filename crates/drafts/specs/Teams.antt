@@ -1,0 +1,13 @@
+-- Teams, numbered from 1.
+use Rattle.std.specs.Prelude.{ℕ, ◌≤◌}
+use Rattle.drafts.specs.declared.team.Team.TheInside.{Inside}
+
+abbrev pub number_of : Inside → ℕ
+number_of a = a.number
+
+abbrev pub team_of : ℕ → Inside
+team_of n = record { number = n }
+
+pub record IsTeam (a : Inside) : Type 0 where
+  pub from : 1 ≤ a.number
+  pub to : a.number ≤ 8

@@ -1,0 +1,208 @@
+//! The book: the present state, and the log that led to it.
+
+ghost use Rattle.std.specs.Prelude.{◌≡◌, ◌<◌, ◌+◌, ◌^◌, [], ◌∷◌, IfOk, OnOk, OnErr, length, map};
+ghost use Rattle.drafts.specs.Applied.{applied};
+ghost use Rattle.drafts.specs.Machine.{Entry, IsDecision, IsLegal, replay, empty_desk, admissions};
+ghost use Rattle.drafts.specs.Outcomes.{IsJudged, IsSaid, IsNextState, IsEntryOf, after_next};
+ghost use Rattle.drafts.specs.Books.{empty_book, logged, IsNextEntry};
+
+use crate::applying::{Applied, apply};
+use crate::change::Change;
+use crate::draft::Draft;
+use crate::entry::{Decision, Entry};
+use crate::judging::{Judged, judge};
+use crate::state::NodeState;
+use indexmap::IndexMap;
+use std::alloc::{AllocError, Global};
+use std::marker::Model;
+use std::sync::Arc;
+use task_sheet::Name;
+
+/// The present state, and the log that led to it.
+#[derive(Drop)]
+pub struct Book {
+    state: NodeState,
+    log: Vec<Arc<Entry>>,
+}
+
+impl Model for Book {
+    ghost use Rattle.drafts.specs.Books.{Book};
+
+    ghost Value = { Book };
+
+    ghost use Rattle.drafts.specs.BookFields.{book_of, IsKept};
+
+    ghost view = { book_of };
+
+    ghost invariant = { IsKept };
+}
+
+/// Where a decision stands in the log, from 1, and its entry.
+#[derive(Drop)]
+pub struct Decided {
+    pub place: usize,
+    pub entry: Arc<Entry>,
+}
+
+// The changes again, by name, in their order.
+fn copy_changes(
+    alloc: Global,
+    changes: &IndexMap<Name, Change>,
+) -> Result<Vec<(Name, Change)>, AllocError>
+    ensures { IfOk result (λ v. v.items ≡ changes.now.entries) }
+{
+    let mut copies = Vec::new(alloc);
+    for (name, change) in changes.iter() {
+        let change = match change {
+            Change::Put(sheet) => Change::Put(sheet.copy(alloc)?),
+            Change::Remove => Change::Remove,
+        };
+        copies.push((*name, change))?;
+    }
+    Ok(copies)
+}
+
+// The decision that follows from what was judged.
+fn decide(version: u64, judged: &Judged) -> Result<Decision, AllocError>
+    requires { version + 1 < 2 ^ 64 }
+    ensures { IfOk result (λ d. IsSaid version judged.now d) }
+{
+    match judged {
+        Judged::Refused { refusal } => Ok(Decision::Refused { refusal: *refusal }),
+        Judged::Best { assignment: _ } => Ok(Decision::Admitted {
+            version: version + 1,
+        }),
+        Judged::Stuck { obstruction } => {
+            let _ = obstruction.set().sheets();
+            Ok(Decision::Infeasible {
+                obstruction: obstruction.clone()?,
+            })
+        }
+    }
+}
+
+// The line of a draft's changes that were judged at a version.
+fn make_entry(
+    alloc: Global,
+    version: u64,
+    draft: &Draft,
+    judged: &Judged,
+) -> Result<Arc<Entry>, AllocError>
+    requires { version + 1 < 2 ^ 64 }
+    ensures { IfOk result (λ e. IsEntryOf version draft.now judged.now e.value) }
+{
+    let decision = decide(version, judged)?;
+    let changes = copy_changes(alloc, draft.changes())?;
+    match Arc::new(alloc, Entry::new(draft.team(), changes, decision)) {
+        Ok(entry) => Ok(entry),
+        Err(_) => Err(AllocError),
+    }
+}
+
+// Moves to the next state, if there is one.
+fn move_on(state: &mut NodeState, next: Option<NodeState>)
+    ensures { state.new ≡ after_next state.old next }
+{
+    if let Some(next) = next {
+        *state = next;
+    }
+}
+
+impl Book {
+    /// An empty book.
+    pub fn new(alloc: Global) -> Result<Book, AllocError>
+        ensures { IfOk result (λ book. book ≡ empty_book) }
+    {
+        Ok(Book {
+            state: NodeState::empty(alloc)?,
+            log: Vec::new(alloc),
+        })
+    }
+
+    /// The present state.
+    pub fn state(&self) -> &NodeState
+        ensures now { result.now ≡ self.now.desk }
+        ensures legal { IsLegal empty_desk self.now.log }
+        ensures replay { replay empty_desk self.now.log ≡ self.now.desk }
+        ensures version { self.now.desk.version ≡ admissions self.now.log }
+    {
+        &self.state
+    }
+
+    /// The entries in their order.
+    pub fn log(&self) -> &[Arc<Entry>]
+        ensures { map (λ e. e.value) result.now ≡ self.now.log }
+    {
+        &self.log
+    }
+
+    /// The state and the log, out of the book.
+    pub fn into_parts(self) -> (NodeState, Vec<Arc<Entry>>)
+        ensures state { result.0 ≡ self.desk }
+        ensures log { map (λ e. e.value) result.1.items ≡ self.log }
+        ensures legal { IsLegal empty_desk self.log }
+        ensures replay { replay empty_desk self.log ≡ self.desk }
+    {
+        (self.state, self.log)
+    }
+
+    // The state after a decision: the tasks that are admitted with their teams, or the present one.
+    fn next_state(
+        &self,
+        alloc: Global,
+        draft: &Draft,
+        judged: &Judged,
+    ) -> Result<Option<NodeState>, AllocError>
+        requires judged { IsJudged (applied draft.now.team self.now.desk.tasks draft.now.changes) judged.now }
+        requires room { self.now.desk.version + 1 < 2 ^ 64 }
+        ensures { IfOk result (λ next. IsNextState self.now.desk (applied draft.now.team self.now.desk.tasks draft.now.changes) judged.now next) }
+    {
+        match judged {
+            Judged::Refused { refusal: _ } => Ok(None),
+            Judged::Stuck { obstruction: _ } => Ok(None),
+            Judged::Best { assignment } => {
+                match apply(alloc, draft.team(), &self.state, draft.changes())? {
+                    Applied::Tasks { set: _, teams } => Ok(Some(NodeState::with(
+                        self.state.version() + 1,
+                        assignment.clone()?,
+                        teams,
+                    ))),
+                    Applied::Refused { refusal: _ } => unreachable!(),
+                }
+            }
+        }
+    }
+
+    /// Logs the decision on a draft's changes to the present state, which were judged, and moves to the tasks that it admits.
+    pub fn enter(
+        &mut self,
+        alloc: Global,
+        draft: &Draft,
+        judged: &Judged,
+    ) -> Result<Decided, AllocError>
+        requires { IsJudged (applied draft.now.team self.old.desk.tasks draft.now.changes) judged.now }
+        ensures entry { IfOk result (λ d. IsNextEntry self.old draft.now d.place d.entry.value) }
+        ensures ok { IfOk result (λ d. self.new ≡ logged self.old d.entry.value) }
+        ensures err { OnErr result (self.new ≡ self.old) }
+    {
+        let next = self.next_state(alloc, draft, judged)?;
+        let entry = make_entry(alloc, self.state.version(), draft, judged)?;
+        let kept = entry.clone()?;
+        self.log.push(kept)?;
+        move_on(&mut self.state, next);
+        Ok(Decided {
+            place: self.log.len(),
+            entry,
+        })
+    }
+
+    /// Decides on a draft's changes to the present state.
+    pub fn test_and_enter(&mut self, alloc: Global, draft: &Draft) -> Result<Decided, AllocError>
+        ensures entry { IfOk result (λ d. IsNextEntry self.old draft.now d.place d.entry.value) }
+        ensures ok { IfOk result (λ d. self.new ≡ logged self.old d.entry.value) }
+        ensures err { OnErr result (self.new ≡ self.old) }
+    {
+        let judged = judge(alloc, draft.team(), &self.state, draft.changes())?;
+        self.enter(alloc, draft, &judged)
+    }
+}

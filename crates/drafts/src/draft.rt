@@ -1,0 +1,266 @@
+//! Drafts: a base and a list of changes.
+
+ghost use Rattle.std.specs.Prelude.{◌≡◌, ◌≤◌, [], ◌∷◌, Ok, IfOk, IfErr, IfSome, OnOk, OnErr, length, option_map, slice_get, nat_eq, false};
+ghost use Rattle.std.specs.Cmp.Lexicographic.{pointwise};
+ghost use Rattle.indexmap.specs.IndexMap.{IsUnique};
+ghost use Rattle.drafts.specs.Changes.{is_full, recorded, view, after_put, after_remove, on_base};
+ghost use Rattle.drafts.specs.EditFaults.{IsEditFault};
+ghost use Rattle.drafts.specs.Outcomes.{IsApplied};
+
+use crate::applying::{Applied, apply};
+use crate::change::Change;
+use crate::state::NodeState;
+use crate::team::Team;
+use indexmap::IndexMap;
+use std::alloc::{AllocError, Global};
+use std::marker::Model;
+use task_sheet::{Name, Sheet};
+
+// The most changes of a draft.
+const CHANGE_LIMIT: usize = 64;
+
+/// A team's changes to a state.
+#[derive(Drop)]
+pub struct Draft {
+    team: Team,
+    base: NodeState,
+    changes: IndexMap<Name, Change>,
+}
+
+impl Model for Draft {
+    ghost use Rattle.drafts.specs.Changes.{Draft};
+
+    ghost Value = { Draft };
+
+    ghost use Rattle.drafts.specs.DraftFields.{draft_of, IsKept};
+
+    ghost view = { draft_of };
+
+    ghost invariant = { IsKept };
+}
+
+/// Why an edit is refused.
+#[derive(Clone, Copy)]
+pub enum EditRefusal {
+    /// Another team holds the name.
+    NotYours,
+    /// No task has the name that is to be removed.
+    NoSuchTask,
+    /// There are 64 changes, none of them on the name.
+    DraftFull,
+}
+
+/// Why an edit was not made.
+#[derive(Clone, Copy)]
+pub enum EditCause {
+    Refused { refusal: EditRefusal },
+    OutOfMemory,
+}
+
+/// A put that was not made; the sheet is handed back.
+#[derive(Drop)]
+pub struct PutFault {
+    pub cause: EditCause,
+    pub sheet: Sheet,
+}
+
+// Whether there is no room for a change on the name.
+fn is_full(changes: &IndexMap<Name, Change>, name: Name) -> bool
+    ensures { result ≡ is_full name changes.now.entries }
+{
+    changes.len() >= CHANGE_LIMIT && !changes.contains_key(&name)
+}
+
+// Puts a change in the place of the one on its name, or last. Where memory is wanting, the change is handed back.
+fn record(changes: &mut IndexMap<Name, Change>, name: Name, change: Change) -> Result<(), Change>
+    ensures ok { OnOk result (changes.new.entries ≡ recorded name change changes.old.entries) }
+    ensures few { is_full name changes.old.entries ≡ false → length changes.old.entries ≤ 64 → length changes.new.entries ≤ 64 }
+    ensures err { OnErr result (changes.new.entries ≡ changes.old.entries) }
+    ensures back { IfErr result (λ back. back ≡ change) }
+{
+    match changes.insert(name, change) {
+        Ok(_) => Ok(()),
+        Err(refused) => Err(refused.value.1),
+    }
+}
+
+impl Draft {
+    /// A draft without changes.
+    pub fn new(alloc: Global, team: Team, base: NodeState) -> Draft
+        ensures { result ≡ record { team = team; base = base; changes = [] } }
+    {
+        Draft {
+            team,
+            base,
+            changes: IndexMap::new(alloc),
+        }
+    }
+
+    /// The team.
+    pub fn team(&self) -> Team
+        ensures { result ≡ self.now.team }
+    {
+        self.team
+    }
+
+    /// The version that the draft was opened on.
+    pub fn base_version(&self) -> u64
+        ensures { result ≡ self.now.base.version }
+    {
+        self.base.version()
+    }
+
+    /// The state that the draft was opened on.
+    pub fn base(&self) -> &NodeState
+        ensures { result.now ≡ self.now.base }
+    {
+        &self.base
+    }
+
+    /// The changes by name, in their order.
+    pub fn changes(&self) -> &IndexMap<Name, Change>
+        ensures { result.now.entries ≡ self.now.changes }
+    {
+        &self.changes
+    }
+
+    // The team and the changes, out of the draft.
+    pub(crate) fn into_parts(self) -> (Team, NodeState, IndexMap<Name, Change>)
+        ensures team { result.0 ≡ self.team }
+        ensures base { result.1 ≡ self.base }
+        ensures changes { result.2.entries ≡ self.changes }
+        ensures few { length result.2.entries ≤ 64 }
+    {
+        (self.team, self.base, self.changes)
+    }
+
+    // The draft of these parts.
+    pub(crate) fn of_parts(team: Team, base: NodeState, changes: IndexMap<Name, Change>) -> Draft
+        requires { length changes.entries ≤ 64 }
+        ensures { result ≡ record { team = team; base = base; changes = changes.entries } }
+    {
+        Draft {
+            team,
+            base,
+            changes,
+        }
+    }
+
+    /// How many changes there are.
+    pub fn len(&self) -> usize
+        ensures count { result ≡ length self.now.changes }
+        ensures limit { result ≤ 64 }
+    {
+        self.changes.len()
+    }
+
+    /// The name and the change at a place, from 0; none past the last.
+    pub fn change_at(&self, place: usize) -> Option<(&Name, &Change)>
+        ensures { option_map (λ p. (p.0.now, p.1.now)) result ≡ slice_get self.now.changes place }
+    {
+        self.changes.get_index(place)
+    }
+
+    /// The same changes on another state.
+    pub fn rebase(self, fresh: NodeState) -> Draft
+        ensures { result ≡ record { team = self.team; base = fresh; changes = self.changes } }
+    {
+        Draft {
+            team: self.team,
+            base: fresh,
+            changes: self.changes,
+        }
+    }
+
+    /// The same changes on another state, and the state that they were on.
+    pub fn exchange(self, fresh: NodeState) -> (Draft, NodeState)
+        ensures draft { result.0 ≡ record { team = self.team; base = fresh; changes = self.changes } }
+        ensures base { result.1 ≡ self.base }
+    {
+        let (team, base, changes) = self.into_parts();
+        (Draft::of_parts(team, fresh, changes), base)
+    }
+
+    /// What the changes come to on the base.
+    pub fn applied(&self, alloc: Global) -> Result<Applied, AllocError>
+        ensures { IfOk result (λ outcome. IsApplied (on_base self.now) outcome) }
+    {
+        apply(alloc, self.team, &self.base, &self.changes)
+    }
+
+    /// The sheet of a name, as the draft shows it.
+    pub fn view(&self, name: Name) -> Option<&Sheet>
+        ensures { option_map (λ s. s.now) result ≡ view self.now name }
+    {
+        match self.changes.get(&name) {
+            Some(Change::Put(sheet)) => Some(sheet),
+            Some(Change::Remove) => None,
+            None => self.base.sheet_of(name),
+        }
+    }
+
+    /// Puts a sheet. Refused in this order: `NotYours`, `DraftFull`.
+    pub fn put(&mut self, sheet: Sheet) -> Result<(), PutFault>
+        ensures ok { OnOk result (after_put self.old sheet ≡ Ok self.new.changes) }
+        ensures team { self.new.team ≡ self.old.team }
+        ensures base { self.new.base ≡ self.old.base }
+        ensures refused { IfErr result (λ fault. IsEditFault (after_put self.old sheet) fault.cause) }
+        ensures err { OnErr result (self.new ≡ self.old) }
+        ensures back { IfErr result (λ fault. fault.sheet ≡ sheet) }
+    {
+        let name = sheet.name();
+        if self.base.is_foreign(self.team, name) {
+            let cause = EditCause::Refused {
+                refusal: EditRefusal::NotYours,
+            };
+            return Err(PutFault { cause, sheet });
+        }
+        if is_full(&self.changes, name) {
+            let cause = EditCause::Refused {
+                refusal: EditRefusal::DraftFull,
+            };
+            return Err(PutFault { cause, sheet });
+        }
+        match record(&mut self.changes, name, Change::Put(sheet)) {
+            Ok(()) => Ok(()),
+            Err(Change::Put(sheet)) => {
+                let cause = EditCause::OutOfMemory;
+                Err(PutFault { cause, sheet })
+            }
+            Err(Change::Remove) => unreachable!(),
+        }
+    }
+
+    /// Removes the task of a name. Refused in this order: `NoSuchTask`, `NotYours`, `DraftFull`.
+    pub fn remove(&mut self, name: Name) -> Result<(), EditCause>
+        ensures ok { OnOk result (after_remove self.old name ≡ Ok self.new.changes) }
+        ensures team { self.new.team ≡ self.old.team }
+        ensures base { self.new.base ≡ self.old.base }
+        ensures refused { IfErr result (λ cause. IsEditFault (after_remove self.old name) cause) }
+        ensures err { OnErr result (self.new ≡ self.old) }
+    {
+        if self.view(name).is_none() {
+            return Err(EditCause::Refused {
+                refusal: EditRefusal::NoSuchTask,
+            });
+        }
+        if self.base.is_foreign(self.team, name) {
+            return Err(EditCause::Refused {
+                refusal: EditRefusal::NotYours,
+            });
+        }
+        if !self.base.has(name) {
+            let _ = self.changes.shift_remove(&name);
+            return Ok(());
+        }
+        if is_full(&self.changes, name) {
+            return Err(EditCause::Refused {
+                refusal: EditRefusal::DraftFull,
+            });
+        }
+        match record(&mut self.changes, name, Change::Remove) {
+            Ok(()) => Ok(()),
+            Err(_) => Err(EditCause::OutOfMemory),
+        }
+    }
+}

@@ -1,0 +1,77 @@
+//! Changes with the verdict on what they come to.
+
+ghost use Rattle.std.specs.Prelude.{◌≡◌, IfOk, IfErr};
+ghost use Rattle.drafts.specs.Applied.{applied};
+ghost use Rattle.drafts.specs.Outcomes.{IsJudged, IsShared, IsAgain};
+
+use crate::applying::{Applied, apply};
+use crate::change::{Change, Refusal};
+use crate::state::NodeState;
+use crate::team::Team;
+use assignment::{Assignment, Obstruction, Verdict, assign};
+use indexmap::IndexMap;
+use std::alloc::{AllocError, Global};
+use std::sync::Arc;
+use task_sheet::Name;
+
+/// What changes come to, with the verdict on the set.
+#[derive(Drop)]
+pub enum Judged {
+    Refused { refusal: Refusal },
+    /// Some order passes; this is the best.
+    Best { assignment: Arc<Assignment> },
+    /// No order passes.
+    Stuck { obstruction: Arc<Obstruction> },
+}
+
+impl Judged {
+    /// The same again.
+    pub fn again(&self) -> Result<Judged, AllocError>
+        ensures { IfOk result (λ again. IsAgain self.now again) }
+    {
+        match self {
+            Judged::Refused { refusal } => Ok(Judged::Refused { refusal: *refusal }),
+            Judged::Best { assignment } => Ok(Judged::Best {
+                assignment: assignment.clone()?,
+            }),
+            Judged::Stuck { obstruction } => Ok(Judged::Stuck {
+                obstruction: obstruction.clone()?,
+            }),
+        }
+    }
+}
+
+/// A verdict, to be shared.
+pub fn share(alloc: Global, verdict: Verdict) -> Result<Judged, Verdict>
+    ensures ok { IfOk result (λ judged. IsShared verdict judged) }
+    ensures back { IfErr result (λ back. back ≡ verdict) }
+{
+    match verdict {
+        Verdict::Admitted(assignment) => match Arc::new(alloc, assignment) {
+            Ok(assignment) => Ok(Judged::Best { assignment }),
+            Err(refused) => Err(Verdict::Admitted(refused.value)),
+        },
+        Verdict::Infeasible(obstruction) => match Arc::new(alloc, obstruction) {
+            Ok(obstruction) => Ok(Judged::Stuck { obstruction }),
+            Err(refused) => Err(Verdict::Infeasible(refused.value)),
+        },
+    }
+}
+
+/// What a team's changes come to on a state, tested on the caller's thread.
+pub fn judge(
+    alloc: Global,
+    team: Team,
+    state: &NodeState,
+    changes: &IndexMap<Name, Change>,
+) -> Result<Judged, AllocError>
+    ensures { IfOk result (λ judged. IsJudged (applied team state.now.tasks changes.now.entries) judged) }
+{
+    match apply(alloc, team, state, changes)? {
+        Applied::Refused { refusal } => Ok(Judged::Refused { refusal }),
+        Applied::Tasks { set, teams: _ } => match share(alloc, assign(alloc, set)?) {
+            Ok(judged) => Ok(judged),
+            Err(_) => Err(AllocError),
+        },
+    }
+}

@@ -1,0 +1,13 @@
+//! Laws of drafts. Each is the clause of a function that does nothing, and its names are defined in `specs/`.
+
+ghost use Rattle.std.specs.Prelude.{◌≡◌, ℕ, List, Some, None};
+ghost use Rattle.drafts.specs.declared.state.Owned.{Owned};
+ghost use Rattle.drafts.specs.Applied.{held, with_task, without_name};
+
+/// The tasks with their teams are a finite map: what is held under a name after a task is put or taken out.
+pub fn tasks_are_a_map()
+    ensures put { (n : List ℕ) (o : Owned) (tasks : List Owned) → o.sheet.name ≡ n → held n (with_task n o tasks) ≡ Some o }
+    ensures put_other { (n m : List ℕ) (o : Owned) (tasks : List Owned) → o.sheet.name ≡ n → (n ≡ m → ⊥) → held m (with_task n o tasks) ≡ held m tasks }
+    ensures removed { (n : List ℕ) (tasks : List Owned) → held n (without_name n tasks) ≡ None }
+    ensures removed_other { (n m : List ℕ) (tasks : List Owned) → (n ≡ m → ⊥) → held m (without_name n tasks) ≡ held m tasks }
+{}

@@ -1,0 +1,25 @@
+//! The desk's state, drafts on it, and the book of what was decided.
+#![tactic(auto)]
+
+mod applying;
+mod book;
+mod change;
+mod draft;
+mod entry;
+mod judging;
+pub mod laws;
+mod proposal;
+mod settling;
+mod state;
+mod team;
+
+pub use applying::{Applied, apply};
+pub use book::{Book, Decided};
+pub use change::{Change, Refusal};
+pub use draft::{Draft, EditCause, EditRefusal, PutFault};
+pub use entry::{Decision, Entry};
+pub use judging::{Judged, judge, share};
+pub use proposal::{Proposal, ProposeFault, propose};
+pub use settling::{HeldFault, SettleFault, Settled};
+pub use state::{NodeState, Owned};
+pub use team::Team;

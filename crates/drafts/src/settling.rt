@@ -1,0 +1,117 @@
+//! Settling proposals and drafts in a book.
+
+ghost use Rattle.std.specs.Prelude.{◌≡◌, ◌↔◌, IsTrue, IfOk, IfErr, OnErr};
+ghost use Rattle.drafts.specs.Applied.{applied};
+ghost use Rattle.drafts.specs.Books.{logged, IsNextEntry};
+ghost use Rattle.drafts.specs.Outcomes.{IsJudged};
+ghost use Rattle.drafts.specs.Settling.{IsSettled};
+
+use crate::applying::{Applied, apply};
+use crate::book::{Book, Decided};
+use crate::change::Refusal;
+use crate::draft::Draft;
+use crate::entry::Entry;
+use crate::judging::Judged;
+use crate::proposal::Proposal;
+use crate::state::NodeState;
+use std::alloc::{AllocError, Global};
+use std::sync::Arc;
+
+/// What became of a proposal.
+#[derive(Drop)]
+pub enum Settled {
+    /// The present version is above its base; nothing changed.
+    Stale {
+        fresh: NodeState,
+        proposal: Proposal,
+    },
+    /// One entry is logged.
+    Decided {
+        place: usize,
+        entry: Arc<Entry>,
+    },
+}
+
+/// Why a proposal was not settled; it is handed back.
+#[derive(Drop)]
+pub enum SettleFault {
+    /// Its base is no state of this book.
+    Stranger { proposal: Proposal },
+    OutOfMemory { proposal: Proposal },
+}
+
+/// Memory was wanting; the draft is handed back.
+#[derive(Drop)]
+pub struct HeldFault {
+    pub draft: Draft,
+}
+
+// Whether two refusals are the same.
+fn is_same_refusal(first: &Refusal, second: &Refusal) -> bool
+    ensures { IsTrue result ↔ (first.now ≡ second.now) }
+{
+    match (first, second) {
+        (Refusal::NotYours { name: a }, Refusal::NotYours { name: b }) => a == b,
+        (Refusal::NoSuchTask { name: a }, Refusal::NoSuchTask { name: b }) => a == b,
+        (Refusal::TooManyTasks, Refusal::TooManyTasks) => true,
+        _ => false,
+    }
+}
+
+// Whether a proposal's changes come to the same on the present state.
+fn still_holds(alloc: Global, book: &Book, proposal: &Proposal) -> Result<bool, AllocError>
+    ensures { IfOk result (λ holds. IsTrue holds ↔ IsJudged (applied proposal.now.draft.team book.now.desk.tasks proposal.now.draft.changes) proposal.now.judged) }
+{
+    let draft = proposal.draft();
+    match apply(alloc, draft.team(), book.state(), draft.changes())? {
+        Applied::Refused { refusal } => match proposal.judged() {
+            Judged::Refused { refusal: told } => Ok(is_same_refusal(told, &refusal)),
+            _ => Ok(false),
+        },
+        Applied::Tasks { set, teams: _ } => match proposal.judged() {
+            Judged::Refused { refusal: _ } => Ok(false),
+            Judged::Best { assignment } => Ok(assignment.set().is_same(&set)),
+            Judged::Stuck { obstruction } => Ok(obstruction.set().is_same(&set)),
+        },
+    }
+}
+
+impl Book {
+    /// Settles a proposal by what it says. Refused: `Stranger`.
+    pub fn settle(&mut self, alloc: Global, proposal: Proposal) -> Result<Settled, SettleFault>
+        ensures { IsSettled self.old proposal self.new result }
+    {
+        let base = proposal.draft().base_version();
+        let version = self.state().version();
+        if base > version {
+            return Err(SettleFault::Stranger { proposal });
+        }
+        if base < version {
+            return match self.state().copy(alloc) {
+                Ok(fresh) => Ok(Settled::Stale { fresh, proposal }),
+                Err(_) => Err(SettleFault::OutOfMemory { proposal }),
+            };
+        }
+        match still_holds(alloc, self, &proposal) {
+            Err(_) => Err(SettleFault::OutOfMemory { proposal }),
+            Ok(false) => Err(SettleFault::Stranger { proposal }),
+            Ok(true) => match self.enter(alloc, proposal.draft(), proposal.judged()) {
+                Ok(Decided { place, entry }) => Ok(Settled::Decided { place, entry }),
+                Err(_) => Err(SettleFault::OutOfMemory { proposal }),
+            },
+        }
+    }
+
+    /// Applies a draft's changes to the present state, tests them, and logs the decision. It is never stale.
+    pub fn settle_held(&mut self, alloc: Global, draft: Draft) -> Result<Decided, HeldFault>
+        ensures entry { IfOk result (λ d. IsNextEntry self.old draft d.place d.entry.value) }
+        ensures ok { IfOk result (λ d. self.new ≡ logged self.old d.entry.value) }
+        ensures err { OnErr result (self.new ≡ self.old) }
+        ensures back { IfErr result (λ fault. fault.draft ≡ draft) }
+    {
+        match self.test_and_enter(alloc, &draft) {
+            Ok(decided) => Ok(decided),
+            Err(_) => Err(HeldFault { draft }),
+        }
+    }
+}

@@ -1,0 +1,145 @@
+//! The state of the node.
+
+ghost use Rattle.std.specs.Prelude.{◌≡◌, ◌+◌, length, IfOk, IfSome, OnOk, map, option_map};
+ghost use Rattle.task_sheet.specs.Verdicts.{IsBestOrder};
+ghost use Rattle.drafts.specs.Applied.{owned_of, set_of, held, is_foreign, is_there};
+ghost use Rattle.drafts.specs.Changes.{sheet_held};
+ghost use Rattle.drafts.specs.Machine.{empty_desk};
+
+use crate::team::Team;
+use assignment::{Assignment, Verdict, assign};
+use std::alloc::{AllocError, Global};
+use std::marker::Model;
+use std::sync::Arc;
+use task_sheet::{Name, Sheet, TaskSet};
+
+/// A sheet on the node, and the team that holds it.
+#[derive(Drop)]
+pub struct Owned {
+    pub sheet: Sheet,
+    pub team: Team,
+}
+
+/// How many commits were admitted, the tasks by rank with their teams, and the best order of the tasks.
+#[derive(Drop)]
+pub struct NodeState {
+    version: u64,
+    teams: Vec<Team>,
+    assignment: Arc<Assignment>,
+}
+
+impl Model for NodeState {
+    ghost use Rattle.drafts.specs.Machine.{Desk};
+
+    ghost Value = { Desk };
+
+    ghost use Rattle.drafts.specs.StateFields.{desk_of, IsKept};
+
+    ghost view = { desk_of };
+
+    ghost invariant = { IsKept };
+}
+
+impl NodeState {
+    // The state of a version with this order, by rank with the teams.
+    pub(crate) fn with(version: u64, assignment: Arc<Assignment>, teams: Vec<Team>) -> NodeState
+        requires { length teams.items ≡ length assignment.value.set }
+        ensures { result ≡ record { version = version; tasks = owned_of assignment.value.set teams.items } }
+    {
+        NodeState {
+            version,
+            teams,
+            assignment,
+        }
+    }
+
+    /// Version 0, without tasks.
+    pub fn empty(alloc: Global) -> Result<NodeState, AllocError>
+        ensures { IfOk result (λ state. state ≡ empty_desk) }
+    {
+        let Ok(set) = TaskSet::new(alloc, Vec::new(alloc)) else {
+            return Err(AllocError);
+        };
+        let Ok(set) = Arc::new(alloc, set) else {
+            return Err(AllocError);
+        };
+        match assign(alloc, set)? {
+            Verdict::Admitted(assignment) => match Arc::new(alloc, assignment) {
+                Ok(assignment) => Ok(NodeState::with(0, assignment, Vec::new(alloc))),
+                Err(_) => Err(AllocError),
+            },
+            Verdict::Infeasible(_) => unreachable!(),
+        }
+    }
+
+    /// How many commits were admitted.
+    pub fn version(&self) -> u64
+        ensures { result ≡ self.now.version }
+    {
+        self.version
+    }
+
+    /// The tasks by rank.
+    pub fn set(&self) -> &TaskSet
+        ensures { result.now ≡ set_of self.now.tasks }
+    {
+        self.assignment.set()
+    }
+
+    /// The best order of the tasks.
+    pub fn assignment(&self) -> &Assignment
+        ensures same { result.now.set ≡ set_of self.now.tasks }
+        ensures best { IsBestOrder (set_of self.now.tasks) result.now.levels }
+    {
+        let assignment: &Assignment = &self.assignment;
+        let _ = assignment.set();
+        assignment
+    }
+
+    /// The team that holds a name.
+    pub fn team_of(&self, name: Name) -> Option<Team>
+        ensures { result ≡ option_map (λ o. o.team) (held name self.now.tasks) }
+    {
+        let index = self.assignment.set().find(name)?;
+        Some(self.teams[index])
+    }
+
+    // Whether another team holds the name.
+    pub(crate) fn is_foreign(&self, team: Team, name: Name) -> bool
+        ensures { result ≡ is_foreign team (held name self.now.tasks) }
+    {
+        match self.team_of(name) {
+            Some(holder) => holder.number() != team.number(),
+            None => false,
+        }
+    }
+
+    // Whether a task has the name.
+    pub(crate) fn has(&self, name: Name) -> bool
+        ensures { result ≡ is_there (held name self.now.tasks) }
+    {
+        self.team_of(name).is_some()
+    }
+
+    // The sheet of a name.
+    pub(crate) fn sheet_of(&self, name: Name) -> Option<&Sheet>
+        ensures { option_map (λ s. s.now) result ≡ sheet_held (held name self.now.tasks) }
+    {
+        let set = self.assignment.set();
+        let index = set.find(name)?;
+        set.get(index)
+    }
+
+    /// The same state again.
+    pub fn copy(&self, alloc: Global) -> Result<NodeState, AllocError>
+        ensures { IfOk result (λ state. state ≡ self.now) }
+    {
+        let assignment = self.assignment.clone()?;
+        let teams = Vec::from_slice(alloc, &self.teams)?;
+        Ok(NodeState {
+            version: self.version,
+            teams,
+            assignment,
+        })
+    }
+}

@@ -1,0 +1,50 @@
+//! Teams.
+ghost use Rattle.std.specs.Prelude.{◌≡◌, ◌≤◌, IfSome, IfNone};
+
+use std::marker::Model;
+
+/// A team of the node, from 1 to 8.
+#[derive(Clone, Copy)]
+pub struct Team {
+    number: u64,
+}
+
+impl Model for Team {
+    ghost use Rattle.std.specs.Prelude.{ℕ};
+    ghost use Rattle.std.specs.Coded.{coded_ℕ};
+
+    ghost Value = { ℕ };
+
+    ghost coded = { coded_ℕ };
+
+    ghost use Rattle.drafts.specs.Teams.{number_of, team_of, IsTeam};
+
+    ghost view = { number_of };
+
+    ghost invariant = { IsTeam };
+
+    ghost inverse = { team_of };
+}
+
+impl Team {
+    /// The team of a number; none outside 1 to 8.
+    pub fn new(number: u64) -> Option<Team>
+        ensures none { IfNone result (1 ≤ number → number ≤ 8 → ⊥) }
+        ensures some { IfSome result (λ team. (team ≡ number) × (1 ≤ number) × (number ≤ 8)) }
+    {
+        if 1 <= number && number <= 8 {
+            Some(Team { number })
+        } else {
+            None
+        }
+    }
+
+    /// The number, from 1 to 8.
+    pub fn number(self) -> u64
+        ensures same { result ≡ self }
+        ensures from { 1 ≤ result }
+        ensures to { result ≤ 8 }
+    {
+        self.number
+    }
+}
