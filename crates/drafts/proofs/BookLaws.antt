@@ -6,12 +6,10 @@ use Rattle.task_sheet.proofs.TaskLaws.{AllTasks-from_set}
 use Rattle.task_sheet.proofs.ObstructionLaws.{IsObstruction-fails}
 use Rattle.drafts.specs.declared.state.Owned.{Owned}
 use Rattle.drafts.specs.declared.change.Refusal.{Refusal}
-use Rattle.drafts.specs.declared.entry.Decision.{Decision}
-use Rattle.drafts.specs.declared.entry.Decision.TheVariants.{Admitted, Refused, Infeasible}
 use Rattle.drafts.specs.declared.judging.Judged.{Judged}
 use Rattle.drafts.specs.declared.judging.Judged.TheVariants as judged
 use Rattle.drafts.specs.Applied.{set_of, applied}
-use Rattle.drafts.specs.Machine.{Desk, empty_desk, Entry, IsAnswer, IsDecision, moved, after_entry, IsLegal, replay, one_if_admitted, admissions}
+use Rattle.drafts.specs.Machine.{Desk, empty_desk, Ruling, Admitted, Refused, Infeasible, Entry, IsAnswer, IsDecision, moved, after_entry, IsLegal, replay, one_if_admitted, admissions}
 use Rattle.drafts.specs.Books.{Book, logged, IsNextEntry}
 use Rattle.drafts.specs.Changes.{Draft}
 use Rattle.drafts.specs.Outcomes.{IsJudged, IsSaid, IsNextState, IsEntryOf, after_next}
@@ -25,7 +23,7 @@ IsLegal-push desk [] e legal next = (next, tt)
 IsLegal-push desk (x ∷ log) e legal next = (legal.0, IsLegal-push (after_entry desk x) log e legal.1 next)
 
 -- what was judged is decided as the machine decides
-pub said-answer : (version : ℕ) (outcome : Result (List Owned) Refusal) (j : Judged) (d : Decision) → IsJudged outcome j → IsSaid version j d → IsAnswer version outcome d
+pub said-answer : (version : ℕ) (outcome : Result (List Owned) Refusal) (j : Judged) (d : Ruling) → IsJudged outcome j → IsSaid version j d → IsAnswer version outcome d
 said-answer version (Err refusal) (judged.Refused told) (Refused again) h said = said ∙ h
 said-answer version (Err refusal) (judged.Refused told) (Admitted again) h said = said
 said-answer version (Err refusal) (judged.Refused told) (Infeasible again) h said = said
@@ -45,7 +43,7 @@ said-answer version (Ok tasks) (judged.Stuck o) (Refused again) h said = said
 said-answer version (Ok tasks) (judged.Stuck o) (Admitted again) h said = absurd said
 
 -- and the state moves as the machine moves
-pub next-moved : (desk : Desk) (outcome : Result (List Owned) Refusal) (j : Judged) (d : Decision) (next : Option Desk) → IsSaid desk.version j d → IsNextState desk outcome j next → after_next desk next ≡ moved desk d outcome
+pub next-moved : (desk : Desk) (outcome : Result (List Owned) Refusal) (j : Judged) (d : Ruling) (next : Option Desk) → IsSaid desk.version j d → IsNextState desk outcome j next → after_next desk next ≡ moved desk d outcome
 next-moved desk outcome (judged.Refused told) (Refused again) next said is = ap (λ o. after_next desk o) is
 next-moved desk outcome (judged.Refused told) (Admitted again) next said is = absurd said
 next-moved desk outcome (judged.Refused told) (Infeasible again) next said is = absurd said
@@ -64,7 +62,7 @@ logged-legal b e legal same next = (
 )
 
 -- ---- the version counts the admitted entries
-answered-version : (desk : Desk) (outcome : Result (List Owned) Refusal) (d : Decision) → IsAnswer desk.version outcome d → (moved desk d outcome).version ≡ desk.version + one_if_admitted d
+answered-version : (desk : Desk) (outcome : Result (List Owned) Refusal) (d : Ruling) → IsAnswer desk.version outcome d → (moved desk d outcome).version ≡ desk.version + one_if_admitted d
 answered-version desk (Ok tasks) (Admitted told) h = refl
 answered-version desk (Err refusal) (Admitted told) h = absurd h
 answered-version desk outcome (Refused told) h = omega arith
@@ -74,7 +72,7 @@ pub replay-version : (desk : Desk) (log : List Entry) → IsLegal desk log → (
 replay-version desk [] legal = omega arith
 replay-version desk (e ∷ log) legal = omega (arith, replay-version (after_entry desk e) log legal.1, answered-version desk (applied e.team desk.tasks e.changes) e.decision legal.0)
 
-one-small : (d : Decision) → one_if_admitted d ≤ 1
+one-small : (d : Ruling) → one_if_admitted d ≤ 1
 one-small (Admitted told) = omega arith
 one-small (Refused told) = omega arith
 one-small (Infeasible o) = omega arith

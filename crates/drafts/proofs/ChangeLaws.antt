@@ -1,5 +1,8 @@
--- Lists of changes stay short.
-use Rattle.std.proofs.Common.{◌≡◌, ℕ, ◌+◌, ◌≤◌, inl, inr, true, false, is_some, List, [], ◌∷◌, length, refl, arith}
+-- Lists of changes: how long they are, and their copies.
+use Rattle.std.proofs.Common.{◌≡◌, ℕ, zero, suc, ◌+◌, ◌≤◌, inl, inr, true, false, is_some, List, [], ◌∷◌, length, take, slice_get, Some, refl, sym, ◌∙◌, ap, subst, arith}
+use Rattle.std.specs.List.{AllByRecursion, IsDistinct}
+use Rattle.std.specs.Map.{keys_of}
+use Rattle.std.specs.Cmp.Lexicographic.{nat_list_eq_equiv}
 use Rattle.std.proofs.lemmas.Bool.{cases_Bool, both_ways}
 use Rattle.std.proofs.lemmas.Bool.Decides.{nat_tests}
 use Rattle.task_sheet.specs.Sheet.{same_bytes}
@@ -25,3 +28,19 @@ recorded-few name change cs room few = elim (cases_Bool (is_some (change_on name
   | inl there ↦ omega (arith, recorded-there name change cs there)
   | inr gone ↦ let short : length cs + 1 ≤ 64 = grind (arith, nat_tests) in omega (arith, recorded-length name change cs)
 ]
+
+-- ---- a copy, change by change
+all-at : (P : List ℕ → Type 0) (cs : List (List ℕ × Change)) (i : ℕ) (name : List ℕ) (change : Change) → AllByRecursion P (keys_of cs) → slice_get cs i ≡ Some (name, change) → P name
+all-at P [] i name change all at = cc
+all-at P (c ∷ cs) zero name change all at = let e : c.0 ≡ name = cc in subst P e all.0
+all-at P (c ∷ cs) (suc i) name change all at = all-at P cs i name change all.1 at
+
+-- the next one goes last, since its name is new
+pub recorded-next : (cs : List (List ℕ × Change)) (i : ℕ) (name : List ℕ) (change : Change) → IsDistinct same_bytes (keys_of cs) → slice_get cs i ≡ Some (name, change) → recorded name change (take i cs) ≡ take (suc i) cs
+unfolding IsDistinct
+recorded-next [] i name change apart at = cc
+recorded-next (c ∷ cs) zero name change apart at = let e : c ≡ (name, change) = cc in ap (λ x. x ∷ []) (sym e)
+recorded-next (c ∷ cs) (suc i) name change apart at =
+    let away : same_bytes c.0 name ≡ false = all-at (λ n. same_bytes c.0 n ≡ false) cs i name change apart.0 at in
+    let other : same_bytes name c.0 ≡ false = nat_list_eq_equiv.symm name c.0 ∙ away in
+    rw other (ap (λ xs. c ∷ xs) (recorded-next cs i name change apart.1 at))

@@ -1,4 +1,5 @@
 pub mod OwnedLaws
+pub mod TeamLaws
 pub mod ChangeLaws
 pub mod BookLaws
 pub mod OwnedFinds

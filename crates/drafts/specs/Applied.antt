@@ -1,5 +1,6 @@
 -- The tasks on the node, by rank, each with its team; and what a team's changes make of them.
-use Rattle.std.specs.Prelude.{ℕ, Bool, true, false, ◌==◌, not, nat_le, List, [], ◌∷◌, length, filter, find, map, Option, None, Some, Result, Ok, Err, if◌then◌else◌}
+use Rattle.std.specs.Prelude.{ℕ, Bool, true, false, ◌==◌, not, nat_le, List, [], ◌∷◌, length, filter, find, map, Option, None, Some, Result, Ok, Err, if◌then◌else◌, slice_get}
+use Rattle.std.specs.Option.{option_map_or}
 use Rattle.std.specs.Ordering.{is_lt}
 use Rattle.task_sheet.specs.Sheet.{Task, same_bytes}
 use Rattle.task_sheet.specs.TaskSet.{rank_cmp}
@@ -51,11 +52,18 @@ is_there (Some o) = true
 -- the tasks after one change of a team
 abbrev pub after_change : ℕ → List Owned → List ℕ → Change → Result (List Owned) Refusal
 after_change team tasks name (Put sheet) =
-    if is_foreign team (held name tasks) then Err (NotYours name)
-    else Ok (with_task name (record { sheet = sheet; team = team }) tasks)
+    if is_foreign team (held sheet.name tasks) then Err (NotYours sheet.name)
+    else Ok (with_task sheet.name (record { sheet = sheet; team = team }) tasks)
 after_change team tasks name Remove =
     if is_foreign team (held name tasks) then Err (NotYours name)
     else (if is_there (held name tasks) then Ok (without_name name tasks) else Err (NoSuchTask name))
+
+-- the team at that place is this one
+abbrev pub is_team_at : ℕ → List ℕ → ℕ → Bool
+is_team_at team teams i = option_map_or (λ t. t == team) (slice_get teams i) false
+
+abbrev pub teams_of : List Owned → List ℕ
+teams_of tasks = map (λ o. o.team) tasks
 
 -- at most 32 tasks stand on the node
 abbrev pub if_few : List Owned → Result (List Owned) Refusal

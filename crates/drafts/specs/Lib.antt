@@ -1,6 +1,7 @@
 pub mod Teams
 pub mod Applied
 pub mod Machine
+pub mod Rulings
 pub mod Books
 pub mod Changes
 pub mod StateFields
@@ -11,3 +12,4 @@ pub mod BookFields
 pub mod Proposals
 pub mod ProposalFields
 pub mod Settling
+pub mod VerdictFaults

@@ -5,15 +5,20 @@ use Rattle.task_sheet.specs.Verdicts as verdict
 use Rattle.drafts.specs.declared.state.Owned.{Owned}
 use Rattle.drafts.specs.declared.change.Change.{Change}
 use Rattle.drafts.specs.declared.change.Refusal.{Refusal}
-use Rattle.drafts.specs.declared.entry.Decision.{Decision}
-use Rattle.drafts.specs.declared.entry.Decision.TheVariants.{Admitted, Refused, Infeasible}
+use Rattle.assignment.specs.Kept.{ObstructionData}
 use Rattle.drafts.specs.Applied.{set_of, applied}
+
+-- a decision, by what it says
+pub data Ruling : Type 0 where
+  Admitted : (version : ℕ) → Ruling
+  Refused : (refusal : Refusal) → Ruling
+  Infeasible : (obstruction : ObstructionData) → Ruling
 
 -- a line of the log: who asked, with which changes, and what was decided
 pub record Entry : Type 0 where
   pub team : ℕ
   pub changes : List (List ℕ × Change)
-  pub decision : Decision
+  pub decision : Ruling
 
 -- the machine's state: how many commits were admitted, and the tasks with their teams
 pub record Desk : Type 0 where
@@ -24,17 +29,17 @@ abbrev pub empty_desk : Desk
 empty_desk = record { version = 0; tasks = [] }
 
 -- what the machine answers to a commit whose changes come to this; an infeasible one with the greatest obstruction
-abbrev pub IsAnswer : ℕ → Result (List Owned) Refusal → Decision → Type 0
+abbrev pub IsAnswer : ℕ → Result (List Owned) Refusal → Ruling → Type 0
 IsAnswer version (Err refusal) (Refused told) = told ≡ refusal
 IsAnswer version (Ok tasks) (Admitted told) = IsFeasible (set_of tasks) × (told ≡ version + 1)
 IsAnswer version (Ok tasks) (Infeasible o) =
-    (¬ IsFeasible (set_of tasks)) × (o.value.set ≡ set_of tasks) × verdict.IsVerdictOf (set_of tasks) (verdict.Infeasible o.value.members)
+    (¬ IsFeasible (set_of tasks)) × (o.set ≡ set_of tasks) × verdict.IsVerdictOf (set_of tasks) (verdict.Infeasible o.members)
 IsAnswer version (Err refusal) (Infeasible o) = ⊥
 IsAnswer version (Err refusal) (Admitted told) = ⊥
 IsAnswer version (Ok tasks) (Refused told) = ⊥
 
 -- the decision is the machine's on the team's changes
-abbrev pub IsDecision : Desk → ℕ → List (List ℕ × Change) → Decision → Type 0
+abbrev pub IsDecision : Desk → ℕ → List (List ℕ × Change) → Ruling → Type 0
 IsDecision desk team changes decision = IsAnswer desk.version (applied team desk.tasks changes) decision
 
 abbrev pub admitted : Desk → Result (List Owned) Refusal → Desk
@@ -42,7 +47,7 @@ admitted desk (Ok tasks) = record { version = desk.version + 1; tasks = tasks }
 admitted desk (Err refusal) = desk
 
 -- the machine moves where it admits, and else stays
-abbrev pub moved : Desk → Decision → Result (List Owned) Refusal → Desk
+abbrev pub moved : Desk → Ruling → Result (List Owned) Refusal → Desk
 moved desk (Admitted version) outcome = admitted desk outcome
 moved desk (Refused refusal) outcome = desk
 moved desk (Infeasible o) outcome = desk
@@ -60,7 +65,7 @@ abbrev pub replay : Desk → List Entry → Desk
 replay desk [] = desk
 replay desk (e ∷ log) = replay (after_entry desk e) log
 
-abbrev pub one_if_admitted : Decision → ℕ
+abbrev pub one_if_admitted : Ruling → ℕ
 one_if_admitted (Admitted version) = 1
 one_if_admitted (Refused refusal) = 0
 one_if_admitted (Infeasible o) = 0

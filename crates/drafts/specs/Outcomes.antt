@@ -6,14 +6,13 @@ use Rattle.assignment.specs.declared.verdict.Verdict.{Verdict}
 use Rattle.assignment.specs.declared.verdict.Verdict.TheVariants as verdict
 use Rattle.drafts.specs.declared.state.Owned.{Owned}
 use Rattle.drafts.specs.declared.change.Refusal.{Refusal}
-use Rattle.drafts.specs.declared.entry.Decision.{Decision}
-use Rattle.drafts.specs.declared.entry.Decision.TheVariants as decision
 use Rattle.drafts.specs.declared.applying.Applied.{Applied}
 use Rattle.drafts.specs.declared.applying.Applied.TheVariants.{Tasks, Refused}
 use Rattle.drafts.specs.declared.judging.Judged.{Judged}
 use Rattle.drafts.specs.declared.judging.Judged.TheVariants as judged
 use Rattle.drafts.specs.Applied.{owned_of, set_of}
-use Rattle.drafts.specs.Machine.{Desk, Entry, admitted}
+use Rattle.drafts.specs.Machine.{Desk, Ruling, Entry, admitted}
+use Rattle.drafts.specs.Machine as ruling
 use Rattle.drafts.specs.Changes.{Draft}
 
 -- the changes are refused, or come to these tasks with their teams
@@ -33,10 +32,10 @@ IsJudged (Err refusal) (judged.Stuck o) = ⊥
 IsJudged (Ok tasks) (judged.Refused told) = ⊥
 
 -- the decision says what was judged, of a set that is valid
-abbrev pub IsSaid : ℕ → Judged → Decision → Type 0
-IsSaid version (judged.Refused refusal) (decision.Refused told) = told ≡ refusal
-IsSaid version (judged.Best a) (decision.Admitted told) = told ≡ version + 1
-IsSaid version (judged.Stuck o) (decision.Infeasible told) = (told.value ≡ o.value) × IsTaskSet o.value.set
+abbrev pub IsSaid : ℕ → Judged → Ruling → Type 0
+IsSaid version (judged.Refused refusal) (ruling.Refused told) = told ≡ refusal
+IsSaid version (judged.Best a) (ruling.Admitted told) = told ≡ version + 1
+IsSaid version (judged.Stuck o) (ruling.Infeasible told) = (told ≡ o.value) × IsTaskSet o.value.set
 IsSaid version j d = ⊥
 
 -- the judgement is the verdict, shared

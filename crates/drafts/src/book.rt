@@ -1,9 +1,10 @@
 //! The book: the present state, and the log that led to it.
 
-ghost use Rattle.std.specs.Prelude.{◌≡◌, ◌<◌, ◌+◌, ◌^◌, [], ◌∷◌, IfOk, OnOk, OnErr, length, map};
+ghost use Rattle.std.specs.Prelude.{◌≡◌, ◌<◌, ◌+◌, ◌^◌, [], ◌∷◌, IfOk, OnOk, OnErr, length, map, option_map};
 ghost use Rattle.drafts.specs.Applied.{applied};
 ghost use Rattle.drafts.specs.Machine.{Entry, IsDecision, IsLegal, replay, empty_desk, admissions};
 ghost use Rattle.drafts.specs.Outcomes.{IsJudged, IsSaid, IsNextState, IsEntryOf, after_next};
+ghost use Rattle.drafts.specs.Rulings.{ruling_of};
 ghost use Rattle.drafts.specs.Books.{empty_book, logged, IsNextEntry};
 
 use crate::applying::{Applied, apply};
@@ -21,11 +22,12 @@ use task_sheet::Name;
 /// The present state, and the log that led to it.
 #[derive(Drop)]
 pub struct Book {
-    state: NodeState,
+    state: Arc<NodeState>,
     log: Vec<Arc<Entry>>,
 }
 
 impl Model for Book {
+    ghost use Rattle.drafts.specs.Rulings.{ruling_of};
     ghost use Rattle.drafts.specs.Books.{Book};
 
     ghost Value = { Book };
@@ -45,7 +47,7 @@ pub struct Decided {
 }
 
 // The changes again, by name, in their order.
-fn copy_changes(
+fn list_changes(
     alloc: Global,
     changes: &IndexMap<Name, Change>,
 ) -> Result<Vec<(Name, Change)>, AllocError>
@@ -53,11 +55,7 @@ fn copy_changes(
 {
     let mut copies = Vec::new(alloc);
     for (name, change) in changes.iter() {
-        let change = match change {
-            Change::Put(sheet) => Change::Put(sheet.copy(alloc)?),
-            Change::Remove => Change::Remove,
-        };
-        copies.push((*name, change))?;
+        copies.push((*name, change.copy(alloc)?))?;
     }
     Ok(copies)
 }
@@ -65,7 +63,7 @@ fn copy_changes(
 // The decision that follows from what was judged.
 fn decide(version: u64, judged: &Judged) -> Result<Decision, AllocError>
     requires { version + 1 < 2 ^ 64 }
-    ensures { IfOk result (λ d. IsSaid version judged.now d) }
+    ensures { IfOk result (λ d. IsSaid version judged.now (ruling_of d)) }
 {
     match judged {
         Judged::Refused { refusal } => Ok(Decision::Refused { refusal: *refusal }),
@@ -92,7 +90,7 @@ fn make_entry(
     ensures { IfOk result (λ e. IsEntryOf version draft.now judged.now e.value) }
 {
     let decision = decide(version, judged)?;
-    let changes = copy_changes(alloc, draft.changes())?;
+    let changes = list_changes(alloc, draft.changes())?;
     match Arc::new(alloc, Entry::new(draft.team(), changes, decision)) {
         Ok(entry) => Ok(entry),
         Err(_) => Err(AllocError),
@@ -100,8 +98,8 @@ fn make_entry(
 }
 
 // Moves to the next state, if there is one.
-fn move_on(state: &mut NodeState, next: Option<NodeState>)
-    ensures { state.new ≡ after_next state.old next }
+fn move_on(state: &mut Arc<NodeState>, next: Option<Arc<NodeState>>)
+    ensures { state.new.value ≡ after_next state.old.value (option_map (λ s. s.value) next) }
 {
     if let Some(next) = next {
         *state = next;
@@ -113,10 +111,13 @@ impl Book {
     pub fn new(alloc: Global) -> Result<Book, AllocError>
         ensures { IfOk result (λ book. book ≡ empty_book) }
     {
-        Ok(Book {
-            state: NodeState::empty(alloc)?,
-            log: Vec::new(alloc),
-        })
+        match Arc::new(alloc, NodeState::empty(alloc)?) {
+            Ok(state) => Ok(Book {
+                state,
+                log: Vec::new(alloc),
+            }),
+            Err(_) => Err(AllocError),
+        }
     }
 
     /// The present state.
@@ -129,6 +130,13 @@ impl Book {
         &self.state
     }
 
+    /// The present state, to be shared. It is never written again: an admitted commit makes another one.
+    pub fn snapshot(&self) -> Result<Arc<NodeState>, AllocError>
+        ensures { IfOk result (λ state. state.value ≡ self.now.desk) }
+    {
+        self.state.clone()
+    }
+
     /// The entries in their order.
     pub fn log(&self) -> &[Arc<Entry>]
         ensures { map (λ e. e.value) result.now ≡ self.now.log }
@@ -137,8 +145,8 @@ impl Book {
     }
 
     /// The state and the log, out of the book.
-    pub fn into_parts(self) -> (NodeState, Vec<Arc<Entry>>)
-        ensures state { result.0 ≡ self.desk }
+    pub fn into_parts(self) -> (Arc<NodeState>, Vec<Arc<Entry>>)
+        ensures state { result.0.value ≡ self.desk }
         ensures log { map (λ e. e.value) result.1.items ≡ self.log }
         ensures legal { IsLegal empty_desk self.log }
         ensures replay { replay empty_desk self.log ≡ self.desk }
@@ -152,21 +160,24 @@ impl Book {
         alloc: Global,
         draft: &Draft,
         judged: &Judged,
-    ) -> Result<Option<NodeState>, AllocError>
+    ) -> Result<Option<Arc<NodeState>>, AllocError>
         requires judged { IsJudged (applied draft.now.team self.now.desk.tasks draft.now.changes) judged.now }
         requires room { self.now.desk.version + 1 < 2 ^ 64 }
-        ensures { IfOk result (λ next. IsNextState self.now.desk (applied draft.now.team self.now.desk.tasks draft.now.changes) judged.now next) }
+        ensures { IfOk result (λ next. IsNextState self.now.desk (applied draft.now.team self.now.desk.tasks draft.now.changes) judged.now (option_map (λ s. s.value) next)) }
     {
         match judged {
             Judged::Refused { refusal: _ } => Ok(None),
             Judged::Stuck { obstruction: _ } => Ok(None),
             Judged::Best { assignment } => {
                 match apply(alloc, draft.team(), &self.state, draft.changes())? {
-                    Applied::Tasks { set: _, teams } => Ok(Some(NodeState::with(
-                        self.state.version() + 1,
-                        assignment.clone()?,
-                        teams,
-                    ))),
+                    Applied::Tasks { set: _, teams } => {
+                        let version = self.state.version() + 1;
+                        let next = NodeState::with(version, assignment.clone()?, teams);
+                        match Arc::new(alloc, next) {
+                            Ok(next) => Ok(Some(next)),
+                            Err(_) => Err(AllocError),
+                        }
+                    }
                     Applied::Refused { refusal: _ } => unreachable!(),
                 }
             }

@@ -1,4 +1,7 @@
 //! Changes, and why they are refused.
+ghost use Rattle.std.specs.Prelude.{◌≡◌, IfOk};
+
+use std::alloc::{AllocError, Global};
 use task_sheet::{Name, Sheet};
 
 /// What a draft does with a name.
@@ -6,6 +9,18 @@ use task_sheet::{Name, Sheet};
 pub enum Change {
     Put(Sheet),
     Remove,
+}
+
+impl Change {
+    /// The same change again.
+    pub fn copy(&self, alloc: Global) -> Result<Change, AllocError>
+        ensures { IfOk result (λ change. change ≡ self.now) }
+    {
+        match self {
+            Change::Put(sheet) => Ok(Change::Put(sheet.copy(alloc)?)),
+            Change::Remove => Ok(Change::Remove),
+        }
+    }
 }
 
 /// Why a team's changes are refused.

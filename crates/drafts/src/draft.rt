@@ -1,6 +1,6 @@
 //! Drafts: a base and a list of changes.
 
-ghost use Rattle.std.specs.Prelude.{◌≡◌, ◌≤◌, [], ◌∷◌, Ok, IfOk, IfErr, IfSome, OnOk, OnErr, length, option_map, slice_get, nat_eq, false};
+ghost use Rattle.std.specs.Prelude.{◌≡◌, ◌+◌, ◌<◌, ◌≤◌, take, [], ◌∷◌, Ok, IfOk, IfErr, IfSome, OnOk, OnErr, length, option_map, slice_get, nat_eq, false};
 ghost use Rattle.std.specs.Cmp.Lexicographic.{pointwise};
 ghost use Rattle.indexmap.specs.IndexMap.{IsUnique};
 ghost use Rattle.drafts.specs.Changes.{is_full, recorded, view, after_put, after_remove, on_base};
@@ -14,6 +14,7 @@ use crate::team::Team;
 use indexmap::IndexMap;
 use std::alloc::{AllocError, Global};
 use std::marker::Model;
+use std::sync::Arc;
 use task_sheet::{Name, Sheet};
 
 // The most changes of a draft.
@@ -23,7 +24,7 @@ const CHANGE_LIMIT: usize = 64;
 #[derive(Drop)]
 pub struct Draft {
     team: Team,
-    base: NodeState,
+    base: Arc<NodeState>,
     changes: IndexMap<Name, Change>,
 }
 
@@ -84,10 +85,45 @@ fn record(changes: &mut IndexMap<Name, Change>, name: Name, change: Change) -> R
     }
 }
 
+// Copies the change at a place behind those before it.
+fn copy_at(
+    alloc: Global,
+    changes: &IndexMap<Name, Change>,
+    place: usize,
+    copies: &mut IndexMap<Name, Change>,
+) -> Result<(), AllocError>
+    requires there { place < length changes.now.entries }
+    requires before { copies.old.entries ≡ take place changes.now.entries }
+    ensures { OnOk result (copies.new.entries ≡ take (place + 1) changes.now.entries) }
+{
+    let _ = changes.len();
+    let Some((name, change)) = changes.get_index(place) else {
+        unreachable!();
+    };
+    match record(copies, *name, change.copy(alloc)?) {
+        Ok(()) => Ok(()),
+        Err(_) => Err(AllocError),
+    }
+}
+
+// The same changes again, in their order.
+fn copy_changes(
+    alloc: Global,
+    changes: &IndexMap<Name, Change>,
+) -> Result<IndexMap<Name, Change>, AllocError>
+    ensures { IfOk result (λ copies. copies.entries ≡ changes.now.entries) }
+{
+    let mut copies = IndexMap::new(alloc);
+    for place in 0..changes.len() {
+        copy_at(alloc, changes, place, &mut copies)?;
+    }
+    Ok(copies)
+}
+
 impl Draft {
     /// A draft without changes.
-    pub fn new(alloc: Global, team: Team, base: NodeState) -> Draft
-        ensures { result ≡ record { team = team; base = base; changes = [] } }
+    pub fn new(alloc: Global, team: Team, base: Arc<NodeState>) -> Draft
+        ensures { result ≡ record { team = team; base = base.value; changes = [] } }
     {
         Draft {
             team,
@@ -125,9 +161,9 @@ impl Draft {
     }
 
     // The team and the changes, out of the draft.
-    pub(crate) fn into_parts(self) -> (Team, NodeState, IndexMap<Name, Change>)
+    pub(crate) fn into_parts(self) -> (Team, Arc<NodeState>, IndexMap<Name, Change>)
         ensures team { result.0 ≡ self.team }
-        ensures base { result.1 ≡ self.base }
+        ensures base { result.1.value ≡ self.base }
         ensures changes { result.2.entries ≡ self.changes }
         ensures few { length result.2.entries ≤ 64 }
     {
@@ -135,15 +171,32 @@ impl Draft {
     }
 
     // The draft of these parts.
-    pub(crate) fn of_parts(team: Team, base: NodeState, changes: IndexMap<Name, Change>) -> Draft
+    pub(crate) fn of_parts(
+        team: Team,
+        base: Arc<NodeState>,
+        changes: IndexMap<Name, Change>,
+    ) -> Draft
         requires { length changes.entries ≤ 64 }
-        ensures { result ≡ record { team = team; base = base; changes = changes.entries } }
+        ensures { result ≡ record { team = team; base = base.value; changes = changes.entries } }
     {
         Draft {
             team,
             base,
             changes,
         }
+    }
+
+    /// The same draft again.
+    pub fn copy(&self, alloc: Global) -> Result<Draft, AllocError>
+        ensures { IfOk result (λ draft. draft ≡ self.now) }
+    {
+        let base = self.base.clone()?;
+        let changes = copy_changes(alloc, &self.changes)?;
+        Ok(Draft {
+            team: self.team,
+            base,
+            changes,
+        })
     }
 
     /// How many changes there are.
@@ -162,8 +215,8 @@ impl Draft {
     }
 
     /// The same changes on another state.
-    pub fn rebase(self, fresh: NodeState) -> Draft
-        ensures { result ≡ record { team = self.team; base = fresh; changes = self.changes } }
+    pub fn rebase(self, fresh: Arc<NodeState>) -> Draft
+        ensures { result ≡ record { team = self.team; base = fresh.value; changes = self.changes } }
     {
         Draft {
             team: self.team,
@@ -173,9 +226,9 @@ impl Draft {
     }
 
     /// The same changes on another state, and the state that they were on.
-    pub fn exchange(self, fresh: NodeState) -> (Draft, NodeState)
-        ensures draft { result.0 ≡ record { team = self.team; base = fresh; changes = self.changes } }
-        ensures base { result.1 ≡ self.base }
+    pub fn exchange(self, fresh: Arc<NodeState>) -> (Draft, Arc<NodeState>)
+        ensures draft { result.0 ≡ record { team = self.team; base = fresh.value; changes = self.changes } }
+        ensures base { result.1.value ≡ self.base }
     {
         let (team, base, changes) = self.into_parts();
         (Draft::of_parts(team, fresh, changes), base)

@@ -1,5 +1,6 @@
 //! The lines of the log.
 ghost use Rattle.std.specs.Prelude.{◌≡◌};
+ghost use Rattle.drafts.specs.Rulings.{ruling_of};
 
 use crate::change::{Change, Refusal};
 use crate::team::Team;
@@ -26,16 +27,17 @@ pub struct Entry {
 
 impl Model for Entry {
     ghost use Rattle.drafts.specs.Machine.{Entry};
+    ghost use Rattle.drafts.specs.Rulings.{ruling_of};
 
     ghost Value = { Entry };
 
-    ghost view = { λ e. record { team = e.team; changes = e.changes.items; decision = e.decision } };
+    ghost view = { λ e. record { team = e.team; changes = e.changes.items; decision = ruling_of e.decision } };
 }
 
 impl Entry {
     // A line of these parts.
     pub(crate) fn new(team: Team, changes: Vec<(Name, Change)>, decision: Decision) -> Entry
-        ensures { result ≡ record { team = team; changes = changes.items; decision = decision } }
+        ensures { result ≡ record { team = team; changes = changes.items; decision = ruling_of decision } }
     {
         Entry {
             team,
@@ -60,7 +62,7 @@ impl Entry {
 
     /// What was decided.
     pub fn decision(&self) -> &Decision
-        ensures { result.now ≡ self.now.decision }
+        ensures { ruling_of result.now ≡ self.now.decision }
     {
         &self.decision
     }

@@ -19,7 +19,7 @@ pub use change::{Change, Refusal};
 pub use draft::{Draft, EditCause, EditRefusal, PutFault};
 pub use entry::{Decision, Entry};
 pub use judging::{Judged, judge, share};
-pub use proposal::{Proposal, ProposeFault, propose};
+pub use proposal::{Proposal, ProposeFault, VerdictFault, propose, propose_with};
 pub use settling::{HeldFault, SettleFault, Settled};
 pub use state::{NodeState, Owned};
 pub use team::Team;

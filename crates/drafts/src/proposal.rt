@@ -1,13 +1,18 @@
 //! Proposals: a draft with what its changes come to on its base.
 
-ghost use Rattle.std.specs.Prelude.{◌≡◌, IfOk, IfErr};
+ghost use Rattle.std.specs.Prelude.{◌≡◌, ◌↔◌, IsTrue, IfOk, IfErr};
+ghost use Rattle.task_sheet.specs.Verdicts.{IsVerdictOf};
+ghost use Rattle.assignment.specs.Verdict.{set_of, verdict_of};
 ghost use Rattle.drafts.specs.Changes.{on_base};
-ghost use Rattle.drafts.specs.Outcomes.{IsJudged};
+ghost use Rattle.drafts.specs.Outcomes.{IsJudged, IsShared};
+ghost use Rattle.drafts.specs.VerdictFaults.{IsOnSet, IsVerdictFault};
 ghost use Rattle.drafts.specs.Proposals.{IsProposal};
 
+use crate::applying::Applied;
 use crate::draft::Draft;
-use crate::judging::{Judged, judge};
-use std::alloc::Global;
+use crate::judging::{Judged, judge, share};
+use assignment::Verdict;
+use std::alloc::{AllocError, Global};
 use std::marker::Model;
 
 /// A draft with the refusal of its changes on its base, or the verdict on the set that they come to.
@@ -35,6 +40,26 @@ pub struct ProposeFault {
     pub draft: Draft,
 }
 
+/// Why a draft and a verdict are no proposal; both are handed back.
+#[derive(Drop)]
+pub enum VerdictFault {
+    /// The changes are refused, or come to another set than that of the verdict.
+    Stranger { draft: Draft, verdict: Verdict },
+    OutOfMemory { draft: Draft, verdict: Verdict },
+}
+
+// Whether the verdict is on the set that a draft's changes come to.
+fn is_on(alloc: Global, draft: &Draft, verdict: &Verdict) -> Result<bool, AllocError>
+    ensures same { IfOk result (λ same. IsTrue same ↔ IsOnSet (on_base draft.now) (set_of verdict.now)) }
+    ensures verdict { IsVerdictOf (set_of verdict.now) (verdict_of verdict.now) }
+{
+    let set = verdict.set();
+    match draft.applied(alloc)? {
+        Applied::Refused { refusal: _ } => Ok(false),
+        Applied::Tasks { set: own, teams: _ } => Ok(set.is_same(&own)),
+    }
+}
+
 /// The proposal of a draft, tested on the caller's thread.
 pub fn propose(alloc: Global, draft: Draft) -> Result<Proposal, ProposeFault>
     ensures ok { IfOk result (λ proposal. proposal.draft ≡ draft) }
@@ -44,6 +69,23 @@ pub fn propose(alloc: Global, draft: Draft) -> Result<Proposal, ProposeFault>
     match judge(alloc, draft.team(), draft.base(), draft.changes()) {
         Ok(judged) => Ok(Proposal { draft, judged }),
         Err(_) => Err(ProposeFault { draft }),
+    }
+}
+
+/// The proposal of a draft with a verdict that was worked out elsewhere. Refused: `Stranger`.
+pub fn propose_with(alloc: Global, draft: Draft, verdict: Verdict) -> Result<Proposal, VerdictFault>
+    ensures ok { IfOk result (λ proposal. (proposal.draft ≡ draft) × IsShared verdict proposal.judged) }
+    ensures right { IfOk result IsProposal }
+    ensures same { IfOk result (λ proposal. IsOnSet (on_base draft) (set_of verdict)) }
+    ensures err { IfErr result (IsVerdictFault draft verdict) }
+{
+    match is_on(alloc, &draft, &verdict) {
+        Err(_) => Err(VerdictFault::OutOfMemory { draft, verdict }),
+        Ok(false) => Err(VerdictFault::Stranger { draft, verdict }),
+        Ok(true) => match share(alloc, verdict) {
+            Ok(judged) => Ok(Proposal { draft, judged }),
+            Err(verdict) => Err(VerdictFault::OutOfMemory { draft, verdict }),
+        },
     }
 }
 

@@ -22,7 +22,7 @@ use std::sync::Arc;
 pub enum Settled {
     /// The present version is above its base; nothing changed.
     Stale {
-        fresh: NodeState,
+        fresh: Arc<NodeState>,
         proposal: Proposal,
     },
     /// One entry is logged.
@@ -87,7 +87,7 @@ impl Book {
             return Err(SettleFault::Stranger { proposal });
         }
         if base < version {
-            return match self.state().copy(alloc) {
+            return match self.snapshot() {
                 Ok(fresh) => Ok(Settled::Stale { fresh, proposal }),
                 Err(_) => Err(SettleFault::OutOfMemory { proposal }),
             };

@@ -1,8 +1,9 @@
 //! The state of the node.
 
-ghost use Rattle.std.specs.Prelude.{◌≡◌, ◌+◌, length, IfOk, IfSome, OnOk, map, option_map};
+ghost use Rattle.std.specs.Prelude.{◌≡◌, ◌==◌, ◌&&◌, ◌||◌, ℕ, ◌+◌, ◌<◌, ◌≤◌, length, IfOk, IfSome, OnOk, map, option_map};
+ghost use Rattle.std.specs.FinSet.{contains};
 ghost use Rattle.task_sheet.specs.Verdicts.{IsBestOrder};
-ghost use Rattle.drafts.specs.Applied.{owned_of, set_of, held, is_foreign, is_there};
+ghost use Rattle.drafts.specs.Applied.{owned_of, set_of, held, is_foreign, is_there, is_team_at, teams_of};
 ghost use Rattle.drafts.specs.Changes.{sheet_held};
 ghost use Rattle.drafts.specs.Machine.{empty_desk};
 
@@ -11,7 +12,7 @@ use assignment::{Assignment, Verdict, assign};
 use std::alloc::{AllocError, Global};
 use std::marker::Model;
 use std::sync::Arc;
-use task_sheet::{Name, Sheet, TaskSet};
+use task_sheet::{Members, Name, Sheet, TaskSet};
 
 /// A sheet on the node, and the team that holds it.
 #[derive(Drop)]
@@ -38,6 +39,26 @@ impl Model for NodeState {
     ghost view = { desk_of };
 
     ghost invariant = { IsKept };
+}
+
+// The set with the index as a member where it is wanted.
+fn noted(members: Members, index: usize, wanted: bool) -> Members
+    requires { index < 32 }
+    ensures { (i : ℕ) → contains result i ≡ ((i == index) && wanted || contains members i) }
+{
+    if wanted { members.with(index) } else { members }
+}
+
+// Where a team stands in a list of teams.
+fn places_of(teams: &[Team], team: Team) -> Members
+    requires { length teams.now ≤ 32 }
+    ensures { (i : ℕ) → contains result i ≡ is_team_at team teams.now i }
+{
+    let mut members = Members::empty();
+    for (index, holder) in teams.iter().enumerate() {
+        members = noted(members, index, holder.number() == team.number());
+    }
+    members
 }
 
 impl NodeState {
@@ -128,6 +149,14 @@ impl NodeState {
         let set = self.assignment.set();
         let index = set.find(name)?;
         set.get(index)
+    }
+
+    /// The indexes of a team's tasks.
+    pub fn tasks_of(&self, team: Team) -> Members
+        ensures { (i : ℕ) → contains result i ≡ is_team_at team (teams_of self.now.tasks) i }
+    {
+        let _ = self.set().len();
+        places_of(&self.teams, team)
     }
 
     /// The same state again.

@@ -1,0 +1,9 @@
+-- What a decision says, wherever its obstruction is kept.
+use Rattle.drafts.specs.declared.entry.Decision.{Decision}
+use Rattle.drafts.specs.declared.entry.Decision.TheVariants as decision
+use Rattle.drafts.specs.Machine.{Ruling, Admitted, Refused, Infeasible}
+
+abbrev pub ruling_of : Decision → Ruling
+ruling_of (decision.Admitted version) = Admitted version
+ruling_of (decision.Refused refusal) = Refused refusal
+ruling_of (decision.Infeasible o) = Infeasible o.value

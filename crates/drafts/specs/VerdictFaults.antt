@@ -1,0 +1,21 @@
+-- Verdicts that are brought to a draft.
+use Rattle.std.specs.Prelude.{◌≡◌, List, Result, Ok, Err}
+use Rattle.task_sheet.specs.Sheet.{Task}
+use Rattle.assignment.specs.declared.verdict.Verdict.{Verdict}
+use Rattle.assignment.specs.Verdict as of
+use Rattle.drafts.specs.declared.state.Owned.{Owned}
+use Rattle.drafts.specs.declared.change.Refusal.{Refusal}
+use Rattle.drafts.specs.declared.proposal.VerdictFault.{VerdictFault}
+use Rattle.drafts.specs.declared.proposal.VerdictFault.TheVariants.{Stranger, OutOfMemory}
+use Rattle.drafts.specs.Applied.{set_of}
+use Rattle.drafts.specs.Changes.{Draft, on_base}
+
+-- the changes apply, and come to that set
+abbrev pub IsOnSet : Result (List Owned) Refusal → List Task → Type 0
+IsOnSet (Err refusal) U = ⊥
+IsOnSet (Ok tasks) U = U ≡ set_of tasks
+
+-- draft and verdict are handed back; a stranger is on another set
+abbrev pub IsVerdictFault : Draft → Verdict → VerdictFault → Type 0
+IsVerdictFault d v (Stranger draft verdict) = (draft ≡ d) × (verdict ≡ v) × (¬ IsOnSet (on_base d) (of.set_of v))
+IsVerdictFault d v (OutOfMemory draft verdict) = (draft ≡ d) × (verdict ≡ v)
