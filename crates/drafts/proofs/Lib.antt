@@ -3,4 +3,5 @@ pub mod TeamLaws
 pub mod ChangeLaws
 pub mod BookLaws
 pub mod OwnedFinds
+pub mod RosterLaws
 pub mod MapLaws

@@ -1,5 +1,6 @@
 pub mod Teams
 pub mod Applied
+pub mod Rosters
 pub mod Machine
 pub mod Rulings
 pub mod Books

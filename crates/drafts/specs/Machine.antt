@@ -2,7 +2,7 @@
 use Rattle.std.specs.Prelude.{◌≡◌, ℕ, ◌+◌, List, [], ◌∷◌, Result, Ok, Err}
 use Rattle.task_sheet.specs.Orders.{IsFeasible}
 use Rattle.task_sheet.specs.Verdicts as verdict
-use Rattle.drafts.specs.declared.state.Owned.{Owned}
+use Rattle.drafts.specs.declared.roster.Owned.{Owned}
 use Rattle.drafts.specs.declared.change.Change.{Change}
 use Rattle.drafts.specs.declared.change.Refusal.{Refusal}
 use Rattle.assignment.specs.Kept.{ObstructionData}

@@ -1,16 +1,21 @@
 //! What changes make of the tasks on the node.
 
-ghost use Rattle.std.specs.Prelude.{◌≡◌, IfOk};
-ghost use Rattle.drafts.specs.Applied.{applied};
+ghost use Rattle.std.specs.Prelude.{◌≡◌, None, IfOk};
+ghost use Rattle.std.specs.List.Sorted.{IsStrictlySortedBy};
+ghost use Rattle.task_sheet.specs.TaskSet.{rank_cmp};
+ghost use Rattle.task_sheet.specs.SheetsFault.{sheets_fault};
+ghost use Rattle.drafts.specs.Applied.{after_change, all_changes, if_few, applied};
+ghost use Rattle.drafts.specs.Rosters.{IsRoster, IsMade};
 ghost use Rattle.drafts.specs.Outcomes.{IsApplied};
 
 use crate::change::{Change, Refusal};
+use crate::roster::{Owned, is_foreign, is_there, place, split, take_out};
 use crate::state::NodeState;
 use crate::team::Team;
 use indexmap::IndexMap;
 use std::alloc::{AllocError, Global};
 use std::sync::Arc;
-use task_sheet::{Name, TaskSet};
+use task_sheet::{Name, SetCause, Sheet, TASK_LIMIT, TaskSet};
 
 /// What changes come to.
 #[derive(Drop)]
@@ -20,18 +25,130 @@ pub enum Applied {
     Refused { refusal: Refusal },
 }
 
-/// A team's changes to a state, in their order. A stand-in: it always lacks memory.
+// Puts a sheet, or answers why it is refused.
+fn put(
+    alloc: Global,
+    team: Team,
+    tasks: &mut Vec<Owned>,
+    sheet: &Sheet,
+) -> Result<Option<Refusal>, AllocError>
+    requires { IsRoster tasks.old.items }
+    ensures roster { IsRoster tasks.new.items }
+    ensures ok { IfOk result (IsMade (after_change team tasks.old.items sheet.now.name (Change.Put sheet.now)) tasks.new.items) }
+{
+    let name = sheet.name();
+    if is_foreign(tasks, team, name) {
+        return Ok(Some(Refusal::NotYours { name }));
+    }
+    let sheet = sheet.copy(alloc)?;
+    take_out(tasks, name);
+    place(tasks, Owned { sheet, team })?;
+    Ok(None)
+}
+
+// Removes the task of a name, or answers why that is refused.
+fn remove(team: Team, tasks: &mut Vec<Owned>, name: Name) -> Option<Refusal>
+    requires { IsRoster tasks.old.items }
+    ensures roster { IsRoster tasks.new.items }
+    ensures made { IsMade (after_change team tasks.old.items name Change.Remove) tasks.new.items result }
+{
+    if is_foreign(tasks, team, name) {
+        return Some(Refusal::NotYours { name });
+    }
+    if !is_there(tasks, name) {
+        return Some(Refusal::NoSuchTask { name });
+    }
+    take_out(tasks, name);
+    None
+}
+
+// Makes one change of a team, or answers why it is refused.
+fn make_change(
+    alloc: Global,
+    team: Team,
+    tasks: &mut Vec<Owned>,
+    name: Name,
+    change: &Change,
+) -> Result<Option<Refusal>, AllocError>
+    requires { IsRoster tasks.old.items }
+    ensures roster { IsRoster tasks.new.items }
+    ensures ok { IfOk result (IsMade (after_change team tasks.old.items name change.now) tasks.new.items) }
+{
+    match change {
+        Change::Put(sheet) => put(alloc, team, tasks, sheet),
+        Change::Remove => Ok(remove(team, tasks, name)),
+    }
+}
+
+// Makes a team's changes in their order, or answers why the first that is refused is.
+fn make_changes(
+    alloc: Global,
+    team: Team,
+    tasks: &mut Vec<Owned>,
+    changes: &IndexMap<Name, Change>,
+) -> Result<Option<Refusal>, AllocError>
+    requires { IsRoster tasks.old.items }
+    ensures roster { IsRoster tasks.new.items }
+    ensures ok { IfOk result (IsMade (all_changes team tasks.old.items changes.now.entries) tasks.new.items) }
+{
+    for place in 0..changes.len() {
+        let Some((name, change)) = changes.get_index(place) else {
+            unreachable!();
+        };
+        match make_change(alloc, team, tasks, *name, change)? {
+            Some(refusal) => return Ok(Some(refusal)),
+            None => {}
+        }
+    }
+    Ok(None)
+}
+
+// The set of sheets that are by rank.
+fn make_set(alloc: Global, sheets: Vec<Sheet>) -> Result<TaskSet, AllocError>
+    requires ranked { IsStrictlySortedBy rank_cmp sheets.items }
+    requires fits { sheets_fault sheets.items ≡ None }
+    ensures { IfOk result (λ set. set ≡ sheets.items) }
+{
+    match TaskSet::new(alloc, sheets) {
+        Ok(set) => Ok(set),
+        Err(fault) => match fault.cause {
+            SetCause::OutOfMemory => Err(AllocError),
+            SetCause::SameName { task: _ } => unreachable!(),
+            SetCause::TooManyTasks => unreachable!(),
+        },
+    }
+}
+
+// The set of the tasks with their teams, unless they are too many.
+fn as_set(alloc: Global, tasks: Vec<Owned>) -> Result<Applied, AllocError>
+    requires { IsRoster tasks.items }
+    ensures { IfOk result (IsApplied (if_few tasks.items)) }
+{
+    if tasks.len() > TASK_LIMIT {
+        let refusal = Refusal::TooManyTasks;
+        return Ok(Applied::Refused { refusal });
+    }
+    let (sheets, teams) = split(alloc, tasks)?;
+    let set = make_set(alloc, sheets)?;
+    match Arc::new(alloc, set) {
+        Ok(set) => Ok(Applied::Tasks { set, teams }),
+        Err(_) => Err(AllocError),
+    }
+}
+
+/// What a team's changes, in their order, come to on a state. The first that is refused decides, and after all the
+/// number of tasks.
 pub fn apply(
     alloc: Global,
     team: Team,
     state: &NodeState,
     changes: &IndexMap<Name, Change>,
 ) -> Result<Applied, AllocError>
-    ensures { IfOk result (λ outcome. IsApplied (applied team state.now.tasks changes.now.entries) outcome) }
+    ensures { IfOk result (IsApplied (applied team state.now.tasks changes.now.entries)) }
 {
-    let _ = alloc;
-    let _ = team;
-    let _ = state;
-    let _ = changes;
-    Err(AllocError)
+    let mut tasks = state.roster(alloc)?;
+    match make_changes(alloc, team, &mut tasks, changes)? {
+        Some(refusal) => Ok(Applied::Refused { refusal }),
+        None => as_set(alloc, tasks),
+    }
 }

@@ -1,7 +1,7 @@
 //! Laws of drafts. Each is the clause of a function that does nothing, and its names are defined in `specs/`.
 
 ghost use Rattle.std.specs.Prelude.{◌≡◌, ℕ, List, Some, None};
-ghost use Rattle.drafts.specs.declared.state.Owned.{Owned};
+ghost use Rattle.drafts.specs.declared.roster.Owned.{Owned};
 ghost use Rattle.drafts.specs.Applied.{held, with_task, without_name};
 
 /// The tasks with their teams are a finite map: what is held under a name after a task is put or taken out.

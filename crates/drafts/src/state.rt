@@ -4,22 +4,17 @@ ghost use Rattle.std.specs.Prelude.{◌≡◌, ◌==◌, ◌&&◌, ◌||◌, ℕ
 ghost use Rattle.std.specs.FinSet.{contains};
 ghost use Rattle.task_sheet.specs.Verdicts.{IsBestOrder};
 ghost use Rattle.drafts.specs.Applied.{owned_of, set_of, held, is_foreign, is_there, is_team_at, teams_of};
+ghost use Rattle.drafts.specs.Rosters.{IsRoster};
 ghost use Rattle.drafts.specs.Changes.{sheet_held};
 ghost use Rattle.drafts.specs.Machine.{empty_desk};
 
+use crate::roster::{Owned, join};
 use crate::team::Team;
 use assignment::{Assignment, Verdict, assign};
 use std::alloc::{AllocError, Global};
 use std::marker::Model;
 use std::sync::Arc;
 use task_sheet::{Members, Name, Sheet, TaskSet};
-
-/// A sheet on the node, and the team that holds it.
-#[derive(Drop)]
-pub struct Owned {
-    pub sheet: Sheet,
-    pub team: Team,
-}
 
 /// How many commits were admitted, the tasks by rank with their teams, and the best order of the tasks.
 #[derive(Drop)]
@@ -157,6 +152,15 @@ impl NodeState {
     {
         let _ = self.set().len();
         places_of(&self.teams, team)
+    }
+
+    // The tasks with their teams, copied.
+    pub(crate) fn roster(&self, alloc: Global) -> Result<Vec<Owned>, AllocError>
+        ensures same { IfOk result (λ tasks. tasks.items ≡ self.now.tasks) }
+        ensures roster { IfOk result (λ tasks. IsRoster tasks.items) }
+    {
+        let tasks = join(alloc, self.assignment.set().sheets(), &self.teams)?;
+        Ok(tasks)
     }
 
     /// The same state again.

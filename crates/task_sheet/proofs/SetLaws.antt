@@ -40,10 +40,10 @@ repeat_step xs i d b h same e = rw (drop_more xs i d h, take_more xs i d h, ← 
 same_own : (x : Task) → same_name x x ≡ true
 same_own x = nat_list_eq_equiv.refl x.name
 
-same_turned : (x y : Task) → same_name x y ≡ same_name y x
+pub same_turned : (x y : Task) → same_name x y ≡ same_name y x
 same_turned x y = nat_list_eq_equiv.symm x.name y.name
 
-rank_total : IsTotalOrder rank_cmp
+pub rank_total : IsTotalOrder rank_cmp
 rank_total = then_total (on_total (λ x. x.weight) nat_cmp_total) (on_total (λ x. x.name) nat_list_cmp_total)
 
 tied_names : (x y : Task) → rank_cmp x y ≡ Equal → same_name x y ≡ true
@@ -55,7 +55,7 @@ tied_names x y e = texts_ties x.name y.name ∙ second (nat_cmp x.weight y.weigh
     second Greater p e = cc
 
 -- what is not after another, and has another name, is before it
-below : (x y : Task) → is_lt (rank_cmp y x) ≡ false → same_name x y ≡ false → rank_cmp x y ≡ Less
+pub below : (x y : Task) → is_lt (rank_cmp y x) ≡ false → same_name x y ≡ false → rank_cmp x y ≡ Less
 below x y h apart = by (rank_cmp x y) refl
   where
     by : (o : Ordering) → rank_cmp x y ≡ o → o ≡ Less
@@ -170,11 +170,11 @@ sheets_more xs x set valid new room = record {
   few = omega (arith, length-append xs (x ∷ []));
 }
 
-passing : (P : Task → Type 0) (p : Task → Bool) (xs : List Task) → AllByRecursion P xs → AllByRecursion P (filter p xs)
+pub passing : (P : Task → Type 0) (p : Task → Bool) (xs : List Task) → AllByRecursion P xs → AllByRecursion P (filter p xs)
 passing P p [] h = tt
 passing P p (x ∷ xs) h = elim (p x) as (λ b. AllByRecursion P (cond b (x ∷ filter p xs) (filter p xs))) [ true ↦ (h.0, passing P p xs h.1) | false ↦ passing P p xs h.1 ]
 
-distinct_less : (p : Task → Bool) (xs : List Task) → AreDistinct same_name xs → AreDistinct same_name (filter p xs)
+pub distinct_less : (p : Task → Bool) (xs : List Task) → AreDistinct same_name xs → AreDistinct same_name (filter p xs)
 distinct_less p [] h = tt
 distinct_less p (x ∷ xs) h =
     elim (p x) as (λ b. AreDistinct same_name (cond b (x ∷ filter p xs) (filter p xs))) [

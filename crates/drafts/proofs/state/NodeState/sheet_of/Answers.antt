@@ -1,7 +1,7 @@
 use Rattle.std.proofs.Common.{◌∙◌, sym, ap, List, Option, option_map, position, slice_get}
 use Rattle.task_sheet.specs.Sheet.{Task, same_bytes}
 use Rattle.drafts.specs.Machine.{Desk}
-use Rattle.drafts.specs.declared.state.Owned.{Owned}
+use Rattle.drafts.specs.declared.roster.Owned.{Owned}
 use Rattle.drafts.specs.Applied.{held}
 use Rattle.drafts.specs.Changes.{sheet_held}
 use Rattle.drafts.proofs.OwnedFinds.{held-none, sheet-some}

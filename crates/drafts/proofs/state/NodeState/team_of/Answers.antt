@@ -1,7 +1,7 @@
 use Rattle.std.proofs.Common.{◌∙◌, sym, ap, List, Option, Some, option_map, position}
 use Rattle.task_sheet.specs.Sheet.{Task, same_bytes, no_task}
 use Rattle.drafts.specs.Machine.{Desk}
-use Rattle.drafts.specs.declared.state.Owned.{Owned}
+use Rattle.drafts.specs.declared.roster.Owned.{Owned}
 use Rattle.drafts.specs.Applied.{held}
 use Rattle.drafts.proofs.OwnedFinds.{held-some, held-none}
 use Rattle.drafts.proofs.state.NodeState.team_of.Goals as goal

@@ -1,0 +1,20 @@
+-- Rosters: the tasks on the node while changes are made, before it is known whether they are too many.
+use Rattle.std.specs.Prelude.{◌≡◌, List, Option, None, Some, Result, Ok, Err}
+use Rattle.std.specs.List.{AllByRecursion}
+use Rattle.std.specs.List.Sorted.{IsStrictlySortedBy}
+use Rattle.task_sheet.specs.Sheet.{IsValidSheet}
+use Rattle.task_sheet.specs.TaskSet.{rank_cmp, same_name, AreDistinct}
+use Rattle.drafts.specs.declared.roster.Owned.{Owned}
+use Rattle.drafts.specs.declared.change.Refusal.{Refusal}
+use Rattle.drafts.specs.Applied.{set_of}
+
+-- valid sheets with distinct names, by rank
+pub record IsRoster (tasks : List Owned) : Type 0 where
+  pub valid : AllByRecursion IsValidSheet (set_of tasks)
+  pub ranked : IsStrictlySortedBy rank_cmp (set_of tasks)
+  pub distinct : AreDistinct same_name (set_of tasks)
+
+-- the changes are refused, or were made
+abbrev pub IsMade : Result (List Owned) Refusal → List Owned → Option Refusal → Type 0
+IsMade outcome tasks None = outcome ≡ Ok tasks
+IsMade outcome tasks (Some refusal) = outcome ≡ Err refusal

@@ -1,0 +1,117 @@
+//! Rosters: the tasks on the node with their teams, by rank, while changes are made.
+
+ghost use Rattle.std.specs.Prelude.{◌≡◌, ◌≤◌, ◌<◌, length, take, insert, position, not, option_copied, IfOk, OnOk, OnErr};
+ghost use Rattle.std.specs.Ordering.{is_lt};
+ghost use Rattle.task_sheet.specs.TaskSet.{rank_cmp};
+ghost use Rattle.drafts.specs.Applied.{owned_of, set_of, teams_of, held, is_foreign, is_there, without_name, placed};
+
+use crate::team::Team;
+use std::alloc::{AllocError, Global};
+use task_sheet::{Name, Sheet};
+
+/// A sheet on the node, and the team that holds it.
+#[derive(Drop)]
+pub struct Owned {
+    pub sheet: Sheet,
+    pub team: Team,
+}
+
+// Copies of sheets, each with its team.
+pub(crate) fn join(
+    alloc: Global,
+    sheets: &[Sheet],
+    teams: &[Team],
+) -> Result<Vec<Owned>, AllocError>
+    requires { length teams.now ≡ length sheets.now }
+    ensures { IfOk result (λ tasks. tasks.items ≡ owned_of sheets.now teams.now) }
+{
+    let mut tasks = Vec::with_capacity(alloc, sheets.len())?;
+    for index in 0..sheets.len() {
+        let sheet = sheets[index].copy(alloc)?;
+        let team = teams[index];
+        tasks.push(Owned { sheet, team })?;
+    }
+    Ok(tasks)
+}
+
+// The sheets, and their teams.
+pub(crate) fn split(alloc: Global, tasks: Vec<Owned>) -> Result<(Vec<Sheet>, Vec<Team>), AllocError>
+    ensures sheets { IfOk result (λ parts. parts.0.items ≡ set_of tasks.items) }
+    ensures teams { IfOk result (λ parts. parts.1.items ≡ teams_of tasks.items) }
+{
+    let mut sheets = Vec::with_capacity(alloc, tasks.len())?;
+    let mut teams = Vec::with_capacity(alloc, tasks.len())?;
+    for task in tasks {
+        sheets.push(task.sheet)?;
+        teams.push(task.team)?;
+    }
+    Ok((sheets, teams))
+}
+
+// The task of a name.
+fn find(tasks: &[Owned], name: Name) -> Option<&Owned>
+    ensures { option_copied result ≡ held name tasks.now }
+{
+    tasks.iter().find(|task| task.sheet.name() == name)
+}
+
+// Whether another team holds the name.
+pub(crate) fn is_foreign(tasks: &[Owned], team: Team, name: Name) -> bool
+    ensures { result ≡ is_foreign team (held name tasks.now) }
+{
+    match find(tasks, name) {
+        Some(task) => task.team.number() != team.number(),
+        None => false,
+    }
+}
+
+// Whether a task has the name.
+pub(crate) fn is_there(tasks: &[Owned], name: Name) -> bool
+    ensures { result ≡ is_there (held name tasks.now) }
+{
+    find(tasks, name).is_some()
+}
+
+// Takes the task of a name out.
+pub(crate) fn take_out(tasks: &mut Vec<Owned>, name: Name)
+    ensures { tasks.new.items ≡ without_name name tasks.old.items }
+{
+    tasks.retain(|task| task.sheet.name() != name);
+}
+
+// Whether a task is of lesser rank than another.
+fn is_before(first: &Sheet, second: &Sheet) -> bool
+    ensures { result ≡ is_lt (rank_cmp first.now second.now) }
+{
+    (first.weight(), first.name()) < (second.weight(), second.name())
+}
+
+// The first task that is not before another by rank.
+fn first_beyond(tasks: &[Owned], task: &Owned) -> Option<usize>
+    ensures { result ≡ position (λ x. not (is_lt (rank_cmp x.sheet task.now.sheet))) tasks.now }
+{
+    tasks
+        .iter()
+        .position(|other| !is_before(&other.sheet, &task.sheet))
+}
+
+// Where a task goes by its rank.
+fn place_of(tasks: &[Owned], task: &Owned) -> usize
+    ensures within { result ≤ length tasks.now }
+    ensures placed { insert tasks.now result task.now ≡ placed task.now tasks.now }
+{
+    match first_beyond(tasks, task) {
+        Some(place) => place,
+        None => tasks.len(),
+    }
+}
+
+// Puts a task in by its rank.
+pub(crate) fn place(tasks: &mut Vec<Owned>, task: Owned) -> Result<(), AllocError>
+    ensures ok { OnOk result (tasks.new.items ≡ placed task tasks.old.items) }
+    ensures err { OnErr result (tasks.new.items ≡ tasks.old.items) }
+{
+    let place = place_of(tasks, &task);
+    tasks.insert(place, task)?;
+    Ok(())
+}
