@@ -46,6 +46,26 @@ IsPartWritten-next number rest start bytes fits more h len =
           ∙ ap (λ (y : List ℕ). decimal (rest / 10) ++ y) (sym (drop-set_before bytes start (48 + rest % 10) some (omega (arith, h.within, h.len))));
     }
 
+-- two digits
+pub IsPartWritten-pair : (number rest start : ℕ) (bytes : List ℕ) → number < 2 ^ 64 → 100 ≤ rest → IsPartWritten number rest start bytes
+    → length (set bytes (start - 1) (48 + rest % 100 % 10)) ≡ 20 → length (set (set bytes (start - 1) (48 + rest % 100 % 10)) (start - 2) (48 + rest % 100 / 10)) ≡ 20
+    → IsPartWritten number (rest / 100) (start - 2) (set (set bytes (start - 1) (48 + rest % 100 % 10)) (start - 2) (48 + rest % 100 / 10))
+IsPartWritten-pair number rest start bytes fits more h len longer =
+    let last : rest % 100 % 10 ≡ rest % 10 = omega arith in
+    let first : rest % 100 / 10 ≡ rest / 10 % 10 = omega arith in
+    let left : rest / 100 ≡ rest / 10 / 10 = omega arith in
+    let place : start - 2 ≡ start - 1 - 1 = omega arith in
+    let one = IsPartWritten-next number rest start bytes fits (omega arith) h (rw last at len) in
+    let two = IsPartWritten-next number (rest / 10) (start - 1) (set bytes (start - 1) (48 + rest % 10)) fits (omega arith) one (rw (last, first, place) at longer) in
+    rw (last, first, left, place) two
+
+-- there is room for two digits of a number that has two
+pub has_room-pair : (rest start : ℕ) → 10 ≤ rest → rest < 2 ^ 64 → length (decimal rest) ≤ start → 2 ≤ start
+has_room-pair rest start more fits room =
+    let one : length (decimal rest) ≡ length (decimal (rest / 10)) + 1 = ap length (decimal_step rest more fits) ∙ length-append (decimal (rest / 10)) ((48 + rest % 10) ∷ []) in
+    let some = decimal_nonempty (rest / 10) (omega arith) in
+    omega (arith, one, some)
+
 pub IsPartWritten-last : (number rest start : ℕ) (bytes : List ℕ) → number < 2 ^ 64 → rest < 10 → IsPartWritten number rest start bytes → drop (start - 1) (set bytes (start - 1) (48 + rest)) ≡ decimal number
 IsPartWritten-last number rest start bytes fits few h =
     let wide : rest < 2 ^ 64 = omega arith in

@@ -22,14 +22,21 @@ impl Model for Digits {
 }
 
 impl Digits {
-    /// The digits of a number, with no zero in front of others.
+    /// The digits of a number, with no zero in front of others. Two are had by each division of the number.
     pub fn of(number: u64) -> Digits
         ensures { result ≡ decimal number }
     {
         let mut bytes = [0; 20];
         let mut start = 20;
         let mut rest = number;
-        while rest >= 10 {
+        while rest >= 100 {
+            let pair = rest % 100;
+            bytes[start - 1] = b'0' + (pair % 10) as u8;
+            bytes[start - 2] = b'0' + (pair / 10) as u8;
+            start -= 2;
+            rest /= 100;
+        }
+        if rest >= 10 {
             start -= 1;
             bytes[start] = b'0' + (rest % 10) as u8;
             rest /= 10;
