@@ -15,7 +15,11 @@ struct Bench {
 // How long a process takes, and what it wrote.
 fn run(program: &str, words: &[String]) -> (Duration, Vec<u8>) {
     let begin = Instant::now();
-    let output = Command::new(program).args(words).stdin(Stdio::null()).output().unwrap();
+    let output = Command::new(program)
+        .args(words)
+        .stdin(Stdio::null())
+        .output()
+        .unwrap();
     (begin.elapsed(), output.stdout)
 }
 
@@ -25,7 +29,8 @@ impl Bench {
         [command.to_string()].into_iter().chain(paths).collect()
     }
 
-    // The least times of the plain program and of `desk`, in turn, in milliseconds. The answers have to agree where they should.
+    // The least times of the plain program and of `desk`, in turn, in milliseconds. The answers have to agree where both
+    // answer the same.
     fn pair(&self, plain: &[String], desk: &[String], agree: bool) -> (f64, f64) {
         let mut least = [Duration::MAX; 2];
         for _ in 0..self.runs {
@@ -39,20 +44,40 @@ impl Bench {
 
     fn row(&self, name: &str, plain: (&str, &[&str]), desk: (&str, &[&str])) -> (f64, f64) {
         let agree = plain.0 != "read";
-        let times = self.pair(&self.words(plain.0, plain.1), &self.words(desk.0, desk.1), agree);
-        println!("| {name} | {:.1} | {:.1} | {:.2} |", times.0, times.1, times.1 / times.0);
+        let times = self.pair(
+            &self.words(plain.0, plain.1),
+            &self.words(desk.0, desk.1),
+            agree,
+        );
+        println!(
+            "| {name} | {:.1} | {:.1} | {:.2} |",
+            times.0,
+            times.1,
+            times.1 / times.0
+        );
         times
     }
 
     fn admit(&self) {
-        let sets = ["chains", "harmonic", "late-no", "longest", "sections", "document"];
+        let sets = [
+            "chains", "harmonic", "late-no", "longest", "sections", "document",
+        ];
         let mut sums = (0.0, 0.0);
         for set in sets {
             let file = format!("{set}.toml");
-            let times = self.row(&format!("admit {set}"), ("admit", &[&file]), ("admit", &[&file]));
+            let times = self.row(
+                &format!("admit {set}"),
+                ("admit", &[&file]),
+                ("admit", &[&file]),
+            );
             sums = (sums.0 + times.0, sums.1 + times.1);
         }
-        println!("| admit, sum | {:.1} | {:.1} | {:.2} |", sums.0, sums.1, sums.1 / sums.0);
+        println!(
+            "| admit, sum | {:.1} | {:.1} | {:.2} |",
+            sums.0,
+            sums.1,
+            sums.1 / sums.0
+        );
     }
 
     fn certificates(&self) {
@@ -61,18 +86,41 @@ impl Bench {
         let (_, text) = run(&self.desk, &self.words("certify", &set));
         fs::write(format!("{}/longest.certificate", self.folder), &text).unwrap();
         let both = ["longest.toml", "longest.certificate"];
-        self.row(&format!("check longest ({} bytes)", text.len()), ("check", &both), ("check", &both));
+        self.row(
+            &format!("check longest ({} bytes)", text.len()),
+            ("check", &both),
+            ("check", &both),
+        );
     }
 
     fn against_reading(&self) {
         for name in ["first", "both"] {
             let files = ["held.toml", &format!("{name}.releases")];
-            let count = fs::read_to_string(format!("{}/{}", self.folder, files[1])).unwrap().lines().count() - 1;
-            self.row(&format!("simulate {count} releases, beside reading"), ("read", &files), ("simulate", &files));
+            let count = fs::read_to_string(format!("{}/{}", self.folder, files[1]))
+                .unwrap()
+                .lines()
+                .count()
+                - 1;
+            self.row(
+                &format!("simulate {count} releases, beside reading"),
+                ("read", &files),
+                ("simulate", &files),
+            );
         }
-        for name in ["comment", "string", "headers", "keys", "tasks"] {
+        let documents = [
+            ("comment", "a comment of 16 MB"),
+            ("string", "a string of 16 MB"),
+            ("headers", "16,000 headers"),
+            ("keys", "16,000 keys"),
+            ("tasks", "16,000 tasks"),
+        ];
+        for (name, what) in documents {
             let file = [&*format!("{name}.toml")];
-            self.row(&format!("refuse 16 M: {name}, beside reading"), ("read", &file), ("admit", &file));
+            self.row(
+                &format!("admit {what}, beside reading"),
+                ("read", &file),
+                ("admit", &file),
+            );
         }
     }
 }

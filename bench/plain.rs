@@ -1,5 +1,5 @@
-//! The plain program that `bench/run` measures `desk` against: no proofs, the standard library only. It reads task sets as
-//! `bench/sets.rs` writes them, carries demands forward and keeps no chains (but for `certify`, which prints them).
+//! The plain program that `bench/run` measures `desk` against: no proofs, the standard library only. It reads task sets
+//! as `bench/sets.rs` writes them, carries demands forward and keeps no chains (but for `certify`, which prints them).
 //!
 //! `plain admit SET`, `plain certify SET`, `plain check SET CERTIFICATE`, `plain read FILE..`
 
@@ -83,7 +83,14 @@ fn prepare(tasks: &mut [Task<'_>]) {
     }
     for task in tasks {
         let held = |locks: &[&str]| locks.iter().map(|lock| users[lock]).fold(0, |a, b| a | b);
-        task.prepared = task.sections.iter().map(|s| Section { len: s.0, users: held(&s.1) }).collect();
+        task.prepared = task
+            .sections
+            .iter()
+            .map(|s| Section {
+                len: s.0,
+                users: held(&s.1),
+            })
+            .collect();
     }
 }
 
@@ -104,18 +111,31 @@ struct Demand {
 impl Demand {
     fn new(tasks: &[Task<'_>], task: usize, above: u32) -> Demand {
         let members = above | 1 << task;
-        let outside = tasks.iter().enumerate().filter(|(index, _)| members >> index & 1 == 0);
-        let reached = outside.flat_map(|(_, t)| &t.prepared).filter(|s| s.users & members != 0);
+        let outside = tasks
+            .iter()
+            .enumerate()
+            .filter(|(index, _)| members >> index & 1 == 0);
+        let reached = outside
+            .flat_map(|(_, t)| &t.prepared)
+            .filter(|s| s.users & members != 0);
         let blocking = reached.map(|s| s.len).max().unwrap_or(0);
         let mut shares = [Share::default(); 32];
         let mut count = 0;
         for (index, t) in tasks.iter().enumerate() {
             if above >> index & 1 == 1 {
-                shares[count] = Share { end: 0, period: t.period, cost: t.cost };
+                shares[count] = Share {
+                    end: 0,
+                    period: t.period,
+                    cost: t.cost,
+                };
                 count += 1;
             }
         }
-        Demand { shares, count, total: tasks[task].cost + blocking }
+        Demand {
+            shares,
+            count,
+            total: tasks[task].cost + blocking,
+        }
     }
 
     #[inline(always)]
@@ -162,8 +182,9 @@ fn admit(tasks: &[Task<'_>]) -> String {
     let mut lines = format!("admitted {}\n", tasks.len());
     for level in 1..=tasks.len() {
         let candidates = (0..tasks.len()).filter(|task| left >> task & 1 == 1);
-        let mut passing = candidates
-            .filter_map(|task| respond(tasks, task, left & !(1 << task), |_| {}).map(|r| (task, r)));
+        let mut passing = candidates.filter_map(|task| {
+            respond(tasks, task, left & !(1 << task), |_| {}).map(|r| (task, r))
+        });
         match passing.next() {
             Some((task, response)) => {
                 lines += &format!("{level} {} {response}\n", tasks[task].name);
@@ -246,7 +267,9 @@ fn certify_none(tasks: &[Task<'_>], left: u32) -> Vec<u8> {
     let mut out = format!("desk-certificate 1\nnone {}\n", left.count_ones()).into_bytes();
     for task in (0..tasks.len()).filter(|task| left >> task & 1 == 1) {
         out.extend_from_slice(format!("member {}", tasks[task].name).as_bytes());
-        respond(tasks, task, left & !(1 << task), |n| write_number(&mut out, n));
+        respond(tasks, task, left & !(1 << task), |n| {
+            write_number(&mut out, n)
+        });
         out.push(b'\n');
     }
     out.extend_from_slice(b"end\n");
@@ -254,10 +277,17 @@ fn certify_none(tasks: &[Task<'_>], left: u32) -> Vec<u8> {
 }
 
 // Whether the rest of a line is a chain of the task.
-fn is_chain(tasks: &[Task<'_>], task: usize, above: u32, mut numbers: impl Iterator<Item = u64>) -> bool {
+fn is_chain(
+    tasks: &[Task<'_>],
+    task: usize,
+    above: u32,
+    mut numbers: impl Iterator<Item = u64>,
+) -> bool {
     let mut demand = Demand::new(tasks, task, above);
     let limit = tasks[task].deadline;
-    let Some(mut time) = numbers.next() else { return false };
+    let Some(mut time) = numbers.next() else {
+        return false;
+    };
     if time != 1 {
         return false;
     }
@@ -281,7 +311,10 @@ fn check(tasks: &[Task<'_>], text: &str) -> Option<&'static str> {
     let rest: Vec<&str> = lines.collect();
     let mut above = all_of(tasks);
     if !is_best {
-        above = rest.iter().filter_map(|l| place.get(l.split(' ').nth(1)?)).fold(0, |a, i| a | 1 << i);
+        above = rest
+            .iter()
+            .filter_map(|l| place.get(l.split(' ').nth(1)?))
+            .fold(0, |a, i| a | 1 << i);
     }
     let mut placed = 0;
     let mut failed = 0u32;
@@ -301,7 +334,9 @@ fn check(tasks: &[Task<'_>], text: &str) -> Option<&'static str> {
             }
             "fails" => {
                 let task = place[words.next()?];
-                if failed >> task & 1 == 0 || !is_chain(tasks, task, above & !(1 << task), words.map(number)) {
+                if failed >> task & 1 == 0
+                    || !is_chain(tasks, task, above & !(1 << task), words.map(number))
+                {
                     return None;
                 }
                 failed &= !(1 << task);
@@ -315,7 +350,9 @@ fn check(tasks: &[Task<'_>], text: &str) -> Option<&'static str> {
             _ if at + 1 == rest.len() => {}
             _ => return None,
         }
-        let last = rest.get(at + 1).is_none_or(|next| !next.starts_with("fails"));
+        let last = rest
+            .get(at + 1)
+            .is_none_or(|next| !next.starts_with("fails"));
         if last && failed != 0 {
             return None;
         }
@@ -325,12 +362,17 @@ fn check(tasks: &[Task<'_>], text: &str) -> Option<&'static str> {
 
 fn main() {
     let words: Vec<String> = env::args().skip(1).collect();
-    let texts: Vec<Vec<u8>> = words[1..].iter().map(|path| fs::read(path).unwrap()).collect();
+    let texts: Vec<Vec<u8>> = words[1..]
+        .iter()
+        .map(|path| fs::read(path).unwrap())
+        .collect();
     let text = |n: usize| std::str::from_utf8(&texts[n]).unwrap();
     let out = match words[0].as_str() {
         "admit" => admit(&read_set(text(0))).into_bytes(),
         "certify" => certify(&read_set(text(0))),
-        "check" => check(&read_set(text(0)), text(1)).unwrap_or("refused\n").into(),
+        "check" => check(&read_set(text(0)), text(1))
+            .unwrap_or("refused\n")
+            .into(),
         _ => format!("{}\n", texts.iter().map(Vec::len).sum::<usize>()).into_bytes(),
     };
     std::io::stdout().write_all(&out).unwrap();

@@ -28,14 +28,26 @@ struct Task {
 
 fn task(place: usize, period: u64, deadline: u64, cost: u64) -> Task {
     let name = format!("task{place:02}");
-    Task { name, weight: place as u64, period, deadline, cost, sections: Vec::new() }
+    Task {
+        name,
+        weight: place as u64,
+        period,
+        deadline,
+        cost,
+        sections: Vec::new(),
+    }
 }
 
 fn document(tasks: &[Task]) -> String {
     let mut text = String::new();
     for t in tasks {
-        let (name, weight, period, deadline, cost) = (&t.name, t.weight, t.period, t.deadline, t.cost);
-        writeln!(text, "[[task]]\nname = \"{name}\"\nweight = {weight}\nperiod = {period}").unwrap();
+        let (name, weight, period, deadline, cost) =
+            (&t.name, t.weight, t.period, t.deadline, t.cost);
+        writeln!(
+            text,
+            "[[task]]\nname = \"{name}\"\nweight = {weight}\nperiod = {period}"
+        )
+        .unwrap();
         writeln!(text, "deadline = {deadline}\ncost = {cost}").unwrap();
         for (at, len, locks) in &t.sections {
             let locks: Vec<String> = locks.iter().map(|lock| format!("\"{lock}\"")).collect();
@@ -50,7 +62,11 @@ fn document(tasks: &[Task]) -> String {
 fn busy(tasks: &[Task]) -> u64 {
     let mut time = 1;
     loop {
-        let next = tasks.iter().map(|t| u64::div_ceil(time, t.period) * t.cost).sum::<u64>() + 1;
+        let next = tasks
+            .iter()
+            .map(|t| u64::div_ceil(time, t.period) * t.cost)
+            .sum::<u64>()
+            + 1;
         if next == time {
             return time;
         }
@@ -58,16 +74,27 @@ fn busy(tasks: &[Task]) -> u64 {
     }
 }
 
-// Tasks that repeat at these periods (each divides the next) and fill all but a small part of the time, and slow ones below
-// them. Of these the last by rank alone passes at each level, so that each of the others is asked before.
-fn staircase(random: &mut Random, periods: &[(u64, u64)], slow: usize, base: u64, cost: u64) -> Vec<Task> {
+// Tasks that repeat at these periods (each divides the next) and fill all but a small part of the time, and slow ones
+// below them. Of these the last by rank alone passes at each level, so that each of the others is asked before.
+fn staircase(
+    random: &mut Random,
+    periods: &[(u64, u64)],
+    slow: usize,
+    base: u64,
+    cost: u64,
+) -> Vec<Task> {
     let mut tasks: Vec<Task> = Vec::new();
     for (place, (period, cost)) in periods.iter().enumerate() {
         tasks.push(task(place, *period, *period, *cost));
     }
     for place in tasks.len()..tasks.len() + slow {
         let cost = if place == periods.len() { base } else { cost };
-        tasks.push(task(place, 10_000_000, 10_000_000, cost + random.within(0, cost / 8)));
+        tasks.push(task(
+            place,
+            10_000_000,
+            10_000_000,
+            cost + random.within(0, cost / 8),
+        ));
     }
     for place in (periods.len()..tasks.len()).rev() {
         tasks[place].deadline = busy(&tasks[..=place]).min(10_000_000);
@@ -127,8 +154,14 @@ fn hostile(folder: &str) {
     let save = |name: &str, text: String| fs::write(format!("{folder}/{name}.toml"), text).unwrap();
     save("comment", format!("#{}\n", "x".repeat(size)));
     save("string", format!("a = \"{}\"\n", "x".repeat(size)));
-    save("headers", (0..16_000).map(|k| format!("[header{k}]\n")).collect());
-    save("keys", (0..16_000).map(|k| format!("key{k} = 1\n")).collect());
+    save(
+        "headers",
+        (0..16_000).map(|k| format!("[header{k}]\n")).collect(),
+    );
+    save(
+        "keys",
+        (0..16_000).map(|k| format!("key{k} = 1\n")).collect(),
+    );
     let tasks: Vec<Task> = (0..16_000).map(|k| task(k, 1000, 1000, 1)).collect();
     save("tasks", document(&tasks));
 }
@@ -140,23 +173,47 @@ fn main() {
     let save = |name: &str, tasks: Vec<Task>| {
         fs::write(format!("{folder}/{name}.toml"), document(&tasks)).unwrap();
     };
-    let many: Vec<(u64, u64)> = (0..12).map(|k| (1000, 83 - k / 11)).chain([(10_000, 40)]).collect();
+    let many: Vec<(u64, u64)> = (0..12)
+        .map(|k| (1000, 83 - k / 11))
+        .chain([(10_000, 40)])
+        .collect();
     save("chains", staircase(&mut random, &many, 19, 6000, 40));
     let powers: Vec<(u64, u64)> = (0..12).map(|k| (1000 << (k / 2), 253)).collect();
     save("harmonic", staircase(&mut random, &powers, 20, 8000, 300));
-    save("longest", staircase(&mut random, &[(1000, 600), (2000, 600), (4000, 399)], 29, 2100, 8));
+    save(
+        "longest",
+        staircase(
+            &mut random,
+            &[(1000, 600), (2000, 600), (4000, 399)],
+            29,
+            2100,
+            8,
+        ),
+    );
     let mut late = staircase(&mut random, &[(1000, 700), (2000, 598)], 28, 3000, 60);
     late[0].cost = 701;
     save("late-no", late);
-    let held = staircase(&mut random, &[(1000, 600), (2000, 400), (4000, 796)], 29, 4000, 80);
+    let held = staircase(
+        &mut random,
+        &[(1000, 600), (2000, 400), (4000, 796)],
+        29,
+        4000,
+        80,
+    );
     save("sections", with_sections(&mut random, held, 200));
     let tasks = ordinary(&mut random);
     save("document", with_sections(&mut random, tasks, 200));
-    let short: Vec<Task> = (0..32).map(|k| task(k, 180_000 + k as u64, 180_000, 5000)).collect();
+    let short: Vec<Task> = (0..32)
+        .map(|k| task(k, 180_000 + k as u64, 180_000, 5000))
+        .collect();
     let mut held = short;
     for (place, t) in held.iter_mut().enumerate() {
         for k in 0..4u64 {
-            t.sections.push((k * 1000, 400, vec![format!("lock{:03}", (place as u64 * 3 + k) % 40)]));
+            t.sections.push((
+                k * 1000,
+                400,
+                vec![format!("lock{:03}", (place as u64 * 3 + k) % 40)],
+            ));
         }
     }
     fs::write(format!("{folder}/first.releases"), releases(&held, 5_000)).unwrap();
