@@ -1,5 +1,6 @@
 -- What the workers of a level hand on, all together.
-use Rattle.std.proofs.Common.{◌≡◌, ℕ, zero, suc, ◌+◌, ◌<◌, ◌≤◌, Bool, true, false, cond, List, [], ◌∷◌, ◌++◌, map, Option, Some, Result, Ok, Err, sym, refl, ap, ◌∙◌, subst, ⊎_elim, arith}
+use Rattle.std.proofs.Common.{◌≡◌, ℕ, zero, suc, ◌+◌, ◌<◌, ◌≤◌, Bool, true, false, cond, List, [], ◌∷◌, ◌++◌, map, Option, Some, Result, Ok, Err, sym, refl, ap, ◌∙◌, subst, ⊎_elim, arith, eq-eqb, ne_eqb}
+use Rattle.std.proofs.lemmas.Bool.{cases_lt, cases_eq}
 use Rattle.std.specs.Prelude.{IfErr}
 use Rattle.std.specs.List.{AllByRecursion, Contains}
 use Rattle.std.specs.Global.{Vec}
@@ -16,12 +17,13 @@ use Rattle.candidate_workers.specs.declared.assaying.AssayFault.{AssayFault}
 use Rattle.candidate_workers.specs.declared.assaying.AssayFault.TheVariants.{BadWorkers, ThreadRefused, GateShut, OutOfMemory}
 use Rattle.candidate_workers.specs.declared.claims.ClaimTable.{ClaimTable}
 use Rattle.candidate_workers.specs.declared.claims.ClaimSeat.{ClaimSeat}
+use Rattle.candidate_workers.specs.declared.gathering.Claimed.{Claimed}
 use Rattle.candidate_workers.specs.declared.gathering.Crew.{Crew}
-use Rattle.candidate_workers.specs.Claims.{candidate_at, times, joined}
+use Rattle.candidate_workers.specs.Claims.{count_of, candidate_at, times, joined}
 use Rattle.candidate_workers.specs.Seats.{seat_view, level_of, task_of, IsTold}
 use Rattle.candidate_workers.specs.Faults.{IsHanded, NoVerdict, MayFail, fault_of, is_shut}
-use Rattle.candidate_workers.specs.Crews.{tasks_handed, work_faults, faults_of, rank_of, IsFirstFault}
-use Rattle.candidate_workers.proofs.Lists.{times-append}
+use Rattle.candidate_workers.specs.Crews.{tasks_handed, work_faults, faults_of, rank_of, IsFirstFault, whole_view, AreClaims}
+use Rattle.candidate_workers.proofs.Lists.{times-append, once_yes}
 
 -- ---- lists of what was handed on
 pub tasks_handed-push : (hs : List (Result (Vec FindingData) WorkFault)) (findings : Vec FindingData) → tasks_handed (hs ++ Ok findings ∷ []) ≡ tasks_handed hs ++ map task_of findings.items
@@ -114,3 +116,21 @@ never_shut may U workers (Err BadWorkers) is = λ never. refl
 never_shut may U workers (Err ThreadRefused) is = λ never. refl
 never_shut may U workers (Err (GateShut task)) is = λ never. absurd (never is.question is.shut)
 never_shut may U workers (Err OutOfMemory) is = λ never. refl
+
+-- ---- each candidate up to the least that passes has a finding
+times-map_least : (c : ℕ → ℕ) (k : ℕ) (xs : List ℕ) → times k xs ≤ times (c k) (map c xs)
+times-map_least c k [] = omega arith
+times-map_least c k (y ∷ ys) =
+    let rest = times-map_least c k ys in
+    ⊎_elim (λ (e : y ≡ k). let one : times k (y ∷ ys) ≡ 1 + times k ys = ap (λ (b : Bool). cond b 1 0 + times k ys) (eq-eqb y k e) in let other : times (c k) (map c (y ∷ ys)) ≡ 1 + times (c k) (map c ys) = ap (λ (b : Bool). cond b 1 0 + times (c k) (map c ys)) (eq-eqb (c y) (c k) (ap c e)) in omega arith) (λ (ne : y ≡ k → ⊥). let none : times k (y ∷ ys) ≡ 0 + times k ys = ap (λ (b : Bool). cond b 1 0 + times k ys) (ne_eqb y k ne) in omega arith) (cases_eq y k)
+
+pub found_up_to : (level : LevelState) (tasks : List ℕ) (claimed : Claimed) (k : ℕ) → AreClaims level tasks claimed → k < count_of level → k ≤ claimed.least → 0 < times (candidate_at level k) tasks
+found_up_to level tasks claimed k so small up =
+    let v = whole_view claimed in
+    let c = candidate_at level in
+    let drawn = once_yes k claimed.counter (so.reached k small up) in
+    let fate = so.one_fate k small in
+    let told = so.told (c k) in
+    let failed = times-map_least c k v.failed in
+    let passed = times-map_least c k v.passed in
+    ⊎_elim (λ (h : 0 < times k v.cut). let above = so.cut_above k h in absurd (omega arith)) (λ (h : times k v.cut ≤ 0). omega arith) (cases_lt 0 (times k v.cut))

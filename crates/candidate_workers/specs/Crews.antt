@@ -46,13 +46,14 @@ IsFirstFault faults (Some fault) = Contains faults fault × All (λ other. rank_
 abbrev pub whole_view : Claimed → View
 whole_view claimed = seat_view claimed.seat.value
 
--- the workers drew the numbers below the counter, each once; each number of a candidate became one of passed, failed and cut;
--- the tasks of the findings handed on are the candidates at the failed and the passed places; the least word is the least
--- place whose candidate passes, or the number of candidates
+-- the workers drew the numbers below the counter, each once, among them each place up to the least word; each of these
+-- that is a place became one of passed, failed and cut; the tasks of the findings handed on are the candidates at the
+-- failed and the passed places; the least word is the least place whose candidate passes, or the number of candidates
 pub record AreClaims (level : LevelState) (tasks : List ℕ) (claimed : Claimed) : Type 0 where
   pub each_once : (x : ℕ) → times x (whole_view claimed).drawn ≡ once_below x claimed.counter
   pub near : claimed.counter ≤ count_of level + 8
   pub least : IsLeastPassing (count_of level) (passes_at level) claimed.least
+  pub reached : (k : ℕ) → k < count_of level → k ≤ claimed.least → k < claimed.counter
   pub one_fate : (k : ℕ) → k < count_of level → settled (whole_view claimed) k ≡ once_below k claimed.counter
   pub passing : (k : ℕ) → 0 < times k (whole_view claimed).passed → passes_at level k ≡ true
   pub failing : (k : ℕ) → 0 < times k (whole_view claimed).failed → passes_at level k ≡ false

@@ -8,6 +8,7 @@ mod crew;
 mod deciding;
 mod gate;
 mod gathering;
+mod laws;
 mod view;
 
 pub use asking::WorkFault;
@@ -16,4 +17,5 @@ pub use claims::{ClaimSeat, ClaimTable};
 pub use crew::share_out;
 pub use gate::{Gate, OpenGate};
 pub use gathering::{Claimed, Crew, Handed};
+pub use laws::claims_find_all;
 pub use view::View;
