@@ -1,0 +1,15 @@
+-- What a reading of words answers.
+use Rattle.std.specs.Prelude.{◌≡◌, List, ◌++◌, Result, Ok, Err}
+use Rattle.scripts.specs.declared.line.RowFault.{RowFault}
+use Rattle.scripts.specs.declared.line.RowFault.TheVariants.{Bad, Sheet, OutOfMemory}
+
+-- the reading has this fault; want of memory says nothing of it
+abbrev pub Fails : {Y : Type 0} → RowFault → Result Y RowFault → Type 0
+Fails OutOfMemory read = Unit {0}
+Fails Bad read = read ≡ Err Bad
+Fails (Sheet cause) read = read ≡ Err (Sheet cause)
+
+-- a result is that of the definition, or want of memory
+abbrev pub Gives : {X Y : Type 0} → (X → Y) → Result X RowFault → Result Y RowFault → Type 0
+Gives view (Ok x) read = read ≡ Ok (view x)
+Gives view (Err e) read = Fails e read

@@ -1,0 +1,185 @@
+-- What the words of a script's line say.
+use Rattle.std.specs.Prelude.{ℕ, Bool, true, false, ◌==◌, ◌&&◌, nat_le, List, [], ◌∷◌, Option, Some, None, Result, Ok, Err, bytes_eq, codes, if◌then◌else◌}
+use Rattle.std.specs.List.{slice_split}
+use Rattle.task_sheet.specs.Sheet.{CriticalSection, Task, task_of}
+use Rattle.task_sheet.specs.SheetFault.{sheet_fault}
+use Rattle.task_sheet.specs.declared.sheet.SheetCause.{SheetCause}
+use Rattle.lines.specs.Words.{name_in, number_in}
+use Rattle.scripts.specs.declared.line.Row.{Row}
+use Rattle.scripts.specs.declared.line.Row.TheVariants.{Open, Put, Remove, Found, Test, Commit, Abandon}
+use Rattle.scripts.specs.declared.line.RowFault.{RowFault}
+use Rattle.scripts.specs.declared.line.RowFault.TheVariants.{Bad, Sheet}
+
+infixl 10 ◌>>=◌
+-- goes on where there is no fault
+abbrev pub ◌>>=◌ : {A B : Type 0} → Result A RowFault → (A → Result B RowFault) → Result B RowFault
+(Ok x) >>= f = f x
+(Err e) >>= f = Err e
+
+-- what is wanted has to be there
+abbrev pub wanted : {A : Type 0} → Option A → Result A RowFault
+wanted None = Err Bad
+wanted (Some x) = Ok x
+
+-- the first word, and the words behind it
+abbrev pub first : List (List ℕ) → Result (List ℕ × List (List ℕ)) RowFault
+first [] = Err Bad
+first (w ∷ ws) = Ok (w, ws)
+
+-- no word may be left
+abbrev pub at_end : {A : Type 0} → List (List ℕ) → A → Result A RowFault
+at_end [] x = Ok x
+at_end (w ∷ ws) x = Err Bad
+
+-- what each of some words says
+unfoldable pub each_in : {A : Type 0} → (List ℕ → Result A RowFault) → List (List ℕ) → Result (List A) RowFault
+each_in read [] = Ok []
+each_in read (w ∷ ws) = do
+  x ← read w
+  xs ← each_in read ws
+  Ok (x ∷ xs)
+
+-- no word is left
+abbrev pub is_over : List (List ℕ) → Bool
+is_over [] = true
+is_over (w ∷ ws) = false
+
+-- ---- words
+-- the number, where it is from 1 to a limit
+abbrev pub up_to : ℕ → Option ℕ → Option ℕ
+up_to most None = None
+up_to most (Some n) = if nat_le 1 n && nat_le n most then Some n else None
+
+-- the number of a draft, where so many were opened
+abbrev pub draft_in : ℕ → List ℕ → Option ℕ
+draft_in opened word = up_to opened (number_in word)
+
+-- a team
+abbrev pub team_in : List ℕ → Option ℕ
+team_in word = up_to 8 (number_in word)
+
+-- the two parts of a text round a byte that stands in it once
+abbrev pub pair_of : List (List ℕ) → Option (List ℕ × List ℕ)
+pair_of [] = None
+pair_of (front ∷ []) = None
+pair_of (front ∷ back ∷ []) = Some (front, back)
+pair_of (front ∷ back ∷ more ∷ rest) = None
+
+abbrev pub round : ℕ → List ℕ → Option (List ℕ × List ℕ)
+round byte text = pair_of (slice_split (λ b. b == byte) text)
+
+-- ---- first words
+-- a number, and the words behind it
+unfoldable pub next_number : List (List ℕ) → Result (ℕ × List (List ℕ)) RowFault
+next_number ws = do
+  w ← first ws
+  n ← wanted (number_in w.0)
+  Ok (n, w.1)
+
+-- a draft, and the words behind it
+unfoldable pub next_draft : ℕ → List (List ℕ) → Result (ℕ × List (List ℕ)) RowFault
+next_draft opened ws = do
+  w ← first ws
+  n ← wanted (draft_in opened w.0)
+  Ok (n, w.1)
+
+-- a name, and the words behind it
+unfoldable pub next_name : List (List ℕ) → Result (List ℕ × List (List ℕ)) RowFault
+next_name ws = do
+  w ← first ws
+  n ← wanted (name_in w.0)
+  Ok (n, w.1)
+
+-- ---- sections
+-- the names that words are
+abbrev pub names_in : List (List ℕ) → Result (List (List ℕ)) RowFault
+names_in ws = each_in (λ w. wanted (name_in w)) ws
+
+-- a section as `LOCK+LOCK@AT:LEN`
+unfoldable pub section_in : List ℕ → Result CriticalSection RowFault
+section_in word = do
+  sides ← wanted (round 64 word)
+  span ← wanted (round 58 sides.1)
+  at ← wanted (number_in span.0)
+  len ← wanted (number_in span.1)
+  locks ← names_in (slice_split (λ b. b == 43) sides.0)
+  Ok (record { locks = locks; at = at; len = len })
+
+-- the sections that words are
+abbrev pub sections_in : List (List ℕ) → Result (List CriticalSection) RowFault
+sections_in ws = each_in section_in ws
+
+-- ---- lines, by the words behind the first
+-- a valid sheet
+abbrev pub valid : Option SheetCause → Task → Result Task RowFault
+valid None task = Ok task
+valid (Some cause) task = Err (Sheet cause)
+
+-- the values of a sheet
+unfoldable pub sheet_in : List (List ℕ) → Result Task RowFault
+sheet_in ws = do
+  name ← next_name ws
+  weight ← next_number name.1
+  period ← next_number weight.1
+  deadline ← next_number period.1
+  cost ← next_number deadline.1
+  sections ← sections_in cost.1
+  let task : Task = task_of name.0 weight.0 period.0 deadline.0 cost.0 sections
+  valid (sheet_fault task) task
+
+unfoldable pub open_in : List (List ℕ) → Result Row RowFault
+open_in ws = do
+  w ← first ws
+  team ← wanted (team_in w.0)
+  at_end w.1 (Open team)
+
+unfoldable pub put_in : ℕ → List (List ℕ) → Result Row RowFault
+put_in opened ws = do
+  draft ← next_draft opened ws
+  sheet ← sheet_in draft.1
+  Ok (Put draft.0 sheet)
+
+unfoldable pub remove_in : ℕ → List (List ℕ) → Result Row RowFault
+remove_in opened ws = do
+  draft ← next_draft opened ws
+  name ← next_name draft.1
+  at_end name.1 (Remove draft.0 name.0)
+
+-- the draft that is asked: the last word, or the draft itself
+unfoldable pub other_in : ℕ → ℕ → List (List ℕ) → Result ℕ RowFault
+other_in opened draft [] = Ok draft
+other_in opened draft (w ∷ ws) = do
+  other ← wanted (draft_in opened w)
+  at_end ws other
+
+unfoldable pub found_in : ℕ → List (List ℕ) → Result Row RowFault
+found_in opened ws = do
+  draft ← next_draft opened ws
+  name ← next_name draft.1
+  other ← other_in opened draft.0 name.1
+  Ok (Found draft.0 name.0 other)
+
+-- a draft alone
+unfoldable pub only_draft : ℕ → List (List ℕ) → Result ℕ RowFault
+only_draft opened ws = do
+  draft ← next_draft opened ws
+  at_end draft.1 draft.0
+
+-- ---- a line
+-- what a line of this first word says
+abbrev pub row_of : ℕ → List ℕ → List (List ℕ) → Result Row RowFault
+row_of opened word ws =
+    if bytes_eq word (codes "open") then open_in ws
+    else if bytes_eq word (codes "put") then put_in opened ws
+    else if bytes_eq word (codes "remove") then remove_in opened ws
+    else if bytes_eq word (codes "found") then found_in opened ws
+    else if bytes_eq word (codes "test") then (only_draft opened ws >>= λ draft. Ok (Test draft))
+    else if bytes_eq word (codes "commit") then (only_draft opened ws >>= λ draft. Ok (Commit draft))
+    else if bytes_eq word (codes "abandon") then (only_draft opened ws >>= λ draft. Ok (Abandon draft))
+    else Err Bad
+
+-- what the words of a line say, where so many drafts were opened above it
+unfoldable pub row_in : ℕ → List (List ℕ) → Result Row RowFault
+row_in opened ws = do
+  w ← first ws
+  row_of opened w.0 w.1

@@ -1,0 +1,120 @@
+//! Words that are fields of a line.
+ghost use Rattle.std.specs.Prelude.{◌≡◌, MatchOption};
+ghost use Rattle.scripts.specs.Gives.{Gives};
+ghost use Rattle.scripts.specs.Rows.{draft_in, first, is_over, next_draft, next_name, next_number, only_draft, other_in, round, team_in};
+
+use crate::line::RowFault;
+use drafts::Team;
+use lines::{Words, cut, name_of, number_of};
+use task_sheet::Name;
+
+/// Whether no word is left.
+pub(crate) fn is_over(words: &mut Words<'_>) -> bool
+    ensures { result ≡ is_over words.old }
+{
+    words.next().is_none()
+}
+
+/// The next word; without it the line is bad.
+pub(crate) fn next<'a>(words: &mut Words<'a>) -> Result<&'a [u8], RowFault>
+    ensures { Gives (λ x. (x.now, words.new)) result (first words.old) }
+{
+    match words.next() {
+        Some(word) => Ok(word),
+        None => Err(RowFault::Bad),
+    }
+}
+
+// The number of a draft, where so many were opened.
+fn draft_of(opened: usize, word: &[u8]) -> Option<usize>
+    ensures { result ≡ draft_in opened word.now }
+{
+    let number = number_of(word)? as usize;
+    if 1 <= number && number <= opened {
+        Some(number)
+    } else {
+        None
+    }
+}
+
+/// The team of a number.
+pub(crate) fn team_of(word: &[u8]) -> Option<Team>
+    ensures { result ≡ team_in word.now }
+{
+    Team::new(number_of(word)?)
+}
+
+/// The two parts of a text round a byte that stands in it once.
+pub(crate) fn round(text: &[u8], byte: u8) -> Option<(&[u8], &[u8])>
+    ensures { MatchOption result (round byte text.now ≡ None) (λ x. round byte text.now ≡ Some (x.0.now, x.1.now)) }
+{
+    let (front, back) = cut(text, byte)?;
+    match cut(back, byte) {
+        Some((_middle, _more)) => None,
+        None => Some((front, back)),
+    }
+}
+
+/// The next word as a number.
+#[tactic(auto, unfolding(crate::specs::Rows::next_number))]
+pub(crate) fn next_number(words: &mut Words<'_>) -> Result<u64, RowFault>
+    ensures { Gives (λ x. (x, words.new)) result (next_number words.old) }
+{
+    match number_of(next(words)?) {
+        Some(number) => Ok(number),
+        None => Err(RowFault::Bad),
+    }
+}
+
+/// The next word as a draft, where so many were opened.
+#[tactic(auto, unfolding(crate::specs::Rows::next_draft))]
+pub(crate) fn next_draft(opened: usize, words: &mut Words<'_>) -> Result<usize, RowFault>
+    ensures { Gives (λ x. (x, words.new)) result (next_draft opened words.old) }
+{
+    match draft_of(opened, next(words)?) {
+        Some(draft) => Ok(draft),
+        None => Err(RowFault::Bad),
+    }
+}
+
+/// The next word as a name.
+#[tactic(auto, unfolding(crate::specs::Rows::next_name))]
+pub(crate) fn next_name(words: &mut Words<'_>) -> Result<Name, RowFault>
+    ensures { Gives (λ x. (x, words.new)) result (next_name words.old) }
+{
+    match name_of(next(words)?) {
+        Some(name) => Ok(name),
+        None => Err(RowFault::Bad),
+    }
+}
+
+/// The one word that is left as a draft.
+#[tactic(auto, unfolding(crate::specs::Rows::only_draft))]
+pub(crate) fn only_draft(opened: usize, words: &mut Words<'_>) -> Result<usize, RowFault>
+    ensures { Gives (λ x. x) result (only_draft opened words.old) }
+{
+    let draft = next_draft(opened, words)?;
+    if is_over(words) {
+        Ok(draft)
+    } else {
+        Err(RowFault::Bad)
+    }
+}
+
+/// The draft that the last word names; this one where there is no word.
+#[tactic(auto, unfolding(crate::specs::Rows::other_in))]
+pub(crate) fn other_of(
+    opened: usize,
+    draft: usize,
+    words: &mut Words<'_>,
+) -> Result<usize, RowFault>
+    ensures { Gives (λ x. x) result (other_in opened draft words.old) }
+{
+    let Some(word) = words.next() else {
+        return Ok(draft);
+    };
+    match draft_of(opened, word) {
+        Some(other) if is_over(words) => Ok(other),
+        _ => Err(RowFault::Bad),
+    }
+}

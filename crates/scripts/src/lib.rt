@@ -1,0 +1,11 @@
+//! Scripts: what teams do with their drafts, line by line.
+#![tactic(auto)]
+
+mod fields;
+mod line;
+mod reading;
+mod rows;
+mod sections;
+
+pub use line::{Line, Row, ScriptFault};
+pub use reading::read_script;

@@ -1,0 +1,81 @@
+//! What a script says.
+ghost use Rattle.std.specs.Prelude.{◌≡◌};
+
+use drafts::Team;
+use std::alloc::AllocFailed;
+use task_sheet::{Name, Sheet, SheetCause};
+
+/// What a line of a script says. A draft is the number of the line that opened it, among all such lines, from 1.
+#[derive(Drop)]
+pub enum Row {
+    /// `open TEAM`: a team opens a draft.
+    Open { team: Team },
+    /// `put DRAFT NAME WEIGHT PERIOD DEADLINE COST SECTION..`: a sheet is put into a draft.
+    Put { draft: usize, sheet: Sheet },
+    /// `remove DRAFT NAME`: a task is removed.
+    Remove { draft: usize, name: Name },
+    /// `found DRAFT NAME`, `found DRAFT NAME OTHER`: a draft is brought the finding on a task at the present level of another
+    /// draft, or of itself where no other is named.
+    Found {
+        draft: usize,
+        name: Name,
+        other: usize,
+    },
+    /// `test DRAFT`: a draft is brought all findings that it misses.
+    Test { draft: usize },
+    /// `commit DRAFT`.
+    Commit { draft: usize },
+    /// `abandon DRAFT`.
+    Abandon { draft: usize },
+}
+
+/// A line that says something.
+#[derive(Drop)]
+pub struct Line {
+    /// Counted from 1, with the lines that say nothing.
+    pub number: u64,
+    /// What it says.
+    pub row: Row,
+}
+
+/// Why a text is no script: its first faulty line, counted from 1.
+#[derive(Clone, Copy, Debug, PartialEq, Eq)]
+pub enum ScriptFault {
+    /// The line is none that a script may have there.
+    BadLine { line: u64 },
+    /// The values of the line are no sheet.
+    Sheet { line: u64, cause: SheetCause },
+    /// A growth was refused.
+    OutOfMemory,
+}
+
+// Why words are no line of a script.
+#[derive(Clone, Copy)]
+pub(crate) enum RowFault {
+    // They are none of its lines.
+    Bad,
+    // The values are no sheet.
+    Sheet { cause: SheetCause },
+    // A growth was refused.
+    OutOfMemory,
+}
+
+impl<T: Drop> From<AllocFailed<T>> for RowFault {
+    ghost use Rattle.scripts.specs.declared.line.RowFault.TheVariants.{OutOfMemory};
+
+    ghost from_gives = { λ _ fault. fault ≡ OutOfMemory };
+
+    fn from(_e: AllocFailed<T>) -> RowFault {
+        RowFault::OutOfMemory
+    }
+}
+
+impl<T: Drop> From<AllocFailed<T>> for ScriptFault {
+    ghost use Rattle.scripts.specs.declared.line.ScriptFault.TheVariants.{OutOfMemory};
+
+    ghost from_gives = { λ _ fault. fault ≡ OutOfMemory };
+
+    fn from(_e: AllocFailed<T>) -> ScriptFault {
+        ScriptFault::OutOfMemory
+    }
+}

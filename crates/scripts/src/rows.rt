@@ -1,0 +1,119 @@
+//! The rows of a script.
+ghost use Rattle.std.specs.Prelude.{◌≡◌, bytes_eq};
+ghost use Rattle.scripts.specs.Gives.{Gives};
+ghost use Rattle.scripts.specs.Rows.{found_in, open_in, put_in, remove_in, row_in, row_of, sheet_in};
+ghost use Rattle.lines.specs.Words.{words};
+
+use crate::fields::{is_over, next, next_draft, next_name, next_number, only_draft, other_of, team_of};
+use crate::line::{Row, RowFault};
+use crate::sections::sections_of;
+use lines::Words;
+use std::alloc::Global;
+use task_sheet::{Sheet, SheetFault};
+
+// The sheet of the values that are left.
+#[tactic(auto, unfolding(crate::specs::Rows::sheet_in))]
+fn sheet_of(alloc: Global, words: &mut Words<'_>) -> Result<Sheet, RowFault>
+    ensures { Gives (λ x. x) result (sheet_in words.old) }
+{
+    let name = next_name(words)?;
+    let weight = next_number(words)?;
+    let period = next_number(words)?;
+    let deadline = next_number(words)?;
+    let cost = next_number(words)?;
+    let sections = sections_of(alloc, words)?;
+    match Sheet::new(name, weight, period, deadline, cost, sections) {
+        Ok(sheet) => Ok(sheet),
+        Err(SheetFault { cause, sections: _ }) => Err(RowFault::Sheet { cause }),
+    }
+}
+
+#[tactic(auto, unfolding(crate::specs::Rows::open_in))]
+fn open_of(words: &mut Words<'_>) -> Result<Row, RowFault>
+    ensures { Gives (λ x. x) result (open_in words.old) }
+{
+    match team_of(next(words)?) {
+        Some(team) if is_over(words) => Ok(Row::Open { team }),
+        _ => Err(RowFault::Bad),
+    }
+}
+
+#[tactic(auto, unfolding(crate::specs::Rows::put_in))]
+fn put_of(alloc: Global, opened: usize, words: &mut Words<'_>) -> Result<Row, RowFault>
+    ensures { Gives (λ x. x) result (put_in opened words.old) }
+{
+    let draft = next_draft(opened, words)?;
+    let sheet = sheet_of(alloc, words)?;
+    Ok(Row::Put { draft, sheet })
+}
+
+#[tactic(auto, unfolding(crate::specs::Rows::remove_in))]
+fn remove_of(opened: usize, words: &mut Words<'_>) -> Result<Row, RowFault>
+    ensures { Gives (λ x. x) result (remove_in opened words.old) }
+{
+    let draft = next_draft(opened, words)?;
+    let name = next_name(words)?;
+    if is_over(words) {
+        Ok(Row::Remove { draft, name })
+    } else {
+        Err(RowFault::Bad)
+    }
+}
+
+#[tactic(auto, unfolding(crate::specs::Rows::found_in))]
+fn found_of(opened: usize, words: &mut Words<'_>) -> Result<Row, RowFault>
+    ensures { Gives (λ x. x) result (found_in opened words.old) }
+{
+    let draft = next_draft(opened, words)?;
+    let name = next_name(words)?;
+    let other = other_of(opened, draft, words)?;
+    Ok(Row::Found { draft, name, other })
+}
+
+// Whether the text is this word.
+fn is_word(text: &[u8], word: &[u8]) -> bool
+    ensures { result ≡ bytes_eq text.now word.now }
+{
+    text == word
+}
+
+// What a line of this first word says.
+fn row_of(
+    alloc: Global,
+    opened: usize,
+    word: &[u8],
+    words: &mut Words<'_>,
+) -> Result<Row, RowFault>
+    ensures { Gives (λ x. x) result (row_of opened word.now words.old) }
+{
+    if is_word(word, b"open") {
+        open_of(words)
+    } else if is_word(word, b"put") {
+        put_of(alloc, opened, words)
+    } else if is_word(word, b"remove") {
+        remove_of(opened, words)
+    } else if is_word(word, b"found") {
+        found_of(opened, words)
+    } else if is_word(word, b"test") {
+        let draft = only_draft(opened, words)?;
+        Ok(Row::Test { draft })
+    } else if is_word(word, b"commit") {
+        let draft = only_draft(opened, words)?;
+        Ok(Row::Commit { draft })
+    } else if is_word(word, b"abandon") {
+        let draft = only_draft(opened, words)?;
+        Ok(Row::Abandon { draft })
+    } else {
+        Err(RowFault::Bad)
+    }
+}
+
+/// What a line says, where so many drafts were opened above it.
+#[tactic(auto, unfolding(crate::specs::Rows::row_in))]
+pub(crate) fn read_row(alloc: Global, opened: usize, line: &[u8]) -> Result<Row, RowFault>
+    ensures { Gives (λ x. x) result (row_in opened (words line.now)) }
+{
+    let mut words = Words::of(line);
+    let word = next(&mut words)?;
+    row_of(alloc, opened, word, &mut words)
+}

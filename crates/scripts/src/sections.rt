@@ -1,0 +1,60 @@
+//! Sections in a line, as `LOCK+LOCK@AT:LEN`.
+ghost use Rattle.std.specs.Prelude.{◌≡◌, ◌==◌};
+ghost use Rattle.std.specs.List.{slice_split};
+ghost use Rattle.scripts.specs.Gives.{Gives};
+ghost use Rattle.scripts.specs.Rows.{names_in, section_in, sections_in};
+
+use crate::fields::round;
+use crate::line::RowFault;
+use lines::{Words, cut, name_of, number_of};
+use std::alloc::Global;
+use task_sheet::{Name, Section};
+
+// The names between the signs `+` of a text.
+fn names_of(alloc: Global, text: &[u8]) -> Result<Vec<Name>, RowFault>
+    ensures { Gives (λ x. x.items) result (names_in (slice_split (λ b. b == 43) text.now)) }
+{
+    let mut names = Vec::new(alloc);
+    let mut rest = text;
+    while let Some((word, after)) = cut(rest, b'+') {
+        let Some(name) = name_of(word) else {
+            return Err(RowFault::Bad);
+        };
+        names.push(name)?;
+        rest = after;
+    }
+    let Some(name) = name_of(rest) else {
+        return Err(RowFault::Bad);
+    };
+    names.push(name)?;
+    Ok(names)
+}
+
+// The section that a word is.
+#[tactic(auto, unfolding(crate::specs::Rows::section_in))]
+fn section_of(alloc: Global, word: &[u8]) -> Result<Section, RowFault>
+    ensures { Gives (λ x. x) result (section_in word.now) }
+{
+    let Some((locks, span)) = round(word, b'@') else {
+        return Err(RowFault::Bad);
+    };
+    let Some((at, len)) = round(span, b':') else {
+        return Err(RowFault::Bad);
+    };
+    let (Some(at), Some(len)) = (number_of(at), number_of(len)) else {
+        return Err(RowFault::Bad);
+    };
+    let locks = names_of(alloc, locks)?;
+    Ok(Section { locks, at, len })
+}
+
+/// The sections that the words are that are left.
+pub(crate) fn sections_of(alloc: Global, words: &mut Words<'_>) -> Result<Vec<Section>, RowFault>
+    ensures { Gives (λ x. x.items) result (sections_in words.old) }
+{
+    let mut sections = Vec::new(alloc);
+    while let Some(word) = words.next() {
+        sections.push(section_of(alloc, word)?)?;
+    }
+    Ok(sections)
+}
