@@ -2,13 +2,11 @@
 use Rattle.std.proofs.Common.{◌≡◌, ℕ, ◌<◌, ◌≤◌, suc, zero, List, [], ◌∷◌, ◌++◌, length, set, get_or, Option, None, Some, Result, Ok, Err, IfOk, OnErr, is_ok, if◌then◌else◌, sym, ap, subst, arith}
 use Rattle.drafts.specs.declared.state.Owned.{Owned}
 use Rattle.drafts.specs.declared.change.Refusal.{Refusal}
-use Rattle.drafts.specs.declared.entry.Decision.{Decision}
-use Rattle.drafts.specs.declared.entry.Decision.TheVariants.{Admitted, Refused, Infeasible}
 use Rattle.desk_core.specs.declared.events.Reply.{Reply}
 use Rattle.desk_core.specs.declared.events.Reply.TheVariants as reply
 use Rattle.std.specs.declared.alloc.AllocError.{AllocError}
 use Rattle.drafts.specs.Applied.{applied}
-use Rattle.drafts.specs.Machine.{Desk, Entry, admitted, moved}
+use Rattle.drafts.specs.Machine.{Desk, Entry, Ruling, Admitted, Refused, Infeasible, admitted, moved}
 use Rattle.drafts.specs.Books.{Book, logged}
 use Rattle.desk_core.specs.World.{Live, book_after}
 use Rattle.desk_core.specs.Based.{IsBased, AllBased}
@@ -26,7 +24,7 @@ admitted-based desk (Err refusal) slot h = h
 admitted-based desk (Ok tasks) None h = tt
 admitted-based desk (Ok tasks) (Some l) h = (omega (arith, h.0), λ e. absurd (omega (arith, h.0)))
 
-moved-based : (desk : Desk) (decision : Decision) (outcome : Result (List Owned) Refusal) (slot : Option Live) → IsBased desk slot → IsBased (moved desk decision outcome) slot
+moved-based : (desk : Desk) (decision : Ruling) (outcome : Result (List Owned) Refusal) (slot : Option Live) → IsBased desk slot → IsBased (moved desk decision outcome) slot
 moved-based desk (Admitted version) outcome slot h = admitted-based desk outcome slot h
 moved-based desk (Refused refusal) outcome slot h = h
 moved-based desk (Infeasible o) outcome slot h = h

@@ -1,5 +1,5 @@
 -- What was judged is right for what the changes come to.
-use Rattle.std.proofs.Common.{◌≡◌, ◌∙◌, List, Result, Ok, Err, Vec, Global, sym, ap, subst}
+use Rattle.std.proofs.Common.{◌≡◌, ◌∙◌, ℕ, List, None, Result, Ok, Err, Vec, Global, sym, ap, subst}
 use Rattle.task_sheet.specs.Verdicts as data_of
 use Rattle.assignment.specs.Verdict.{set_of as verdict_set, verdict_of}
 use Rattle.assignment.specs.declared.verdict.Verdict.{Verdict}
@@ -13,8 +13,10 @@ use Rattle.desk_core.specs.declared.stage.Stage.TheVariants.{Trying, Complete, T
 use Rattle.drafts.specs.Applied.{set_of}
 use Rattle.desk_core.specs.Trials.{TrialData}
 use Rattle.desk_core.specs.Findings.{IsTested}
-use Rattle.desk_core.specs.World.{IsTestedOn}
+use Rattle.desk_core.specs.World.{IsTestedOn, IsShown}
 use Rattle.desk_core.specs.Stages.{IsStage}
+use Rattle.desk_core.specs.Standings.{IsStandingOn, IsQuestionOn}
+use Rattle.desk_core.specs.declared.events.Standing.TheVariants as standing
 use Rattle.drafts.specs.Outcomes.{IsJudged, IsShared, IsAgain}
 
 pub shared-judged : (tasks : List Owned) (v : Verdict) (j : Judged) → verdict_set v ≡ set_of tasks → data_of.IsVerdictOf (set_of tasks) (verdict_of v) → IsShared v j → IsJudged (Ok tasks) j
@@ -44,30 +46,46 @@ again-judged (Ok tasks) (judged.Stuck a) (judged.Refused b) is again = again
 again-judged (Ok tasks) (judged.Stuck a) (judged.Best b) is again = absurd again
 
 -- ---- from stage to stage
-pub kept-stage : (outcome : Result (List Owned) Refusal) (v : Verdict) (j : Judged) (found : Vec Asked Global) → IsShared v j → IsStage outcome (Complete v found) → IsStage outcome (Tested j found)
-kept-stage (Err refusal) v j found shared so = absurd so
-kept-stage (Ok tasks) v j found shared so = (shared-judged tasks v j so.0 so.1 shared, so.2)
+pub kept-stage : (outcome : Result (List Owned) Refusal) (v : Verdict) (j : Judged) (found : Vec Asked Global) (names : Vec (List ℕ) Global) → IsShared v j → IsStage outcome (Complete v found names) → IsStage outcome (Tested j found names)
+kept-stage (Err refusal) v j found names shared so = absurd so
+kept-stage (Ok tasks) v j found names shared so = (shared-judged tasks v j so.0 so.1 shared, so.2, so.3)
 
 pub trying-tested : (outcome : Result (List Owned) Refusal) (trial : TrialData) (found : List Asked) → IsStage outcome (Trying trial) → trial.found ≡ found → IsTestedOn outcome found → IsTested trial.set trial.found
 trying-tested (Err refusal) trial found so same tested = absurd so
 trying-tested (Ok tasks) trial found so same tested = subst (λ U. IsTested U trial.found) (sym so) (subst (λ xs. IsTested (set_of tasks) xs) (sym same) tested)
 
-pub trying-complete : (outcome : Result (List Owned) Refusal) (trial : TrialData) (v : Verdict) (found : Vec Asked Global) → IsStage outcome (Trying trial) → verdict_set v ≡ trial.set → data_of.IsVerdictOf trial.set (verdict_of v) → found.items ≡ trial.found → IsTested trial.set trial.found → IsStage outcome (Complete v found)
-trying-complete (Err refusal) trial v found so of_set is same tested = absurd so
-trying-complete (Ok tasks) trial v found so of_set is same tested = (
+pub trying-complete : (outcome : Result (List Owned) Refusal) (trial : TrialData) (v : Verdict) (found : Vec Asked Global) (names : Vec (List ℕ) Global) → IsStage outcome (Trying trial) → verdict_set v ≡ trial.set → data_of.IsVerdictOf trial.set (verdict_of v) → found.items ≡ trial.found → IsTested trial.set trial.found
+    → IsShown trial.set names.items → IsStage outcome (Complete v found names)
+trying-complete (Err refusal) trial v found names so of_set is same tested shown = absurd so
+trying-complete (Ok tasks) trial v found names so of_set is same tested shown = (
   of_set ∙ so,
   subst (λ U. data_of.IsVerdictOf U (verdict_of v)) so is,
   subst (λ U. IsTested U found.items) so (subst (λ xs. IsTested trial.set xs) (sym same) tested),
+  subst (λ U. IsShown U names.items) so shown,
 )
 
-pub stage-tested : (outcome : Result (List Owned) Refusal) (j : Judged) (found : Vec Asked Global) (before : List Asked) (k : Judged) → IsStage outcome (Tested j found) → found.items ≡ before → IsAgain j k → IsTestedOn outcome before × IsJudged outcome k
-stage-tested (Err refusal) j found before k so same again = absurd so
-stage-tested (Ok tasks) j found before k so same again = (subst (λ xs. IsTested (set_of tasks) xs) same so.1, again-judged (Ok tasks) j k so.0 again)
+pub stage-tested : (outcome : Result (List Owned) Refusal) (j : Judged) (found : Vec Asked Global) (names : Vec (List ℕ) Global) (before : List Asked) (k : Judged) → IsStage outcome (Tested j found names) → found.items ≡ before → IsAgain j k → IsTestedOn outcome before × IsJudged outcome k
+stage-tested (Err refusal) j found names before k so same again = absurd so
+stage-tested (Ok tasks) j found names before k so same again = (subst (λ xs. IsTested (set_of tasks) xs) same so.1, again-judged (Ok tasks) j k so.0 again)
 
-pub complete-tested : (outcome : Result (List Owned) Refusal) (v : Verdict) (found : Vec Asked Global) → IsStage outcome (Complete v found) → IsTestedOn outcome found.items
-complete-tested (Err refusal) v found so = absurd so
-complete-tested (Ok tasks) v found so = so.2
+pub complete-tested : (outcome : Result (List Owned) Refusal) (v : Verdict) (found : Vec Asked Global) (names : Vec (List ℕ) Global) → IsStage outcome (Complete v found names) → IsTestedOn outcome found.items
+complete-tested (Err refusal) v found names so = absurd so
+complete-tested (Ok tasks) v found names so = so.2
 
-pub tested-tested : (outcome : Result (List Owned) Refusal) (j : Judged) (found : Vec Asked Global) → IsStage outcome (Tested j found) → IsTestedOn outcome found.items
-tested-tested (Err refusal) j found so = absurd so
-tested-tested (Ok tasks) j found so = so.1
+pub tested-tested : (outcome : Result (List Owned) Refusal) (j : Judged) (found : Vec Asked Global) (names : Vec (List ℕ) Global) → IsStage outcome (Tested j found names) → IsTestedOn outcome found.items
+tested-tested (Err refusal) j found names so = absurd so
+tested-tested (Ok tasks) j found names so = so.1
+
+-- ---- where a draft stands
+pub complete-standing : (outcome : Result (List Owned) Refusal) (v : Verdict) (found : Vec Asked Global) (names : Vec (List ℕ) Global) (before : List Asked) (told : Vec (List ℕ) Global) → IsStage outcome (Complete v found names) → found.items ≡ before → told.items ≡ names.items → IsStandingOn outcome before (standing.Tested told)
+complete-standing (Err refusal) v found names before told so same again = absurd so
+complete-standing (Ok tasks) v found names before told so same again = (subst (λ xs. IsTested (set_of tasks) xs) same so.2, subst (λ ns. IsShown (set_of tasks) ns) (sym again) so.3)
+
+pub tested-standing : (outcome : Result (List Owned) Refusal) (j : Judged) (found : Vec Asked Global) (names : Vec (List ℕ) Global) (before : List Asked) (told : Vec (List ℕ) Global) → IsStage outcome (Tested j found names) → found.items ≡ before → told.items ≡ names.items → IsStandingOn outcome before (standing.Tested told)
+tested-standing (Err refusal) j found names before told so same again = absurd so
+tested-standing (Ok tasks) j found names before told so same again = (subst (λ xs. IsTested (set_of tasks) xs) same so.1, subst (λ ns. IsShown (set_of tasks) ns) (sym again) so.2)
+
+-- a draft that is tested asks nothing
+pub tested-unasked : (outcome : Result (List Owned) Refusal) (found before : List Asked) (name : List ℕ) → IsTestedOn outcome found → found ≡ before → IsQuestionOn outcome before name None
+tested-unasked (Err refusal) found before name tested same = absurd tested
+tested-unasked (Ok tasks) found before name tested same = λ q asked. asked.present.undecided (subst (λ xs. IsTested (set_of tasks) xs) same tested asked.level)

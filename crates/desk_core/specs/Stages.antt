@@ -11,30 +11,31 @@ use Rattle.desk_core.specs.declared.stage.Stage.TheVariants.{Fresh, Trying, Comp
 use Rattle.drafts.specs.Applied.{set_of}
 use Rattle.desk_core.specs.Trials.{TrialData}
 use Rattle.drafts.specs.Outcomes.{IsJudged}
-use Rattle.desk_core.specs.World.{IsTestedOn}
+use Rattle.desk_core.specs.World.{IsTestedOn, IsShown}
 
 -- the findings that were taken
 abbrev pub found_of : Stage → List Asked
 found_of Fresh = []
 found_of (Trying trial) = trial.found
-found_of (Complete verdict found) = found.items
-found_of (Tested judged found) = found.items
+found_of (Complete verdict found names) = found.items
+found_of (Tested judged found names) = found.items
 
 -- what is kept of the test is right for what the changes come to
 abbrev pub IsStage : Result (List Owned) Refusal → Stage → Type 0
 IsStage outcome Fresh = Unit {0}
 IsStage (Ok tasks) (Trying trial) = trial.set ≡ set_of tasks
-IsStage (Ok tasks) (Complete verdict found) = (verdict_set verdict ≡ set_of tasks) × IsVerdictOf (set_of tasks) (verdict_of verdict) × IsTestedOn (Ok tasks) found.items
-IsStage (Ok tasks) (Tested judged found) = IsJudged (Ok tasks) judged × IsTestedOn (Ok tasks) found.items
+IsStage (Ok tasks) (Complete verdict found names) =
+    (verdict_set verdict ≡ set_of tasks) × IsVerdictOf (set_of tasks) (verdict_of verdict) × IsTestedOn (Ok tasks) found.items × IsShown (set_of tasks) names.items
+IsStage (Ok tasks) (Tested judged found names) = IsJudged (Ok tasks) judged × IsTestedOn (Ok tasks) found.items × IsShown (set_of tasks) names.items
 IsStage (Err refusal) (Trying trial) = ⊥
-IsStage (Err refusal) (Complete verdict found) = ⊥
-IsStage (Err refusal) (Tested judged found) = ⊥
+IsStage (Err refusal) (Complete verdict found names) = ⊥
+IsStage (Err refusal) (Tested judged found names) = ⊥
 
 abbrev pub is_begun : Stage → Bool
 is_begun Fresh = false
 is_begun (Trying trial) = true
-is_begun (Complete verdict found) = true
-is_begun (Tested judged found) = true
+is_begun (Complete verdict found names) = true
+is_begun (Tested judged found names) = true
 
 -- the changes apply, and then the test is begun
 abbrev pub IsBegun : Result (List Owned) Refusal → Stage → Bool → Type 0

@@ -75,7 +75,8 @@ edited l (Ok changes) = record { draft = record { team = l.draft.team; base = l.
 -- the names that a complete verdict shows: none where an order passes, else those of the greatest obstruction, by rank
 abbrev pub IsShown : List Task → List (List ℕ) → Type 0
 IsShown U names =
-    (IsFeasible U × (names ≡ [])) ⊎ ((members : List FailureData) × IsVerdictOf U (verdict.Infeasible members) × (names ≡ map (λ i. (task_at U i).name) (tasks_of members)))
+    (IsFeasible U × (names ≡ []))
+    ⊎ ((¬ IsFeasible U) × ((members : List FailureData) × IsVerdictOf U (verdict.Infeasible members) × (names ≡ map (λ i. (task_at U i).name) (tasks_of members))))
 
 abbrev pub IsTestedReply : List Task → Reply → Type 0
 IsTestedReply U (Tested infeasible) = IsShown U infeasible.items

@@ -3,11 +3,14 @@
 ghost use Rattle.std.specs.Prelude.{◌≡◌, ◌<◌, ◌+◌, None, IfOk, IfErr, OnErr, IsSome, MatchOption, length, slice_index_or};
 ghost use Rattle.desk_core.specs.declared.events.Event.TheVariants.{Open, Put, Remove, Found, Commit, Abandon};
 ghost use Rattle.desk_core.specs.World.{live_at, IsReply, happens, start, IsRun, after_all};
+ghost use Rattle.desk_core.specs.Standings.{IsQuestionOf, IsShortOf, IsStanding};
 ghost use Rattle.drafts.specs.Machine.{empty_desk, IsLegal, replay, admissions};
 
-use crate::events::{Cause, Event, Reply};
-use crate::live::{Live, abandon_in, commit_in, found_in, put_in, remove_in};
-use assignment::Finding;
+use crate::events::{Cause, Event, Reply, Standing};
+use crate::live::{
+    Live, abandon_in, commit_in, found_in, put_in, question_in, remove_in, standing_in,
+};
+use assignment::{AnswerFault, Finding, Question};
 use drafts::{Book, Team};
 use std::alloc::{AllocError, Global};
 use std::marker::Model;
@@ -82,7 +85,7 @@ impl Core {
         ensures err { OnErr result (self.new ≡ self.old) }
     {
         let version = self.book.state().version();
-        let base = self.book.state().copy(alloc)?;
+        let base = self.book.snapshot()?;
         match self.drafts.push(Some(Live::new(alloc, team, base))) {
             Ok(()) => Ok(Reply::Opened {
                 draft: self.drafts.len(),
@@ -165,6 +168,55 @@ impl Core {
                 Reply::Refused { cause }
             }
             Some(i) => abandon_in(&mut self.drafts[i]),
+        }
+    }
+
+    /// Where a draft stands. The first question begins its test.
+    pub fn standing(&mut self, alloc: Global, draft: usize) -> Result<Standing, AllocError>
+        ensures same { self.new ≡ self.old }
+        ensures ok { IfOk result (IsStanding (live_at self.old.drafts draft)) }
+        ensures few { IfOk result (IsShortOf (live_at self.old.drafts draft)) }
+    {
+        match place_of(&self.drafts, draft) {
+            None => Ok(Standing::NoSuchDraft),
+            Some(i) => standing_in(alloc, &mut self.drafts[i]),
+        }
+    }
+
+    /// The question on the candidate of a name at a draft's present level: none where no candidate has the name, or the draft has
+    /// no present level. The first question begins the draft's test.
+    pub fn question(
+        &mut self,
+        alloc: Global,
+        draft: usize,
+        name: Name,
+    ) -> Result<Option<Question>, AllocError>
+        ensures same { self.new ≡ self.old }
+        ensures ok { IfOk result (IsQuestionOf (live_at self.old.drafts draft) name) }
+    {
+        match place_of(&self.drafts, draft) {
+            None => Ok(None),
+            Some(i) => question_in(alloc, &mut self.drafts[i], name),
+        }
+    }
+
+    /// The answer to a question, by the lock table of a draft's test where the question is on its set. The fault is want of
+    /// memory.
+    pub fn answer(
+        &self,
+        alloc: Global,
+        draft: usize,
+        question: Question,
+    ) -> Result<Finding, AnswerFault>
+        ensures ok { IfOk result (λ finding. finding.question ≡ question) }
+        ensures err { IfErr result (λ fault. fault.question ≡ question) }
+    {
+        match place_of(&self.drafts, draft) {
+            None => question.answer(alloc),
+            Some(i) => match &self.drafts[i] {
+                None => question.answer(alloc),
+                Some(live) => live.answer(alloc, question),
+            },
         }
     }
 

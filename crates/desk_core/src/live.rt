@@ -10,16 +10,18 @@ ghost use Rattle.desk_core.specs.Brought.{IsTelling, IsBrought};
 ghost use Rattle.desk_core.specs.declared.told.Told.{Told};
 ghost use Rattle.desk_core.specs.World.{Live, opened, cause_of, edit_reply, edited, live_reply, after_slot, IsToldReply, noted, with_finding, IsFoundAnswer, IsFoundReply, IsCommitReply, book_after, committed, rebased};
 ghost use Rattle.desk_core.specs.declared.events.Reply.TheVariants.{Done};
+ghost use Rattle.desk_core.specs.Standings.{IsQuestionOf, IsQuestionOn, IsShort, IsShortOf, IsStanding, IsStandingOn};
 ghost use Rattle.desk_core.specs.Stages.{IsReady, IsStage, found_of};
 
-use crate::events::{Cause, Reply};
-use crate::stage::{Stage, begin, judged};
+use crate::events::{Cause, Reply, Standing};
+use crate::stage::{Stage, begin, judged, question, standing};
 use crate::told::Told;
 use crate::trial::Trial;
-use assignment::Finding;
+use assignment::{AnswerFault, Finding, Question};
 use drafts::{Book, Draft, EditCause, EditRefusal, Judged, NodeState, PutFault, Team};
 use std::alloc::{AllocError, Global};
 use std::marker::Model;
+use std::sync::Arc;
 use task_sheet::{Name, Sheet};
 
 /// A draft that hasn't ended, and how far its test has come.
@@ -140,8 +142,8 @@ fn bring_to(
 
 impl Live {
     /// A draft without changes.
-    pub fn new(alloc: Global, team: Team, base: NodeState) -> Live
-        ensures { result ≡ opened team base }
+    pub fn new(alloc: Global, team: Team, base: Arc<NodeState>) -> Live
+        ensures { result ≡ opened team base.value }
     {
         Live {
             draft: Draft::new(alloc, team, base),
@@ -223,6 +225,61 @@ impl Live {
     {
         judged(alloc, &self.draft, &mut self.stage)
     }
+
+    /// Where the draft stands.
+    pub fn standing(&mut self, alloc: Global) -> Result<Standing, AllocError>
+        ensures same { self.new ≡ self.old }
+        ensures ok { IfOk result (IsStandingOn (on_base self.old.draft) self.old.found) }
+        ensures few { IfOk result (IsShort self.old.found) }
+    {
+        standing(alloc, &self.draft, &mut self.stage)
+    }
+
+    /// The question on the candidate of a name at the present level.
+    pub fn question(&mut self, alloc: Global, name: Name) -> Result<Option<Question>, AllocError>
+        ensures same { self.new ≡ self.old }
+        ensures ok { IfOk result (IsQuestionOn (on_base self.old.draft) self.old.found name) }
+    {
+        question(alloc, &self.draft, &mut self.stage, name)
+    }
+
+    /// The answer to a question, by the lock table of the test where the question is on its set.
+    pub fn answer(&self, alloc: Global, question: Question) -> Result<Finding, AnswerFault>
+        ensures ok { IfOk result (λ finding. finding.question ≡ question) }
+        ensures err { IfErr result (λ fault. fault.question ≡ question) }
+    {
+        match &self.stage {
+            Stage::Trying { trial } => trial.answer(alloc, question),
+            _ => question.answer(alloc),
+        }
+    }
+}
+
+/// Where a draft stands.
+pub fn standing_in(alloc: Global, slot: &mut Option<Live>) -> Result<Standing, AllocError>
+    ensures same { slot.new ≡ slot.old }
+    ensures ok { IfOk result (IsStanding slot.old) }
+    ensures few { IfOk result (IsShortOf slot.old) }
+{
+    match slot {
+        Some(live) => live.standing(alloc),
+        None => Ok(Standing::NoSuchDraft),
+    }
+}
+
+/// The question on the candidate of a name at a draft's present level.
+pub fn question_in(
+    alloc: Global,
+    slot: &mut Option<Live>,
+    name: Name,
+) -> Result<Option<Question>, AllocError>
+    ensures same { slot.new ≡ slot.old }
+    ensures ok { IfOk result (IsQuestionOf slot.old name) }
+{
+    match slot {
+        Some(live) => live.question(alloc, name),
+        None => Ok(None),
+    }
 }
 
 /// Puts a sheet into a live draft.
@@ -298,7 +355,7 @@ pub fn commit_in(
     let decided = match live.judged(alloc)? {
         None => book.test_and_enter(alloc, live.draft())?,
         Some(_) if live.draft().base_version() < version => {
-            let fresh = book.state().copy(alloc)?;
+            let fresh = book.snapshot()?;
             rebase_in(slot, fresh);
             return Ok(Reply::Stale { version });
         }
@@ -312,8 +369,8 @@ pub fn commit_in(
 }
 
 // Puts a live draft on another state, without findings.
-fn rebase_in(slot: &mut Option<Live>, fresh: NodeState)
-    ensures { slot.new ≡ after_slot slot.old (λ l. Some (rebased l fresh)) }
+fn rebase_in(slot: &mut Option<Live>, fresh: Arc<NodeState>)
+    ensures { slot.new ≡ after_slot slot.old (λ l. Some (rebased l fresh.value)) }
 {
     if let Some(live) = slot.take() {
         *slot = Some(Live {

@@ -1,8 +1,8 @@
 //! The test of a set by findings that come in any order.
 
-ghost use Rattle.std.specs.Prelude.{◌≡◌, ◌↔◌, ◌<◌, ◌≤◌, ◌+◌, [], ◌∷◌, ◌++◌, List, length, map, None, Some, ℕ, IsTrue, IsFalse, MatchOption, IfOk, IfErr, OnOk, OnErr, vec_len, vec_capacity};
+ghost use Rattle.std.specs.Prelude.{◌≡◌, ◌↔◌, ◌<◌, ◌≤◌, ◌+◌, ◌^◌, [], ◌∷◌, ◌++◌, List, length, map, None, Some, ℕ, IsTrue, IsFalse, MatchOption, IfOk, IfErr, OnOk, OnErr, vec_len, vec_capacity};
 ghost use Rattle.std.specs.FinSet.{contains};
-ghost use Rattle.desk_core.specs.Asking.{IsAsking};
+ghost use Rattle.desk_core.specs.Asking.{IsAsking, IsNamed};
 ghost use Rattle.task_sheet.specs.Indexes.{indexes_of, listed_below, IsPart};
 ghost use Rattle.task_sheet.specs.Sheet.{task_at};
 ghost use Rattle.task_sheet.specs.Orders.{all_of};
@@ -17,16 +17,19 @@ ghost use Rattle.desk_core.specs.Closing.{IsClosing, IsTakenAt};
 
 use crate::asked::Asked;
 use crate::told::Told;
-use assignment::{Climb, Finding, Level, LevelRecord, Question, TakeFault, Verdict};
+use assignment::{AnswerFault, Climb, Finding, Level, LevelRecord, Question, TakeFault, Verdict};
+use ceilings::LockTable;
 use std::alloc::{AllocError, Global};
 use std::marker::Model;
 use std::sync::Arc;
 use task_sheet::{Members, Name, TaskSet};
 
-/// A climb over a set, which goes on as findings decide its levels. The present level is kept from its first finding on.
+/// A climb over a set, which goes on as findings decide its levels, with the table of the set's locks. The present level is kept
+/// from its first finding on.
 #[derive(Drop)]
 pub struct Trial {
     set: Arc<TaskSet>,
+    table: LockTable,
     climb: Climb,
     level: Option<Level>,
     found: Vec<Asked>,
@@ -176,9 +179,11 @@ impl Trial {
     pub fn begin(alloc: Global, set: Arc<TaskSet>) -> Result<Trial, AllocError>
         ensures { IfOk result (λ trial. trial ≡ record { set = set.value; found = [] }) }
     {
+        let table = LockTable::new(alloc, &set)?;
         let climb = Climb::start(alloc, set.clone()?)?;
         Ok(Trial {
             set,
+            table,
             climb,
             level: None,
             found: Vec::new(alloc),
@@ -201,7 +206,8 @@ impl Trial {
 
     /// The question on the missing candidate of least rank at the present level; none where the verdict is complete.
     pub fn asking(&self) -> Result<Option<Question>, AllocError>
-        ensures { IfOk result (λ question. IsAsking self.now.set self.now.found question) }
+        ensures asking { IfOk result (λ question. IsAsking self.now.set self.now.found question) }
+        ensures few { length self.now.found < 2 ^ 63 }
     {
         if !self.climb.is_unfinished() {
             return Ok(None);
@@ -217,6 +223,38 @@ impl Trial {
         }
     }
 
+    /// The question on the candidate of a name at the present level; none where no candidate has the name, or the verdict is
+    /// complete.
+    pub fn question(&self, name: Name) -> Result<Option<Question>, AllocError>
+        ensures { IfOk result (λ question. IsNamed self.now.set self.now.found name question) }
+    {
+        if !self.climb.is_unfinished() {
+            return Ok(None);
+        }
+        let _ = self.set.sheets();
+        let Some(task) = self.set.find(name) else {
+            return Ok(None);
+        };
+        let left = self.climb.left();
+        if !left.has(task) {
+            return Ok(None);
+        }
+        let set = self.set.clone()?;
+        Ok(Some(Question::new(set, left.without(task), task)))
+    }
+
+    /// The answer to a question, by the table of the trial where the question is on its set. The fault is want of memory.
+    pub fn answer(&self, alloc: Global, question: Question) -> Result<Finding, AnswerFault>
+        ensures ok { IfOk result (λ finding. finding.question ≡ question) }
+        ensures err { IfErr result (λ fault. fault.question ≡ question) }
+    {
+        if self.set.is_same(question.set()) {
+            question.answer_by(alloc, &self.table)
+        } else {
+            question.answer(alloc)
+        }
+    }
+
     // The names that the complete verdict shows, into a list with room for them.
     pub(crate) fn infeasible(&self, names: Vec<Name>) -> Vec<Name>
         requires tested { IsTested self.now.set self.now.found }
@@ -224,6 +262,7 @@ impl Trial {
         requires room { length self.now.set ≤ vec_capacity names }
         ensures { IsShown self.now.set result.items }
     {
+        let _ = self.set.sheets();
         match self.climb.members() {
             Some(_) => list_names(&self.set, self.climb.left(), names),
             None => {
@@ -242,6 +281,7 @@ impl Trial {
     {
         let Trial {
             set: _,
+            table: _,
             climb,
             level: _,
             found,

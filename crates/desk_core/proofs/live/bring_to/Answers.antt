@@ -20,11 +20,11 @@ returns-in-Complete-clause-reply c =
     let outcome = on_base c.args.draft.now in
     let so = subst (λ (s : Stage). IsStage outcome s) c.in-Complete.is c.begin.ensures.kept in
     let same = sym (ap (λ (s : Stage). found_of s) c.in-Complete.is) ∙ c.begin.ensures.found in
-    tested-stranger outcome (found_of c.args.stage.now) c.args.finding.question (subst (λ (xs : List Asked). IsTestedOn outcome xs) same (complete-tested outcome c.in-Complete.verdict c.in-Complete.found so))
+    tested-stranger outcome (found_of c.args.stage.now) c.args.finding.question (subst (λ (xs : List Asked). IsTestedOn outcome xs) same (complete-tested outcome c.in-Complete.verdict c.in-Complete.found c.in-Complete.names so))
 
 pub returns-in-Tested-clause-reply : goal.returns-in-Tested-clause-reply
 returns-in-Tested-clause-reply c =
     let outcome = on_base c.args.draft.now in
     let so = subst (λ (s : Stage). IsStage outcome s) c.in-Tested.is c.begin.ensures.kept in
     let same = sym (ap (λ (s : Stage). found_of s) c.in-Tested.is) ∙ c.begin.ensures.found in
-    tested-stranger outcome (found_of c.args.stage.now) c.args.finding.question (subst (λ (xs : List Asked). IsTestedOn outcome xs) same (tested-tested outcome c.in-Tested.judged c.in-Tested.found so))
+    tested-stranger outcome (found_of c.args.stage.now) c.args.finding.question (subst (λ (xs : List Asked). IsTestedOn outcome xs) same (tested-tested outcome c.in-Tested.judged c.in-Tested.found c.in-Tested.names so))

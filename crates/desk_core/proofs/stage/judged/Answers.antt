@@ -4,7 +4,7 @@ use Rattle.desk_core.specs.declared.asked.Asked.{Asked}
 use Rattle.desk_core.specs.declared.stage.Stage.{Stage}
 use Rattle.drafts.specs.Changes.{on_base}
 use Rattle.desk_core.specs.Stages.{found_of, IsStage, IsReady}
-use Rattle.desk_core.proofs.StageLaws.{trying-tested, trying-complete, stage-tested}
+use Rattle.desk_core.proofs.StageLaws.{trying-tested, stage-tested}
 use Rattle.desk_core.proofs.stage.judged.Goals as goal
 
 pub returns-then-not-is_tested-clause-ok : goal.returns-then-not-is_tested-clause-ok
@@ -15,24 +15,22 @@ returns-then-not-is_tested-clause-ok c = λ tested.
     let same = sym (ap (λ (s : Stage). found_of s) is) ∙ c.begin.ensures.found in
     both_ways c.is_tested.result c.if-not-is_tested.true (c.is_tested.ensures.1 (trying-tested outcome c.in-Trying.trial (found_of c.args.stage.now) so same tested))
 
-pub finish-verdict-requires : goal.finish-verdict-requires
-finish-verdict-requires c = c.is_tested.ensures.0 c.if-not-is_tested.false
+pub complete-requires : goal.complete-requires
+complete-requires c = c.is_tested.ensures.0 c.if-not-is_tested.false
 
 pub returns-else-not-is_tested-clause-kept : goal.returns-else-not-is_tested-clause-kept
 returns-else-not-is_tested-clause-kept c =
     let outcome = on_base c.args.draft.now in
     let is = sym c.replace.ensures.value ∙ c.in-Trying.is in
-    let so = subst (λ (s : Stage). IsStage outcome s) is c.begin.ensures.kept in
-    c.keep.ensures.kept outcome (trying-complete outcome c.in-Trying.trial c.finish-verdict.result.0 c.finish-verdict.result.1 so c.finish-verdict.ensures.of_set c.finish-verdict.ensures.verdict c.finish-verdict.ensures.found (c.is_tested.ensures.0 c.if-not-is_tested.false))
+    c.complete.ensures.kept outcome (subst (λ (s : Stage). IsStage outcome s) is c.begin.ensures.kept)
 
 pub returns-else-not-is_tested-clause-ok : goal.returns-else-not-is_tested-clause-ok
 returns-else-not-is_tested-clause-ok c =
     let outcome = on_base c.args.draft.now in
     let is = sym c.replace.ensures.value ∙ c.in-Trying.is in
     let so = subst (λ (s : Stage). IsStage outcome s) is c.begin.ensures.kept in
-    let same = c.finish-verdict.ensures.found ∙ sym (ap (λ (s : Stage). found_of s) is) ∙ c.begin.ensures.found in
-    subst (λ (xs : List Asked). IfOk c.keep.result (λ judged. IsReady outcome xs judged)) same
-    (c.keep.ensures.ok outcome (trying-complete outcome c.in-Trying.trial c.finish-verdict.result.0 c.finish-verdict.result.1 so c.finish-verdict.ensures.of_set c.finish-verdict.ensures.verdict c.finish-verdict.ensures.found (c.is_tested.ensures.0 c.if-not-is_tested.false)))
+    let same = sym (ap (λ (s : Stage). found_of s) is) ∙ c.begin.ensures.found in
+    subst (λ (xs : List Asked). IfOk c.complete.result (λ judged. IsReady outcome xs judged)) same (c.complete.ensures.ok outcome so)
 
 pub returns-in_ok-again-in-Tested-clause-ok : goal.returns-in_ok-again-in-Tested-clause-ok
 returns-in_ok-again-in-Tested-clause-ok c =
@@ -40,4 +38,4 @@ returns-in_ok-again-in-Tested-clause-ok c =
     let is = sym c.replace.ensures.value ∙ c.in-Tested.is in
     let so = subst (λ (s : Stage). IsStage outcome s) is c.begin.ensures.kept in
     let same = sym (ap (λ (s : Stage). found_of s) is) ∙ c.begin.ensures.found in
-    stage-tested outcome c.in-Tested.judged c.in-Tested.found (found_of c.args.stage.now) c.in_ok-again-in-Tested.field-0 so same c.in_ok-again-in-Tested.ensures
+    stage-tested outcome c.in-Tested.judged c.in-Tested.found c.in-Tested.names (found_of c.args.stage.now) c.in_ok-again-in-Tested.field-0 so same c.in_ok-again-in-Tested.ensures

@@ -1,5 +1,6 @@
 use Rattle.std.proofs.Common.{◌≡◌, ◌∙◌, sym, ap, subst, length, List, [], false, None, refl}
 use Rattle.task_sheet.specs.Sheet.{Task}
+use Rattle.ceilings.specs.IsTableOf.{IsTableOf}
 use Rattle.task_sheet.specs.MembersWords.{all_below}
 use Rattle.assignment.specs.Climbs.{ClimbState}
 use Rattle.desk_core.specs.declared.asked.Asked.{Asked}
@@ -16,7 +17,8 @@ invariant_of-result c =
     let climb = c.in_ok-climb.climb in
     let is : climb ≡ at_start c.args.set.value = c.in_ok-climb.ensures ∙ ap (λ U. at_start U) c.in_ok-clone.ensures.cases in
     record {
+      tabled = subst (λ U. IsTableOf U c.in_ok-table.table) c.deref.ensures c.in_ok-table.ensures;
       present = present_of climb None;
-      progress = subst (λ (xs : List Asked). IsProgress c.args.set.value climb (present_of climb None) xs) (sym c.new.ensures.items) (progress-start c.args.set.value climb is);
+      progress = subst (λ (xs : List Asked). IsProgress c.args.set.value climb (present_of climb None) xs) (sym c.new-2.ensures.items) (progress-start c.args.set.value climb is);
       kept = λ _. refl;
     }

@@ -3,6 +3,9 @@ use Rattle.task_sheet.specs.Sheet.{task_at}
 use Rattle.task_sheet.specs.Indexes.{indexes_of, listed_below}
 use Rattle.task_sheet.specs.Orders.{IsPassingOrder}
 use Rattle.task_sheet.specs.Verdicts.{order_of, IsStuck, tasks_of}
+use Rattle.task_sheet.specs.TaskSet.{IsTaskSet}
+use Rattle.task_sheet.proofs.TaskLaws.{AllTasks-from_set}
+use Rattle.task_sheet.proofs.VerdictLaws.{IsStuck-infeasible}
 use Rattle.assignment.proofs.ClimbLaws.{not_unfinished, IsClimbing-admitted}
 use Rattle.desk_core.specs.Trials.{TrialData}
 use Rattle.desk_core.specs.Findings.{IsTested}
@@ -18,12 +21,13 @@ returns-in-Some c =
     let same = c.self.invariant.progress.same in
     let stuck = subst (λ V. IsStuck V fs) same c.in-Some.ensures.stuck in
     let rest = subst (λ V. tasks_of fs ≡ listed_below (length V) (indexes_of a.climb.left)) same c.in-Some.ensures.rest in
+    let valid = AllTasks-from_set U (subst (λ V. IsTaskSet V) c.deref.ensures c.sheets.ensures.kept) in
     let names : c.list_names.result.items ≡ map (λ i. (task_at U i).name) (tasks_of fs) =
     c.list_names.ensures
-    ∙ ap (λ V. map (λ i. (task_at V i).name) (listed_below (length V) (indexes_of c.left.result))) c.deref.ensures
+    ∙ ap (λ V. map (λ i. (task_at V i).name) (listed_below (length V) (indexes_of c.left.result))) c.deref-in-Some.ensures
     ∙ ap (λ m. map (λ i. (task_at U i).name) (listed_below (length U) (indexes_of m))) c.left.ensures.same
     ∙ ap (λ ns. map (λ i. (task_at U i).name) ns) (sym rest) in
-    subst (λ (x : TrialData). IsShown x.set c.list_names.result.items) c.self.view_is (inr (fs, stuck, names))
+    subst (λ (x : TrialData). IsShown x.set c.list_names.result.items) c.self.view_is (inr (IsStuck-infeasible U valid fs stuck, (fs, stuck, names)))
 
 pub returns-in-None : goal.returns-in-None
 returns-in-None c =

@@ -24,6 +24,7 @@ invariant_of-self c =
     let inv = c.self.invariant in
     let same : c.make_room.new.level ≡ a.level = on_err (c.make_room.new.level ≡ a.level) c.make_room.result (sym c.is_err.ensures.value ∙ c.if-is_err.true) c.make_room.ensures.err in
     record {
+      tabled = inv.tabled;
       present = inv.present;
       progress = subst (λ (xs : List Asked). IsProgress a.set.value a.climb inv.present xs) (sym c.make_room.ensures.kept) inv.progress;
       kept = λ goes_on. inv.kept goes_on ∙ ap (λ (o : Option LevelState). present_of a.climb o) (sym same);
@@ -53,6 +54,7 @@ invariant_of-self-2 c =
     let noted : c.note.new.found.items ≡ found_after a.found.items (asked_of c.args.finding.question) told =
     c.note.ensures ∙ ap (λ (xs : List Asked). found_after xs c.asked_by-asked.result told) c.make_room.ensures.kept ∙ ap (λ (x : Asked). found_after a.found.items x told) c.asked_by-asked.ensures in
     record {
+      tabled = inv.tabled;
       present = held.present;
       progress = subst (λ (xs : List Asked). IsProgress a.set.value c.take_at-told.new.climb held.present xs) (sym noted) held.progress;
       kept = held.kept;
