@@ -6,3 +6,4 @@ pub mod ClimbLaws
 pub mod AskLaws
 pub mod StepLaws
 pub mod CandidateLaws
+pub mod FeasibilityLaws

@@ -1,0 +1,177 @@
+-- Less cost: the same blocking, no more demand, and the same orders.
+use Rattle.std.proofs.Common.{◌≡◌, ℕ, ◌+◌, ◌<◌, ◌≤◌, Bool, inl, inr, cond, ◌&&◌, List, [], ◌∷◌, length, get_or, refl, sym, ◌∙◌, ap, subst, arith}
+use Rattle.std.proofs.Math.Path.{fun_ext}
+use Rattle.std.proofs.Math.ListN.{get_or-eq_default}
+use Rattle.std.proofs.Math.Nat.{mul-le-mul_left}
+use Rattle.std.specs.List.{list_any, AllByRecursion}
+use Rattle.std.proofs.lemmas.List.Elements.{recursion_from_All, All-from_recursion}
+use Rattle.std.proofs.lemmas.Bool.{cases_Bool, cases_eq, cases_lt}
+use Rattle.std.proofs.lemmas.List.{get_or-set_same, get_or-set_other, length-set}
+use Rattle.task_sheet.specs.Sheet.{CriticalSection, Task, AreSections, IsValidSheet, no_task, task_at}
+use Rattle.task_sheet.specs.Indexes.{Indexes, with_index, some_below, greatest_below, below, among}
+use Rattle.task_sheet.specs.Locks.{names_lock}
+use Rattle.task_sheet.specs.Demand.{greatest_of, blocking_of, demand_of, interference_of, Passes}
+use Rattle.task_sheet.specs.Orders.{AllStand, IsPassingOrder, IsFeasible}
+use Rattle.task_sheet.proofs.Below.{sum_below-le}
+use Rattle.ceilings.specs.Holds.{longest_outside}
+use Rattle.headroom.specs.Costs.{with_cost, IsLighter, AreLighter, costed}
+
+-- ---- blocking speaks of sections alone
+abbrev sections_of : List Task → ℕ → List CriticalSection
+sections_of U k = (task_at U k).sections
+
+abbrev reaches_by : ℕ → (ℕ → List CriticalSection) → Indexes → CriticalSection → Bool
+reaches_by n sections X s = some_below n (λ k. X k && list_any (λ lock. list_any (λ (x : CriticalSection). names_lock x lock) (sections k)) s.locks)
+
+abbrev longest_by : ℕ → (ℕ → List CriticalSection) → Indexes → ℕ
+longest_by n sections X =
+    greatest_below n (λ k. cond (X k) 0 (greatest_of (λ (s : CriticalSection). cond (reaches_by n sections X s) s.len 0) (sections k)))
+
+-- sets of as many tasks with the same sections have the same longest ones
+pub longest-same : (V U : List Task) (X : Indexes) → length V ≡ length U → ((k : ℕ) → (task_at V k).sections ≡ (task_at U k).sections) → longest_outside V X ≡ longest_outside U X
+longest-same V U X count same =
+    ap (λ n. longest_by n (sections_of V) X) count ∙ ap (λ (f : ℕ → List CriticalSection). longest_by (length U) f X) (fun_ext same)
+
+blocking-longest : (U : List Task) (i : ℕ) (H : Indexes) → blocking_of U i H ≡ longest_outside U (with_index H i)
+unfolding blocking_of
+blocking-longest U i H = refl
+
+module _ (V U : List Task) (light : AreLighter V U) where
+  pub blocking-lighter : (i : ℕ) (H : Indexes) → blocking_of V i H ≡ blocking_of U i H
+  blocking-lighter i H =
+      let X = with_index H i in
+      blocking-longest V i H
+      ∙ longest-same V U X light.count (λ k. ap (λ (t : Task). t.sections) (light.each k).2)
+      ∙ sym (blocking-longest U i H)
+
+  cost-lighter : (k : ℕ) → (task_at V k).cost ≤ (task_at U k).cost
+  cost-lighter k = omega (arith, ap (λ (t : Task). t.cost) (light.each k).2, (light.each k).1)
+
+  interference-lighter : (k t : ℕ) → interference_of (task_at V k) t ≤ interference_of (task_at U k) t
+  interference-lighter k t =
+      let cost = (light.each k).0 in
+      let is : interference_of (task_at V k) t ≡ interference_of (with_cost (task_at U k) cost) t = ap (λ (x : Task). interference_of x t) (light.each k).2 in
+      rw is (mul-le-mul_left _ (light.each k).1)
+
+  term-lighter : (H : Indexes) (t k : ℕ) → cond (H k) (interference_of (task_at V k) t) 0 ≤ cond (H k) (interference_of (task_at U k) t) 0
+  term-lighter H t k = elim (cases_Bool (H k)) [
+    | inl so ↦ rw so (interference-lighter k t)
+    | inr so ↦ rw so (omega arith)
+  ]
+
+  pub demand-lighter : (i : ℕ) (H : Indexes) (t : ℕ) → demand_of V i H t ≤ demand_of U i H t
+  unfolding demand_of
+  demand-lighter i H t =
+      let terms = sum_below-le (length U) (λ k. cond (H k) (interference_of (task_at V k) t) 0) (λ k. cond (H k) (interference_of (task_at U k) t) 0) (λ k _. term-lighter H t k) in
+      rw light.count (omega (arith, terms, blocking-lighter i H, cost-lighter i))
+
+  pub Passes-lighter : (i : ℕ) (H : Indexes) → Passes U i H → Passes V i H
+  Passes-lighter i H passes =
+      let limit = ap (λ (t : Task). t.deadline) (light.each i).2 in
+      (passes.0, passes.1, omega (arith, limit, passes.2), omega (arith, demand-lighter i H passes.0, passes.3))
+
+  AllStand-lighter : (order : List ℕ) → AllStand U order → AllStand V order
+  AllStand-lighter [] all = tt
+  AllStand-lighter (i ∷ above) all = (Passes-lighter i (among above) all.0, AllStand-lighter above all.1)
+
+  pub IsPassingOrder-lighter : (order : List ℕ) → IsPassingOrder U order → IsPassingOrder V order
+  IsPassingOrder-lighter order passing = record {
+    each_once = λ k. passing.each_once k ∙ ap (λ n. cond (below n k) 1 0) (sym light.count);
+    each_stands = AllStand-lighter order passing.each_stands;
+  }
+
+  pub IsFeasible-lighter : IsFeasible U → IsFeasible V
+  IsFeasible-lighter feasible = (feasible.0, IsPassingOrder-lighter feasible.0 feasible.1)
+
+-- ---- one task's cost
+-- at another index a set is as it was, and past the end there is no task
+pub costed-other : (U : List Task) (i cost k : ℕ) → (k ≡ i → ⊥) → task_at (costed U i cost) k ≡ task_at U k
+costed-other U i cost k ne = get_or-set_other U i k (with_cost (task_at U i) cost) no_task ne
+
+pub costed-same : (U : List Task) (i cost : ℕ) → i < length U → task_at (costed U i cost) i ≡ with_cost (task_at U i) cost
+costed-same U i cost lt = get_or-set_same U i (with_cost (task_at U i) cost) no_task lt
+
+-- past the end of a set there is no task
+costed-outside : (U : List Task) (i cost : ℕ) → length U ≤ i → task_at (costed U i cost) i ≡ task_at U i
+costed-outside U i cost past =
+    get_or-eq_default (costed U i cost) no_task (omega (arith, length-set U i (with_cost (task_at U i) cost))) ∙ sym (get_or-eq_default U no_task past)
+
+-- a task at which both sets are as before
+lighter-same : (x low high : Task) → low ≡ x → high ≡ x → IsLighter low high
+lighter-same x low high e f = (high.cost, omega arith, e ∙ sym f)
+
+lighter-both : (x low high : Task) (less more : ℕ) → less ≤ more → low ≡ with_cost x less → high ≡ with_cost x more → IsLighter low high
+lighter-both x low high less more le e f = (less, omega (arith, ap (λ (t : Task). t.cost) f), e ∙ ap (λ (t : Task). with_cost t less) (sym f))
+
+costed-at : (U : List Task) (i low high : ℕ) → low ≤ high → IsLighter (task_at (costed U i low) i) (task_at (costed U i high) i)
+costed-at U i low high le = elim (cases_lt i (length U)) [
+  | inr past ↦ lighter-same (task_at U i) _ _ (costed-outside U i low past) (costed-outside U i high past)
+  | inl lt ↦ lighter-both (task_at U i) _ _ low high le (costed-same U i low lt) (costed-same U i high lt)
+]
+
+pub AreLighter-costed : (U : List Task) (i low high : ℕ) → low ≤ high → AreLighter (costed U i low) (costed U i high)
+AreLighter-costed U i low high le = record {
+  count = length-set U i _ ∙ sym (length-set U i _);
+  each = λ k. elim (cases_eq k i) [
+    | inr ne ↦ lighter-same (task_at U k) _ _ (costed-other U i low k ne) (costed-other U i high k ne)
+    | inl e ↦ subst (λ j. IsLighter (task_at (costed U i low) j) (task_at (costed U i high) j)) (sym e) (costed-at U i low high le)
+  ];
+}
+
+-- ---- the costs that a sheet may have
+-- sections that end within a cost stand within it
+sections-within : (from cost other : ℕ) (xs : List CriticalSection) → AreSections from cost xs → AllByRecursion (λ (s : CriticalSection). s.at + s.len ≤ other) xs → AreSections from other xs
+sections-within from cost other [] h ends = tt
+sections-within from cost other (x ∷ xs) h ends = (
+  record {
+    named = h.0.named;
+    some = h.0.some;
+    few = h.0.few;
+    distinct = h.0.distinct;
+    runs = h.0.runs;
+    apart = h.0.apart;
+    within = ends.0;
+  },
+  sections-within (x.at + x.len) cost other xs h.1 ends.1,
+)
+
+sections-end : (from cost : ℕ) (xs : List CriticalSection) → AreSections from cost xs → AllByRecursion (λ (s : CriticalSection). s.at + s.len ≤ cost) xs
+sections-end from cost [] h = tt
+sections-end from cost (x ∷ xs) h = (h.0.within, sections-end (x.at + x.len) cost xs h.1)
+
+-- a section of a valid sheet ends within its cost
+pub section_within : (t : Task) (cost k : ℕ) (d : CriticalSection) → IsValidSheet (with_cost t cost) → k < length t.sections → (get_or t.sections k d).at + (get_or t.sections k d).len ≤ cost
+section_within t cost k d valid lt =
+    All-from_recursion (λ (s : CriticalSection). s.at + s.len ≤ cost) t.sections (sections-end 0 cost t.sections valid.sections) k d lt
+
+-- a sheet may have each cost from 1 and from the ends of its sections to its period
+pub may_cost : (t : Task) (cost : ℕ) → IsValidSheet t → 0 < cost → cost ≤ t.period → ((k : ℕ) (d : CriticalSection) → k < length t.sections → (get_or t.sections k d).at + (get_or t.sections k d).len ≤ cost)
+    → IsValidSheet (with_cost t cost)
+may_cost t cost valid from to ends = record {
+  named = valid.named;
+  weight = valid.weight;
+  period_from = valid.period_from;
+  period_to = valid.period_to;
+  deadline_from = valid.deadline_from;
+  deadline_to = valid.deadline_to;
+  cost_from = from;
+  cost_to = to;
+  few = valid.few;
+  sections = sections-within 0 t.cost cost t.sections valid.sections (recursion_from_All (λ (s : CriticalSection). s.at + s.len ≤ cost) t.sections (λ k d lt. ends k d lt));
+}
+
+-- and each cost between one that it may have and its period
+pub may_cost-more : (t : Task) (low cost : ℕ) → IsValidSheet t → IsValidSheet (with_cost t low) → low ≤ cost → cost ≤ t.period → IsValidSheet (with_cost t cost)
+may_cost-more t low cost valid may le to =
+    may_cost t cost valid (omega (arith, may.cost_from)) to (λ k d lt. omega (arith, section_within t low k d may lt))
+
+-- a section that is read from a valid sheet's sections ends within its cost
+pub item_within : (t : Task) (cost : ℕ) (items : List CriticalSection) (i : ℕ) (x : CriticalSection) → IsValidSheet (with_cost t cost) → items ≡ t.sections → i < length items → x ≡ get_or items i x → x.at + x.len ≤ cost
+item_within t cost items i x valid same lt is =
+    let P : List CriticalSection → Type 0 = λ xs. i < length xs → (get_or xs i x).at + (get_or xs i x).len ≤ cost in
+    let within = subst P (sym same) (λ h. section_within t cost i x valid h) lt in
+    omega (arith, within, ap (λ (s : CriticalSection). s.at) is, ap (λ (s : CriticalSection). s.len) is)
+
+-- less cost of one task keeps an order
+pub IsFeasible-less : (U : List Task) (i low high : ℕ) → low ≤ high → IsFeasible (costed U i high) → IsFeasible (costed U i low)
+IsFeasible-less U i low high le = IsFeasible-lighter (costed U i low) (costed U i high) (AreLighter-costed U i low high le)

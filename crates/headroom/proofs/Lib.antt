@@ -1,0 +1,2 @@
+pub mod CostLaws
+pub mod SetCostLaws

@@ -1,0 +1,91 @@
+-- A set with another cost of one task has the same ranks and the same locks.
+use Rattle.std.proofs.Common.{◌≡◌, ◌↔◌, ℕ, zero, suc, inl, inr, ◌<◌, ◌≤◌, List, [], ◌∷◌, ◌++◌, length, Less, refl, sym, ◌∙◌, ap, subst, arith, flat_map}
+use Rattle.std.proofs.lemmas.Bool.{cases_lt}
+use Rattle.task_sheet.specs.Orders.{IsFeasible}
+use Rattle.task_sheet.proofs.TaskLaws.{valid_at}
+use Rattle.headroom.proofs.CostLaws.{IsFeasible-less, longest-same}
+use Rattle.std.specs.List.{AllByRecursion, list_any}
+use Rattle.std.specs.List.Sorted.{IsStrictlySortedBy}
+use Rattle.std.proofs.lemmas.List.{length-set, set-get_or}
+use Rattle.std.proofs.lemmas.List.Sorted.{IsPermutation-refl}
+use Rattle.task_sheet.specs.Sheet.{CriticalSection, Task, no_task, task_at}
+use Rattle.task_sheet.specs.TaskSet.{rank_cmp, IsTaskSet, IsByRank}
+use Rattle.task_sheet.specs.Locks.{names_lock}
+use Rattle.task_sheet.proofs.SetLaws.{by_rank_one}
+use Rattle.task_sheet.specs.Indexes.{indexes_of}
+use Rattle.ceilings.specs.Table.{Table}
+use Rattle.ceilings.specs.Holds.{TableData}
+use Rattle.ceilings.specs.IsTableOf.{AreUsersOf, IsTableOf, names_in, first_sights}
+use Rattle.headroom.specs.Costs.{with_cost, costed, MayCost, IsHeadroom, HasNoHeadroom}
+
+-- ---- ranks
+before-costed : (x : Task) (U : List Task) (i cost : ℕ) → AllByRecursion (λ y. rank_cmp x y ≡ Less) U → AllByRecursion (λ y. rank_cmp x y ≡ Less) (costed U i cost)
+before-costed x [] i cost h = tt
+before-costed x (y ∷ ys) zero cost h = h
+before-costed x (y ∷ ys) (suc i) cost h = (h.0, before-costed x ys i cost h.1)
+
+pub ranked-costed : (U : List Task) (i cost : ℕ) → IsStrictlySortedBy rank_cmp U → IsStrictlySortedBy rank_cmp (costed U i cost)
+unfolding IsStrictlySortedBy
+ranked-costed [] i cost h = tt
+ranked-costed (y ∷ ys) zero cost h = h
+ranked-costed (y ∷ ys) (suc i) cost h = (before-costed y ys i cost h.0, ranked-costed ys i cost h.1)
+
+-- the sheets with another cost stand by rank
+pub IsByRank-costed : (U : List Task) (i cost : ℕ) (V : List Task) → IsTaskSet U → IsByRank (costed U i cost) V → V ≡ costed U i cost
+IsByRank-costed U i cost V valid by_rank =
+    let sheets = costed U i cost in
+    let own : IsByRank sheets sheets = record { permutation = IsPermutation-refl sheets; ranked = ranked-costed U i cost valid.ranked } in
+    by_rank_one sheets sheets V sheets (IsPermutation-refl sheets) by_rank own
+
+-- ---- locks
+pub sections-costed : (U : List Task) (i cost k : ℕ) → (task_at (costed U i cost) k).sections ≡ (task_at U k).sections
+sections-costed [] i cost k = refl
+sections-costed (y ∷ ys) zero cost zero = refl
+sections-costed (y ∷ ys) zero cost (suc k) = refl
+sections-costed (y ∷ ys) (suc i) cost zero = refl
+sections-costed (y ∷ ys) (suc i) cost (suc k) = sections-costed ys i cost k
+
+names-costed : (U : List Task) (i cost : ℕ) → names_in (costed U i cost) ≡ names_in U
+names-costed [] i cost = refl
+names-costed (y ∷ ys) zero cost = refl
+names-costed (y ∷ ys) (suc i) cost = ap (λ (ns : List (List ℕ)). flat_map (λ (s : CriticalSection). s.locks) y.sections ++ ns) (names-costed ys i cost)
+
+-- one table serves both sets
+few-costed : (U : List Task) (i cost : ℕ) → length U ≤ 32 → length (costed U i cost) ≤ 32
+few-costed U i cost few = omega (arith, few, length-set U i (with_cost (task_at U i) cost))
+
+AreUsersOf-costed : (U : List Task) (i cost : ℕ) (table : Table) → AreUsersOf U table → AreUsersOf (costed U i cost) table
+AreUsersOf-costed U i cost table are = record {
+  few = few-costed U i cost are.few;
+  locks = are.locks ∙ ap first_sights (sym (names-costed U i cost));
+  users = λ lock k. are.users lock k ∙ ap (λ (xs : List CriticalSection). list_any (λ s. names_lock s lock) xs) (sym (sections-costed U i cost k));
+}
+
+pub IsTableOf-costed : (U : List Task) (i cost : ℕ) (table : TableData) → IsTableOf U table → IsTableOf (costed U i cost) table
+IsTableOf-costed U i cost table is = record {
+  few = few-costed U i cost is.few;
+  users = AreUsersOf-costed U i cost table.users is.users;
+  holds = λ members. is.holds members ∙ sym (longest-same (costed U i cost) U (indexes_of members) (length-set U i (with_cost (task_at U i) cost)) (sections-costed U i cost));
+}
+
+-- ---- what a headroom says
+-- with its own cost a task is as it was
+costed-own : (U : List Task) (i : ℕ) → costed U i (task_at U i).cost ≡ U
+costed-own U i = set-get_or U i no_task
+
+pub headroom-each : (U : List Task) (i most cost : ℕ) → IsHeadroom U i most → MayCost U i cost → IsFeasible (costed U i cost) ↔ (cost ≤ most)
+headroom-each U i most cost is may = (
+  λ feasible. elim (cases_lt most cost) [ inl lt ↦ absurd (is.greatest cost lt may feasible) | inr le ↦ le ],
+  λ le. IsFeasible-less U i cost most le is.feasible,
+)
+
+pub headroom-own : (U : List Task) (i most : ℕ) → IsTaskSet U → i < length U → IsHeadroom U i most → IsFeasible U ↔ ((task_at U i).cost ≤ most)
+headroom-own U i most valid lt is =
+    subst (λ (V : List Task). IsFeasible V ↔ ((task_at U i).cost ≤ most)) (costed-own U i) (headroom-each U i most (task_at U i).cost is (valid_at U i valid lt))
+
+pub headroom-one : (U : List Task) (i first second : ℕ) → IsHeadroom U i first → IsHeadroom U i second → first ≡ second
+headroom-one U i first second f s = omega (arith, (headroom-each U i first second f s.may).0 s.feasible, (headroom-each U i second first s f.may).0 f.feasible)
+
+pub headroom-none : (U : List Task) (i : ℕ) → IsTaskSet U → i < length U → HasNoHeadroom U i → ¬ IsFeasible U
+headroom-none U i valid lt none =
+    subst (λ (V : List Task). ¬ IsFeasible V) (costed-own U i) (none (task_at U i).cost (valid_at U i valid lt))
