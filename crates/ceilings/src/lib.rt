@@ -2,7 +2,7 @@
 //! `PTHREAD_PRIO_PROTECT`).
 #![tactic(auto)]
 
-ghost use Rattle.std.specs.Prelude.{◌≡◌, ◌<◌, ◌≤◌, ℕ, List, length, position, All, IfOk};
+ghost use Rattle.std.specs.Prelude.{◌≡◌, ◌<◌, ◌≤◌, ℕ, List, length, position, slice_get, All, IfOk};
 ghost use Rattle.task_sheet.specs.Sheet.{Task, same_bytes, task_at};
 ghost use Rattle.task_sheet.specs.Indexes.{indexes_of};
 ghost use Rattle.task_sheet.specs.Locks.{uses, reaches, ceiling_of};
@@ -71,6 +71,13 @@ impl LockTable {
         ensures first_sight { (U : List Task) → IsTableOf U self.now → result ≡ position (same_bytes lock) (locks_of U) }
     {
         self.users.index_of(lock)
+    }
+
+    /// The lock at a place in the order of first sight, from 0; none past the last.
+    pub fn lock_at(&self, place: usize) -> Option<Name>
+        ensures { (U : List Task) → IsTableOf U self.now → result ≡ slice_get (locks_of U) place }
+    {
+        self.users.lock_at(place)
     }
 
     /// Whether some member uses one of the section's locks.

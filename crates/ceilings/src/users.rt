@@ -1,5 +1,5 @@
 //! The users of locks.
-ghost use Rattle.std.specs.Prelude.{◌≡◌, ◌<◌, ◌≤◌, ℕ, List, length, position, All, IfOk, OnOk};
+ghost use Rattle.std.specs.Prelude.{◌≡◌, ◌<◌, ◌≤◌, ℕ, List, length, position, slice_get, All, IfOk, OnOk};
 ghost use Rattle.task_sheet.specs.Sheet.{Task, same_bytes, task_at};
 ghost use Rattle.task_sheet.specs.Indexes.{indexes_of};
 ghost use Rattle.task_sheet.specs.Locks.{uses, reaches, ceiling_of};
@@ -100,6 +100,17 @@ impl LockUsers {
         ensures first_sight { (U : List Task) → AreUsersOf U self.now → result ≡ position (same_bytes lock) (locks_of U) }
     {
         self.users.get_index_of(&lock)
+    }
+
+    /// The lock at a place in the order of first sight, from 0; none past the last.
+    pub(crate) fn lock_at(&self, place: usize) -> Option<Name>
+        ensures noted { result ≡ slice_get (locks_in self.now) place }
+        ensures first_sight { (U : List Task) → AreUsersOf U self.now → result ≡ slice_get (locks_of U) place }
+    {
+        match self.users.get_index(place) {
+            Some((lock, _)) => Some(*lock),
+            None => None,
+        }
     }
 
     // Whether some member uses one of the locks.
