@@ -35,21 +35,26 @@ fn passes_at(
 
 /// The greatest cost that a task may have, in microseconds, with which some order of the set passes, all else equal; none where
 /// no cost that its sheet may have helps. A sheet may have each cost from 1, or the end of its last section, to its period.
-/// The error is want of memory.
-pub fn headroom(alloc: Global, set: &TaskSet, task: usize) -> Result<Option<u64>, AllocError>
+/// The table is that of the set, and is made once for all its tasks. The error is want of memory.
+pub fn headroom(
+    alloc: Global,
+    set: &TaskSet,
+    table: &LockTable,
+    task: usize,
+) -> Result<Option<u64>, AllocError>
+    requires table { IsTableOf set.now table.now }
     requires task { task < length set.now }
     ensures { IfOk result (λ answer. AnswersHeadroom set.now task answer) }
 {
-    let table = LockTable::new(alloc, set)?;
     let sheet = &set.sheets()[task];
     let mut passing = least_cost(sheet);
-    if !passes_at(alloc, set, &table, task, passing)? {
+    if !passes_at(alloc, set, table, task, passing)? {
         return Ok(None);
     }
     let mut failing = sheet.period() + 1;
     while failing - passing > 1 {
         let cost = passing + (failing - passing) / 2;
-        if passes_at(alloc, set, &table, task, cost)? {
+        if passes_at(alloc, set, table, task, cost)? {
             passing = cost;
         } else {
             failing = cost;
