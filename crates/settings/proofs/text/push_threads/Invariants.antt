@@ -1,0 +1,7 @@
+use Rattle.std.proofs.Common.{◌≡◌, ◌++◌, ◌+◌, drop, string_bytes}
+use Rattle.settings.specs.Settings.{thread_lines}
+use Rattle.settings.proofs.text.push_threads.Given as goal
+
+abbrev pub invariant-loop-below : goal.invariant-loop-below
+invariant-loop-below l =
+    string_bytes l.text ++ thread_lines l.set (l.below + 1) (drop l.below l.order) ≡ string_bytes l.fn.text ++ thread_lines l.set 1 l.order

@@ -1,0 +1,117 @@
+//! The lines of an order's settings.
+ghost use Rattle.std.specs.Prelude.{◌≡◌, ◌++◌, ◌<◌, ◌≤◌, ℕ, List, length, slice_get, Some, All, OnOk, IfOk, string_bytes};
+ghost use Rattle.task_sheet.specs.Sheet.{Task, task_at};
+ghost use Rattle.task_sheet.specs.Locks.{ceiling_of};
+ghost use Rattle.task_sheet.specs.Verdicts.{order_of};
+ghost use Rattle.ceilings.specs.IsTableOf.{IsTableOf, locks_of};
+ghost use Rattle.settings.specs.Settings.{mutex_line, mutex_lines, settings_lines, thread_line, thread_lines};
+
+use assignment::{Assignment, LevelRecord};
+use ceilings::LockTable;
+use std::alloc::{AllocError, Global};
+use task_sheet::{Name, TaskSet};
+
+// The name of the task at an index; nothing past the end of the set.
+fn push_name(text: &mut String, set: &TaskSet, task: usize) -> Result<(), AllocError>
+    ensures { OnOk result (string_bytes text.new ≡ string_bytes text.old ++ (task_at set.now task).name) }
+{
+    match set.get(task) {
+        Some(sheet) => {
+            let name = sheet.name();
+            write!(text, "{name}")
+        }
+        None => Ok(()),
+    }
+}
+
+// The line of a task's thread.
+fn push_thread(
+    text: &mut String,
+    set: &TaskSet,
+    level: usize,
+    task: usize,
+) -> Result<(), AllocError>
+    ensures { OnOk result (string_bytes text.new ≡ string_bytes text.old ++ thread_line set.now level task) }
+{
+    text.push_str("thread ")?;
+    push_name(text, set, task)?;
+    writeln!(text, " {level}")
+}
+
+// A line for each task of an order.
+fn push_threads(text: &mut String, set: &TaskSet, order: &[usize]) -> Result<(), AllocError>
+    requires { length order.now ≤ 32 }
+    ensures { OnOk result (string_bytes text.new ≡ string_bytes text.old ++ thread_lines set.now 1 order.now) }
+{
+    for (below, task) in order.iter().enumerate() {
+        push_thread(text, set, below + 1, *task)?;
+    }
+    Ok(())
+}
+
+// The line of a lock's mutex.
+fn push_mutex(text: &mut String, lock: Name, ceiling: Option<u32>) -> Result<(), AllocError>
+    ensures { OnOk result (string_bytes text.new ≡ string_bytes text.old ++ mutex_line lock ceiling) }
+{
+    match ceiling {
+        Some(level) => writeln!(text, "mutex {lock} {level}"),
+        None => Ok(()),
+    }
+}
+
+// The line of the lock at a place, with its ceiling in an order.
+fn push_lock(
+    text: &mut String,
+    table: &LockTable,
+    place: usize,
+    order: &[usize],
+) -> Result<(), AllocError>
+    requires within { All (λ index. index < 32) order.now }
+    requires few { length order.now ≤ 32 }
+    ensures { OnOk result ((U : List Task) → IsTableOf U table.now → (lock : List ℕ) → slice_get (locks_of U) place ≡ Some lock
+        → string_bytes text.new ≡ string_bytes text.old ++ mutex_line lock (ceiling_of U order.now lock)) }
+{
+    match table.lock_at(place) {
+        Some(lock) => push_mutex(text, lock, table.ceiling(lock, order)),
+        None => Ok(()),
+    }
+}
+
+// A line for each lock of the table, with its ceiling in an order.
+fn push_mutexes(text: &mut String, table: &LockTable, order: &[usize]) -> Result<(), AllocError>
+    requires within { All (λ index. index < 32) order.now }
+    requires few { length order.now ≤ 32 }
+    ensures { OnOk result ((U : List Task) → IsTableOf U table.now
+        → string_bytes text.new ≡ string_bytes text.old ++ mutex_lines U order.now (locks_of U)) }
+{
+    for place in 0..table.count() {
+        push_lock(text, table, place, order)?;
+    }
+    Ok(())
+}
+
+// The indexes of the tasks, the lowest level first.
+fn order_of(alloc: Global, levels: &[LevelRecord]) -> Result<Vec<usize>, AllocError>
+    ensures { IfOk result (λ order. order.items ≡ order_of levels.now) }
+{
+    let mut order = Vec::with_capacity(alloc, levels.len())?;
+    for level in levels {
+        order.push(level.task)?;
+    }
+    Ok(order)
+}
+
+/// The lines that say what a node is set to for the best order of a set: the level of each task's thread, and the ceiling
+/// of each lock's mutex. The error is want of memory.
+pub fn settings_text(alloc: Global, assignment: &Assignment) -> Result<String, AllocError>
+    ensures { IfOk result (λ text. string_bytes text
+        ≡ settings_lines assignment.now.set (order_of assignment.now.levels)) }
+{
+    let set = assignment.set();
+    let order = order_of(alloc, assignment.levels())?;
+    let table = LockTable::new(alloc, set)?;
+    let mut text = String::new(alloc);
+    push_threads(&mut text, set, &order)?;
+    push_mutexes(&mut text, &table, &order)?;
+    Ok(text)
+}
