@@ -4,4 +4,6 @@ pub mod ChangeLaws
 pub mod BookLaws
 pub mod OwnedFinds
 pub mod RosterLaws
+pub mod LogLaws
+pub mod ReachedLaws
 pub mod MapLaws

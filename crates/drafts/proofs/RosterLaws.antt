@@ -25,19 +25,19 @@ use Rattle.drafts.proofs.OwnedFinds.{position-some, position-none}
 
 -- ---- a task that is put in
 
-all-placed : (P : Task → Type 0) (o : Owned) (ts : List Owned) → P o.sheet → AllByRecursion P (set_of ts) → AllByRecursion P (set_of (placed o ts))
+pub all-placed : (P : Task → Type 0) (o : Owned) (ts : List Owned) → P o.sheet → AllByRecursion P (set_of ts) → AllByRecursion P (set_of (placed o ts))
 all-placed P o [] h all = (h, tt)
 all-placed P o (x ∷ ts) h all = elim (cases_Bool (is_lt (rank_cmp x.sheet o.sheet))) [
   | inl lt ↦ rw lt (all.0, all-placed P o ts h all.1)
   | inr ge ↦ rw ge (h, all)
 ]
 
-less : (r : Ordering) → is_lt r ≡ true → r ≡ Less
+pub less : (r : Ordering) → is_lt r ≡ true → r ≡ Less
 less Less e = refl
 less Equal e = absurd (both_ways false refl e)
 less Greater e = absurd (both_ways false refl e)
 
-beyond : (x y : Task) (zs : List Task) → rank_cmp x y ≡ Less → AllByRecursion (λ z. rank_cmp y z ≡ Less) zs → AllByRecursion (λ z. rank_cmp x z ≡ Less) zs
+pub beyond : (x y : Task) (zs : List Task) → rank_cmp x y ≡ Less → AllByRecursion (λ z. rank_cmp y z ≡ Less) zs → AllByRecursion (λ z. rank_cmp x z ≡ Less) zs
 beyond x y [] e all = tt
 beyond x y (z ∷ zs) e all = (rank_total.trans x y z e all.0, beyond x y zs e all.1)
 
@@ -58,7 +58,7 @@ distinct-placed o (x ∷ ts) names apart = elim (cases_Bool (is_lt (rank_cmp x.s
 
 -- ---- tasks without a name
 
-set_of-without : (name : List ℕ) (ts : List Owned) → set_of (without_name name ts) ≡ others_of (set_of ts) name
+pub set_of-without : (name : List ℕ) (ts : List Owned) → set_of (without_name name ts) ≡ others_of (set_of ts) name
 set_of-without name [] = refl
 set_of-without name (x ∷ ts) = elim (cases_Bool (same_bytes x.sheet.name name)) [
   | inl here ↦ rw here (set_of-without name ts)

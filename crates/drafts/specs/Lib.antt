@@ -3,6 +3,7 @@ pub mod Applied
 pub mod Rosters
 pub mod Machine
 pub mod Rulings
+pub mod Commits
 pub mod Books
 pub mod Changes
 pub mod StateFields

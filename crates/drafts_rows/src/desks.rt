@@ -1,0 +1,187 @@
+//! Books, drafts and their answers, as the examples have them.
+use assignment::Failure;
+use drafts::{
+    Book, Decision, Draft, EditCause, EditRefusal, Entry, Proposal, PutFault, Refusal, SettleFault,
+    Settled, Team, propose,
+};
+use std::alloc::{AllocError, Global};
+use std::test::Fail;
+use task_sheet::{Name, Sheet, TaskSet};
+
+/// The name of a text.
+pub fn name(text: &str) -> Result<Name, Fail> {
+    let name = Name::read(text.as_bytes())?;
+    Ok(name)
+}
+
+/// The team of a number.
+pub fn team(number: u64) -> Result<Team, Fail> {
+    let team = Team::new(number).ok_or("no team")?;
+    Ok(team)
+}
+
+/// A sheet (10000, 10000, cost) without sections.
+pub fn sheet(alloc: Global, name: Name, cost: u64) -> Result<Sheet, Fail> {
+    let sheet = Sheet::new(name, 0, 10000, 10000, cost, Vec::new(alloc))?;
+    Ok(sheet)
+}
+
+/// A draft on the present state.
+pub fn open(alloc: Global, book: &Book, number: u64) -> Result<Draft, Fail> {
+    let base = book.snapshot()?;
+    Ok(Draft::new(alloc, team(number)?, base))
+}
+
+// The word for an edit that was not made.
+fn word(cause: EditCause) -> &'static str {
+    match cause {
+        EditCause::Refused {
+            refusal: EditRefusal::NotYours,
+        } => "NotYours",
+        EditCause::Refused {
+            refusal: EditRefusal::NoSuchTask,
+        } => "NoSuchTask",
+        EditCause::Refused {
+            refusal: EditRefusal::DraftFull,
+        } => "DraftFull",
+        EditCause::OutOfMemory => "OutOfMemory",
+    }
+}
+
+/// What a draft answers to a put of a sheet (10000, 10000, cost).
+pub fn put(alloc: Global, draft: &mut Draft, text: &str, cost: u64) -> Result<&'static str, Fail> {
+    match draft.put(sheet(alloc, name(text)?, cost)?) {
+        Ok(()) => Ok("done"),
+        Err(PutFault { cause, sheet: _ }) => Ok(word(cause)),
+    }
+}
+
+/// What a draft answers to a remove.
+pub fn remove(draft: &mut Draft, text: &str) -> Result<&'static str, Fail> {
+    match draft.remove(name(text)?) {
+        Ok(()) => Ok("done"),
+        Err(cause) => Ok(word(cause)),
+    }
+}
+
+/// A draft on the present state with one put.
+pub fn open_with(
+    alloc: Global,
+    book: &Book,
+    number: u64,
+    text: &str,
+    cost: u64,
+) -> Result<Draft, Fail> {
+    let mut draft = open(alloc, book, number)?;
+    let _ = put(alloc, &mut draft, text, cost)?;
+    Ok(draft)
+}
+
+/// A draft on the present state with puts of that many names, each of cost 1.
+pub fn open_full(alloc: Global, book: &Book, number: u64, count: u64) -> Result<Draft, Fail> {
+    let mut draft = open(alloc, book, number)?;
+    for index in 0..count {
+        let text = format!(in alloc; "t{index}")?;
+        let _ = put(alloc, &mut draft, text.as_str(), 1)?;
+    }
+    Ok(draft)
+}
+
+/// The proposal of a draft.
+pub fn proposed(alloc: Global, draft: Draft) -> Result<Proposal, Fail> {
+    let proposal = propose(alloc, draft).ok().ok_or("out of memory")?;
+    Ok(proposal)
+}
+
+// The name of the task at an index, and the numbers of its chain.
+fn push_failure(text: &mut String, set: &TaskSet, failure: &Failure) -> Result<(), AllocError> {
+    if let Some(sheet) = set.get(failure.task) {
+        let name = sheet.name();
+        write!(text, " {name}")?;
+    }
+    for number in &failure.chain {
+        write!(text, ",{number}")?;
+    }
+    Ok(())
+}
+
+// A refusal, in words.
+fn push_refusal(text: &mut String, refusal: &Refusal) -> Result<(), AllocError> {
+    match refusal {
+        Refusal::NotYours { name } => write!(text, "NotYours {name}"),
+        Refusal::NoSuchTask { name } => write!(text, "NoSuchTask {name}"),
+        Refusal::TooManyTasks => write!(text, "TooManyTasks"),
+    }
+}
+
+/// Adds a decision: `admitted VERSION`, `refused REFUSAL`, or `infeasible` with each member and its chain.
+pub fn push_decision(text: &mut String, place: usize, entry: &Entry) -> Result<(), AllocError> {
+    write!(text, "{place} ")?;
+    match entry.decision() {
+        Decision::Admitted { version } => write!(text, "admitted {version}; "),
+        Decision::Refused { refusal } => {
+            write!(text, "refused ")?;
+            push_refusal(text, refusal)?;
+            write!(text, "; ")
+        }
+        Decision::Infeasible { obstruction } => {
+            write!(text, "infeasible")?;
+            for failure in obstruction.members() {
+                push_failure(text, obstruction.set(), failure)?;
+            }
+            write!(text, "; ")
+        }
+    }
+}
+
+/// Settles a proposal and adds what is answered. A proposal that is not settled gives its draft back, which is then on
+/// the fresh state where it was stale.
+pub fn settle(
+    alloc: Global,
+    book: &mut Book,
+    proposal: Proposal,
+    text: &mut String,
+) -> Result<Option<Draft>, Fail> {
+    match book.settle(alloc, proposal) {
+        Ok(Settled::Stale { fresh, proposal }) => {
+            let version = fresh.version();
+            write!(text, "stale {version}; ")?;
+            Ok(Some(proposal.into_draft().rebase(fresh)))
+        }
+        Ok(Settled::Decided { place, entry }) => {
+            push_decision(text, place, &entry)?;
+            Ok(None)
+        }
+        Err(SettleFault::Stranger { proposal }) => {
+            write!(text, "stranger; ")?;
+            Ok(Some(proposal.into_draft()))
+        }
+        Err(SettleFault::OutOfMemory { proposal }) => {
+            write!(text, "OutOfMemory; ")?;
+            Ok(Some(proposal.into_draft()))
+        }
+    }
+}
+
+/// Settles a draft at once and adds the decision.
+pub fn commit(alloc: Global, book: &mut Book, draft: Draft, text: &mut String) -> Result<(), Fail> {
+    let decided = book.settle_held(alloc, draft).ok().ok_or("out of memory")?;
+    push_decision(text, decided.place, &decided.entry)?;
+    Ok(())
+}
+
+/// Adds the version, the number of entries, and each level with its response.
+pub fn push_book(text: &mut String, book: &Book) -> Result<(), AllocError> {
+    let version = book.state().version();
+    let entries = book.log().len();
+    write!(text, "version {version} of {entries}")?;
+    let assignment = book.state().assignment();
+    for level in assignment.levels() {
+        if let Some(sheet) = assignment.set().get(level.task) {
+            let name = sheet.name();
+            let response = level.response;
+            write!(text, " {name} {response}")?;
+        }
+    }
+    Ok(())
+}

@@ -1,0 +1,113 @@
+//! Edits of drafts.
+use crate::desks::{commit, name, open, open_full, open_with, put, remove};
+use drafts::{Book, Draft};
+use std::alloc::Global;
+use std::test::Fail;
+
+// What a full draft answers to a new name and to one that it has.
+fn two_puts(alloc: Global, draft: &mut Draft) -> Result<String, Fail> {
+    let new = put(alloc, draft, "another", 1)?;
+    let known = put(alloc, draft, "t7", 2)?;
+    let len = draft.len();
+    let text = format!(in alloc; "{new} {known} {len}")?;
+    Ok(text)
+}
+
+#[test]
+fn a_full_draft_and_its_copy(rt: HostRuntime) -> Result<(), Fail> {
+    let alloc = rt.alloc();
+    let book = Book::new(alloc)?;
+    let mut draft = open_full(alloc, &book, 1, 64)?;
+    let mut copy = draft.copy(alloc)?;
+    let found = two_puts(alloc, &mut draft)?;
+    assert_eq!(rt; found.as_str(), "DraftFull done 64");
+    let found = two_puts(alloc, &mut copy)?;
+    assert_eq!(rt; found.as_str(), "DraftFull done 64");
+    Ok(())
+}
+
+// Whether the draft shows a name, and how many changes it has.
+fn push_view(text: &mut String, draft: &Draft, of: &str) -> Result<(), Fail> {
+    let there = draft.view(name(of)?).is_some();
+    let len = draft.len();
+    write!(text, "{there} {len}; ")?;
+    Ok(())
+}
+
+// Team 1 holds a and b, team 2 holds c. Team 1's draft puts d, removes it, a, and what isn't its own.
+fn removals(alloc: Global) -> Result<String, Fail> {
+    let mut text = String::new(alloc);
+    let mut draft = draft_beside(alloc)?;
+    for of in ["d", "a", "a", "c", "e"] {
+        let word = remove(&mut draft, of)?;
+        write!(text, "{of} {word} ")?;
+        push_view(&mut text, &draft, of)?;
+    }
+    Ok(text)
+}
+
+// A draft of team 1 that puts d, where team 1 holds a and team 2 holds c.
+fn draft_beside(alloc: Global) -> Result<Draft, Fail> {
+    let mut text = String::new(alloc);
+    let mut book = Book::new(alloc)?;
+    let first = open_with(alloc, &book, 1, "a", 1000)?;
+    commit(alloc, &mut book, first, &mut text)?;
+    let second = open_with(alloc, &book, 2, "c", 1000)?;
+    commit(alloc, &mut book, second, &mut text)?;
+    open_with(alloc, &book, 1, "d", 1000)
+}
+
+#[test]
+fn removals_in_their_order(rt: HostRuntime) -> Result<(), Fail> {
+    let found = removals(rt.alloc())?;
+    assert_eq!(rt;
+        found.as_str(),
+        "d done false 0; a done false 1; a NoSuchTask false 1; c NotYours true 1; e NoSuchTask false 1; "
+    );
+    Ok(())
+}
+
+// Team 1's draft puts a on an empty book, where team 2 then commits a.
+fn rebased(alloc: Global) -> Result<String, Fail> {
+    let mut text = String::new(alloc);
+    let mut book = Book::new(alloc)?;
+    let draft = open_with(alloc, &book, 1, "a", 1000)?;
+    let other = open_with(alloc, &book, 2, "a", 2000)?;
+    commit(alloc, &mut book, other, &mut text)?;
+    let mut draft = draft.rebase(book.snapshot()?);
+    let again = put(alloc, &mut draft, "a", 1000)?;
+    let gone = remove(&mut draft, "a")?;
+    write!(text, "{again} {gone} ")?;
+    push_view(&mut text, &draft, "a")?;
+    Ok(text)
+}
+
+#[test]
+fn after_a_rebase_onto_a_foreign_name(rt: HostRuntime) -> Result<(), Fail> {
+    let found = rebased(rt.alloc())?;
+    assert_eq!(rt; found.as_str(), "1 admitted 1; NotYours NotYours true 1; ");
+    Ok(())
+}
+
+// Which of the first four indexes hold tasks of each of two teams.
+fn holders(alloc: Global, draft: &Draft) -> Result<String, Fail> {
+    let mut text = String::new(alloc);
+    for number in [1, 2, 3] {
+        let members = draft.base().tasks_of(crate::desks::team(number)?);
+        for index in 0..4 {
+            if members.has(index) {
+                write!(text, "{number}:{index} ")?;
+            }
+        }
+    }
+    Ok(text)
+}
+
+#[test]
+fn tasks_of_each_team(rt: HostRuntime) -> Result<(), Fail> {
+    let alloc = rt.alloc();
+    let draft = draft_beside(alloc)?;
+    let found = holders(alloc, &draft)?;
+    assert_eq!(rt; found.as_str(), "1:0 2:1 ");
+    Ok(())
+}
