@@ -56,8 +56,10 @@ fn hold_section(
     section: &Section,
 ) -> Result<(), AllocError>
     requires { index < 32 }
-    ensures { OnOk result ((U : List Task) → AreUsersOf U users.now → (members : FinSet nat_cmp) → longest_held holds.new.items members
-        ≡ max (longest_held holds.old.items members) (if indexes_of members index then 0 else if reaches U (indexes_of members) section.now then section.now.len else 0)) }
+    ensures { OnOk result ((U : List Task) → AreUsersOf U users.now → (members : FinSet nat_cmp)
+        → longest_held holds.new.items members ≡ max (longest_held holds.old.items members)
+        (if indexes_of members index then 0 else
+        if reaches U (indexes_of members) section.now then section.now.len else 0)) }
 {
     for lock in &section.locks {
         holds.push(Hold {
@@ -77,8 +79,9 @@ fn hold_task(
     sheet: &Sheet,
 ) -> Result<(), AllocError>
     requires { index < 32 }
-    ensures { OnOk result ((U : List Task) → AreUsersOf U users.now → (members : FinSet nat_cmp) → longest_held holds.new.items members
-        ≡ max (longest_held holds.old.items members) (if indexes_of members index then 0 else longest_reached U (indexes_of members) sheet.now)) }
+    ensures { OnOk result ((U : List Task) → AreUsersOf U users.now → (members : FinSet nat_cmp)
+        → longest_held holds.new.items members ≡ max (longest_held holds.old.items members)
+        (if indexes_of members index then 0 else longest_reached U (indexes_of members) sheet.now)) }
 {
     for section in sheet.sections() {
         hold_section(holds, users, index, section)?;
@@ -93,7 +96,8 @@ pub(crate) fn holds_of(
     users: &LockUsers,
 ) -> Result<Vec<Hold>, AllocError>
     requires { AreUsersOf set.now users.now }
-    ensures { IfOk result (λ holds. (members : FinSet nat_cmp) → longest_held holds.items members ≡ longest_outside set.now (indexes_of members)) }
+    ensures { IfOk result (λ holds. (members : FinSet nat_cmp)
+        → longest_held holds.items members ≡ longest_outside set.now (indexes_of members)) }
 {
     let mut holds = Vec::new(alloc);
     for (index, sheet) in set.sheets().iter().enumerate() {

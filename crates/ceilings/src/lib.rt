@@ -52,7 +52,8 @@ impl LockTable {
     /// The tasks that use a lock: none for a lock that nobody names.
     pub fn users(&self, lock: Name) -> Members
         ensures noted { result ≡ users_in self.now.users lock }
-        ensures uses { (U : List Task) → IsTableOf U self.now → (k : ℕ) → indexes_of result k ≡ uses (task_at U k) lock }
+        ensures uses { (U : List Task) → IsTableOf U self.now → (k : ℕ)
+            → indexes_of result k ≡ uses (task_at U k) lock }
     {
         self.users.users(lock)
     }
@@ -68,7 +69,8 @@ impl LockTable {
     /// The place of a lock in the order of first sight, from 0; none for a lock that nobody names.
     pub fn index_of(&self, lock: Name) -> Option<usize>
         ensures noted { result ≡ position (same_bytes lock) (locks_in self.now.users) }
-        ensures first_sight { (U : List Task) → IsTableOf U self.now → result ≡ position (same_bytes lock) (locks_of U) }
+        ensures first_sight { (U : List Task) → IsTableOf U self.now
+            → result ≡ position (same_bytes lock) (locks_of U) }
     {
         self.users.index_of(lock)
     }

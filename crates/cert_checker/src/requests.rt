@@ -93,8 +93,8 @@ fn count_all(rows: &mut [Request], time: u64) -> u64
     work
 }
 
-/// What is requested of a task and of those above it: the base demand once, and the jobs of the tasks above. It is carried
-/// from a window to a longer one, so that only what is released between the two is counted.
+/// What is requested of a task and of those above it: the base demand once, and the jobs of the tasks above. It is
+/// carried from a window to a longer one, so that only what is released between the two is counted.
 #[derive(Drop)]
 pub(crate) struct Requests {
     base: u64,

@@ -106,8 +106,8 @@ fn count_all(shares: &mut [Share], time: u64) -> u64
     work
 }
 
-/// What must be executed for a task: its cost and its blocking once, and the shares of the tasks above it. The demand is
-/// carried from a window to a longer one, so that only what is released between the two is counted.
+/// What must be executed for a task: its cost and its blocking once, and the shares of the tasks above it. The demand
+/// is carried from a window to a longer one, so that only what is released between the two is counted.
 #[derive(Drop)]
 pub(crate) struct Workload {
     always: u64,
@@ -170,12 +170,13 @@ impl Workload {
         self.total
     }
 
-    // What is executed once in each window at least, and in parts of the whole what the rest takes of it at least: tasks whose
-    // period is at least the split count once, the others by parts.
+    // What is executed once in each window at least, and in parts of the whole what the rest takes of it at least:
+    // tasks whose period is at least the split count once, the others by parts.
     fn least(&self, split: u64) -> (u64, u64)
         ensures once { result.0 ≤ 340000000 }
         ensures parts { result.1 ≤ 137438953472 }
-        ensures least { (time : ℕ) → 1 ≤ time → time * result.1 + 4294967296 * result.0 ≤ 4294967296 * work_within time self.now }
+        ensures least { (time : ℕ) → 1 ≤ time
+            → time * result.1 + 4294967296 * result.0 ≤ 4294967296 * work_within time self.now }
     {
         let mut once = self.always;
         let mut parts = 0;
@@ -189,8 +190,8 @@ impl Workload {
         (once, parts)
     }
 
-    /// A window below which none covers its demand. Each window has to hold what is executed once beside the parts of it that
-    /// the rest takes.
+    /// A window below which none covers its demand. Each window has to hold what is executed once beside the parts of it
+    /// that the rest takes.
     pub(crate) fn least_window(&self, split: u64) -> u64
         ensures { (time : ℕ) → 1 ≤ time → work_within time self.now ≤ time → result ≤ time }
     {
