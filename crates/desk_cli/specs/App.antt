@@ -23,13 +23,17 @@ bare_app = made_bare (new_app (codes "desk"))
 abbrev pub pair_app : Text → Text → App
 pair_app name second = with_rule (set_app name) (input_rule second)
 
--- `admit SET`, `certify SET`, `check SET CERT` and `simulate SET RELEASES`
+-- `admit SET`, `certify SET`, `check SET CERT`, `simulate SET RELEASES`, `headroom SET` and `settings SET`
 abbrev pub desk_app : App
 desk_app =
     with_subcommand
     (with_subcommand
     (with_subcommand
+    (with_subcommand
+    (with_subcommand
     (with_subcommand bare_app (set_app (codes "admit")).top)
     (set_app (codes "certify")).top)
     (pair_app (codes "check") (codes "CERT")).top)
-    (pair_app (codes "simulate") (codes "RELEASES")).top
+    (pair_app (codes "simulate") (codes "RELEASES")).top)
+    (set_app (codes "headroom")).top)
+    (set_app (codes "settings")).top

@@ -2,6 +2,8 @@ pub mod Admit
 pub mod App
 pub mod Calls
 pub mod Certify
+pub mod Headroom
+pub mod Settings
 pub mod Check
 pub mod Inputs
 pub mod Lines

@@ -6,7 +6,9 @@ ghost use Rattle.desk_cli.specs.Running.{CallSays};
 use crate::admission::admit;
 use crate::certification::certify;
 use crate::checking::check_files;
+use crate::growth::print_headroom;
 use crate::input::InputFault;
+use crate::node::print_settings;
 use crate::output::refuse;
 use crate::refusal::Refusal;
 use crate::simulation::simulate;
@@ -86,6 +88,14 @@ pub fn run_call<O: Opens, W: Write + Drop>(
                 &mut Watched::new(releases),
                 output,
             ),
+            Err(_) => refuse(NOT_OPENED, output),
+        },
+        Call::Headroom { set } => match inputs.open(set) {
+            Ok(set) => print_headroom(alloc, &mut Watched::new(set), output),
+            Err(_) => refuse(NOT_OPENED, output),
+        },
+        Call::Settings { set } => match inputs.open(set) {
+            Ok(set) => print_settings(alloc, &mut Watched::new(set), output),
             Err(_) => refuse(NOT_OPENED, output),
         },
     }

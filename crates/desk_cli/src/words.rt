@@ -54,6 +54,14 @@ pub enum Call<'a> {
         set: Input<'a>,
         releases: Input<'a>,
     },
+    /// `headroom SET`
+    Headroom {
+        set: Input<'a>,
+    },
+    /// `settings SET`
+    Settings {
+        set: Input<'a>,
+    },
 }
 
 /// Why words are no call.
@@ -78,6 +86,12 @@ const SIMULATE_ABOUT: &str =
     "Runs a release list in a simulated kernel, at the levels of the best order";
 
 const RELEASES_HELP: &str = "A release list: a path, or - for standard input";
+
+const HEADROOM_ABOUT: &str =
+    "Prints the greatest cost of each task with which some order passes, all else equal";
+
+const SETTINGS_ABOUT: &str =
+    "Prints the level of each thread and the ceiling of each mutex in the best order";
 
 const SET_HELP: &str = "A task set in TOML: a path, or - for standard input";
 
@@ -162,7 +176,11 @@ fn desk_command<'a>(alloc: Global) -> Result<Command<'a>, AllocError>
     let check = pair_command(alloc, "check", CHECK_ABOUT, "CERT", CERT_HELP)?;
     let third = with_command(second, check)?;
     let simulate = pair_command(alloc, "simulate", SIMULATE_ABOUT, "RELEASES", RELEASES_HELP)?;
-    let desk = with_command(third, simulate)?;
+    let fourth = with_command(third, simulate)?;
+    let headroom = set_command(alloc, "headroom", HEADROOM_ABOUT)?;
+    let fifth = with_command(fourth, headroom)?;
+    let settings = set_command(alloc, "settings", SETTINGS_ABOUT)?;
+    let desk = with_command(fifth, settings)?;
     Ok(desk)
 }
 
@@ -204,6 +222,12 @@ fn call_named<'a>(name: &str, found: &ArgMatches<'a>) -> Call<'a>
         let releases = input_at(found, "RELEASES");
         return Call::Simulate { set, releases };
     }
+    if name == "headroom" {
+        return Call::Headroom { set };
+    }
+    if name == "settings" {
+        return Call::Settings { set };
+    }
     Call::Admit { set }
 }
 
@@ -230,6 +254,8 @@ impl Call<'_> {
             Call::Certify { .. } => false,
             Call::Check { set, certificate } => set.is_standard() && certificate.is_standard(),
             Call::Simulate { set, releases } => set.is_standard() && releases.is_standard(),
+            Call::Headroom { .. } => false,
+            Call::Settings { .. } => false,
         }
     }
 }

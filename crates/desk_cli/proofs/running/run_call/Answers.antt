@@ -1,4 +1,4 @@
-use Rattle.std.proofs.Common.{Err}
+use Rattle.std.proofs.Common.{Err, refl}
 use Rattle.desk_cli.specs.declared.input.InputFault.TheVariants as input
 use Rattle.desk_cli.specs.declared.refusal.Refusal.TheVariants as refusal
 use Rattle.desk_cli.proofs.running.run_call.Goals as goal
@@ -18,3 +18,11 @@ returns-in-Err-open_both-clause-printed g c =
 pub returns-in-Err-open_both-2-clause-printed : goal.returns-in-Err-open_both-2-clause-printed
 returns-in-Err-open_both-2-clause-printed g c =
     rw c.in-Simulate.is (λ sound. (Err (refusal.Input input.ReadFailed), tt, c.refuse-in-Err-open_both-2.ensures.printed sound, c.refuse-in-Err-open_both-2.ensures.status sound))
+
+pub returns-in-Err-open-2-clause-printed : goal.returns-in-Err-open-2-clause-printed
+returns-in-Err-open-2-clause-printed g c =
+    rw c.in-Headroom.is (λ sound. (let said = c.refuse-in-Err-open-2.ensures in (Err (refusal.Input input.ReadFailed), _, tt, (refl, said.status sound), said.printed sound)))
+
+pub returns-in-Err-open-3-clause-printed : goal.returns-in-Err-open-3-clause-printed
+returns-in-Err-open-3-clause-printed g c =
+    rw c.in-Settings.is (λ sound. (Err (refusal.Input input.ReadFailed), tt, c.refuse-in-Err-open-3.ensures.printed sound, c.refuse-in-Err-open-3.ensures.status sound))

@@ -23,6 +23,18 @@ returns-then-eq-3 c = (
   named (codes "RELEASES") (found_of c.args.found.now) c.input_at-releases.result c.input_at-releases.ensures,
 )
 
+pub returns-then-eq-4 : goal.returns-then-eq-4
+returns-then-eq-4 c = (
+  is_word c.args.name.now (codes "headroom") c.eq-4.result c.eq-4.ensures c.if-eq-4.true,
+  named (codes "SET") (found_of c.args.found.now) c.input_at-set.result c.input_at-set.ensures,
+)
+
+pub returns-then-eq-5 : goal.returns-then-eq-5
+returns-then-eq-5 c = (
+  is_word c.args.name.now (codes "settings") c.eq-5.result c.eq-5.ensures c.if-eq-5.true,
+  named (codes "SET") (found_of c.args.found.now) c.input_at-set.result c.input_at-set.ensures,
+)
+
 pub returns : goal.returns
 returns c =
     let admit : c.args.name.now ≡ codes "admit" =
@@ -30,6 +42,8 @@ returns c =
       | inl h ↦ h
       | inr (inl h) ↦ absurd (is_other c.args.name.now (codes "certify") c.eq.result c.eq.ensures c.if-eq.false h)
       | inr (inr (inl h)) ↦ absurd (is_other c.args.name.now (codes "check") c.eq-2.result c.eq-2.ensures c.if-eq-2.false h)
-      | inr (inr (inr h)) ↦ absurd (is_other c.args.name.now (codes "simulate") c.eq-3.result c.eq-3.ensures c.if-eq-3.false h)
+      | inr (inr (inr (inl h))) ↦ absurd (is_other c.args.name.now (codes "simulate") c.eq-3.result c.eq-3.ensures c.if-eq-3.false h)
+      | inr (inr (inr (inr (inl h)))) ↦ absurd (is_other c.args.name.now (codes "headroom") c.eq-4.result c.eq-4.ensures c.if-eq-4.false h)
+      | inr (inr (inr (inr (inr h)))) ↦ absurd (is_other c.args.name.now (codes "settings") c.eq-5.result c.eq-5.ensures c.if-eq-5.false h)
     ] in
     (admit, named (codes "SET") (found_of c.args.found.now) c.input_at-set.result c.input_at-set.ensures)

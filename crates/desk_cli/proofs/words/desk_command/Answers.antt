@@ -7,6 +7,10 @@ returns-clause-app c =
     let top = λ (a : App). a.top in
     c.in_ok-desk.ensures.app
     ∙ ap₂ with_subcommand
+    (c.in_ok-fifth.ensures.app
+    ∙ ap₂ with_subcommand
+    (c.in_ok-fourth.ensures.app
+    ∙ ap₂ with_subcommand
     (c.in_ok-third.ensures.app
     ∙ ap₂ with_subcommand
     (c.in_ok-second.ensures.app
@@ -14,4 +18,6 @@ returns-clause-app c =
     (c.in_ok-first.ensures.app ∙ ap₂ with_subcommand c.in_ok-bare.ensures.app (ap top c.in_ok-admit.ensures.app))
     (ap top c.in_ok-certify.ensures.app))
     (ap top c.in_ok-check.ensures.app))
-    (ap top c.in_ok-simulate.ensures.app)
+    (ap top c.in_ok-simulate.ensures.app))
+    (ap top c.in_ok-headroom.ensures.app))
+    (ap top c.in_ok-settings.ensures.app)

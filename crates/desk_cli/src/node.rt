@@ -1,0 +1,51 @@
+//! `desk settings`.
+ghost use Rattle.std.specs.Prelude.{◌≡◌, ◌⊎◌, true, false, IfOk, string_bytes};
+ghost use Rattle.desk_cli.specs.Admit.{Says};
+ghost use Rattle.desk_cli.specs.Inputs.{IsDisturbed, IsWithinTurns};
+ghost use Rattle.desk_cli.specs.Settings.{settings_of};
+
+use crate::admission::{decide, status_of};
+use crate::answer::infeasible_text;
+use crate::output::{print, refuse};
+use crate::refusal::Refusal;
+use crate::status::Status;
+use assignment::Verdict;
+use certificate::Watched;
+use settings::settings_text;
+use std::alloc::{AllocError, Global};
+use std::io::{Read, Write};
+
+// The lines of a verdict's settings.
+fn node_text(alloc: Global, verdict: &Verdict) -> Result<String, AllocError>
+    ensures { IfOk result (λ text. string_bytes text ≡ settings_of verdict.now) }
+{
+    match verdict {
+        Verdict::Admitted(assignment) => settings_text(alloc, assignment),
+        Verdict::Infeasible(obstruction) => infeasible_text(alloc, obstruction),
+    }
+}
+
+/// `desk settings`: reads a task set, and prints the level of each task's thread and the ceiling of each lock's mutex in
+/// the set's best order; or the tasks of its greatest obstruction; or why the input was refused.
+pub fn print_settings<R: Read + Drop, W: Write + Drop>(
+    alloc: Global,
+    set: &mut Watched<R>,
+    output: &mut Watched<W>,
+) -> Status
+    ensures printed { output.new.has_failed ≡ false
+        → Says settings_of (R.remaining set.old.inner) (W.contents output.old.inner) (W.contents output.new.inner) result }
+    ensures failed { result ≡ Status.InputOrOutputFailed → IsDisturbed set.new ⊎ (output.new.has_failed ≡ true) }
+    ensures unread { set.old.has_failed ≡ false → set.new.has_failed ≡ true → output.old.has_failed ≡ false
+        → result ≡ Status.InputOrOutputFailed }
+    ensures unwritten { output.old.has_failed ≡ false → output.new.has_failed ≡ true
+        → result ≡ Status.InputOrOutputFailed }
+    ensures turns { IsWithinTurns set.old set.new }
+{
+    match decide(alloc, set) {
+        Ok(verdict) => match node_text(alloc, &verdict) {
+            Ok(text) => print(text.as_bytes(), status_of(&verdict), output),
+            Err(_) => refuse(Refusal::OutOfMemory, output),
+        },
+        Err(refusal) => refuse(refusal, output),
+    }
+}
