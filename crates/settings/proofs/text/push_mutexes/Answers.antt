@@ -12,7 +12,7 @@ loop-place-preserved c = λ U is.
     let locks = locks_of U in
     let place = c.loop-place.place in
     let before = string_bytes c.loop-place.text in
-    let lt : place < length locks = omega (arith, c.count-place-end.ensures U is, c.loop-place-test.true) in
+    let lt : place < length locks = omega (arith, c.count-place-end.ensures.locks U is, c.loop-place-test.true) in
     let lock : List ℕ = get_or locks place [] in
     let rest : List ℕ = mutex_lines U order (drop (place + 1) locks) in
     ap (λ (text : List ℕ). text ++ rest) (c.in_ok-push_lock.ensures U is lock (slice_get-get_or locks place [] lt))
