@@ -1,15 +1,17 @@
 -- A set with another cost of one task has the same ranks and the same locks.
-use Rattle.std.proofs.Common.{◌≡◌, ◌↔◌, ℕ, zero, suc, inl, inr, ◌<◌, ◌≤◌, List, [], ◌∷◌, ◌++◌, length, Less, refl, sym, ◌∙◌, ap, subst, arith, flat_map}
-use Rattle.std.proofs.lemmas.Bool.{cases_lt}
+use Rattle.std.proofs.Common.{◌≡◌, ◌↔◌, ℕ, zero, suc, inl, inr, ◌+◌, ◌<◌, ◌≤◌, false, nat_lt, Option, None, List, [], ◌∷◌, ◌++◌, length, Less, refl, sym, ◌∙◌, ap, subst, arith, flat_map}
+use Rattle.std.proofs.lemmas.Bool.{cases_lt, le-ltb}
 use Rattle.task_sheet.specs.Orders.{IsFeasible}
 use Rattle.task_sheet.proofs.TaskLaws.{valid_at}
 use Rattle.headroom.proofs.CostLaws.{IsFeasible-less, longest-same}
 use Rattle.std.specs.List.{AllByRecursion, list_any}
 use Rattle.std.specs.List.Sorted.{IsStrictlySortedBy}
 use Rattle.std.proofs.lemmas.List.{length-set, set-get_or}
+use Rattle.std.proofs.lemmas.List.Folds.{list_any-append}
 use Rattle.std.proofs.lemmas.List.Sorted.{IsPermutation-refl}
-use Rattle.task_sheet.specs.Sheet.{CriticalSection, Task, no_task, task_at}
-use Rattle.task_sheet.specs.TaskSet.{rank_cmp, IsTaskSet, IsByRank}
+use Rattle.task_sheet.specs.Sheet.{CriticalSection, Task, no_task, same_bytes, task_at}
+use Rattle.task_sheet.specs.TaskSet.{rank_cmp, same_name, has_name, first_repeat, AreDistinct, IsTaskSet, IsByRank}
+use Rattle.task_sheet.specs.SheetsFault.{set_cause, sheets_fault}
 use Rattle.task_sheet.specs.Locks.{names_lock}
 use Rattle.task_sheet.proofs.SetLaws.{by_rank_one}
 use Rattle.task_sheet.specs.Indexes.{indexes_of}
@@ -19,16 +21,17 @@ use Rattle.ceilings.specs.IsTableOf.{AreUsersOf, IsTableOf, names_in, first_sigh
 use Rattle.headroom.specs.Costs.{with_cost, costed, MayCost, IsHeadroom, HasNoHeadroom}
 
 -- ---- ranks
-before-costed : (x : Task) (U : List Task) (i cost : ℕ) → AllByRecursion (λ y. rank_cmp x y ≡ Less) U → AllByRecursion (λ y. rank_cmp x y ≡ Less) (costed U i cost)
-before-costed x [] i cost h = tt
-before-costed x (y ∷ ys) zero cost h = h
-before-costed x (y ∷ ys) (suc i) cost h = (h.0, before-costed x ys i cost h.1)
+-- what doesn't rest on the cost holds of each task as before
+all-costed : (P : Task → Type 0) (cost : ℕ) → ((y : Task) → P y → P (with_cost y cost)) → (U : List Task) (i : ℕ) → AllByRecursion P U → AllByRecursion P (costed U i cost)
+all-costed P cost kept [] i h = tt
+all-costed P cost kept (y ∷ ys) zero h = (kept y h.0, h.1)
+all-costed P cost kept (y ∷ ys) (suc i) h = (h.0, all-costed P cost kept ys i h.1)
 
 pub ranked-costed : (U : List Task) (i cost : ℕ) → IsStrictlySortedBy rank_cmp U → IsStrictlySortedBy rank_cmp (costed U i cost)
 unfolding IsStrictlySortedBy
 ranked-costed [] i cost h = tt
 ranked-costed (y ∷ ys) zero cost h = h
-ranked-costed (y ∷ ys) (suc i) cost h = (before-costed y ys i cost h.0, ranked-costed ys i cost h.1)
+ranked-costed (y ∷ ys) (suc i) cost h = (all-costed (λ z. rank_cmp y z ≡ Less) cost (λ z before. before) ys i h.0, ranked-costed ys i cost h.1)
 
 -- the sheets with another cost stand by rank
 pub IsByRank-costed : (U : List Task) (i cost : ℕ) (V : List Task) → IsTaskSet U → IsByRank (costed U i cost) V → V ≡ costed U i cost
@@ -67,6 +70,39 @@ IsTableOf-costed U i cost table is = record {
   users = AreUsersOf-costed U i cost table.users is.users;
   holds = λ members. is.holds members ∙ sym (longest-same (costed U i cost) U (indexes_of members) (length-set U i (with_cost (task_at U i) cost)) (sections-costed U i cost));
 }
+
+-- ---- names: the sheets with another cost are no fault
+-- no element has the name of one that is seen
+abbrev Unseen : List Task → List Task → Type 0
+Unseen seen xs = AllByRecursion (λ x. has_name seen x.name ≡ false) xs
+
+none_seen : (xs : List Task) → Unseen [] xs
+none_seen [] = tt
+none_seen (x ∷ xs) = (refl, none_seen xs)
+
+unseen_more : (seen : List Task) (x : Task) (xs : List Task) → Unseen seen xs → AllByRecursion (λ y. same_name x y ≡ false) xs → Unseen (seen ++ x ∷ []) xs
+unseen_more seen x [] unseen apart = tt
+unseen_more seen x (y ∷ ys) unseen apart = (
+  list_any-append (λ (z : Task). same_bytes z.name y.name) seen (x ∷ []) ∙ rw unseen.0 (rw apart.0 refl),
+  unseen_more seen x ys unseen.1 apart.1,
+)
+
+never_repeats : (seen : List Task) (place : ℕ) (xs : List Task) → Unseen seen xs → AreDistinct same_name xs → first_repeat seen place xs ≡ None
+never_repeats seen place [] unseen distinct = refl
+never_repeats seen place (x ∷ xs) unseen distinct =
+    rw unseen.0 (never_repeats (seen ++ x ∷ []) (place + 1) xs (unseen_more seen x xs unseen.1 distinct.0) distinct.1)
+
+distinct-costed : (U : List Task) (i cost : ℕ) → AreDistinct same_name U → AreDistinct same_name (costed U i cost)
+distinct-costed [] i cost h = tt
+distinct-costed (y ∷ ys) zero cost h = h
+distinct-costed (y ∷ ys) (suc i) cost h = (all-costed (λ z. same_name y z ≡ false) cost (λ z apart. apart) ys i h.0, distinct-costed ys i cost h.1)
+
+pub no_fault-costed : (U : List Task) (i cost : ℕ) → IsTaskSet U → sheets_fault (costed U i cost) ≡ None
+no_fault-costed U i cost valid =
+    let other = costed U i cost in
+    let few : nat_lt 32 (length other) ≡ false = le-ltb 32 (length other) (few-costed U i cost valid.few) in
+    let once : first_repeat [] 1 other ≡ None = never_repeats [] 1 other (none_seen other) (distinct-costed U i cost valid.distinct) in
+    ap (λ (o : Option ℕ). set_cause o other) once ∙ rw few refl
 
 -- ---- what a headroom says
 -- with its own cost a task is as it was
