@@ -30,25 +30,26 @@ first_shape [] = None
 first_shape (x ∷ xs) = if x.0 then Some x.1 else first_shape xs
 
 module _ (p : Text × List Text) (other : p.0 ≢ codes "help") where
-  go : (admit certify check simulate headroom settings help : Bool) → help ≡ answers_to p.0 (codes "help", []) → (a b c d e f h : Shape)
-      → a.name ≡ codes "admit" → b.name ≡ codes "certify" → c.name ≡ codes "check" → d.name ≡ codes "simulate" → e.name ≡ codes "headroom" → f.name ≡ codes "settings"
-      → (let found = option_map (λ s. rows_at s p.1) (first_shape ((admit, a) ∷ (certify, b) ∷ (check, c) ∷ (simulate, d) ∷ (headroom, e) ∷ (settings, f) ∷ (help, h) ∷ [])) in
+  go : (admit certify check simulate headroom settings play help : Bool) → help ≡ answers_to p.0 (codes "help", []) → (a b c d e f g h : Shape)
+      → a.name ≡ codes "admit" → b.name ≡ codes "certify" → c.name ≡ codes "check" → d.name ≡ codes "simulate" → e.name ≡ codes "headroom" → f.name ≡ codes "settings" → g.name ≡ codes "play"
+      → (let found = option_map (λ s. rows_at s p.1) (first_shape ((admit, a) ∷ (certify, b) ∷ (check, c) ∷ (simulate, d) ∷ (headroom, e) ∷ (settings, f) ∷ (play, g) ∷ (help, h) ∷ [])) in
       is_some found ≡ true → IsCommand found)
-  go true certify check simulate headroom settings help is a b c d e f h first second third fourth fifth sixth some = inl first
-  go false true check simulate headroom settings help is a b c d e f h first second third fourth fifth sixth some = inr (inl second)
-  go false false true simulate headroom settings help is a b c d e f h first second third fourth fifth sixth some = inr (inr (inl third))
-  go false false false true headroom settings help is a b c d e f h first second third fourth fifth sixth some = inr (inr (inr (inl fourth)))
-  go false false false false true settings help is a b c d e f h first second third fourth fifth sixth some = inr (inr (inr (inr (inl fifth))))
-  go false false false false false true help is a b c d e f h first second third fourth fifth sixth some = inr (inr (inr (inr (inr sixth))))
-  go false false false false false false true is a b c d e f h first second third fourth fifth sixth some = absurd (other (help_is p.0 (sym is)))
-  go false false false false false false false is a b c d e f h first second third fourth fifth sixth some = cc
+  go true certify check simulate headroom settings play help is a b c d e f g h first second third fourth fifth sixth seventh some = inl first
+  go false true check simulate headroom settings play help is a b c d e f g h first second third fourth fifth sixth seventh some = inr (inl second)
+  go false false true simulate headroom settings play help is a b c d e f g h first second third fourth fifth sixth seventh some = inr (inr (inl third))
+  go false false false true headroom settings play help is a b c d e f g h first second third fourth fifth sixth seventh some = inr (inr (inr (inl fourth)))
+  go false false false false true settings play help is a b c d e f g h first second third fourth fifth sixth seventh some = inr (inr (inr (inr (inl fifth))))
+  go false false false false false true play help is a b c d e f g h first second third fourth fifth sixth seventh some = inr (inr (inr (inr (inr (inl sixth)))))
+  go false false false false false false true help is a b c d e f g h first second third fourth fifth sixth seventh some = inr (inr (inr (inr (inr (inr seventh)))))
+  go false false false false false false false true is a b c d e f g h first second third fourth fifth sixth seventh some = absurd (other (help_is p.0 (sym is)))
+  go false false false false false false false false is a b c d e f g h first second third fourth fifth sixth seventh some = cc
 
 entered_is : (stop : Option (Text × List Text)) → NotHelp stop → is_some (entered (built desk_app) stop) ≡ true → IsCommand (entered (built desk_app) stop)
 unfolding clap_on_literals
 entered_is None n some = cc
 entered_is (Some p) n some =
     let asks : Text → Bool = λ name. answers_to p.0 (name, []) in
-    go p n (asks (codes "admit")) (asks (codes "certify")) (asks (codes "check")) (asks (codes "simulate")) (asks (codes "headroom")) (asks (codes "settings")) (asks (codes "help")) refl _ _ _ _ _ _ _ refl refl refl refl refl refl some
+    go p n (asks (codes "admit")) (asks (codes "certify")) (asks (codes "check")) (asks (codes "simulate")) (asks (codes "headroom")) (asks (codes "settings")) (asks (codes "play")) (asks (codes "help")) refl _ _ _ _ _ _ _ _ refl refl refl refl refl refl refl some
 
 last_empty : (a b c d e : Kinds) → or_else a (or_else b (or_else c (or_else d e))) ≡ [] → e ≡ []
 last_empty a b c d e none = second_empty d e (second_empty c _ (second_empty b _ (second_empty a _ none)))

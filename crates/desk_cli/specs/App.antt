@@ -7,9 +7,13 @@ use Rattle.clap.specs.declared.builder.ArgAction.TheVariants.{Set}
 abbrev pub input_rule : Text → Rule
 input_rule name = record (new_rule name) { required = true; action = Some Set }
 
+-- a command with one input
+abbrev pub one_app : Text → Text → App
+one_app name first = with_rule (new_app name) (input_rule first)
+
 -- a command whose first input is a task set
 abbrev pub set_app : Text → App
-set_app name = with_rule (new_app name) (input_rule (codes "SET"))
+set_app name = one_app name (codes "SET")
 
 -- the words are all arguments, and one of them names a command
 abbrev pub made_bare : App → App
@@ -23,10 +27,11 @@ bare_app = made_bare (new_app (codes "desk"))
 abbrev pub pair_app : Text → Text → App
 pair_app name second = with_rule (set_app name) (input_rule second)
 
--- `admit SET`, `certify SET`, `check SET CERT`, `simulate SET RELEASES`, `headroom SET` and `settings SET`
+-- `admit SET`, `certify SET`, `check SET CERT`, `simulate SET RELEASES`, `headroom SET`, `settings SET` and `play SCRIPT`
 abbrev pub desk_app : App
 desk_app =
     with_subcommand
+    (with_subcommand
     (with_subcommand
     (with_subcommand
     (with_subcommand
@@ -36,4 +41,5 @@ desk_app =
     (pair_app (codes "check") (codes "CERT")).top)
     (pair_app (codes "simulate") (codes "RELEASES")).top)
     (set_app (codes "headroom")).top)
-    (set_app (codes "settings")).top
+    (set_app (codes "settings")).top)
+    (one_app (codes "play") (codes "SCRIPT")).top

@@ -7,7 +7,7 @@ use Rattle.desk_cli.specs.App.{desk_app}
 use Rattle.desk_cli.specs.declared.words.Input.{Input}
 use Rattle.desk_cli.specs.declared.words.Input.TheVariants.{Standard, File}
 use Rattle.desk_cli.specs.declared.words.Call.{Call}
-use Rattle.desk_cli.specs.declared.words.Call.TheVariants.{Admit, Certify, Check, Headroom, Settings, Simulate}
+use Rattle.desk_cli.specs.declared.words.Call.TheVariants.{Admit, Certify, Check, Simulate, Headroom, Settings, Play}
 use Rattle.desk_cli.specs.declared.words.WordsFault.{WordsFault}
 use Rattle.desk_cli.specs.declared.words.WordsFault.TheVariants as fault
 use Rattle.desk_cli.specs.declared.status.Status.{Status}
@@ -25,7 +25,7 @@ IsCommand None = ⊥
 IsCommand (Some found) =
     (found.0 ≡ codes "admit") ⊎
     ((found.0 ≡ codes "certify") ⊎ ((found.0 ≡ codes "check") ⊎ ((found.0 ≡ codes "simulate")
-    ⊎ ((found.0 ≡ codes "headroom") ⊎ (found.0 ≡ codes "settings")))))
+    ⊎ ((found.0 ≡ codes "headroom") ⊎ ((found.0 ≡ codes "settings") ⊎ (found.0 ≡ codes "play"))))))
 
 -- the call that a command names, with what was found of its arguments
 abbrev pub IsCall : Option (Text × List Row) → Call → Type 0
@@ -40,6 +40,7 @@ IsCall (Some found) (Simulate set releases) =
     × Names (first_of (codes "RELEASES") found.1) releases
 IsCall (Some found) (Headroom set) = (found.0 ≡ codes "headroom") × Names (first_of (codes "SET") found.1) set
 IsCall (Some found) (Settings set) = (found.0 ≡ codes "settings") × Names (first_of (codes "SET") found.1) set
+IsCall (Some found) (Play script) = (found.0 ≡ codes "play") × Names (first_of (codes "SCRIPT") found.1) script
 
 -- no words call `admit` of standard input; else they call what `clap`'s matches of them name
 abbrev pub Calls : List Text → Call → Type 0
@@ -59,6 +60,7 @@ is_twice (Check set certificate) = is_standard set && is_standard certificate
 is_twice (Simulate set releases) = is_standard set && is_standard releases
 is_twice (Headroom set) = false
 is_twice (Settings set) = false
+is_twice (Play script) = false
 
 -- there are no words, or `clap` takes them
 abbrev pub IsTaken : List Text → Type 0

@@ -14,3 +14,4 @@ pub mod Statuses
 pub mod TextFaults
 pub mod TraceLines
 pub mod Running
+pub mod Playing

@@ -16,6 +16,8 @@ use Rattle.ceiling_kernel.specs.declared.trace.RunFault.{RunFault}
 use Rattle.ceiling_kernel.specs.declared.trace.RunFault.TheVariants as run
 use Rattle.desk_cli.specs.declared.releases.TextFault.{TextFault}
 use Rattle.desk_cli.specs.declared.releases.TextFault.TheVariants as line
+use Rattle.scripts.specs.declared.line.ScriptFault.{ScriptFault}
+use Rattle.scripts.specs.declared.line.ScriptFault.TheVariants as script
 use Rattle.desk_cli.specs.declared.input.InputFault.TheVariants as input
 use Rattle.desk_cli.specs.declared.refusal.Refusal.{Refusal}
 use Rattle.desk_cli.specs.declared.refusal.Refusal.TheVariants as refusal
@@ -54,6 +56,22 @@ cause_words task (cause.LockTwice section) = at_section (codes "LockTwice") task
 cause_words task (cause.LenZero section) = at_section (codes "LenZero") task section
 cause_words task (cause.Overlap section) = at_section (codes "Overlap") task section
 cause_words task (cause.SectionPastCost section) = at_section (codes "SectionPastCost") task section
+
+-- the fault of a sheet that stands alone
+abbrev pub lone_cause_words : SheetCause → List ℕ
+lone_cause_words cause.BadWeight = codes "BadWeight"
+lone_cause_words cause.BadPeriod = codes "BadPeriod"
+lone_cause_words cause.DeadlineZero = codes "DeadlineZero"
+lone_cause_words cause.DeadlinePastPeriod = codes "DeadlinePastPeriod"
+lone_cause_words cause.CostZero = codes "CostZero"
+lone_cause_words cause.CostPastPeriod = codes "CostPastPeriod"
+lone_cause_words cause.TooManySections = codes "TooManySections"
+lone_cause_words (cause.NoLocks section) = at_task (codes "NoLocks") section
+lone_cause_words (cause.TooManyLocks section) = at_task (codes "TooManyLocks") section
+lone_cause_words (cause.LockTwice section) = at_task (codes "LockTwice") section
+lone_cause_words (cause.LenZero section) = at_task (codes "LenZero") section
+lone_cause_words (cause.Overlap section) = at_task (codes "Overlap") section
+lone_cause_words (cause.SectionPastCost section) = at_task (codes "SectionPastCost") section
 
 -- the fault of a document
 abbrev pub fault_words : SetFault → List ℕ
@@ -98,6 +116,12 @@ run_words run.TooMany = codes "TooMany"
 run_words (run.Overrun name time) = codes "Overrun " ++ name ++ codes " " ++ decimal time
 run_words run.OutOfMemory = codes "OutOfMemory"
 
+-- the fault of a script: its line, and there what is wrong with a sheet
+abbrev pub script_words : ScriptFault → List ℕ
+script_words (script.BadLine number) = at_task (codes "BadLine") number
+script_words (script.Sheet number cause) = codes "line " ++ decimal number ++ codes " " ++ lone_cause_words cause
+script_words script.OutOfMemory = codes "OutOfMemory"
+
 -- the name of a refusal with its fields
 abbrev pub words_of : Refusal → List ℕ
 words_of (refusal.Input input.TooLong) = codes "InputTooLong"
@@ -108,6 +132,7 @@ words_of (refusal.Certificate fault) = certificate_words fault
 words_of (refusal.Check fault) = check_words fault
 words_of (refusal.Text fault) = text_words fault
 words_of (refusal.Run fault) = run_words fault
+words_of (refusal.Script fault) = script_words fault
 words_of refusal.OutOfMemory = codes "OutOfMemory"
 
 -- the line of a refusal
@@ -128,4 +153,6 @@ status_of (refusal.Text line.OutOfMemory) = status.OutOfMemory
 status_of (refusal.Text _) = status.BadInput
 status_of (refusal.Run run.OutOfMemory) = status.OutOfMemory
 status_of (refusal.Run _) = status.BadInput
+status_of (refusal.Script script.OutOfMemory) = status.OutOfMemory
+status_of (refusal.Script _) = status.BadInput
 status_of refusal.OutOfMemory = status.OutOfMemory

@@ -8,7 +8,8 @@ use Rattle.desk_cli.specs.Settings.{settings_of}
 use Rattle.desk_cli.specs.Simulate.{SaysSimulated}
 use Rattle.desk_cli.specs.declared.words.Input.{Input}
 use Rattle.desk_cli.specs.declared.words.Call.{Call}
-use Rattle.desk_cli.specs.declared.words.Call.TheVariants.{Admit, Certify, Check, Headroom, Settings, Simulate}
+use Rattle.desk_cli.specs.Playing.{SaysPlayed}
+use Rattle.desk_cli.specs.declared.words.Call.TheVariants.{Admit, Certify, Check, Simulate, Headroom, Settings, Play}
 use Rattle.desk_cli.specs.declared.status.Status.{Status}
 
 -- where inputs have some bytes, the answer of the call's command is printed after what the writer held, and
@@ -20,3 +21,4 @@ CallSays has (Check set certificate) before after s = SaysChecked (has set) (has
 CallSays has (Simulate set releases) before after s = SaysSimulated (has set) (has releases) before after s
 CallSays has (Headroom set) before after s = SaysHeadroom (has set) before after s
 CallSays has (Settings set) before after s = Says settings_of (has set) before after s
+CallSays has (Play script) before after s = SaysPlayed (has script) before after s

@@ -1,8 +1,8 @@
 //! Why a command was refused, and the line that says so.
 ghost use Rattle.std.specs.Prelude.{◌≡◌, Some};
 ghost use Rattle.std.specs.Fmt.{DisplaysOnOk};
-ghost use Rattle.desk_cli.specs.declared.refusal.Refusal.TheVariants.{Certificate, Check, Input, OutOfMemory, Run, Set, Text};
-ghost use Rattle.desk_cli.specs.Refusals.{cause_words, certificate_words, check_words, fault_words, refusal_line, run_words, status_of, text_words, words_of};
+ghost use Rattle.desk_cli.specs.declared.refusal.Refusal.TheVariants.{Certificate, Check, Input, OutOfMemory, Run, Script, Set, Text};
+ghost use Rattle.desk_cli.specs.Refusals.{cause_words, certificate_words, check_words, fault_words, lone_cause_words, refusal_line, run_words, script_words, status_of, text_words, words_of};
 
 use crate::input::InputFault;
 use crate::releases::TextFault;
@@ -10,6 +10,7 @@ use crate::status::Status;
 use ceiling_kernel::RunFault;
 use cert_checker::CheckFault;
 use certificate::CertFault;
+use scripts::ScriptFault;
 use std::alloc::{AllocError, AllocFailed};
 use std::fmt;
 use task_sheet::{SetFault, SheetCause};
@@ -29,6 +30,8 @@ pub enum Refusal {
     Text(TextFault),
     /// The release list was not run, or a job overran.
     Run(RunFault),
+    /// The script's input is no script.
+    Script(ScriptFault),
     /// Memory ran out after the inputs were read.
     OutOfMemory,
 }
@@ -81,6 +84,14 @@ impl From<RunFault> for Refusal {
     }
 }
 
+impl From<ScriptFault> for Refusal {
+    ghost from_gives = { λ fault refusal. refusal ≡ Script fault };
+
+    fn from(fault: ScriptFault) -> Refusal {
+        Refusal::Script(fault)
+    }
+}
+
 impl From<AllocError> for Refusal {
     ghost from_gives = { λ _ refusal. refusal ≡ OutOfMemory };
 
@@ -115,6 +126,8 @@ impl Refusal {
             Refusal::Text(_) => Status::BadInput,
             Refusal::Run(RunFault::OutOfMemory) => Status::OutOfMemory,
             Refusal::Run(_) => Status::BadInput,
+            Refusal::Script(ScriptFault::OutOfMemory) => Status::OutOfMemory,
+            Refusal::Script(_) => Status::BadInput,
             Refusal::OutOfMemory => Status::OutOfMemory,
         }
     }
@@ -142,6 +155,41 @@ fn write_cause<W: fmt::Write>(
         SheetCause::LenZero { section } => write!(f, "LenZero {task} {section}"),
         SheetCause::Overlap { section } => write!(f, "Overlap {task} {section}"),
         SheetCause::SectionPastCost { section } => write!(f, "SectionPastCost {task} {section}"),
+    }
+}
+
+// The name of the fault of a sheet that stands alone, with the place of the section.
+fn write_lone_cause<W: fmt::Write>(cause: SheetCause, f: &mut fmt::Formatter<W>) -> fmt::Result
+    ensures { DisplaysOnOk W.write_str_gives f.old result (Some (lone_cause_words cause)) f.new }
+{
+    match cause {
+        SheetCause::BadWeight => f.write_str("BadWeight"),
+        SheetCause::BadPeriod => f.write_str("BadPeriod"),
+        SheetCause::DeadlineZero => f.write_str("DeadlineZero"),
+        SheetCause::DeadlinePastPeriod => f.write_str("DeadlinePastPeriod"),
+        SheetCause::CostZero => f.write_str("CostZero"),
+        SheetCause::CostPastPeriod => f.write_str("CostPastPeriod"),
+        SheetCause::TooManySections => f.write_str("TooManySections"),
+        SheetCause::NoLocks { section } => write!(f, "NoLocks {section}"),
+        SheetCause::TooManyLocks { section } => write!(f, "TooManyLocks {section}"),
+        SheetCause::LockTwice { section } => write!(f, "LockTwice {section}"),
+        SheetCause::LenZero { section } => write!(f, "LenZero {section}"),
+        SheetCause::Overlap { section } => write!(f, "Overlap {section}"),
+        SheetCause::SectionPastCost { section } => write!(f, "SectionPastCost {section}"),
+    }
+}
+
+// The name of a script's fault, with its line.
+fn write_script_fault<W: fmt::Write>(fault: ScriptFault, f: &mut fmt::Formatter<W>) -> fmt::Result
+    ensures { DisplaysOnOk W.write_str_gives f.old result (Some (script_words fault)) f.new }
+{
+    match fault {
+        ScriptFault::BadLine { line } => write!(f, "BadLine {line}"),
+        ScriptFault::Sheet { line, cause } => {
+            write!(f, "line {line} ")?;
+            write_lone_cause(cause, f)
+        }
+        ScriptFault::OutOfMemory => f.write_str("OutOfMemory"),
     }
 }
 
@@ -235,6 +283,7 @@ fn write_words<W: fmt::Write>(refusal: Refusal, f: &mut fmt::Formatter<W>) -> fm
         Refusal::Check(fault) => write_check_fault(fault, f),
         Refusal::Text(fault) => write_text_fault(fault, f),
         Refusal::Run(fault) => write_run_fault(fault, f),
+        Refusal::Script(fault) => write_script_fault(fault, f),
         Refusal::OutOfMemory => f.write_str("OutOfMemory"),
     }
 }

@@ -10,6 +10,7 @@ use crate::growth::print_headroom;
 use crate::input::InputFault;
 use crate::node::print_settings;
 use crate::output::refuse;
+use crate::playing::play;
 use crate::refusal::Refusal;
 use crate::simulation::simulate;
 use crate::status::Status;
@@ -96,6 +97,10 @@ pub fn run_call<O: Opens, W: Write + Drop>(
         },
         Call::Settings { set } => match inputs.open(set) {
             Ok(set) => print_settings(alloc, &mut Watched::new(set), output),
+            Err(_) => refuse(NOT_OPENED, output),
+        },
+        Call::Play { script } => match inputs.open(script) {
+            Ok(script) => play(alloc, &mut Watched::new(script), output),
             Err(_) => refuse(NOT_OPENED, output),
         },
     }

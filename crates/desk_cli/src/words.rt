@@ -3,7 +3,7 @@ ghost use Rattle.std.specs.Prelude.{◌≡◌, ◌⊎◌, map, Ok, Some, Err, If
 ghost use Rattle.std.specs.Io.KnownBytes.{Appends};
 ghost use Rattle.clap.specs.Words.{FailsBy, app_of, fault_of, first_value, found_of, new_app, rows_of, rule_of, subcommand_of, subcommand_rows_of, with_subcommand};
 ghost use Rattle.clap.specs.declared.builder.command.Command.TheViews.{out-Command as fields_of};
-ghost use Rattle.desk_cli.specs.App.{bare_app, desk_app, input_rule, pair_app, set_app};
+ghost use Rattle.desk_cli.specs.App.{bare_app, desk_app, input_rule, one_app, pair_app, set_app};
 ghost use Rattle.desk_cli.specs.Calls.{Calls, IsCall, IsCommand, IsTaken, IsMemory, IsWordsFault, Names, fault_status, goes_out, is_standard, is_twice};
 ghost use Rattle.desk_cli.specs.Refusals.{refusal_line};
 
@@ -62,6 +62,10 @@ pub enum Call<'a> {
     Settings {
         set: Input<'a>,
     },
+    /// `play SCRIPT`
+    Play {
+        script: Input<'a>,
+    },
 }
 
 /// Why words are no call.
@@ -92,6 +96,9 @@ const HEADROOM_ABOUT: &str =
 
 const SETTINGS_ABOUT: &str =
     "Prints the level of each thread and the ceiling of each mutex in the best order";
+const PLAY_ABOUT: &str = "Plays a script of drafts, findings and commits, and prints what each line comes to";
+
+const SCRIPT_HELP: &str = "A script: a path, or - for standard input";
 
 const SET_HELP: &str = "A task set in TOML: a path, or - for standard input";
 
@@ -126,14 +133,28 @@ fn bare_command<'a>(alloc: Global) -> Result<Command<'a>, AllocError>
     Ok(desk)
 }
 
+// A command with one input.
+fn one_command<'a>(
+    alloc: Global,
+    name: &'a str,
+    about: &'a str,
+    first: &'a str,
+    help: &'a str,
+) -> Result<Command<'a>, AllocError>
+    ensures app { IfOk result (λ c. app_of c ≡ one_app name.entry.now first.entry.now) }
+    ensures local { IfOk result (λ c. (fields_of c).has_globals ≡ false) }
+{
+    let input = input_arg(alloc, first, help);
+    let command = new_command(alloc, name, about).arg(input)?;
+    Ok(command)
+}
+
 // A command whose first input is a task set.
 fn set_command<'a>(alloc: Global, name: &'a str, about: &'a str) -> Result<Command<'a>, AllocError>
     ensures app { IfOk result (λ c. app_of c ≡ set_app name.entry.now) }
     ensures local { IfOk result (λ c. (fields_of c).has_globals ≡ false) }
 {
-    let set = input_arg(alloc, "SET", SET_HELP);
-    let command = new_command(alloc, name, about).arg(set)?;
-    Ok(command)
+    one_command(alloc, name, about, "SET", SET_HELP)
 }
 
 // A command with a task set and a second input.
@@ -180,7 +201,9 @@ fn desk_command<'a>(alloc: Global) -> Result<Command<'a>, AllocError>
     let headroom = set_command(alloc, "headroom", HEADROOM_ABOUT)?;
     let fifth = with_command(fourth, headroom)?;
     let settings = set_command(alloc, "settings", SETTINGS_ABOUT)?;
-    let desk = with_command(fifth, settings)?;
+    let sixth = with_command(fifth, settings)?;
+    let play = one_command(alloc, "play", PLAY_ABOUT, "SCRIPT", SCRIPT_HELP)?;
+    let desk = with_command(sixth, play)?;
     Ok(desk)
 }
 
@@ -228,6 +251,10 @@ fn call_named<'a>(name: &str, found: &ArgMatches<'a>) -> Call<'a>
     if name == "settings" {
         return Call::Settings { set };
     }
+    if name == "play" {
+        let script = input_at(found, "SCRIPT");
+        return Call::Play { script };
+    }
     Call::Admit { set }
 }
 
@@ -256,6 +283,7 @@ impl Call<'_> {
             Call::Simulate { set, releases } => set.is_standard() && releases.is_standard(),
             Call::Headroom { .. } => false,
             Call::Settings { .. } => false,
+            Call::Play { .. } => false,
         }
     }
 }

@@ -9,3 +9,5 @@ pub mod BasedLaws
 pub mod RunLaws
 pub mod ToldOne
 pub mod AskingLaws
+pub mod Determined
+pub mod LevelLaws

@@ -11,3 +11,4 @@ pub mod Brought
 pub mod CoreFields
 pub mod Asking
 pub mod Standings
+pub mod Said

@@ -2,7 +2,7 @@
 use Rattle.std.specs.Prelude.{◌≡◌, Bool, true, false, List, [], Option, None, Some, Result, Ok, Err}
 use Rattle.task_sheet.specs.Verdicts.{IsVerdictOf}
 use Rattle.assignment.specs.Verdict.{set_of as verdict_set, verdict_of}
-use Rattle.drafts.specs.declared.state.Owned.{Owned}
+use Rattle.drafts.specs.declared.roster.Owned.{Owned}
 use Rattle.drafts.specs.declared.change.Refusal.{Refusal}
 use Rattle.desk_core.specs.declared.asked.Asked.{Asked}
 use Rattle.drafts.specs.declared.judging.Judged.{Judged}

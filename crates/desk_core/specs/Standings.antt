@@ -2,7 +2,7 @@
 use Rattle.std.specs.Prelude.{◌≡◌, ℕ, ◌<◌, ◌^◌, List, length, Option, None, Some, Result, Ok, Err}
 use Rattle.task_sheet.specs.Sheet.{Task}
 use Rattle.assignment.specs.Questions.{QuestionData}
-use Rattle.drafts.specs.declared.state.Owned.{Owned}
+use Rattle.drafts.specs.declared.roster.Owned.{Owned}
 use Rattle.drafts.specs.declared.change.Refusal.{Refusal}
 use Rattle.desk_core.specs.declared.asked.Asked.{Asked}
 use Rattle.desk_core.specs.declared.events.Standing.{Standing}

@@ -5,7 +5,7 @@ use Rattle.task_sheet.specs.Orders.{IsFeasible}
 use Rattle.task_sheet.specs.Verdicts.{FailureData, tasks_of, IsVerdictOf}
 use Rattle.task_sheet.specs.Verdicts as verdict
 use Rattle.assignment.specs.Questions.{QuestionData}
-use Rattle.drafts.specs.declared.state.Owned.{Owned}
+use Rattle.drafts.specs.declared.roster.Owned.{Owned}
 use Rattle.drafts.specs.declared.change.Change.{Change}
 use Rattle.drafts.specs.declared.change.Refusal.{Refusal}
 use Rattle.desk_core.specs.declared.events.Cause.{Cause}

@@ -1,15 +1,19 @@
-//! Laws of drafts. Each is the clause of a function that does nothing, and its names are defined in `specs/`.
+//! Laws of the core. Each is the clause of a function that does nothing, and its names are defined in `specs/`.
 
-ghost use Rattle.std.specs.Prelude.{◌≡◌, ℕ, List, Some, None};
+ghost use Rattle.std.specs.Prelude.{◌≡◌, ◌≤◌, ℕ, List, Some, None, length, map};
 ghost use Rattle.task_sheet.specs.Sheet.{Task};
-ghost use Rattle.task_sheet.specs.Indexes.{Indexes, IsPart};
+ghost use Rattle.task_sheet.specs.Indexes.{Indexes, IsPart, indexes_of};
 ghost use Rattle.task_sheet.specs.Orders.{all_of};
-ghost use Rattle.task_sheet.specs.Levels.{IsChosen, NoneStands};
+ghost use Rattle.task_sheet.specs.Levels.{AllChosen, IsChosen, NoneStands, left_after};
 ghost use Rattle.assignment.specs.Questions.{QuestionData};
 ghost use Rattle.desk_core.specs.declared.asked.Asked.{Asked};
 ghost use Rattle.desk_core.specs.declared.told.Told.{Told};
-ghost use Rattle.task_sheet.specs.Choices.{chosen_of};
+ghost use Rattle.task_sheet.specs.Choices.{chosen_of, level_at};
 ghost use Rattle.desk_core.specs.Findings.{IsTold};
+ghost use Rattle.desk_core.specs.Said.{said_of};
+ghost use Rattle.desk_core.specs.World.{World, IsRun, after_all};
+ghost use Rattle.desk_core.specs.declared.events.Event.{Event};
+ghost use Rattle.desk_core.specs.declared.events.Reply.{Reply};
 
 /// A level's chosen one, as a function, is the task of least rank that may stand below the others, and none where none may.
 pub fn chosen_is_least()
@@ -20,4 +24,21 @@ pub fn chosen_is_least()
 /// The answer to a finding is determined.
 pub fn answer_is_one()
     ensures { (U : List Task) (found : List Asked) (q : QuestionData) (first second : Told) → IsTold U found q first → IsTold U found q second → first ≡ second }
+{}
+
+/// The levels of a set are what is left of it after the tasks that were chosen, each among those left before it; at a level
+/// where no task may stand below the others, it stays so.
+pub fn levels_are_left()
+    ensures chosen { (U : List Task) (placed : List ℕ) → AllChosen U (all_of U) placed
+        → indexes_of (level_at U (length placed)) ≡ left_after (all_of U) placed }
+    ensures stays { (U : List Task) (k : ℕ) → NoneStands U (indexes_of (level_at U k)) → (j : ℕ) → k ≤ j
+        → level_at U j ≡ level_at U k }
+{}
+
+/// The replies to a list of events are determined, by what they say, and so is the world that they lead to.
+pub fn replies_are_one()
+    ensures said { (w : World) (events : List Event) (first second : List Reply) → IsRun w events first → IsRun w events second
+        → map said_of first ≡ map said_of second }
+    ensures world { (w : World) (events : List Event) (first second : List Reply) → IsRun w events first → IsRun w events second
+        → after_all w events first ≡ after_all w events second }
 {}

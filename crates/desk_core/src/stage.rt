@@ -1,7 +1,7 @@
 //! How far the test of a draft has come.
 
 ghost use Rattle.std.specs.Prelude.{◌≡◌, IfOk, IfErr, OnErr, List, Result};
-ghost use Rattle.drafts.specs.declared.state.Owned.{Owned};
+ghost use Rattle.drafts.specs.declared.roster.Owned.{Owned};
 ghost use Rattle.drafts.specs.declared.change.Refusal.{Refusal};
 ghost use Rattle.drafts.specs.Changes.{on_base};
 ghost use Rattle.desk_core.specs.Stages.{found_of, IsStage, IsBegun, IsTrialOf, IsReady};

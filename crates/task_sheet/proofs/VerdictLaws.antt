@@ -58,7 +58,7 @@ AllLevels-one U L (l ∷ ls) (m ∷ ms) same h h' =
     let rest = AllLevels-one U (without_index L l.task) ls ms heads.1 h.1 (subst (λ i. AllLevels U (without_index L i) ms) (sym heads.0) h'.1) in
     λ i. first i ∷ rest i
 
-IsStuck-one : (U : List Task) (members others : List FailureData) → IsStuck U members → IsStuck U others → members ≡ others
+pub IsStuck-one : (U : List Task) (members others : List FailureData) → IsStuck U members → IsStuck U others → members ≡ others
 IsStuck-one U members others h h' =
     let S = among (tasks_of members) in
     let R = among (tasks_of others) in

@@ -1,4 +1,5 @@
-use Rattle.std.proofs.Common.{Err, refl}
+use Rattle.std.proofs.Common.{Err, inl, refl}
+use Rattle.desk_cli.specs.Refusals.{refusal_line}
 use Rattle.desk_cli.specs.declared.input.InputFault.TheVariants as input
 use Rattle.desk_cli.specs.declared.refusal.Refusal.TheVariants as refusal
 use Rattle.desk_cli.proofs.running.run_call.Goals as goal
@@ -26,3 +27,8 @@ returns-in-Err-open-2-clause-printed g c =
 pub returns-in-Err-open-3-clause-printed : goal.returns-in-Err-open-3-clause-printed
 returns-in-Err-open-3-clause-printed g c =
     rw c.in-Settings.is (λ sound. (Err (refusal.Input input.ReadFailed), tt, c.refuse-in-Err-open-3.ensures.printed sound, c.refuse-in-Err-open-3.ensures.status sound))
+
+pub returns-in-Err-open-4-clause-printed : goal.returns-in-Err-open-4-clause-printed
+returns-in-Err-open-4-clause-printed g c =
+    let r = refusal.Input input.ReadFailed in
+    rw c.in-Play.is (λ sound. (refusal_line r, c.refuse-in-Err-open-4.ensures.printed sound, inl (r, tt, refl, c.refuse-in-Err-open-4.ensures.status sound)))

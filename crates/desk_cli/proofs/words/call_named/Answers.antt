@@ -35,6 +35,12 @@ returns-then-eq-5 c = (
   named (codes "SET") (found_of c.args.found.now) c.input_at-set.result c.input_at-set.ensures,
 )
 
+pub returns-then-eq-6 : goal.returns-then-eq-6
+returns-then-eq-6 c = (
+  is_word c.args.name.now (codes "play") c.eq-6.result c.eq-6.ensures c.if-eq-6.true,
+  named (codes "SCRIPT") (found_of c.args.found.now) c.input_at-script.result c.input_at-script.ensures,
+)
+
 pub returns : goal.returns
 returns c =
     let admit : c.args.name.now ≡ codes "admit" =
@@ -44,6 +50,7 @@ returns c =
       | inr (inr (inl h)) ↦ absurd (is_other c.args.name.now (codes "check") c.eq-2.result c.eq-2.ensures c.if-eq-2.false h)
       | inr (inr (inr (inl h))) ↦ absurd (is_other c.args.name.now (codes "simulate") c.eq-3.result c.eq-3.ensures c.if-eq-3.false h)
       | inr (inr (inr (inr (inl h)))) ↦ absurd (is_other c.args.name.now (codes "headroom") c.eq-4.result c.eq-4.ensures c.if-eq-4.false h)
-      | inr (inr (inr (inr (inr h)))) ↦ absurd (is_other c.args.name.now (codes "settings") c.eq-5.result c.eq-5.ensures c.if-eq-5.false h)
+      | inr (inr (inr (inr (inr (inl h))))) ↦ absurd (is_other c.args.name.now (codes "settings") c.eq-5.result c.eq-5.ensures c.if-eq-5.false h)
+      | inr (inr (inr (inr (inr (inr h))))) ↦ absurd (is_other c.args.name.now (codes "play") c.eq-6.result c.eq-6.ensures c.if-eq-6.false h)
     ] in
     (admit, named (codes "SET") (found_of c.args.found.now) c.input_at-set.result c.input_at-set.ensures)

@@ -1,0 +1,109 @@
+-- What a script makes of the world, and what is printed of it.
+use Rattle.std.specs.Prelude.{◌≡◌, ℕ, List, [], ◌∷◌, ◌++◌, Option, Some, None, Result, Ok, Err, option_map, codes}
+use Rattle.task_sheet.specs.Verdicts.{LevelData, IsBestOrder}
+use Rattle.assignment.specs.Questions.{FindingData}
+use Rattle.drafts.specs.declared.roster.Owned.{Owned}
+use Rattle.drafts.specs.declared.change.Refusal.{Refusal}
+use Rattle.drafts.specs.Applied.{set_of}
+use Rattle.drafts.specs.Changes.{on_base}
+use Rattle.drafts.specs.Machine.{Desk}
+use Rattle.desk_core.specs.declared.events.Cause.{Cause}
+use Rattle.desk_core.specs.declared.events.Cause.TheVariants as cause
+use Rattle.desk_core.specs.declared.events.Event.{Event}
+use Rattle.desk_core.specs.declared.events.Event.TheVariants as event
+use Rattle.desk_core.specs.declared.events.Reply.{Reply}
+use Rattle.desk_core.specs.declared.events.Standing.{Standing}
+use Rattle.desk_core.specs.declared.events.Standing.TheVariants as standing
+use Rattle.desk_core.specs.World.{World, Live, live_at, IsReply, happens}
+use Rattle.desk_core.specs.Standings.{IsStanding, IsQuestionOf}
+use Rattle.scripts.specs.declared.line.Line.{Line}
+use Rattle.scripts.specs.declared.line.Row.{Row}
+use Rattle.scripts.specs.declared.line.Row.TheVariants.{Open, Put, Remove, Found, Test, Commit, Abandon}
+use Rattle.plays.specs.Printed.{cause_word, printed, refused_line, state_lines, tested_line}
+
+-- the event leads from one world to another by a reply that the world gives, and this is the reply's line
+abbrev pub Answers : World → Event → World → List ℕ → Type 0
+Answers w e v text = (r : Reply) × IsReply w e r × (v ≡ happens w e r) × (text ≡ printed r)
+
+-- ---- a finding of a draft's present level
+abbrev pub no_levels_on : Result (List Owned) Refusal → Option Cause
+no_levels_on (Err refusal) = Some cause.Untestable
+no_levels_on (Ok tasks) = None
+
+-- why a draft has no levels
+abbrev pub no_levels : Option Live → Option Cause
+no_levels None = Some cause.NoSuchDraft
+no_levels (Some l) = no_levels_on (on_base l.draft)
+
+-- of two drafts: that one is none comes before that one can't be tested
+abbrev pub first_cause : Option Cause → Option Cause → Option Cause
+first_cause None second = second
+first_cause (Some cause.NoSuchDraft) second = Some cause.NoSuchDraft
+first_cause (Some why) None = Some why
+first_cause (Some why) (Some other) = Some other
+
+-- the finding is brought; there is none where nothing is asked by that name
+abbrev pub IsBrought : World → ℕ → World → List ℕ → Option FindingData → Type 0
+IsBrought w draft v text None = (v ≡ w) × (text ≡ refused_line (codes "NoQuestion"))
+IsBrought w draft v text (Some finding) = Answers w (event.Found draft finding) v text
+
+-- a draft is brought the finding on the task of that name at the present level of another
+abbrev pub IsFoundLine : World → ℕ → List ℕ → ℕ → World → List ℕ → Option Cause → Type 0
+IsFoundLine w draft name other v text (Some why) = (v ≡ w) × (text ≡ refused_line (cause_word why))
+IsFoundLine w draft name other v text None =
+    (finding : Option FindingData)
+    × IsQuestionOf (live_at w.drafts other) name (option_map (λ f. f.question) finding) × IsBrought w draft v text finding
+
+-- ---- all findings that a draft misses
+-- the draft was brought these findings, the last one first, each on the missing candidate of least rank
+abbrev pub IsBroughtAll : World → ℕ → List FindingData → World → Type 0
+IsBroughtAll w draft [] v = v ≡ w
+IsBroughtAll w draft (f ∷ findings) v =
+    (u : World) × (r : Reply) × IsBroughtAll w draft findings u × IsStanding (live_at u.drafts draft) (standing.Asking f.question)
+    × IsReply u (event.Found draft f) r × (v ≡ happens u (event.Found draft f) r)
+
+-- nothing is asked any more, and this is said
+abbrev pub IsSaid : Standing → List ℕ → Type 0
+IsSaid (standing.Asking question) text = ⊥
+IsSaid (standing.Tested infeasible) text = text ≡ tested_line infeasible.items
+IsSaid standing.NoSuchDraft text = text ≡ refused_line (cause_word cause.NoSuchDraft)
+IsSaid standing.Untestable text = text ≡ refused_line (cause_word cause.Untestable)
+
+abbrev pub IsTestLine : World → ℕ → World → List ℕ → Type 0
+IsTestLine w draft v text =
+    (findings : List FindingData) × (s : Standing)
+    × IsBroughtAll w draft findings v × IsStanding (live_at v.drafts draft) s × IsSaid s text
+
+-- ---- lines
+-- a row leads from one world to another, and this is printed
+abbrev pub IsPlayed : World → Row → World → List ℕ → Type 0
+IsPlayed w (Open team) v text = Answers w (event.Open team) v text
+IsPlayed w (Put draft sheet) v text = Answers w (event.Put draft sheet) v text
+IsPlayed w (Remove draft name) v text = Answers w (event.Remove draft name) v text
+IsPlayed w (Found draft name other) v text =
+    IsFoundLine w draft name other v text (first_cause (no_levels (live_at w.drafts draft)) (no_levels (live_at w.drafts other)))
+IsPlayed w (Test draft) v text = IsTestLine w draft v text
+IsPlayed w (Commit draft) v text = Answers w (event.Commit draft) v text
+IsPlayed w (Abandon draft) v text = Answers w (event.Abandon draft) v text
+
+-- lines, one after the other
+abbrev pub ArePlayed : World → List Line → World → List ℕ → Type 0
+ArePlayed w [] v text = (v ≡ w) × (text ≡ [])
+ArePlayed w (line ∷ lines) v text =
+    (u : World) × (first : List ℕ) × (rest : List ℕ)
+    × IsPlayed w line.row u first × ArePlayed u lines v rest × (text ≡ first ++ rest)
+
+-- the book: its version and the best order of its tasks
+abbrev pub IsBookText : Desk → List ℕ → Type 0
+IsBookText desk text = (levels : List LevelData) × IsBestOrder (set_of desk.tasks) levels × (text ≡ state_lines desk.version desk.tasks levels)
+
+-- all lines are played from an empty desk on, and then the book is printed
+abbrev pub PlaysAll : World → List Line → List ℕ → Type 0
+PlaysAll w lines text =
+    (v : World) × (played : List ℕ) × (book : List ℕ)
+    × ArePlayed w lines v played × IsBookText v.book.desk book × (text ≡ played ++ book)
+
+-- some of the lines are played, from the first on
+abbrev pub PlaysSome : World → List Line → List ℕ → Type 0
+PlaysSome w lines text =
+    (done : List Line) × (left : List Line) × (v : World) × (lines ≡ done ++ left) × ArePlayed w done v text

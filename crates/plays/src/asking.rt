@@ -1,0 +1,93 @@
+//! Findings on the questions of drafts.
+ghost use Rattle.std.specs.Prelude.{◌≡◌, IfOk, Option, option_map};
+ghost use Rattle.desk_core.specs.World.{live_at, Live};
+ghost use Rattle.desk_core.specs.Standings.{IsQuestionOf, IsStanding};
+ghost use Rattle.plays.specs.Plays.{first_cause, no_levels};
+ghost use Rattle.plays.specs.Testing.{IsTestedBy};
+
+use assignment::Finding;
+use desk_core::{Cause, Core, Event, Standing};
+use std::alloc::{AllocError, Global};
+use task_sheet::Name;
+
+// Why a draft has no levels, by where it stands.
+fn cause_of(standing: &Standing) -> Option<Cause>
+    ensures { (slot : Option Live) → IsStanding slot standing.now → result ≡ no_levels slot }
+{
+    match standing {
+        Standing::NoSuchDraft => Some(Cause::NoSuchDraft),
+        Standing::Untestable => Some(Cause::Untestable),
+        Standing::Asking { .. } => None,
+        Standing::Tested { .. } => None,
+    }
+}
+
+// The cause that is told of two drafts.
+fn first_cause(first: Option<Cause>, second: Option<Cause>) -> Option<Cause>
+    ensures { result ≡ first_cause first second }
+{
+    match first {
+        None => second,
+        Some(Cause::NoSuchDraft) => Some(Cause::NoSuchDraft),
+        Some(cause) => match second {
+            None => Some(cause),
+            Some(other) => Some(other),
+        },
+    }
+}
+
+/// Why no finding of one draft can be brought to another.
+pub(crate) fn why_not(
+    alloc: Global,
+    core: &mut Core,
+    draft: usize,
+    other: usize,
+) -> Result<Option<Cause>, AllocError>
+    ensures same { core.new ≡ core.old }
+    ensures ok { IfOk result (λ why. why ≡ first_cause (no_levels (live_at core.old.drafts draft)) (no_levels (live_at core.old.drafts other))) }
+{
+    let first = core.standing(alloc, draft)?;
+    let second = core.standing(alloc, other)?;
+    Ok(first_cause(cause_of(&first), cause_of(&second)))
+}
+
+/// The finding on the task of a name at a draft's present level.
+pub(crate) fn find(
+    alloc: Global,
+    core: &mut Core,
+    draft: usize,
+    name: Name,
+) -> Result<Option<Finding>, AllocError>
+    ensures same { core.new ≡ core.old }
+    ensures ok { IfOk result (λ finding. IsQuestionOf (live_at core.old.drafts draft) name (option_map (λ f. f.question) finding)) }
+{
+    let Some(question) = core.question(alloc, draft, name)? else {
+        return Ok(None);
+    };
+    match core.answer(alloc, draft, question) {
+        Ok(finding) => Ok(Some(finding)),
+        Err(_) => Err(AllocError),
+    }
+}
+
+/// Brings a draft the finding on the missing candidate of least rank, until none is asked for.
+pub(crate) fn bring_all(
+    alloc: Global,
+    core: &mut Core,
+    draft: usize,
+) -> Result<Standing, AllocError>
+    ensures { IfOk result (IsTestedBy core.old draft core.new) }
+{
+    loop {
+        let question = match core.standing(alloc, draft)? {
+            Standing::Asking { question } => question,
+            over => return Ok(over),
+        };
+        let Ok(finding) = core.answer(alloc, draft, question) else {
+            return Err(AllocError);
+        };
+        let Ok(_reply) = core.step(alloc, Event::Found { draft, finding }) else {
+            return Err(AllocError);
+        };
+    }
+}

@@ -1,0 +1,8 @@
+//! Playing a script: the core runs its lines one after the other, and each is answered by a printed line.
+#![tactic(auto)]
+
+mod asking;
+mod playing;
+mod printing;
+
+pub use playing::{PlayFault, play_lines};

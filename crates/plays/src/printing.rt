@@ -1,0 +1,208 @@
+//! The lines of replies, and of the book.
+ghost use Rattle.std.specs.Prelude.{◌≡◌, ◌++◌, OnOk, IfOk, slice_get, string_bytes};
+ghost use Rattle.task_sheet.specs.Sheet.{task_at};
+ghost use Rattle.drafts.specs.Applied.{set_of};
+ghost use Rattle.plays.specs.Printed.{cause_word, held_line, held_lines, holder, level_line, members_text, names_text, opened_line, printed, refusal_words, refused_line, ruling_line, state_lines, team_text, tested_line};
+ghost use Rattle.plays.specs.Plays.{IsBookText};
+ghost use Rattle.drafts.specs.Rulings.{ruling_of};
+
+use assignment::{LevelRecord, Obstruction};
+use desk_core::{Cause, Reply};
+use drafts::{Decision, NodeState, Refusal, Team};
+use std::alloc::{AllocError, Global};
+use task_sheet::{Name, TaskSet};
+
+// The name of a cause.
+fn cause_word(cause: Cause) -> &'static str
+    ensures { result.now ≡ cause_word cause }
+{
+    match cause {
+        Cause::NoSuchDraft => "NoSuchDraft",
+        Cause::NotYours => "NotYours",
+        Cause::NoSuchTask => "NoSuchTask",
+        Cause::DraftFull => "DraftFull",
+        Cause::Untestable => "Untestable",
+        Cause::Stranger => "Stranger",
+        Cause::Twice => "Twice",
+    }
+}
+
+/// The line of an event that is refused.
+pub(crate) fn refused_text(alloc: Global, cause: Cause) -> Result<String, AllocError>
+    ensures { IfOk result (λ text. string_bytes text ≡ refused_line (cause_word cause)) }
+{
+    let word = cause_word(cause);
+    format!(in alloc; "refused {word}\n")
+}
+
+/// The line of a verdict that is complete.
+pub(crate) fn tested_text(alloc: Global, names: &[Name]) -> Result<String, AllocError>
+    ensures { IfOk result (λ text. string_bytes text ≡ tested_line names.now) }
+{
+    if names.is_empty() {
+        return String::from_str(alloc, "tested admitted\n");
+    }
+    let mut text = String::from_str(alloc, "tested infeasible")?;
+    push_names(&mut text, names)?;
+    text.push_str("\n")?;
+    Ok(text)
+}
+
+// Each name after a space.
+fn push_names(text: &mut String, names: &[Name]) -> Result<(), AllocError>
+    ensures { OnOk result (string_bytes text.new ≡ string_bytes text.old ++ names_text names.now) }
+{
+    for name in names {
+        write!(text, " {name}")?;
+    }
+    Ok(())
+}
+
+// The name of the task at an index; nothing past the end of the set.
+fn push_name(text: &mut String, set: &TaskSet, task: usize) -> Result<(), AllocError>
+    ensures { OnOk result (string_bytes text.new ≡ string_bytes text.old ++ (task_at set.now task).name) }
+{
+    match set.get(task) {
+        Some(sheet) => {
+            let name = sheet.name();
+            write!(text, "{name}")
+        }
+        None => Ok(()),
+    }
+}
+
+// The names of an obstruction's members, each after a space.
+fn push_members(text: &mut String, obstruction: &Obstruction) -> Result<(), AllocError>
+    ensures { OnOk result (string_bytes text.new ≡ string_bytes text.old ++ members_text obstruction.now.set obstruction.now.members) }
+{
+    let set = obstruction.set();
+    for member in obstruction.members() {
+        text.push_str(" ")?;
+        push_name(text, set, member.task)?;
+    }
+    Ok(())
+}
+
+// The line of changes that are refused.
+fn refusal_text(alloc: Global, refusal: Refusal) -> Result<String, AllocError>
+    ensures { IfOk result (λ text. string_bytes text ≡ refused_line (refusal_words refusal)) }
+{
+    match refusal {
+        Refusal::NotYours { name } => format!(in alloc; "refused NotYours {name}\n"),
+        Refusal::NoSuchTask { name } => format!(in alloc; "refused NoSuchTask {name}\n"),
+        Refusal::TooManyTasks => String::from_str(alloc, "refused TooManyTasks\n"),
+    }
+}
+
+// The line of a decision.
+fn ruling_text(alloc: Global, decision: &Decision) -> Result<String, AllocError>
+    ensures { IfOk result (λ text. string_bytes text ≡ ruling_line (ruling_of decision.now)) }
+{
+    match decision {
+        Decision::Admitted { version } => format!(in alloc; "admitted {version}\n"),
+        Decision::Refused { refusal } => refusal_text(alloc, *refusal),
+        Decision::Infeasible { obstruction } => {
+            let mut text = String::from_str(alloc, "infeasible")?;
+            push_members(&mut text, obstruction)?;
+            text.push_str("\n")?;
+            Ok(text)
+        }
+    }
+}
+
+// The line of a draft that is opened.
+fn opened_text(alloc: Global, draft: usize, version: u64) -> Result<String, AllocError>
+    ensures { IfOk result (λ text. string_bytes text ≡ opened_line draft version) }
+{
+    let mut text = String::from_str(alloc, "draft ")?;
+    write!(text, "{draft}")?;
+    writeln!(text, " version {version}")?;
+    Ok(text)
+}
+
+// The line of a level that is decided.
+fn level_text(
+    alloc: Global,
+    level: usize,
+    name: Name,
+    response: u64,
+) -> Result<String, AllocError>
+    ensures { IfOk result (λ text. string_bytes text ≡ level_line level name response) }
+{
+    let mut text = String::from_str(alloc, "level ")?;
+    write!(text, "{level} ")?;
+    write!(text, "{name}")?;
+    writeln!(text, " {response}")?;
+    Ok(text)
+}
+
+/// The line of a reply.
+pub(crate) fn reply_text(alloc: Global, reply: &Reply) -> Result<String, AllocError>
+    ensures { IfOk result (λ text. string_bytes text ≡ printed reply.now) }
+{
+    match reply {
+        Reply::Opened { draft, version } => opened_text(alloc, *draft, *version),
+        Reply::Done => String::from_str(alloc, "ok\n"),
+        Reply::Taken => String::from_str(alloc, "taken\n"),
+        Reply::LevelDone {
+            level,
+            name,
+            response,
+        } => level_text(alloc, *level, *name, *response),
+        Reply::Tested { infeasible } => tested_text(alloc, infeasible),
+        Reply::Stale { version } => format!(in alloc; "stale {version}\n"),
+        Reply::Decided { entry, .. } => ruling_text(alloc, entry.decision()),
+        Reply::Refused { cause } => refused_text(alloc, *cause),
+    }
+}
+
+// The team that holds the name of the task at an index.
+fn holder_of(state: &NodeState, task: usize) -> Option<Team>
+    ensures { result ≡ holder state.now.tasks (slice_get (set_of state.now.tasks) task) }
+{
+    let sheet = state.set().get(task)?;
+    state.team_of(sheet.name())
+}
+
+// The number of a team, if there is one.
+fn push_team(text: &mut String, team: Option<Team>) -> Result<(), AllocError>
+    ensures { OnOk result (string_bytes text.new ≡ string_bytes text.old ++ team_text team) }
+{
+    match team {
+        Some(team) => {
+            let number = team.number();
+            write!(text, "{number}")
+        }
+        None => Ok(()),
+    }
+}
+
+// The line of a level of the book.
+fn push_level(
+    text: &mut String,
+    state: &NodeState,
+    number: usize,
+    level: &LevelRecord,
+) -> Result<(), AllocError>
+    ensures { OnOk result (string_bytes text.new ≡ string_bytes text.old ++ held_line state.now.tasks number level.now) }
+{
+    let response = level.response;
+    write!(text, "level {number} ")?;
+    push_name(text, state.set(), level.task)?;
+    text.push_str(" ")?;
+    push_team(text, holder_of(state, level.task))?;
+    writeln!(text, " {response}")
+}
+
+/// The lines of the book's present state.
+pub(crate) fn book_text(alloc: Global, state: &NodeState) -> Result<String, AllocError>
+    ensures { IfOk result (λ text. IsBookText state.now (string_bytes text)) }
+{
+    let version = state.version();
+    let levels = state.assignment().levels();
+    let mut text = format!(in alloc; "version {version}\n")?;
+    for (i, level) in levels.iter().enumerate() {
+        push_level(&mut text, state, i + 1, level)?;
+    }
+    Ok(text)
+}
