@@ -1,5 +1,5 @@
 -- Each lock of a set has a user, and so a ceiling in each order.
-use Rattle.std.proofs.Common.{◌≡◌, ◌≢◌, ℕ, zero, suc, ◌<◌, inl, inr, ◌⊎◌, Bool, true, false, ◌||◌, cond, List, [], ◌∷◌, ◌++◌, length, fold, flat_map, Option, Some, None, refl, sym, ◌∙◌, ap₂, arith}
+use Rattle.std.proofs.Common.{◌≡◌, ◌≢◌, ℕ, suc, ◌<◌, inl, inr, ◌⊎◌, Bool, true, false, ◌||◌, cond, List, [], ◌∷◌, ◌++◌, length, fold, flat_map, Option, Some, None, refl, sym, ◌∙◌, ap₂, arith}
 use Rattle.std.specs.List.{list_any}
 use Rattle.std.specs.Cmp.Lexicographic.{nat_list_eq_equiv}
 use Rattle.std.proofs.lemmas.Bool.{true≢false, both_ways, or_cases, or_left, or_right}
@@ -8,7 +8,7 @@ use Rattle.task_sheet.specs.Sheet.{CriticalSection, Task, same_bytes, task_at}
 use Rattle.task_sheet.specs.Locks.{uses, names_lock, ceiling_of}
 use Rattle.task_sheet.specs.Orders.{IsOrder}
 use Rattle.task_sheet.proofs.CeilingLaws.{ceiling-none}
-use Rattle.ceilings.specs.IsTableOf.{with_name, first_sights, names_in, locks_of}
+use Rattle.ceilings.specs.IsTableOf.{with_name, names_in, locks_of}
 
 module _ (lock : List ℕ) where
   abbrev Has : List (List ℕ) → Type 0

@@ -13,7 +13,6 @@ use Rattle.desk_cli.proofs.growth.print_tasks.Goals as goal
 pub returns-in-Err-clause-printed : goal.returns-in-Err-clause-printed
 returns-in-Err-clause-printed g c = λ sound.
     let said = c.loop-task.invariant.said in
-    let items = c.sheets-sheet-items.result.now in
     let lt : c.loop-task.task < length c.args.set.now = omega (arith, c.loop-task-test.true, ap (λ (xs : List Task). length xs) c.sheets-sheet-items.ensures.same) in
     (
       said.0 ++ refusal_line refusal.OutOfMemory,

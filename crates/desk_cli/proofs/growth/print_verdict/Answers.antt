@@ -1,10 +1,9 @@
-use Rattle.std.proofs.Common.{◌≡◌, ◌∙◌, ◌++◌, ℕ, List, Ok, Err, false, inl, inr, refl, sym, subst}
+use Rattle.std.proofs.Common.{◌∙◌, ◌++◌, ℕ, List, Ok, Err, false, inl, inr, refl, sym, subst}
 use Rattle.std.specs.Io.KnownBytes.{Appends}
 use Rattle.std.specs.Result.{is_err}
 use Rattle.std.proofs.KnownBytes.{Appends-trans}
 use Rattle.task_sheet.specs.Sheet.{Task}
 use Rattle.assignment.specs.Verdict.{set_of}
-use Rattle.desk_cli.specs.Admit.{verdict_status}
 use Rattle.desk_cli.specs.Headroom.{Lists, first_line}
 use Rattle.desk_cli.specs.Refusals.{refusal_line}
 use Rattle.desk_cli.specs.declared.refusal.Refusal.TheVariants as refusal

@@ -1,0 +1,68 @@
+-- The questions of a draft's test, and what a gate may do to them.
+use Rattle.std.specs.Prelude.{◌≡◌, ℕ, ◌<◌, List, length, Result, Ok, Err}
+use Rattle.task_sheet.specs.Sheet.{Task, task_at}
+use Rattle.task_sheet.specs.Verdicts.{VerdictData, Admitted, Infeasible, IsVerdictOf}
+use Rattle.assignment.specs.Questions.{QuestionData}
+use Rattle.candidate_workers.specs.Asked.{IsOfVerdict}
+use Rattle.candidate_workers.specs.Faults.{MayBeShut}
+use Rattle.candidate_workers.specs.declared.assaying.AssayFault.{AssayFault}
+use Rattle.candidate_workers.specs.declared.assaying.AssayFault.TheVariants as assay
+use Rattle.drafts.specs.declared.roster.Owned.{Owned}
+use Rattle.drafts.specs.declared.change.Refusal.{Refusal}
+use Rattle.drafts.specs.declared.judging.Judged.{Judged}
+use Rattle.drafts.specs.declared.judging.Judged.TheVariants as judged
+use Rattle.drafts.specs.Applied.{set_of}
+use Rattle.book_lock.specs.declared.commit.CommitCause.{CommitCause}
+use Rattle.book_lock.specs.declared.commit.CommitCause.TheVariants.{OtherTeam, BadWorkers, ThreadRefused, GateShut, OutOfMemory}
+
+-- no question of the set's verdict is one of these; a set has one verdict
+abbrev pub NoneShutOf : (QuestionData → Type 0) → List Task → Type 0
+NoneShutOf shut U = (verdict : VerdictData) → IsVerdictOf U verdict → (q : QuestionData) → IsOfVerdict U verdict q → shut q → ⊥
+
+-- where the changes apply, this holds of the set that they come to
+abbrev pub NoneShut : (QuestionData → Type 0) → Result (List Owned) Refusal → Type 0
+NoneShut shut (Err refusal) = Unit {0}
+NoneShut shut (Ok tasks) = NoneShutOf shut (set_of tasks)
+
+-- the verdict on a set
+abbrev pub IsJudgedSet : List Task → Judged → Type 0
+IsJudgedSet U (judged.Refused refusal) = ⊥
+IsJudgedSet U (judged.Best a) = (a.value.set ≡ U) × IsVerdictOf U (Admitted a.value.levels)
+IsJudgedSet U (judged.Stuck o) = (o.value.set ≡ U) × IsVerdictOf U (Infeasible o.value.members)
+
+-- a task of that name is on a question on this set that may be shut out
+pub record MayShutName (may : QuestionData → Type 0) (U : List Task) (name : List ℕ) : Type 0 where
+  pub task : ℕ
+  pub shut : MayBeShut may U task
+  pub named : (task_at U task).name ≡ name
+
+-- why a set wasn't tested
+abbrev pub IsUntestedSet : (QuestionData → Type 0) → List Task → CommitCause → Type 0
+IsUntestedSet may U OtherTeam = ⊥
+IsUntestedSet may U BadWorkers = ⊥
+IsUntestedSet may U ThreadRefused = Unit {0}
+IsUntestedSet may U (GateShut name) = MayShutName may U name
+IsUntestedSet may U OutOfMemory = Unit {0}
+
+-- why changes that come to this weren't tested
+abbrev pub IsUntested : (QuestionData → Type 0) → Result (List Owned) Refusal → CommitCause → Type 0
+IsUntested may outcome OtherTeam = ⊥
+IsUntested may outcome BadWorkers = ⊥
+IsUntested may outcome ThreadRefused = Unit {0}
+IsUntested may (Ok tasks) (GateShut name) = MayShutName may (set_of tasks) name
+IsUntested may (Err refusal) (GateShut name) = ⊥
+IsUntested may outcome OutOfMemory = Unit {0}
+
+-- the fault, if it names a task, names one of the set
+abbrev pub IsOnTask : List Task → AssayFault → Type 0
+IsOnTask U assay.BadWorkers = Unit {0}
+IsOnTask U assay.ThreadRefused = Unit {0}
+IsOnTask U (assay.GateShut task) = task < length U
+IsOnTask U assay.OutOfMemory = Unit {0}
+
+-- the fault of the test, with the task's name
+abbrev pub IsCauseOf : List Task → AssayFault → CommitCause → Type 0
+IsCauseOf U assay.BadWorkers cause = cause ≡ BadWorkers
+IsCauseOf U assay.ThreadRefused cause = cause ≡ ThreadRefused
+IsCauseOf U (assay.GateShut task) cause = cause ≡ GateShut (task_at U task).name
+IsCauseOf U assay.OutOfMemory cause = cause ≡ OutOfMemory

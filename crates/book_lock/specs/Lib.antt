@@ -1,0 +1,10 @@
+pub mod Own
+pub mod Foreign
+pub mod Passes
+pub mod PassFields
+pub mod LockedFields
+pub mod Settles
+pub mod Opening
+pub mod Closing
+pub mod Asking
+pub mod Commits

@@ -1,0 +1,55 @@
+-- What a pass knows, and how it goes on.
+use Rattle.std.specs.Prelude.{◌≡◌, ℕ, ◌+◌, ◌==◌, List, [], ◌∷◌, ◌++◌, Bool, true, false, ◌||◌, ◌&&◌, nat_le, zero, suc, if◌then◌else◌}
+use Rattle.task_sheet.specs.Sheet.{Task}
+use Rattle.book_lock.specs.Own.{own_changes}
+use Rattle.drafts.specs.Machine.{Ruling, Admitted, Refused, Infeasible, Entry}
+
+-- its team, the team's tasks by rank, and each decision with its place
+pub record Known : Type 0 where
+  pub team : ℕ
+  pub tasks : List Task
+  pub receipts : List (ℕ × Entry)
+
+-- a team's own tasks after a decision: these where it is admitted, and else those as they were
+abbrev pub own_after : Ruling → List Task → List Task → List Task
+own_after (Admitted version) changed own = changed
+own_after (Refused refusal) changed own = own
+own_after (Infeasible obstruction) changed own = own
+
+-- the pass after the decision at that place
+abbrev pub receiving : Known → ℕ → Entry → Known
+receiving p place l = record { team = p.team; tasks = own_after l.decision (own_changes l.changes p.tasks) p.tasks; receipts = p.receipts ++ (place, l) ∷ [] }
+
+abbrev pub version_in : Ruling → ℕ
+version_in (Admitted version) = version
+version_in (Refused refusal) = 0
+version_in (Infeasible obstruction) = 0
+
+-- no admitted receipt is of a later version
+abbrev pub is_up_to : ℕ → List (ℕ × Entry) → Bool
+is_up_to version [] = true
+is_up_to version (r ∷ rs) = nat_le (version_in r.1.decision) version && is_up_to version rs
+
+-- the lines of a team with their places, where the first has that place
+abbrev pub places_of : ℕ → ℕ → List Entry → List (ℕ × Entry)
+places_of team place [] = []
+places_of team place (l ∷ ls) =
+    if l.team == team then (place, l) ∷ places_of team (place + 1) ls else places_of team (place + 1) ls
+
+abbrev pub newcomer : ℕ → Known
+newcomer team = record { team = team; tasks = []; receipts = [] }
+
+-- so many passes of the teams from there on
+abbrev pub newcomers : ℕ → ℕ → List Known
+newcomers team zero = []
+newcomers team (suc n) = newcomer team ∷ newcomers (team + 1) n
+
+-- some pass is of that team
+abbrev pub has_team : ℕ → List Known → Bool
+has_team team [] = false
+has_team team (p ∷ ps) = (p.team == team) || has_team team ps
+
+-- the passes of that team have these lines with their places for receipts
+abbrev pub HaveReceipts : ℕ → List (ℕ × Entry) → List Known → Type 0
+HaveReceipts team all [] = Unit {0}
+HaveReceipts team all (p ∷ ps) = (p.team ≡ team → p.receipts ≡ all) × HaveReceipts team all ps

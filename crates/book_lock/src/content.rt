@@ -1,0 +1,87 @@
+//! Whether two lines of the log say the same.
+
+ghost use Rattle.std.specs.Prelude.{◌≡◌, ◌↔◌, IsTrue};
+ghost use Rattle.drafts.specs.Rulings.{ruling_of};
+
+use assignment::Obstruction;
+use drafts::{Change, Decision, Entry, Refusal};
+use task_sheet::Name;
+
+// Whether two changes are the same.
+fn is_same_change(first: &Change, second: &Change) -> bool
+    ensures { IsTrue result ↔ (first.now ≡ second.now) }
+{
+    match (first, second) {
+        (Change::Put(sheet), Change::Put(other)) => sheet == other,
+        (Change::Remove, Change::Remove) => true,
+        _ => false,
+    }
+}
+
+// Whether two changes are the same, of one name.
+fn is_same_named(first: &(Name, Change), second: &(Name, Change)) -> bool
+    ensures { IsTrue result ↔ (first.now ≡ second.now) }
+{
+    first.0 == second.0 && is_same_change(&first.1, &second.1)
+}
+
+// Whether two lists of changes are the same.
+fn are_same_changes(first: &[(Name, Change)], second: &[(Name, Change)]) -> bool
+    ensures { IsTrue result ↔ (first.now ≡ second.now) }
+{
+    if first.len() != second.len() {
+        return false;
+    }
+    for i in 0..first.len() {
+        if !is_same_named(&first[i], &second[i]) {
+            return false;
+        }
+    }
+    true
+}
+
+// Whether two refusals are the same.
+fn is_same_refusal(first: &Refusal, second: &Refusal) -> bool
+    ensures { IsTrue result ↔ (first.now ≡ second.now) }
+{
+    match (first, second) {
+        (Refusal::NotYours { name: a }, Refusal::NotYours { name: b }) => a == b,
+        (Refusal::NoSuchTask { name: a }, Refusal::NoSuchTask { name: b }) => a == b,
+        (Refusal::TooManyTasks, Refusal::TooManyTasks) => true,
+        _ => false,
+    }
+}
+
+// Whether two obstructions say the same: a set has one that is greatest.
+fn is_same_obstruction(first: &Obstruction, second: &Obstruction) -> bool
+    ensures { IsTrue result ↔ (first.now ≡ second.now) }
+{
+    let _ = first.set().sheets();
+    let _ = second.set();
+    first.set().is_same(second.set())
+}
+
+// Whether two decisions say the same.
+fn is_same_decision(first: &Decision, second: &Decision) -> bool
+    ensures { IsTrue result ↔ (ruling_of first.now ≡ ruling_of second.now) }
+{
+    match (first, second) {
+        (Decision::Admitted { version: a }, Decision::Admitted { version: b }) => a == b,
+        (Decision::Refused { refusal: a }, Decision::Refused { refusal: b }) => {
+            is_same_refusal(a, b)
+        }
+        (Decision::Infeasible { obstruction: a }, Decision::Infeasible { obstruction: b }) => {
+            is_same_obstruction(a, b)
+        }
+        _ => false,
+    }
+}
+
+// Whether two lines of the log say the same.
+pub(crate) fn is_same_entry(first: &Entry, second: &Entry) -> bool
+    ensures { IsTrue result ↔ (first.now ≡ second.now) }
+{
+    first.team().number() == second.team().number()
+        && are_same_changes(first.changes(), second.changes())
+        && is_same_decision(first.decision(), second.decision())
+}

@@ -1,0 +1,73 @@
+//! The desk.
+
+ghost use Rattle.std.specs.Prelude.{◌≡◌, ◌≤◌, IfOk, map};
+ghost use Rattle.book_lock.specs.Settles.{Answers, HoldsFor};
+ghost use Rattle.book_lock.specs.Opening.{IsOpenedFor};
+
+use crate::answer::{DeskFault, OpenFault, Outcome};
+use crate::locked::Locked;
+use crate::pass::Pass;
+use drafts::{Draft, HeldFault, Proposal};
+use std::alloc::Global;
+use std::marker::Model;
+use std::sync::ledger::Ledger;
+use std::sync::{Mutex, Wait};
+
+/// A book for several teams at once.
+#[derive(Drop)]
+pub struct Desk<L: Ledger> {
+    pub(crate) locked: Mutex<Locked<L>>,
+    pub(crate) teams: u64,
+}
+
+impl<L: Ledger> Model for Desk<L> {
+    ghost use Rattle.std.specs.Prelude.{ℕ, ◌≤◌};
+
+    ghost Value = { ℕ };
+
+    ghost view = { λ d. d.teams };
+
+    ghost invariant = { λ d. d.teams ≤ 8 };
+}
+
+impl<L: Ledger> Desk<L> {
+    /// A draft on the present state. Refused in this order: `Foreign`, `Behind`.
+    pub fn open(&self, rt: &impl Wait, alloc: Global, pass: &Pass<L>) -> Result<Draft, OpenFault>
+        ensures { IfOk result (λ draft. IsOpenedFor pass.now draft) }
+    {
+        let locked = self.locked.lock(rt);
+        locked.open(alloc, pass)
+    }
+
+    /// Settles a proposal by what it says. Refused in this order: `OtherTeam`, `Stranger`.
+    pub fn settle(
+        &self,
+        rt: &impl Wait,
+        alloc: Global,
+        pass: &mut Pass<L>,
+        proposal: Proposal,
+    ) -> Result<Outcome, DeskFault>
+        ensures { Answers proposal pass.old result pass.new }
+    {
+        if proposal.draft().team().number() != pass.team().number() {
+            return Err(DeskFault::OtherTeam { proposal });
+        }
+        let mut locked = self.locked.lock(rt);
+        locked.settle(alloc, pass, proposal)
+    }
+
+    // Decides on a draft on the present state, tested under the lock.
+    pub(crate) fn settle_held(
+        &self,
+        rt: &impl Wait,
+        alloc: Global,
+        pass: &mut Pass<L>,
+        draft: Draft,
+    ) -> Result<usize, HeldFault>
+        requires { draft.team ≡ pass.old.team }
+        ensures { HoldsFor draft pass.old result pass.new }
+    {
+        let mut locked = self.locked.lock(rt);
+        locked.settle_held(alloc, pass, draft)
+    }
+}

@@ -1,0 +1,109 @@
+//! Opening and closing desks.
+ghost use Rattle.std.specs.Prelude.{◌≡◌};
+
+use crate::desks::{Pair, committed, drafted, two_teams};
+use book_lock::{CloseCause, Desk, NewFault, Pass};
+use std::alloc::Global;
+use std::marker::Brand;
+use std::sync::Wait;
+use std::sync::ledger::{Blank, Ledger};
+use std::test::*;
+use std::thread::Threads;
+
+// Whether a desk for so many teams is refused.
+fn refused_on<L: Ledger>(alloc: Global, blank: Blank, teams: u64) -> bool
+    requires { (blank.name ≡ L.name) × (blank.parts ≡ L.parts) × (L.parts ≡ 8) }
+{
+    matches!(
+        Desk::<L>::new(alloc, blank, teams),
+        Err(NewFault::BadTeams { blank: _ })
+    )
+}
+
+fn refused(alloc: Global, teams: u64) -> bool {
+    refused_on::<Brand>(alloc, Blank::new(8), teams)
+}
+
+#[test]
+fn numbers_of_teams(rt: HostRuntime) -> Result<(), Fail> {
+    for (teams, bad) in [(0, true), (1, false), (8, false), (9, true)] {
+        assert_eq!(rt; refused(rt.alloc(), teams), bad);
+    }
+    Ok(())
+}
+
+// Team 1 commits once.
+fn commit_once<L: Ledger, R: Threads + Wait>(
+    rt: &R,
+    alloc: Global,
+    desk: &Desk<L>,
+    pass: &mut Pass<L>,
+) -> Result<(), Fail> {
+    let draft = drafted(rt, alloc, desk, pass, "a", 6000)?;
+    let _ = committed(rt, alloc, desk, pass, draft)?;
+    Ok(())
+}
+
+// The team that is missing with one pass alone; the desk and the passes come back.
+fn close_alone<L: Ledger>(
+    alloc: Global,
+    desk: Desk<L>,
+    pass: Pass<L>,
+) -> Result<(u64, Desk<L>, Vec<Pass<L>>), Fail> {
+    let mut passes = Vec::new(alloc);
+    if passes.push(pass).is_err() {
+        return Err("memory")?;
+    }
+    let Err(fault) = desk.close(passes) else {
+        return Err("a fault")?;
+    };
+    match fault.cause {
+        CloseCause::MissingPass { team } => Ok((team, fault.desk, fault.passes)),
+        CloseCause::ReceiptMismatch { team: _ } => Err("a missing pass")?,
+    }
+}
+
+// The length of the log, closed with one pass more.
+fn close_with<L: Ledger>(
+    desk: Desk<L>,
+    passes: Vec<Pass<L>>,
+    pass: Pass<L>,
+) -> Result<usize, Fail> {
+    let mut passes = passes;
+    if passes.push(pass).is_err() {
+        return Err("memory")?;
+    }
+    match desk.close(passes) {
+        Ok(closing) => Ok(closing.log.len()),
+        Err(_) => Err("a closed desk")?,
+    }
+}
+
+// A desk on which team 1 commits once: the team that is missing with its pass alone, and the length of the log with both.
+fn closed_on<L: Ledger, R: Threads + Wait>(
+    rt: &R,
+    alloc: Global,
+    blank: Blank,
+) -> Result<(u64, usize), Fail>
+    requires { (blank.name ≡ L.name) × (blank.parts ≡ L.parts) × (L.parts ≡ 8) }
+{
+    let Pair {
+        desk,
+        mut first,
+        second,
+    } = two_teams::<L>(alloc, blank)?;
+    commit_once(rt, alloc, &desk, &mut first)?;
+    let (team, desk, passes) = close_alone(alloc, desk, first)?;
+    Ok((team, close_with(desk, passes, second)?))
+}
+
+fn closed<R: Threads + Wait>(rt: &R, alloc: Global) -> Result<(u64, usize), Fail> {
+    closed_on::<Brand, R>(rt, alloc, Blank::new(8))
+}
+
+#[test]
+fn opening_and_closing(rt: HostRuntime) -> Result<(), Fail> {
+    let found = closed(&rt, rt.alloc())?;
+    assert!(rt; found == (2, 1));
+    Ok(())
+}

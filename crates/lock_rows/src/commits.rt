@@ -1,0 +1,216 @@
+//! What a commit refuses, a refused receipt, and a commit during an analysis.
+ghost use Rattle.std.specs.Prelude.{◌≡◌};
+
+use crate::desks::{Pair, closed, committed, drafted, said, two_teams};
+use crate::gates::{HoldingGate, ShutGate, wait_for};
+use book_lock::{CommitCause, Desk, Pass};
+use candidate_workers::OpenGate;
+use drafts::Draft;
+use std::alloc::Global;
+use std::marker::Brand;
+use std::sync::Wait;
+use std::sync::atomic::{AtomicBool, Ordering};
+use std::sync::ledger::{Blank, Ledger};
+use std::test::*;
+use std::thread;
+use std::thread::Threads;
+use task_sheet::Name;
+
+// Both teams put a, and team 1's commit comes first.
+fn commit_one_name<L: Ledger, R: Threads + Wait>(
+    rt: &R,
+    alloc: Global,
+    two: &mut Pair<L>,
+) -> Result<(), Fail> {
+    let first = drafted(rt, alloc, &two.desk, &two.first, "a", 1000)?;
+    let second = drafted(rt, alloc, &two.desk, &two.second, "a", 2000)?;
+    let _ = committed(rt, alloc, &two.desk, &mut two.first, first)?;
+    let _ = committed(rt, alloc, &two.desk, &mut two.second, second)?;
+    Ok(())
+}
+
+// What team 2's receipt says then, its count and the number of its tasks.
+fn refused_on<L: Ledger, R: Threads + Wait>(
+    rt: &R,
+    alloc: Global,
+    blank: Blank,
+) -> Result<((u64, u64), usize, usize), Fail>
+    requires { (blank.name ≡ L.name) × (blank.parts ≡ L.parts) × (L.parts ≡ 8) }
+{
+    let mut two = two_teams::<L>(alloc, blank)?;
+    commit_one_name(rt, alloc, &mut two)?;
+    let receipt = two.second.receipts().first().ok_or("a receipt")?;
+    Ok((
+        said(&receipt.entry),
+        two.second.count(),
+        two.second.tasks().len(),
+    ))
+}
+
+fn refused<R: Threads + Wait>(rt: &R, alloc: Global) -> Result<((u64, u64), usize, usize), Fail> {
+    refused_on::<Brand, R>(rt, alloc, Blank::new(8))
+}
+
+#[test]
+fn a_refused_receipt(rt: HostRuntime) -> Result<(), Fail> {
+    let found = refused(&rt, rt.alloc())?;
+    assert!(rt; found == ((2, 100), 1, 0));
+    Ok(())
+}
+
+// 4 where the name is a, else 0.
+fn shut_number(name: &Name) -> u64 {
+    if name.as_str() == "a" { 4 } else { 0 }
+}
+
+// A cause by its number in the order of refusals; 4 only where the gate shut out a.
+fn number_of(cause: &CommitCause) -> u64 {
+    match cause {
+        CommitCause::OtherTeam => 1,
+        CommitCause::BadWorkers => 2,
+        CommitCause::ThreadRefused => 3,
+        CommitCause::GateShut { name } => shut_number(name),
+        CommitCause::OutOfMemory => 5,
+    }
+}
+
+// Why a draft isn't decided, as a number; and the draft.
+fn cause_of<L: Ledger, R: Threads + Wait>(
+    rt: &R,
+    alloc: Global,
+    two: &mut Pair<L>,
+    draft: Draft,
+    workers: usize,
+    shut: bool,
+) -> Result<(u64, Draft), Fail> {
+    let pass = &mut two.second;
+    let answer = if shut {
+        two.desk.commit(rt, alloc, pass, draft, workers, &ShutGate)
+    } else {
+        two.desk.commit(rt, alloc, pass, draft, workers, &OpenGate)
+    };
+    match answer {
+        Ok(_) => Err("a fault")?,
+        Err(fault) => Ok((number_of(&fault.cause), fault.draft)),
+    }
+}
+
+// The causes of three commits that are refused, and how many changes the drafts that came back have.
+fn three_causes<L: Ledger, R: Threads + Wait>(
+    rt: &R,
+    alloc: Global,
+    two: &mut Pair<L>,
+) -> Result<((u64, u64, u64), usize), Fail> {
+    let other = drafted(rt, alloc, &two.desk, &two.first, "b", 6000)?;
+    let own = drafted(rt, alloc, &two.desk, &two.second, "a", 6000)?;
+    let (team, other) = cause_of(rt, alloc, two, other, 0, false)?;
+    let (workers, own) = cause_of(rt, alloc, two, own, 0, false)?;
+    let (shut, own) = cause_of(rt, alloc, two, own, 1, true)?;
+    Ok(((team, workers, shut), other.len() + own.len()))
+}
+
+// These, and the length of the log.
+fn causes_on<L: Ledger, R: Threads + Wait>(
+    rt: &R,
+    alloc: Global,
+    blank: Blank,
+) -> Result<((u64, u64, u64), usize, usize), Fail>
+    requires { (blank.name ≡ L.name) × (blank.parts ≡ L.parts) × (L.parts ≡ 8) }
+{
+    let mut two = two_teams::<L>(alloc, blank)?;
+    let (causes, changes) = three_causes(rt, alloc, &mut two)?;
+    Ok((causes, changes, closed(alloc, two)?.log.len()))
+}
+
+fn causes<R: Threads + Wait>(
+    rt: &R,
+    alloc: Global,
+) -> Result<((u64, u64, u64), usize, usize), Fail> {
+    causes_on::<Brand, R>(rt, alloc, Blank::new(8))
+}
+
+#[test]
+fn refusals_of_a_commit(rt: HostRuntime) -> Result<(), Fail> {
+    let found = causes(&rt, rt.alloc())?;
+    assert!(rt; found == ((1, 2, 4), 2, 0));
+    Ok(())
+}
+
+// Commits with a gate that holds each question; the place, 0 where there is none, and the pass.
+fn commit_held<L: Ledger, R: Threads + Wait>(
+    rt: &R,
+    alloc: Global,
+    desk: &Desk<L>,
+    mut pass: Pass<L>,
+    draft: Draft,
+    gate: &HoldingGate,
+) -> (usize, Pass<L>) {
+    let place = match desk.commit(rt, alloc, &mut pass, draft, 1, gate) {
+        Ok(place) => place,
+        Err(_) => 0,
+    };
+    (place, pass)
+}
+
+// Commits once a question has come to the other's gate, and lets it go on; the place, 0 where there is none, and the pass.
+fn commit_during<L: Ledger, R: Threads + Wait>(
+    rt: &R,
+    alloc: Global,
+    desk: &Desk<L>,
+    mut pass: Pass<L>,
+    draft: Draft,
+    gate: &HoldingGate,
+) -> (usize, Pass<L>) {
+    let came = wait_for(&gate.asked);
+    let place = match desk.commit(rt, alloc, &mut pass, draft, 1, &OpenGate) {
+        Ok(place) if came => place,
+        _ => 0,
+    };
+    gate.goes_on.store(true, Ordering::SeqCst);
+    (place, pass)
+}
+
+// The places of team 1 and of team 2, which commits while team 1's gate holds a question.
+fn during_on<L: Ledger + Send + Sync, R: Threads + Wait + Sync>(
+    rt: &R,
+    alloc: Global,
+    blank: Blank,
+) -> Result<(usize, usize), Fail>
+    requires { (blank.name ≡ L.name) × (blank.parts ≡ L.parts) × (L.parts ≡ 8) }
+{
+    let Pair {
+        desk,
+        first,
+        second,
+    } = two_teams::<L>(alloc, blank)?;
+    let one = drafted(rt, alloc, &desk, &first, "a", 4000)?;
+    let other = drafted(rt, alloc, &desk, &second, "b", 4000)?;
+    let gate = HoldingGate {
+        asked: AtomicBool::new(false),
+        goes_on: AtomicBool::new(false),
+    };
+    let (lent, held) = (&desk, &gate);
+    let ((first_place, first), (second_place, second)) = thread::join(
+        rt,
+        move || commit_held(rt, alloc, lent, first, one, held),
+        move || commit_during(rt, alloc, lent, second, other, held),
+    );
+    let two = Pair {
+        desk,
+        first,
+        second,
+    };
+    let _ = closed(alloc, two)?;
+    Ok((first_place, second_place))
+}
+
+fn during<R: Threads + Wait + Sync>(rt: &R, alloc: Global) -> Result<(usize, usize), Fail> {
+    during_on::<Brand, R>(rt, alloc, Blank::new(8))
+}
+
+#[test]
+fn a_commit_during_an_analysis(rt: HostRuntime) -> Result<(), Fail> {
+    let found = during(&rt, rt.alloc())?;
+    assert!(rt; found == (2, 1));
+    Ok(())
+}
