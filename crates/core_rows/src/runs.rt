@@ -56,7 +56,9 @@ fn said(rt: &impl Abort, replies: &[Reply], words: &[&str]) {
 
 #[test]
 fn a_run_answers_each_event(rt: HostRuntime) -> Result<(), Fail> {
-    let words = ["opened", "opened", "done", "done", "decided", "decided", "refused"];
+    let words = [
+        "opened", "opened", "done", "done", "decided", "decided", "refused",
+    ];
     for (cost, version) in [(4_000, 2), (6_000, 1)] {
         let (core, replies) = run(rt.alloc(), collision(rt.alloc(), cost)?)?;
         said(&rt, &replies, &words);

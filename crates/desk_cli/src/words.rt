@@ -96,7 +96,9 @@ const HEADROOM_ABOUT: &str =
 
 const SETTINGS_ABOUT: &str =
     "Prints the level of each thread and the ceiling of each mutex in the best order";
-const PLAY_ABOUT: &str = "Plays a script of drafts, findings and commits, and prints what each line comes to";
+
+const PLAY_ABOUT: &str =
+    "Plays a script of drafts, findings and commits, and prints what each line comes to";
 
 const SCRIPT_HELP: &str = "A script: a path, or - for standard input";
 

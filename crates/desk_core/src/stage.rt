@@ -24,7 +24,9 @@ pub enum Stage {
     /// No finding was brought yet.
     Fresh,
     /// Findings were brought.
-    Trying { trial: Trial },
+    Trying {
+        trial: Trial,
+    },
     /// The findings have completed the verdict, which shows these names.
     Complete {
         verdict: Verdict,

@@ -121,12 +121,7 @@ fn opened_text(alloc: Global, draft: usize, version: u64) -> Result<String, Allo
 }
 
 // The line of a level that is decided.
-fn level_text(
-    alloc: Global,
-    level: usize,
-    name: Name,
-    response: u64,
-) -> Result<String, AllocError>
+fn level_text(alloc: Global, level: usize, name: Name, response: u64) -> Result<String, AllocError>
     ensures { IfOk result (λ text. string_bytes text ≡ level_line level name response) }
 {
     let mut text = String::from_str(alloc, "level ")?;

@@ -9,11 +9,19 @@ use task_sheet::{Name, Sheet, SheetCause};
 #[derive(Drop)]
 pub enum Row {
     /// `open TEAM`: a team opens a draft.
-    Open { team: Team },
+    Open {
+        team: Team,
+    },
     /// `put DRAFT NAME WEIGHT PERIOD DEADLINE COST SECTION..`: a sheet is put into a draft.
-    Put { draft: usize, sheet: Sheet },
+    Put {
+        draft: usize,
+        sheet: Sheet,
+    },
     /// `remove DRAFT NAME`: a task is removed.
-    Remove { draft: usize, name: Name },
+    Remove {
+        draft: usize,
+        name: Name,
+    },
     /// `found DRAFT NAME`, `found DRAFT NAME OTHER`: a draft is brought the finding on a task at the present level of another
     /// draft, or of itself where no other is named.
     Found {
@@ -22,11 +30,17 @@ pub enum Row {
         other: usize,
     },
     /// `test DRAFT`: a draft is brought all findings that it misses.
-    Test { draft: usize },
+    Test {
+        draft: usize,
+    },
     /// `commit DRAFT`.
-    Commit { draft: usize },
+    Commit {
+        draft: usize,
+    },
     /// `abandon DRAFT`.
-    Abandon { draft: usize },
+    Abandon {
+        draft: usize,
+    },
 }
 
 /// A line that says something.

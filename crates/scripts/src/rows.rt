@@ -4,7 +4,9 @@ ghost use Rattle.scripts.specs.Gives.{Gives};
 ghost use Rattle.scripts.specs.Rows.{found_in, open_in, put_in, remove_in, row_in, row_of, sheet_in};
 ghost use Rattle.lines.specs.Words.{words};
 
-use crate::fields::{is_over, next, next_draft, next_name, next_number, only_draft, other_of, team_of};
+use crate::fields::{
+    is_over, next, next_draft, next_name, next_number, only_draft, other_of, team_of,
+};
 use crate::line::{Row, RowFault};
 use crate::sections::sections_of;
 use lines::Words;
@@ -78,12 +80,7 @@ fn is_word(text: &[u8], word: &[u8]) -> bool
 }
 
 // What a line of this first word says.
-fn row_of(
-    alloc: Global,
-    opened: usize,
-    word: &[u8],
-    words: &mut Words<'_>,
-) -> Result<Row, RowFault>
+fn row_of(alloc: Global, opened: usize, word: &[u8], words: &mut Words<'_>) -> Result<Row, RowFault>
     ensures { Gives (λ x. x) result (row_of opened word.now words.old) }
 {
     if is_word(word, b"open") {

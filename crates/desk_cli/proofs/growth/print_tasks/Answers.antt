@@ -13,12 +13,11 @@ use Rattle.desk_cli.proofs.growth.print_tasks.Goals as goal
 pub returns-in-Err-clause-printed : goal.returns-in-Err-clause-printed
 returns-in-Err-clause-printed g c = λ sound.
     let said = c.loop-task.invariant.said in
-    let lt : c.loop-task.task < length c.args.set.now = omega (arith, c.loop-task-test.true, ap (λ (xs : List Task). length xs) c.sheets-sheet-items.ensures.same) in
-    (
+    let lt : c.loop-task.task < length c.args.set.now = omega (arith, c.loop-task-test.true, ap (λ (xs : List Task). length xs) c.sheets-sheet-items.ensures.same) in (
       said.0 ++ refusal_line refusal.OutOfMemory,
       inr (c.loop-task.task, said.0, lt, said.1, refl, c.refuse.ensures.status sound),
       Appends-trans (g.W.Write.contents c.args.output.now.inner) (g.W.Write.contents c.loop-task.output.inner) (g.W.Write.contents c.refuse.new.output.inner)
-        said.0 (refusal_line refusal.OutOfMemory) said.2 (c.refuse.ensures.printed sound),
+          said.0 (refusal_line refusal.OutOfMemory) said.2 (c.refuse.ensures.printed sound),
     )
 
 pub loop-task-preserved : goal.loop-task-preserved
@@ -39,8 +38,8 @@ loop-task-preserved g c =
         said.0 ++ line,
         lines_more U k said.0 c.in-Ok.most t read said.1 c.in-Ok.ensures,
         Appends-trans (g.W.Write.contents c.args.output.now.inner) before after said.0 line said.2
-          (where_sound c.print_task.result (Appends before after line) sound c.print_task.ensures.printed),
+            (where_sound c.print_task.result (Appends before after line) sound c.print_task.ensures.printed),
       );
       same_flag = where_sound c.print_task.result (c.print_task.new.output.has_failed ≡ c.loop-task.output.has_failed) sound c.print_task.ensures.ok
-        ∙ c.loop-task.invariant.same_flag;
+          ∙ c.loop-task.invariant.same_flag;
     }

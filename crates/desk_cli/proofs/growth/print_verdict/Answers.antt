@@ -25,8 +25,7 @@ returns-clause-printed g c = λ sound.
     let written : Appends begun between c.as_bytes.result.now =
     where_sound c.write.result (Appends begun between c.as_bytes.result.now) (sym c.is_err.ensures.value ∙ c.if-is_err.false) c.write.ensures.written in
     let first : Appends begun between (first_line v) = subst (λ (text : List ℕ). Appends begun between text) (c.as_bytes.ensures.value ∙ c.in-Ok.ensures.first) written in
-    let of_set = subst (λ (U : List Task). Lists U c.status_of.result said.0 c.print_tasks.result) c.set.ensures.same said.1 in
-    (
+    let of_set = subst (λ (U : List Task). Lists U c.status_of.result said.0 c.print_tasks.result) c.set.ensures.same said.1 in (
       Ok v,
       first_line v ++ said.0,
       inl refl,

@@ -24,16 +24,16 @@ pub push_threads-requires : goal.push_threads-requires
 push_threads-requires c =
     let a = c.args.assignment.now in
     (short a.set c.set-set.result.now a.levels c.deref.result.now c.levels.ensures.best c.set-set.ensures.same c.in_ok-table.ensures.few
-      (c.deref.ensures.value ∙ c.in_ok-order.ensures ∙ ap order_of c.levels.ensures.same)).few
+    (c.deref.ensures.value ∙ c.in_ok-order.ensures ∙ ap order_of c.levels.ensures.same)).few
 
 pub push_mutexes-requires-clause-within : goal.push_mutexes-requires-clause-within
 push_mutexes-requires-clause-within c =
     let a = c.args.assignment.now in
     (short a.set c.set-set.result.now a.levels c.deref-2.result.now c.levels.ensures.best c.set-set.ensures.same c.in_ok-table.ensures.few
-      (c.deref-2.ensures.value ∙ c.in_ok-order.ensures ∙ ap order_of c.levels.ensures.same)).within
+    (c.deref-2.ensures.value ∙ c.in_ok-order.ensures ∙ ap order_of c.levels.ensures.same)).within
 
 pub push_mutexes-requires-clause-few : goal.push_mutexes-requires-clause-few
 push_mutexes-requires-clause-few c =
     let a = c.args.assignment.now in
     (short a.set c.set-set.result.now a.levels c.deref-2.result.now c.levels.ensures.best c.set-set.ensures.same c.in_ok-table.ensures.few
-      (c.deref-2.ensures.value ∙ c.in_ok-order.ensures ∙ ap order_of c.levels.ensures.same)).few
+    (c.deref-2.ensures.value ∙ c.in_ok-order.ensures ∙ ap order_of c.levels.ensures.same)).few
