@@ -58,7 +58,8 @@ fn document(tasks: &[Task]) -> String {
     text
 }
 
-// The least window that covers the demand of all these tasks, and one microsecond of blocking.
+// The least window that covers the demand of all these tasks, and one microsecond of blocking; past the longest deadline
+// the first demand that is there, since there may be no such window.
 fn busy(tasks: &[Task]) -> u64 {
     let mut time = 1;
     loop {
@@ -67,8 +68,8 @@ fn busy(tasks: &[Task]) -> u64 {
             .map(|t| u64::div_ceil(time, t.period) * t.cost)
             .sum::<u64>()
             + 1;
-        if next == time {
-            return time;
+        if next == time || next > 10_000_000 {
+            return next;
         }
         time = next;
     }
