@@ -43,7 +43,8 @@ fn finding_on(rt: &impl Abort, alloc: Global, level: &Level, task: usize) -> Res
     Ok(finding)
 }
 
-/// The level of a document's set where some tasks are gone, with the findings on some of the others, taken in this order.
+/// The level of a document's set where some tasks are gone, with the findings on some of the others, taken in this
+/// order.
 pub fn level_of(
     rt: &impl Abort,
     alloc: Global,
@@ -135,8 +136,8 @@ fn deliver(
     })
 }
 
-// A document, the tasks that are gone at its level, a candidate there, and what comes of the finding on it at the first level
-// of the three tasks, which has those on b and c.
+// A document, the tasks that are gone at its level, a candidate there, and what comes of the finding on it at the first
+// level of the three tasks, which has those on b and c.
 const DELIVERED: [(&str, &[usize], usize, &str); 5] = [
     (THREE_TASKS, &[], B, "twice"),
     (THREE_TASKS_TOO_TIGHT, &[], A, "stranger"),

@@ -1,4 +1,5 @@
-//! The worked examples of docs/EXAMPLES.md for the analysis, as tests: sheets, responses, verdicts, findings and the climb.
+//! The worked examples of docs/EXAMPLES.md for the analysis, as tests: sheets, responses, verdicts, findings and the
+//! climb.
 #![tactic(auto)]
 
 #[cfg(test)]

@@ -100,8 +100,8 @@ fn demand_in(
     Ok(demand(&set, &table, 0, above, time))
 }
 
-// A document, the tasks above its first, a window and the first task's demand in it: the exchange with equality, with y below x
-// and above it, and the demand of the deadline above the deadline.
+// A document, the tasks above its first, a window and the first task's demand in it: the exchange with equality, with y
+// below x and above it, and the demand of the deadline above the deadline.
 const DEMANDS: [(&str, &[usize], u64, u64); 7] = [
     (example_sets::EXCHANGE_WITH_EQUALITY, &[], 1, 3000),
     (example_sets::EXCHANGE_WITH_EQUALITY, &[], 20000, 3000),

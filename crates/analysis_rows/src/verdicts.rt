@@ -1,4 +1,5 @@
-//! Verdicts, whole: each level with its response and the chains of those of smaller rank, or each member with its chain.
+//! Verdicts, whole: each level with its response and the chains of those of smaller rank, or each member with its
+//! chain.
 use assignment::{Failure, LevelRecord, Verdict, assign};
 use example_sets::{name, set_of, shared_set};
 use std::alloc::{AllocError, Global};

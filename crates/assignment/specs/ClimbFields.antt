@@ -16,4 +16,5 @@ pub record IsKept (a : Inside) : Type 0 where
   pub valid : IsTaskSet a.set.value
   pub climbing : IsClimbing a.set.value a.left a.levels.items
   pub room : vec_len a.levels + len a.left ≤ vec_capacity a.levels
-  pub obstructed : MatchOption a.members (Unit {0}) (λ members. IsObstructed a.set.value (indexes_of a.left) members.items)
+  pub obstructed : MatchOption a.members (Unit {0})
+      (λ members. IsObstructed a.set.value (indexes_of a.left) members.items)

@@ -17,5 +17,6 @@ ClosesLevel old level new (Err (NotAll back)) = IsNext old level × (¬ IsDecide
 
 -- the verdict of the set, or the climb is handed back
 abbrev pub Finishes : ClimbState → Result Verdict Unfinished → Type 0
-Finishes climb (Ok verdict) = (¬ IsUnfinished climb) × (set_of verdict ≡ climb.set) × IsVerdictOf climb.set (verdict_of verdict)
+Finishes climb (Ok verdict) =
+    (¬ IsUnfinished climb) × (set_of verdict ≡ climb.set) × IsVerdictOf climb.set (verdict_of verdict)
 Finishes climb (Err fault) = IsUnfinished climb × (fault.climb ≡ climb)

@@ -9,8 +9,8 @@ use Rattle.task_sheet.specs.Levels.{IsChosen, NoneStands, left_after, AllChosen}
 use Rattle.task_sheet.specs.Verdicts.{LevelData, order_of, IsLevel, AllLevels}
 use Rattle.assignment.specs.Levels.{LevelState}
 
--- a set, its levels that are closed, from the lowest up, its tasks that are not yet placed, and whether none of these may stand
--- below the others
+-- a set, its levels that are closed, from the lowest up, its tasks that are not yet placed, and whether none of these
+-- may stand below the others
 pub record ClimbState : Type 0 where
   pub set : List Task
   pub levels : List LevelData
@@ -28,12 +28,22 @@ pub record IsPlaced (old new : ClimbState) : Type 0 where
   pub level : LevelData
   pub chosen : IsChosen old.set (indexes_of old.left) level.task
   pub right : IsLevel old.set (indexes_of old.left) level
-  pub after : new ≡ (let c : ClimbState = record { set = old.set; levels = old.levels ++ level ∷ []; left = remove old.left level.task; stuck = false } in c)
+  pub after : new ≡ (let c : ClimbState = record {
+    set = old.set;
+    levels = old.levels ++ level ∷ [];
+    left = remove old.left level.task;
+    stuck = false;
+  } in c)
 
 -- no task may stand at the level
 pub record IsEnded (old new : ClimbState) : Type 0 where
   pub none : NoneStands old.set (indexes_of old.left)
-  pub after : new ≡ (let c : ClimbState = record { set = old.set; levels = old.levels; left = old.left; stuck = true } in c)
+  pub after : new ≡ (let c : ClimbState = record {
+    set = old.set;
+    levels = old.levels;
+    left = old.left;
+    stuck = true;
+  } in c)
 
 -- tasks are left, and some of them may yet stand below the others
 pub record IsUnfinished (c : ClimbState) : Type 0 where

@@ -29,7 +29,7 @@ pub record IsAsked (l : LevelState) (q : QuestionData) : Type 0 where
 abbrev pub with_finding : LevelState → ℕ → LevelState
 with_finding l task = record { set = l.set; left = l.left; missing = remove l.missing task }
 
--- a candidate that has a finding, by which it may stand below the others, while each one of smaller rank has a finding too
+-- a candidate with a finding by which it may stand below the others, while each one of smaller rank has a finding too
 pub record IsLeastFound (l : LevelState) (i : ℕ) : Type 0 where
   pub candidate : IsTrue (contains l.left i)
   pub found : IsFalse (contains l.missing i)
@@ -63,9 +63,11 @@ pub record AreRight (U : List Task) (L : Indexes) (answers : List (Option Answer
 
 -- the candidates that have no answer
 abbrev pub AreMissing : FinSet nat_cmp → FinSet nat_cmp → List (Option Answer) → Type 0
-AreMissing left missing answers = (k : ℕ) → contains missing k ≡ (contains left k && not (is_some (slice_index_or answers k None)))
+AreMissing left missing answers =
+    (k : ℕ) → contains missing k ≡ (contains left k && not (is_some (slice_index_or answers k None)))
 
 -- the answers are enough: each candidate has one, but for those of greater rank than one that may stand
 abbrev pub IsEnough : List Task → Indexes → List (Option Answer) → Type 0
 IsEnough U L answers =
-    (k : ℕ) → IsTrue (L k) → ((j : ℕ) → j < k → IsTrue (L j) → ¬ Stands U j (without_index L j)) → IsSome (slice_index_or answers k None)
+    (k : ℕ) → IsTrue (L k) → ((j : ℕ) → j < k → IsTrue (L j) → ¬ Stands U j (without_index L j))
+    → IsSome (slice_index_or answers k None)

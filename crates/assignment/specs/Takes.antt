@@ -9,7 +9,8 @@ use Rattle.assignment.specs.declared.level.TakeFault.TheVariants.{Stranger, Twic
 -- taken, or refused, and then the level is unchanged and the finding is handed back
 abbrev pub IsTaken : LevelState → FindingData → LevelState → Result (Unit {0}) TakeFault → Type 0
 IsTaken old finding new (Ok done) =
-    IsAsked old finding.question × IsTrue (contains old.missing finding.question.task) × (new ≡ with_finding old finding.question.task)
+    IsAsked old finding.question × IsTrue (contains old.missing finding.question.task)
+    × (new ≡ with_finding old finding.question.task)
 IsTaken old finding new (Err (Stranger back)) = (¬ IsAsked old finding.question) × (back ≡ finding) × (new ≡ old)
 IsTaken old finding new (Err (Twice back)) =
     IsAsked old finding.question × IsFalse (contains old.missing finding.question.task) × (back ≡ finding) × (new ≡ old)

@@ -61,7 +61,8 @@ pub struct Unfinished {
 impl Climb {
     /// A climb with all tasks of the set left. The error is want of memory; nothing else of the climb takes memory.
     pub fn start(alloc: Global, set: Arc<TaskSet>) -> Result<Climb, AllocError>
-        ensures { IfOk result (λ climb. climb ≡ record { set = set.value; levels = []; left = all_below (length set.value); stuck = false }) }
+        ensures { IfOk result (λ climb. climb
+            ≡ record { set = set.value; levels = []; left = all_below (length set.value); stuck = false }) }
     {
         let left = Members::all(set.sheets().len());
         let levels = Vec::with_capacity(alloc, left.len())?;
@@ -89,10 +90,12 @@ impl Climb {
         &self.levels
     }
 
-    /// The members of the obstruction that was closed, by rank: the tasks that are left. None where no obstruction was closed.
+    /// The members of the obstruction that was closed, by rank: the tasks that are left. None where no obstruction was
+    /// closed.
     pub fn members(&self) -> Option<&[Failure]>
         ensures stuck { IfSome result (λ members. IsStuck self.now.set members.now) }
-        ensures rest { IfSome result (λ members. tasks_of members.now ≡ listed_below (length self.now.set) (indexes_of self.now.left)) }
+        ensures rest { IfSome result (λ members. tasks_of members.now
+            ≡ listed_below (length self.now.set) (indexes_of self.now.left)) }
         ensures some { is_some result ≡ self.now.stuck }
     {
         match &self.members {
@@ -113,7 +116,12 @@ impl Climb {
         requires chosen { IsChosen self.old.set (indexes_of self.old.left) level.task }
         requires level { IsLevel self.old.set (indexes_of self.old.left) level }
         requires goes_on { self.old.stuck ≡ false }
-        ensures { self.new ≡ record { set = self.old.set; levels = self.old.levels ++ level ∷ []; left = remove self.old.left level.task; stuck = false } }
+        ensures { self.new ≡ record {
+          set = self.old.set;
+          levels = self.old.levels ++ level ∷ [];
+          left = remove self.old.left level.task;
+          stuck = false;
+        } }
     {
         self.left = self.left.without(level.task);
         self.levels.push_reserved(level);
@@ -122,7 +130,8 @@ impl Climb {
     /// The next level, without findings. The error is want of memory.
     pub fn start_level(&self, alloc: Global) -> Result<Level, AllocError>
         requires { IsUnfinished self.now }
-        ensures { IfOk result (λ level. level ≡ record { set = self.now.set; left = self.now.left; missing = self.now.left }) }
+        ensures { IfOk result (λ level. level
+            ≡ record { set = self.now.set; left = self.now.left; missing = self.now.left }) }
     {
         Level::start(alloc, self.set.clone()?, self.left())
     }

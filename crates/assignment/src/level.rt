@@ -15,7 +15,8 @@ use std::marker::Model;
 use std::sync::Arc;
 use task_sheet::{Members, TaskSet};
 
-/// The findings on a level's candidates, which are the tasks that are left. Each candidate is asked with the others above it.
+/// The findings on a level's candidates, which are the tasks that are left. Each candidate is asked with the others
+/// above it.
 #[derive(Drop)]
 pub struct Level {
     set: Arc<TaskSet>,
@@ -133,8 +134,8 @@ fn gather(
 }
 
 impl Level {
-    /// A level whose candidates are the tasks that are left, without findings. The error is want of memory; nothing else of the
-    /// level takes memory.
+    /// A level whose candidates are the tasks that are left, without findings. The error is want of memory; nothing
+    /// else of the level takes memory.
     pub fn start(alloc: Global, set: Arc<TaskSet>, left: Members) -> Result<Level, AllocError>
         requires part { IsPart (indexes_of left) (all_of set.value) }
         requires some { 0 < len left }

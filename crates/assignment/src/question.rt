@@ -34,8 +34,8 @@ impl Model for Question {
     ghost invariant = { λ q. IsQuestion (record { set = q.set.value; above = q.above; task = q.task }) };
 }
 
-/// A question with its answer: the response in microseconds, or the full chain that shows that there is none within the deadline
-/// (Audsley et al. 1993).
+/// A question with its answer: the response in microseconds, or the full chain that shows that there is none within the
+/// deadline (Audsley et al. 1993).
 #[derive(Drop)]
 pub struct Finding {
     question: Question,
@@ -163,7 +163,8 @@ impl Finding {
 
     /// Whether the task may stand there: the answer is a response.
     pub fn passes(&self) -> bool
-        ensures { IsTrue result ↔ Stands self.now.question.set self.now.question.task (indexes_of self.now.question.above) }
+        ensures { IsTrue result
+            ↔ Stands self.now.question.set self.now.question.task (indexes_of self.now.question.above) }
     {
         lets_pass(&self.question, &self.answer)
     }

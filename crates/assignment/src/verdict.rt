@@ -58,7 +58,8 @@ impl Model for Assignment {
     ghost invariant = { λ a. IsBestOrder a.set.value a.levels.items };
 }
 
-/// The greatest set of tasks of which none passes below the others, each with its chain; the tasks outside it stand below.
+/// The greatest set of tasks of which none passes below the others, each with its chain; the tasks outside it stand
+/// below.
 #[derive(Drop)]
 pub struct Obstruction {
     set: Arc<TaskSet>,

@@ -17,7 +17,8 @@ with_name names name = if list_any (λ seen. same_bytes name seen) names then na
 abbrev pub first_sights : List (List ℕ) → List (List ℕ)
 first_sights names = fold with_name [] names
 
--- each name of a lock in a set, in the order in which they are written: tasks by rank, sections in order, locks as written
+-- each name of a lock in a set, in the order in which they are written: tasks by rank, sections in order,
+-- locks as written
 abbrev pub names_in : List Task → List (List ℕ)
 names_in U = flat_map (λ t. flat_map (λ s. s.locks) t.sections) U
 

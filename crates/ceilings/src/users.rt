@@ -78,7 +78,8 @@ impl LockUsers {
     /// The tasks that use a lock: none for a lock that nobody names.
     pub(crate) fn users(&self, lock: Name) -> Members
         ensures noted { result ≡ users_in self.now lock }
-        ensures uses { (U : List Task) → AreUsersOf U self.now → (k : ℕ) → indexes_of result k ≡ uses (task_at U k) lock }
+        ensures uses { (U : List Task) → AreUsersOf U self.now → (k : ℕ)
+            → indexes_of result k ≡ uses (task_at U k) lock }
     {
         match self.users.get(&lock) {
             Some(users) => *users,
@@ -97,7 +98,8 @@ impl LockUsers {
     /// The place of a lock in the order of first sight, from 0; none for a lock that nobody names.
     pub(crate) fn index_of(&self, lock: Name) -> Option<usize>
         ensures noted { result ≡ position (same_bytes lock) (locks_in self.now) }
-        ensures first_sight { (U : List Task) → AreUsersOf U self.now → result ≡ position (same_bytes lock) (locks_of U) }
+        ensures first_sight { (U : List Task) → AreUsersOf U self.now
+            → result ≡ position (same_bytes lock) (locks_of U) }
     {
         self.users.get_index_of(&lock)
     }
@@ -123,7 +125,8 @@ impl LockUsers {
     /// Whether some member uses one of the section's locks.
     pub(crate) fn reaches(&self, section: &Section, members: Members) -> bool
         ensures noted { result ≡ some_uses self.now members section.now.locks }
-        ensures reaches { (U : List Task) → AreUsersOf U self.now → result ≡ reaches U (indexes_of members) section.now }
+        ensures reaches { (U : List Task) → AreUsersOf U self.now
+            → result ≡ reaches U (indexes_of members) section.now }
     {
         self.some_uses(&section.locks, members)
     }

@@ -45,8 +45,8 @@ fn limit_of(set: &TaskSet, task: usize) -> u64
     set.sheets()[task].deadline()
 }
 
-/// The demand of a task in a window of `time` microseconds, with these above it: its cost, its blocking, and the cost of
-/// each job of these that is released within the window (Audsley et al. 1993). The table is that of the set.
+/// The demand of a task in a window of `time` microseconds, with these above it: its cost, its blocking, and the cost
+/// of each job of these that is released within the window (Audsley et al. 1993). The table is that of the set.
 pub fn demand(set: &TaskSet, table: &LockTable, task: usize, above: Members, time: u64) -> u64
     requires table { IsTableOf set.now table.now }
     requires task { task < length set.now }
@@ -87,9 +87,13 @@ pub fn respond(
 ) -> Result<Response, AllocError>
     requires table { IsTableOf set.now table.now }
     requires task { task < length set.now }
-    ensures answer { IfOk result (λ r. IsAnswer (demand_of set.now task (indexes_of above)) (limit_of (task_at set.now task)) r.answer) }
-    ensures evaluations { IfOk result (λ r. (trail : List ℕ) × IsTrail (demand_of set.now task (indexes_of above)) (limit_of (task_at set.now task)) trail × (r.evaluations ≡ length trail)) }
-    ensures bound { IfOk result (λ r. r.evaluations ≤ evaluation_bound set.now (indexes_of above) (limit_of (task_at set.now task))) }
+    ensures answer { IfOk result (λ r.
+        IsAnswer (demand_of set.now task (indexes_of above)) (limit_of (task_at set.now task)) r.answer) }
+    ensures evaluations { IfOk result (λ r. (trail : List ℕ)
+        × IsTrail (demand_of set.now task (indexes_of above)) (limit_of (task_at set.now task)) trail
+        × (r.evaluations ≡ length trail)) }
+    ensures bound { IfOk result (λ r.
+        r.evaluations ≤ evaluation_bound set.now (indexes_of above) (limit_of (task_at set.now task))) }
 {
     let mut work = Workload::new(set, table, task, above);
     let limit = limit_of(set, task);

@@ -190,8 +190,8 @@ impl Workload {
         (once, parts)
     }
 
-    /// A window below which none covers its demand. Each window has to hold what is executed once beside the parts of it
-    /// that the rest takes.
+    /// A window below which none covers its demand. Each window has to hold what is executed once beside the parts of
+    /// it that the rest takes.
     pub(crate) fn least_window(&self, split: u64) -> u64
         ensures { (time : ℕ) → 1 ≤ time → work_within time self.now ≤ time → result ≤ time }
     {
