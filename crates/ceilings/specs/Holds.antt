@@ -1,5 +1,5 @@
--- What sections hold: each lock of each section, with the users of the lock.
-use Rattle.std.specs.Prelude.{ℕ, Bool, ◌&&◌, not, List, length, if◌then◌else◌}
+-- What sections hold: each lock of each section of a task, with the users of the lock.
+use Rattle.std.specs.Prelude.{ℕ, Bool, List, length, if◌then◌else◌}
 use Rattle.std.specs.FinSet as set
 use Rattle.std.specs.Ordering.{nat_cmp}
 use Rattle.task_sheet.specs.Sheet.{Task, task_at}
@@ -7,24 +7,36 @@ use Rattle.task_sheet.specs.Indexes.{Indexes, indexes_of, meet, greatest_below}
 use Rattle.task_sheet.specs.Demand.{greatest_of, longest_reached}
 use Rattle.ceilings.specs.Table.{Table}
 
--- a section's hold of one lock: the section's task, the users of the lock, and the section's length
+-- a section's hold of one lock: the users of the lock, and the section's length
 pub record HoldData : Type 0 where
-  pub task : ℕ
   pub users : set.FinSet nat_cmp
   pub len : ℕ
 
--- the users of each lock, and the holds of all sections
-pub record TableData : Type 0 where
-  pub users : Table
+-- a task, and the holds of its sections
+pub record TaskHoldsData : Type 0 where
+  pub task : ℕ
   pub holds : List HoldData
 
--- the task of the section is no member, while some member uses the lock
-abbrev pub is_reached : set.FinSet nat_cmp → HoldData → Bool
-is_reached members h = not (indexes_of members h.task) && meet (indexes_of h.users) (indexes_of members)
+-- the users of each lock, and the holds of each task
+pub record TableData : Type 0 where
+  pub users : Table
+  pub holds : List TaskHoldsData
 
--- the length of the longest section that the members reach, by what the sections hold
-abbrev pub longest_held : List HoldData → set.FinSet nat_cmp → ℕ
-longest_held holds members = greatest_of (λ h. if is_reached members h then h.len else 0) holds
+-- some member uses the lock
+abbrev pub is_reached : set.FinSet nat_cmp → HoldData → Bool
+is_reached members h = meet (indexes_of h.users) (indexes_of members)
+
+-- the length of the longest section of one task that the members reach, by what its sections hold
+abbrev pub longest_of : List HoldData → set.FinSet nat_cmp → ℕ
+longest_of holds members = greatest_of (λ h. if is_reached members h then h.len else 0) holds
+
+-- the same of a task that is no member; 0 of a member
+abbrev pub longest_from : set.FinSet nat_cmp → TaskHoldsData → ℕ
+longest_from members t = if indexes_of members t.task then 0 else longest_of t.holds members
+
+-- the length of the longest section, of a task that is no member, that the members reach, by what the tasks hold
+abbrev pub longest_held : List TaskHoldsData → set.FinSet nat_cmp → ℕ
+longest_held tasks members = greatest_of (longest_from members) tasks
 
 -- the longest section, of a task outside X, that the tasks X reach; 0 if there is none
 abbrev pub longest_outside : List Task → Indexes → ℕ

@@ -13,18 +13,18 @@ ghost use Rattle.ceilings.specs.IsTableOf.{IsTableOf, locks_of};
 mod holds;
 mod users;
 
-use crate::holds::{Hold, holds_of, longest_held};
+use crate::holds::{TaskHolds, holds_of, longest_held};
 use crate::users::LockUsers;
 use std::alloc::{AllocError, Global};
 use std::marker::Model;
 use task_sheet::{Members, Name, Section, TaskSet};
 
-/// Each lock of a set, in the order of first sight, with the tasks that use it; and what each section holds. It is made
-/// once a set, and lent to each question.
+/// Each lock of a set, in the order of first sight, with the tasks that use it; and what the sections of each task
+/// hold. It is made once a set, and lent to each question.
 #[derive(Drop)]
 pub struct LockTable {
     users: LockUsers,
-    holds: Vec<Hold>,
+    holds: Vec<TaskHolds>,
 }
 
 impl Model for LockTable {

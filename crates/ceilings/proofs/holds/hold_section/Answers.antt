@@ -1,9 +1,9 @@
-use Rattle.std.proofs.Common.{◌≡◌, take, [], ◌∷◌, ◌++◌, max, cond, not, ◌&&◌, ap, ◌∙◌}
+use Rattle.std.proofs.Common.{◌≡◌, take, [], ◌∷◌, ◌++◌, max, cond, ap, ◌∙◌}
 use Rattle.std.proofs.lemmas.List.{take_all}
 use Rattle.task_sheet.specs.Indexes.{indexes_of, meet}
 use Rattle.ceilings.specs.Table.{users_in, some_uses}
-use Rattle.ceilings.specs.Holds.{HoldData, longest_held}
-use Rattle.ceilings.proofs.HoldLaws.{hold_of, hold_is, held-push, some_uses-more, lock-more}
+use Rattle.ceilings.specs.Holds.{HoldData, longest_of}
+use Rattle.ceilings.proofs.HoldLaws.{hold_of, hold_is, hold-push, some_uses-more, lock-more}
 use Rattle.ceilings.proofs.Reached.{reached}
 use Rattle.ceilings.proofs.holds.hold_section.Goals as goal
 
@@ -16,13 +16,13 @@ loop-lock-preserved c = λ members.
     let holds = c.loop-lock.holds.items in
     let users = users_in table lock in
     let len = c.args.section.now.len in
-    let same = hold_is c.args.index c.users.result users c.section.inside.len len c.users.ensures.noted (ap (λ s. s.len) c.section.view_is) in
-    let pushed : c.push.new.self.items ≡ holds ++ hold_of c.args.index users len ∷ [] = c.in_ok-push.ensures.items ∙ ap (λ (h : HoldData). holds ++ h ∷ []) same in
-    let next : longest_held c.push.new.self.items members ≡ max (longest_held holds members) (cond (not (indexes_of members c.args.index) && meet (indexes_of users) (indexes_of members)) len 0) =
-    ap (λ hs. longest_held hs members) pushed ∙ held-push holds (hold_of c.args.index users len) members in
+    let same = hold_is c.users.result users c.section.inside.len len c.users.ensures.noted (ap (λ s. s.len) c.section.view_is) in
+    let pushed : c.push.new.self.items ≡ holds ++ hold_of users len ∷ [] = c.in_ok-push.ensures.items ∙ ap (λ (h : HoldData). holds ++ h ∷ []) same in
+    let next : longest_of c.push.new.self.items members ≡ max (longest_of holds members) (cond (meet (indexes_of users) (indexes_of members)) len 0) =
+    ap (λ hs. longest_of hs members) pushed ∙ hold-push holds (hold_of users len) members in
     rw (some_uses-more table members locks place lock c.loop-lock-test.true c.lock-item.is)
-    (lock-more (indexes_of members c.args.index) (some_uses table members (take place locks)) (meet (indexes_of users) (indexes_of members)) len (longest_held c.args.holds.now.items members)
-    (longest_held holds members) (longest_held c.push.new.self.items members) (c.loop-lock.invariant members) next)
+    (lock-more (some_uses table members (take place locks)) (meet (indexes_of users) (indexes_of members)) len (longest_of c.args.holds.now.items members)
+    (longest_of holds members) (longest_of c.push.new.self.items members) (c.loop-lock.invariant members) next)
 
 pub returns : goal.returns
 returns c = λ U table members.

@@ -1,11 +1,10 @@
 use Rattle.std.proofs.Common.{◌≡◌, max, take, if◌then◌else◌}
 use Rattle.std.specs.Ordering.{nat_cmp}
 use Rattle.std.specs.FinSet.{FinSet}
-use Rattle.task_sheet.specs.Indexes.{indexes_of}
 use Rattle.ceilings.specs.Table.{some_uses}
-use Rattle.ceilings.specs.Holds.{longest_held}
+use Rattle.ceilings.specs.Holds.{longest_of}
 use Rattle.ceilings.proofs.holds.hold_section.Given as goal
 
 abbrev pub invariant-loop-lock : goal.invariant-loop-lock
-invariant-loop-lock l = (members : FinSet nat_cmp) → longest_held l.holds.items members
-    ≡ max (longest_held l.fn.holds.items members) (if indexes_of members l.index then 0 else if some_uses l.users members (take l.lock-index l.lock-items) then l.section.len else 0)
+invariant-loop-lock l = (members : FinSet nat_cmp) → longest_of l.holds.items members
+    ≡ max (longest_of l.fn.holds.items members) (if some_uses l.users members (take l.lock-index l.lock-items) then l.section.len else 0)

@@ -2,14 +2,14 @@ use Rattle.std.proofs.Common.{cond}
 use Rattle.std.proofs.lemmas.List.{take_all}
 use Rattle.task_sheet.specs.Indexes.{indexes_of}
 use Rattle.task_sheet.specs.Locks.{reaches}
-use Rattle.ceilings.specs.Holds.{longest_held}
-use Rattle.ceilings.proofs.HoldLaws.{section-more}
+use Rattle.ceilings.specs.Holds.{longest_of}
+use Rattle.ceilings.proofs.HoldLaws.{greatest-next}
 use Rattle.ceilings.proofs.holds.hold_task.Goals as goal
 
 pub loop-section-preserved : goal.loop-section-preserved
 loop-section-preserved c = λ U table members.
-    section-more (λ s. cond (reaches U (indexes_of members) s) s.len 0) c.sections-section-items.result.now c.loop-section.section-index c.section-item.result (indexes_of members c.args.index)
-    (longest_held c.args.holds.now.items members) (longest_held c.loop-section.holds.items members) (longest_held c.hold_section.new.holds.items members)
+    greatest-next (λ s. cond (reaches U (indexes_of members) s) s.len 0) c.sections-section-items.result.now c.loop-section.section-index c.section-item.result
+    (longest_of c.loop-section.holds.items members) (longest_of c.hold_section.new.holds.items members)
     c.loop-section-test.true c.section-item.is (c.loop-section.invariant U table members) (c.in_ok-hold_section.ensures U table members)
 
 pub returns : goal.returns
