@@ -1,13 +1,14 @@
--- Lists of changes: how long they are, and their copies.
+-- Lists of changes: how long they are, that puts stay on their sheets' names, and their copies.
 use Rattle.std.proofs.Common.{◌≡◌, ℕ, zero, suc, ◌+◌, ◌≤◌, inl, inr, true, false, is_some, List, [], ◌∷◌, length, take, slice_get, Some, refl, sym, ◌∙◌, ap, subst, arith}
 use Rattle.std.specs.List.{AllByRecursion, IsDistinct}
 use Rattle.std.specs.Map.{keys_of}
 use Rattle.std.specs.Cmp.Lexicographic.{nat_list_eq_equiv}
 use Rattle.std.proofs.lemmas.Bool.{cases_Bool, both_ways}
 use Rattle.std.proofs.lemmas.Bool.Decides.{nat_tests}
+use Rattle.std.proofs.lemmas.Slice.Eq.{bytes_eq-Decides}
 use Rattle.task_sheet.specs.Sheet.{same_bytes}
 use Rattle.drafts.specs.declared.change.Change.{Change}
-use Rattle.drafts.specs.Changes.{change_on, recorded, is_full}
+use Rattle.drafts.specs.Changes.{IsNamed, AreNamed, change_on, recorded, dropped, is_full}
 
 recorded-length : (name : List ℕ) (change : Change) (cs : List (List ℕ × Change)) → length (recorded name change cs) ≤ length cs + 1
 recorded-length name change [] = omega arith
@@ -27,6 +28,32 @@ pub recorded-few : (name : List ℕ) (change : Change) (cs : List (List ℕ × C
 recorded-few name change cs room few = elim (cases_Bool (is_some (change_on name cs))) [
   | inl there ↦ omega (arith, recorded-there name change cs there)
   | inr gone ↦ let short : length cs + 1 ≤ 64 = grind (arith, nat_tests) in omega (arith, recorded-length name change cs)
+]
+
+dropped-length : (name : List ℕ) (cs : List (List ℕ × Change)) → length (dropped name cs) ≤ length cs
+dropped-length name [] = omega arith
+dropped-length name (c ∷ cs) = elim (cases_Bool (same_bytes name c.0)) [
+  | inl same ↦ rw same (omega arith)
+  | inr other ↦ rw other (omega (arith, dropped-length name cs))
+]
+
+pub dropped-few : (name : List ℕ) (cs : List (List ℕ × Change)) → length cs ≤ 64 → length (dropped name cs) ≤ 64
+dropped-few name cs few = omega (arith, dropped-length name cs, few)
+
+-- ---- puts on their sheets' names
+
+pub recorded-named : (name : List ℕ) (change : Change) (cs : List (List ℕ × Change)) → IsNamed name change → AreNamed cs → AreNamed (recorded name change cs)
+recorded-named name change [] one all = (one, tt)
+recorded-named name change (c ∷ cs) one all = elim (cases_Bool (same_bytes name c.0)) [
+  | inl same ↦ rw same (subst (λ n. IsNamed n change) ((bytes_eq-Decides name c.0).0 same) one, all.1)
+  | inr other ↦ rw other (all.0, recorded-named name change cs one all.1)
+]
+
+pub dropped-named : (name : List ℕ) (cs : List (List ℕ × Change)) → AreNamed cs → AreNamed (dropped name cs)
+dropped-named name [] all = tt
+dropped-named name (c ∷ cs) all = elim (cases_Bool (same_bytes name c.0)) [
+  | inl same ↦ rw same (all.1)
+  | inr other ↦ rw other (all.0, dropped-named name cs all.1)
 ]
 
 -- ---- a copy, change by change

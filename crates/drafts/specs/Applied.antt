@@ -69,7 +69,8 @@ teams_of tasks = map (λ o. o.team) tasks
 abbrev pub if_few : List Owned → Result (List Owned) Refusal
 if_few tasks = if nat_le (length tasks) 32 then Ok tasks else Err TooManyTasks
 
-abbrev pub then_on : Result (List Owned) Refusal → (List Owned → Result (List Owned) Refusal) → Result (List Owned) Refusal
+abbrev pub then_on : Result (List Owned) Refusal → (List Owned → Result (List Owned) Refusal)
+    → Result (List Owned) Refusal
 then_on (Err refusal) f = Err refusal
 then_on (Ok tasks) f = f tasks
 

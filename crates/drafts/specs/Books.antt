@@ -16,4 +16,6 @@ logged b e = record { desk = after_entry b.desk e; log = b.log ++ e ∷ [] }
 
 -- the entry is the next one, with the machine's decision on the draft's changes
 abbrev pub IsNextEntry : Book → Draft → ℕ → Entry → Type 0
-IsNextEntry b d place e = (place ≡ length b.log + 1) × (e.team ≡ d.team) × (e.changes ≡ d.changes) × IsDecision b.desk d.team d.changes e.decision
+IsNextEntry b d place e =
+    (place ≡ length b.log + 1) × (e.team ≡ d.team) × (e.changes ≡ d.changes)
+    × IsDecision b.desk d.team d.changes e.decision

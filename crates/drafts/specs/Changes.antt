@@ -1,7 +1,8 @@
 -- What a draft shows, and what its edits make of its list of changes.
-use Rattle.std.specs.Prelude.{ℕ, Bool, ◌&&◌, not, nat_le, List, length, Option, None, Some, is_some, Result, Ok, Err, if◌then◌else◌}
+use Rattle.std.specs.Prelude.{◌≡◌, ℕ, Bool, ◌&&◌, not, nat_le, List, length, Option, None, Some, is_some, Result, Ok, Err, if◌then◌else◌}
 use Rattle.task_sheet.specs.Sheet.{Task, same_bytes}
-use Rattle.std.specs.Map.{lookup, remove_entry}
+use Rattle.std.specs.List.{AllByRecursion, IsDistinct}
+use Rattle.std.specs.Map.{keys_of, lookup, remove_entry}
 use Rattle.indexmap.specs.IndexMap.{insert_entry}
 use Rattle.drafts.specs.declared.roster.Owned.{Owned}
 use Rattle.drafts.specs.declared.change.Change.{Change}
@@ -17,6 +18,19 @@ pub record Draft : Type 0 where
   pub team : ℕ
   pub base : Desk
   pub changes : List (List ℕ × Change)
+
+-- no two changes are on one name
+abbrev pub HaveDistinctNames : List (List ℕ × Change) → Type 0
+HaveDistinctNames changes = IsDistinct same_bytes (keys_of changes)
+
+-- a put on that name is of a sheet of that name
+abbrev pub IsNamed : List ℕ → Change → Type 0
+IsNamed name (Put sheet) = sheet.name ≡ name
+IsNamed name Remove = Unit {0}
+
+-- each put is on its sheet's own name
+abbrev pub AreNamed : List (List ℕ × Change) → Type 0
+AreNamed changes = AllByRecursion (λ c. IsNamed c.0 c.1) changes
 
 -- what the changes come to on the state that they were made on
 abbrev pub on_base : Draft → Result (List Owned) Refusal

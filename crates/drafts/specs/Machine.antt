@@ -33,7 +33,8 @@ abbrev pub IsAnswer : ℕ → Result (List Owned) Refusal → Ruling → Type 0
 IsAnswer version (Err refusal) (Refused told) = told ≡ refusal
 IsAnswer version (Ok tasks) (Admitted told) = IsFeasible (set_of tasks) × (told ≡ version + 1)
 IsAnswer version (Ok tasks) (Infeasible o) =
-    (¬ IsFeasible (set_of tasks)) × (o.set ≡ set_of tasks) × verdict.IsVerdictOf (set_of tasks) (verdict.Infeasible o.members)
+    (¬ IsFeasible (set_of tasks)) × (o.set ≡ set_of tasks)
+    × verdict.IsVerdictOf (set_of tasks) (verdict.Infeasible o.members)
 IsAnswer version (Err refusal) (Infeasible o) = ⊥
 IsAnswer version (Err refusal) (Admitted told) = ⊥
 IsAnswer version (Ok tasks) (Refused told) = ⊥

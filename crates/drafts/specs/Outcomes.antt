@@ -18,15 +18,19 @@ use Rattle.drafts.specs.Changes.{Draft}
 -- the changes are refused, or come to these tasks with their teams
 abbrev pub IsApplied : Result (List Owned) Refusal → Applied → Type 0
 IsApplied (Err refusal) (Refused told) = told ≡ refusal
-IsApplied (Ok tasks) (Tasks set teams) = (owned_of set.value teams.items ≡ tasks) × (set.value ≡ set_of tasks) × (length teams.items ≡ length set.value)
+IsApplied (Ok tasks) (Tasks set teams) =
+    (owned_of set.value teams.items ≡ tasks) × (set.value ≡ set_of tasks)
+    × (length teams.items ≡ length set.value)
 IsApplied (Err refusal) (Tasks set teams) = ⊥
 IsApplied (Ok tasks) (Refused told) = ⊥
 
 -- the refusal, or the verdict on the set that the changes come to
 abbrev pub IsJudged : Result (List Owned) Refusal → Judged → Type 0
 IsJudged (Err refusal) (judged.Refused told) = told ≡ refusal
-IsJudged (Ok tasks) (judged.Best a) = (a.value.set ≡ set_of tasks) × IsVerdictOf (set_of tasks) (Admitted a.value.levels)
-IsJudged (Ok tasks) (judged.Stuck o) = (o.value.set ≡ set_of tasks) × IsVerdictOf (set_of tasks) (Infeasible o.value.members)
+IsJudged (Ok tasks) (judged.Best a) =
+    (a.value.set ≡ set_of tasks) × IsVerdictOf (set_of tasks) (Admitted a.value.levels)
+IsJudged (Ok tasks) (judged.Stuck o) =
+    (o.value.set ≡ set_of tasks) × IsVerdictOf (set_of tasks) (Infeasible o.value.members)
 IsJudged (Err refusal) (judged.Best a) = ⊥
 IsJudged (Err refusal) (judged.Stuck o) = ⊥
 IsJudged (Ok tasks) (judged.Refused told) = ⊥

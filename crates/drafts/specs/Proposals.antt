@@ -14,8 +14,11 @@ pub record ProposalData : Type 0 where
 abbrev pub IsProposal : ProposalData → Type 0
 IsProposal p = IsJudged (on_base p.draft) p.judged
 
+-- what was judged is what the changes come to on the present state
+abbrev pub StillHolds : Book → ProposalData → Type 0
+StillHolds b p = IsJudged (applied p.draft.team b.desk.tasks p.draft.changes) p.judged
+
 -- its base is above the present version, or equal while the changes come to something else on the present state
 abbrev pub IsStrange : Book → ProposalData → Type 0
 IsStrange b p =
-    (b.desk.version < p.draft.base.version)
-    ⊎ ((p.draft.base.version ≡ b.desk.version) × (¬ IsJudged (applied p.draft.team b.desk.tasks p.draft.changes) p.judged))
+    (b.desk.version < p.draft.base.version) ⊎ ((p.draft.base.version ≡ b.desk.version) × (¬ StillHolds b p))

@@ -9,7 +9,10 @@ use Rattle.drafts.specs.Proposals.{ProposalData, IsStrange}
 
 -- stale where the present version is above the base; a stranger is handed back; else one machine step, logged
 abbrev pub IsSettled : Book → ProposalData → Book → Result Settled SettleFault → Type 0
-IsSettled old p new (Ok (Stale fresh back)) = (p.draft.base.version < old.desk.version) × (fresh.value ≡ old.desk) × (back ≡ p) × (new ≡ old)
-IsSettled old p new (Ok (Decided place entry)) = (p.draft.base.version ≡ old.desk.version) × IsNextEntry old p.draft place entry.value × (new ≡ logged old entry.value)
+IsSettled old p new (Ok (Stale fresh back)) =
+    (p.draft.base.version < old.desk.version) × (fresh.value ≡ old.desk) × (back ≡ p) × (new ≡ old)
+IsSettled old p new (Ok (Decided place entry)) =
+    (p.draft.base.version ≡ old.desk.version) × IsNextEntry old p.draft place entry.value
+    × (new ≡ logged old entry.value)
 IsSettled old p new (Err (Stranger back)) = IsStrange old p × (back ≡ p) × (new ≡ old)
 IsSettled old p new (Err (OutOfMemory back)) = (back ≡ p) × (new ≡ old)

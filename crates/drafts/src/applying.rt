@@ -34,7 +34,8 @@ fn put(
 ) -> Result<Option<Refusal>, AllocError>
     requires { IsRoster tasks.old.items }
     ensures roster { IsRoster tasks.new.items }
-    ensures ok { IfOk result (IsMade (after_change team tasks.old.items sheet.now.name (Change.Put sheet.now)) tasks.new.items) }
+    ensures ok { let outcome = after_change team tasks.old.items sheet.now.name (Change.Put sheet.now) in
+        IfOk result (IsMade outcome tasks.new.items) }
 {
     let name = sheet.name();
     if is_foreign(tasks, team, name) {

@@ -163,7 +163,8 @@ impl Book {
     ) -> Result<Option<Arc<NodeState>>, AllocError>
         requires judged { IsJudged (applied draft.now.team self.now.desk.tasks draft.now.changes) judged.now }
         requires room { self.now.desk.version + 1 < 2 ^ 64 }
-        ensures { IfOk result (λ next. IsNextState self.now.desk (applied draft.now.team self.now.desk.tasks draft.now.changes) judged.now (option_map (λ s. s.value) next)) }
+        ensures { let outcome = applied draft.now.team self.now.desk.tasks draft.now.changes in
+            IfOk result (λ next. IsNextState self.now.desk outcome judged.now (option_map (λ s. s.value) next)) }
     {
         match judged {
             Judged::Refused { refusal: _ } => Ok(None),
@@ -184,7 +185,7 @@ impl Book {
         }
     }
 
-    /// Logs the decision on a draft's changes to the present state, which were judged, and moves to the tasks that it admits.
+    /// Logs the decision on a draft's changes to the present state, which were judged, and moves to the admitted tasks.
     pub fn enter(
         &mut self,
         alloc: Global,

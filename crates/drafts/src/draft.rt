@@ -3,7 +3,7 @@
 ghost use Rattle.std.specs.Prelude.{◌≡◌, ◌+◌, ◌<◌, ◌≤◌, take, [], ◌∷◌, Ok, IfOk, IfErr, IfSome, OnOk, OnErr, length, option_map, slice_get, nat_eq, false};
 ghost use Rattle.std.specs.Cmp.Lexicographic.{pointwise};
 ghost use Rattle.indexmap.specs.IndexMap.{IsUnique};
-ghost use Rattle.drafts.specs.Changes.{is_full, recorded, view, after_put, after_remove, on_base};
+ghost use Rattle.drafts.specs.Changes.{IsNamed, HaveDistinctNames, AreNamed, is_full, recorded, view, after_put, after_remove, on_base};
 ghost use Rattle.drafts.specs.EditFaults.{IsEditFault};
 ghost use Rattle.drafts.specs.Outcomes.{IsApplied};
 
@@ -75,7 +75,9 @@ fn is_full(changes: &IndexMap<Name, Change>, name: Name) -> bool
 // Puts a change in the place of the one on its name, or last. Where memory is wanting, the change is handed back.
 fn record(changes: &mut IndexMap<Name, Change>, name: Name, change: Change) -> Result<(), Change>
     ensures ok { OnOk result (changes.new.entries ≡ recorded name change changes.old.entries) }
-    ensures few { is_full name changes.old.entries ≡ false → length changes.old.entries ≤ 64 → length changes.new.entries ≤ 64 }
+    ensures few { is_full name changes.old.entries ≡ false
+        → length changes.old.entries ≤ 64 → length changes.new.entries ≤ 64 }
+    ensures named { IsNamed name change → AreNamed changes.old.entries → AreNamed changes.new.entries }
     ensures err { OnErr result (changes.new.entries ≡ changes.old.entries) }
     ensures back { IfErr result (λ back. back ≡ change) }
 {
@@ -166,6 +168,7 @@ impl Draft {
         ensures base { result.1.value ≡ self.base }
         ensures changes { result.2.entries ≡ self.changes }
         ensures few { length result.2.entries ≤ 64 }
+        ensures named { AreNamed result.2.entries }
     {
         (self.team, self.base, self.changes)
     }
@@ -176,7 +179,8 @@ impl Draft {
         base: Arc<NodeState>,
         changes: IndexMap<Name, Change>,
     ) -> Draft
-        requires { length changes.entries ≤ 64 }
+        requires few { length changes.entries ≤ 64 }
+        requires named { AreNamed changes.entries }
         ensures { result ≡ record { team = team; base = base.value; changes = changes.entries } }
     {
         Draft {
@@ -199,10 +203,12 @@ impl Draft {
         })
     }
 
-    /// How many changes there are.
+    /// How many changes there are. No two are on one name, and a put is on its sheet's own.
     pub fn len(&self) -> usize
         ensures count { result ≡ length self.now.changes }
         ensures limit { result ≤ 64 }
+        ensures distinct { HaveDistinctNames self.now.changes }
+        ensures named { AreNamed self.now.changes }
     {
         self.changes.len()
     }

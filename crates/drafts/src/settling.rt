@@ -1,9 +1,8 @@
 //! Settling proposals and drafts in a book.
 
 ghost use Rattle.std.specs.Prelude.{◌≡◌, ◌↔◌, IsTrue, IfOk, IfErr, OnErr};
-ghost use Rattle.drafts.specs.Applied.{applied};
 ghost use Rattle.drafts.specs.Books.{logged, IsNextEntry};
-ghost use Rattle.drafts.specs.Outcomes.{IsJudged};
+ghost use Rattle.drafts.specs.Proposals.{StillHolds};
 ghost use Rattle.drafts.specs.Settling.{IsSettled};
 
 use crate::applying::{Applied, apply};
@@ -60,7 +59,7 @@ fn is_same_refusal(first: &Refusal, second: &Refusal) -> bool
 
 // Whether a proposal's changes come to the same on the present state.
 fn still_holds(alloc: Global, book: &Book, proposal: &Proposal) -> Result<bool, AllocError>
-    ensures { IfOk result (λ holds. IsTrue holds ↔ IsJudged (applied proposal.now.draft.team book.now.desk.tasks proposal.now.draft.changes) proposal.now.judged) }
+    ensures { IfOk result (λ holds. IsTrue holds ↔ StillHolds book.now proposal.now) }
 {
     let draft = proposal.draft();
     match apply(alloc, draft.team(), book.state(), draft.changes())? {
