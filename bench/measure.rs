@@ -49,13 +49,17 @@ impl Bench {
             &self.words(desk.0, desk.1),
             agree,
         );
+        self.print(name, times);
+        times
+    }
+
+    fn print(&self, name: &str, times: (f64, f64)) {
         println!(
             "| {name} | {:.1} | {:.1} | {:.2} |",
             times.0,
             times.1,
             times.1 / times.0
         );
-        times
     }
 
     fn admit(&self) {
@@ -72,12 +76,7 @@ impl Bench {
             );
             sums = (sums.0 + times.0, sums.1 + times.1);
         }
-        println!(
-            "| admit, sum | {:.1} | {:.1} | {:.2} |",
-            sums.0,
-            sums.1,
-            sums.1 / sums.0
-        );
+        self.print("admit, sum", sums);
     }
 
     fn certificates(&self) {
@@ -91,6 +90,19 @@ impl Bench {
             ("check", &both),
             ("check", &both),
         );
+    }
+
+    // A set committed by one team, with so many workers, beside the plain program that admits it with one thread.
+    fn workers(&self) {
+        for set in ["longest", "document"] {
+            for workers in ["1", "2", "4"] {
+                let mut words = self.words("rush", &[&format!("{set}.script")]);
+                words.push(workers.to_string());
+                let plain = self.words("admit", &[&format!("{set}.toml")]);
+                let times = self.pair(&plain, &words, false);
+                self.print(&format!("rush {set}, workers: {workers}"), times);
+            }
+        }
     }
 
     fn against_reading(&self) {
@@ -136,5 +148,6 @@ fn main() {
     println!("| Work | plain, ms | desk, ms | ratio |\n|---|---|---|---|");
     bench.admit();
     bench.certificates();
+    bench.workers();
     bench.against_reading();
 }

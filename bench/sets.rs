@@ -60,6 +60,21 @@ fn document(tasks: &[Task]) -> String {
 
 // The least window that covers the demand of all these tasks, and one microsecond of blocking; past the longest deadline
 // the first demand that is there, since there may be no such window.
+// A script in which one team puts all tasks into one draft and commits it.
+fn script(tasks: &[Task]) -> String {
+    let mut text = String::from("open 1\n");
+    for t in tasks {
+        let (name, weight, period, deadline, cost) =
+            (&t.name, t.weight, t.period, t.deadline, t.cost);
+        write!(text, "put 1 {name} {weight} {period} {deadline} {cost}").unwrap();
+        for (at, len, locks) in &t.sections {
+            write!(text, " {}@{at}:{len}", locks.join("+")).unwrap();
+        }
+        text.push('\n');
+    }
+    text + "commit 1\n"
+}
+
 fn busy(tasks: &[Task]) -> u64 {
     let mut time = 1;
     loop {
@@ -181,16 +196,15 @@ fn main() {
     save("chains", staircase(&mut random, &many, 19, 6000, 40));
     let powers: Vec<(u64, u64)> = (0..12).map(|k| (1000 << (k / 2), 253)).collect();
     save("harmonic", staircase(&mut random, &powers, 20, 8000, 300));
-    save(
-        "longest",
-        staircase(
-            &mut random,
-            &[(1000, 600), (2000, 600), (4000, 399)],
-            29,
-            2100,
-            8,
-        ),
+    let longest = staircase(
+        &mut random,
+        &[(1000, 600), (2000, 600), (4000, 399)],
+        29,
+        2100,
+        8,
     );
+    fs::write(format!("{folder}/longest.script"), script(&longest)).unwrap();
+    save("longest", longest);
     let mut late = staircase(&mut random, &[(1000, 700), (2000, 598)], 28, 3000, 60);
     late[0].cost = 701;
     save("late-no", late);
@@ -203,7 +217,9 @@ fn main() {
     );
     save("sections", with_sections(&mut random, held, 200));
     let tasks = ordinary(&mut random);
-    save("document", with_sections(&mut random, tasks, 200));
+    let tasks = with_sections(&mut random, tasks, 200);
+    fs::write(format!("{folder}/document.script"), script(&tasks)).unwrap();
+    save("document", tasks);
     let short: Vec<Task> = (0..32)
         .map(|k| task(k, 180_000 + k as u64, 180_000, 5000))
         .collect();

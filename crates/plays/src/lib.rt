@@ -6,3 +6,4 @@ mod playing;
 mod printing;
 
 pub use playing::{PlayFault, play_lines};
+pub use printing::{book_text, ruling_text};

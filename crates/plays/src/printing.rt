@@ -94,8 +94,8 @@ fn refusal_text(alloc: Global, refusal: Refusal) -> Result<String, AllocError>
     }
 }
 
-// The line of a decision.
-fn ruling_text(alloc: Global, decision: &Decision) -> Result<String, AllocError>
+/// The line of a decision.
+pub fn ruling_text(alloc: Global, decision: &Decision) -> Result<String, AllocError>
     ensures { IfOk result (λ text. string_bytes text ≡ ruling_line (ruling_of decision.now)) }
 {
     match decision {
@@ -190,7 +190,7 @@ fn push_level(
 }
 
 /// The lines of the book's present state.
-pub(crate) fn book_text(alloc: Global, state: &NodeState) -> Result<String, AllocError>
+pub fn book_text(alloc: Global, state: &NodeState) -> Result<String, AllocError>
     ensures { IfOk result (λ text. IsBookText state.now (string_bytes text)) }
 {
     let version = state.version();

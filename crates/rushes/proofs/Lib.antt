@@ -1,0 +1,4 @@
+pub mod HandLaws
+pub mod RunLaws
+pub mod EachLaws
+pub mod PartLaws

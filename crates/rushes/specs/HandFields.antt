@@ -1,0 +1,12 @@
+-- What a `Hand` keeps right: its drafts are of its team.
+use Rattle.std.specs.Prelude.{◌≡◌, ℕ, List, [], ◌∷◌, Option, None, Some}
+use Rattle.drafts.specs.Changes.{Draft}
+
+-- a draft is of that team
+abbrev pub IsOwn : ℕ → Option Draft → Type 0
+IsOwn team None = Unit {0}
+IsOwn team (Some d) = d.team ≡ team
+
+abbrev pub AllOwn : ℕ → List (Option Draft) → Type 0
+AllOwn team [] = Unit {0}
+AllOwn team (slot ∷ slots) = IsOwn team slot × AllOwn team slots

@@ -1,0 +1,12 @@
+//! Rushing a script: each team's lines run on a thread of its own over one locked book, and then the log is printed.
+#![tactic(auto)]
+
+mod fault;
+mod hand;
+mod printing;
+mod rushing;
+mod slot;
+mod teams;
+
+pub use fault::RushFault;
+pub use rushing::rush_lines;

@@ -1,0 +1,99 @@
+//! Where a team keeps one of its drafts.
+ghost use Rattle.std.specs.Prelude.{◌≡◌, ◌↔◌, IfOk, OnOk, IsTrue, IsSome, ℕ, None, Some, option_map};
+ghost use Rattle.drafts.specs.Changes.{after_put, after_remove};
+ghost use Rattle.rushes.specs.Hands.{edited};
+ghost use Rattle.rushes.specs.HandFields.{IsOwn};
+
+use drafts::{Draft, EditCause, PutFault};
+use std::alloc::{AllocError, Global};
+use std::marker::Model;
+use task_sheet::{Name, Sheet};
+
+/// A draft, or none where it is another team's or has ended. Each team has a slot for each draft of the script, so an
+/// empty one is small.
+#[derive(Drop)]
+pub(crate) struct Slot {
+    draft: Option<Box<Draft>>,
+}
+
+impl Model for Slot {
+    ghost use Rattle.std.specs.Prelude.{Option, option_map};
+    ghost use Rattle.drafts.specs.Changes.{Draft};
+
+    ghost Value = { Option Draft };
+
+    ghost view = { λ s. option_map (λ b. b.value) s.draft };
+}
+
+impl Slot {
+    pub(crate) fn empty() -> Slot
+        ensures { result ≡ None }
+    {
+        Slot { draft: None }
+    }
+
+    pub(crate) fn of(alloc: Global, draft: Draft) -> Result<Slot, AllocError>
+        ensures { IfOk result (λ slot. slot ≡ Some draft) }
+    {
+        let boxed = Box::new(alloc, draft)?;
+        Ok(Slot { draft: Some(boxed) })
+    }
+
+    /// Whether there is a draft.
+    pub(crate) fn is_there(&self) -> bool
+        ensures { IsTrue result ↔ IsSome self.now }
+    {
+        self.draft.is_some()
+    }
+
+    /// Takes the draft out.
+    pub(crate) fn take(&mut self) -> Option<Draft>
+        ensures taken { result ≡ self.old }
+        ensures empty { self.new ≡ None }
+    {
+        match self.draft.take() {
+            Some(boxed) => Some(Box::into_inner(boxed)),
+            None => None,
+        }
+    }
+
+    /// Puts a sheet into the draft; one that is refused leaves it.
+    pub(crate) fn put(&mut self, sheet: Sheet) -> Result<(), AllocError>
+        ensures ok { OnOk result (self.new ≡ option_map (λ d. edited d (after_put d sheet)) self.old) }
+        ensures own { (team : ℕ) → IsOwn team self.old → IsOwn team self.new }
+    {
+        let Some(draft) = &mut self.draft else {
+            return Ok(());
+        };
+        match draft.put(sheet) {
+            Ok(()) => Ok(()),
+            Err(
+                PutFault {
+                    cause: EditCause::Refused { refusal: _ },
+                    sheet: _,
+                },
+            ) => Ok(()),
+            Err(
+                PutFault {
+                    cause: EditCause::OutOfMemory,
+                    sheet: _,
+                },
+            ) => Err(AllocError),
+        }
+    }
+
+    /// Removes the task of a name in the draft; where it is refused the draft stays.
+    pub(crate) fn remove(&mut self, name: Name) -> Result<(), AllocError>
+        ensures ok { OnOk result (self.new ≡ option_map (λ d. edited d (after_remove d name)) self.old) }
+        ensures own { (team : ℕ) → IsOwn team self.old → IsOwn team self.new }
+    {
+        let Some(draft) = &mut self.draft else {
+            return Ok(());
+        };
+        match draft.remove(name) {
+            Ok(()) => Ok(()),
+            Err(EditCause::Refused { refusal: _ }) => Ok(()),
+            Err(EditCause::OutOfMemory) => Err(AllocError),
+        }
+    }
+}

@@ -1,0 +1,168 @@
+//! A thread for each team.
+ghost use Rattle.std.specs.Prelude.{◌≡◌, ◌≤◌, [], List, IfOk, IfErr, length, vec_capacity};
+ghost use Rattle.candidate_workers.specs.Faults.{IsBadCount};
+ghost use Rattle.book_lock.specs.Passes.{Known};
+ghost use Rattle.rushes.specs.Hands.{IsRun};
+ghost use Rattle.rushes.specs.Starts.{Each, IsEnd};
+
+use crate::fault::RushFault;
+use crate::hand::run_lines;
+use book_lock::{Desk, Pass};
+use scripts::{Line, Row};
+use std::alloc::Global;
+use std::snapshot::Snapshot;
+use std::sync::Wait;
+use std::sync::ledger::Ledger;
+use std::thread;
+use std::thread::{Promise, PromisedHandle, Scope, Threads};
+
+// What a team's lines come to: its pass, or the fault that ended them.
+type Ended<L> = Result<Pass<L>, RushFault>;
+
+/// What a thread gives back is what the lines made of this pass.
+pub(crate) struct Kept<'a, L: Ledger> {
+    lines: &'a [Line],
+    pass: Snapshot<Pass<L>>,
+}
+
+impl<'a, L: Ledger> Drop for Kept<'a, L> {
+    fn drop(self) {
+        let Kept { lines: _, pass: _ } = self;
+    }
+}
+
+impl<'a, L: Ledger> Promise<Result<Pass<L>, RushFault>> for Kept<'a, L> {
+    ghost kept_by = { λ p r. IsEnd p.lines.now p.pass.value r };
+}
+
+// The thread of a team; or what the team came to, if it needs none or got none.
+type Started<'a, L> = Result<PromisedHandle<Ended<L>, Kept<'a, L>>, Ended<L>>;
+
+// Whether a line opens a draft for that team.
+fn has_lines(lines: &[Line], team: u64) -> bool {
+    for line in lines {
+        if let Row::Open { team: opener } = &line.row {
+            if opener.number() == team {
+                return true;
+            }
+        }
+    }
+    false
+}
+
+// Starts a team's thread. A team for which no draft is opened has nothing to do, and its lines are run here.
+fn start<'s, 'e: 's, L: Ledger + Send + Sync, R: Threads + Wait + Sync>(
+    rt: &'e R,
+    alloc: Global,
+    scope: &Scope<'s, &'e ()>,
+    desk: &'e Desk<L>,
+    pass: Pass<L>,
+    lines: &'e [Line],
+    workers: usize,
+) -> Started<'e, L>
+    requires { IsBadCount workers → ⊥ }
+    ensures thread { IfOk result (λ h. (h.promise.lines.now ≡ lines.now) × (h.promise.pass.value ≡ pass)) }
+    ensures over { IfErr result (λ ended. IsEnd lines.now pass ended) }
+{
+    if !has_lines(lines, pass.team().number()) {
+        return Err(run_lines(rt, alloc, desk, pass, lines, workers));
+    }
+    let kept = Kept {
+        lines,
+        pass: Snapshot::of(&pass),
+    };
+    match scope.spawn_with(kept, move || {
+        run_lines(rt, alloc, desk, pass, lines, workers)
+    }) {
+        Ok(handle) => Ok(handle),
+        Err(_) => Err(Err(RushFault::ThreadRefused)),
+    }
+}
+
+// What a team came to, once its thread is joined.
+fn finish<'e, L: Ledger, R: Threads>(rt: &R, lines: &[Line], started: Started<'e, L>) -> Ended<L>
+    ensures thread { IfOk started.entry (λ h. h.promise.lines.now ≡ lines.now
+        → IsEnd lines.now h.promise.pass.value result) }
+    ensures over { IfErr started.entry (λ ended. result ≡ ended) }
+{
+    match started {
+        Ok(handle) => handle.join(rt),
+        Err(ended) => ended,
+    }
+}
+
+// Joins all teams in their order. The fault is that of the least team that has one.
+fn join_all<'e, L: Ledger, R: Threads>(
+    rt: &R,
+    lines: &[Line],
+    all: Vec<Started<'e, L>>,
+    room: Vec<Pass<L>>,
+) -> Result<Vec<Pass<L>>, RushFault>
+    requires empty { room.items ≡ [] }
+    requires room { length all.items ≤ vec_capacity room }
+    ensures { (starts : List Known)
+        → Each (λ started pass. IfOk started (λ h. (h.promise.lines.now ≡ lines.now) × (h.promise.pass.value ≡ pass))
+        × IfErr started (λ ended. IsEnd lines.now pass ended)) all.entry.items starts
+        → IfOk result (λ passes. Each (λ start pass. IsRun lines.now start pass) starts passes.items) }
+{
+    let mut passes = room;
+    let mut fault = None;
+    for started in all {
+        match finish(rt, lines, started) {
+            Ok(pass) => passes.push_reserved(pass),
+            Err(other) => {
+                if fault.is_none() {
+                    fault = Some(other);
+                }
+            }
+        }
+    }
+    match fault {
+        Some(fault) => Err(fault),
+        None => Ok(passes),
+    }
+}
+
+// Starts all teams, and joins them.
+fn run_all<'s, 'e: 's, L: Ledger + Send + Sync, R: Threads + Wait + Sync>(
+    rt: &'e R,
+    alloc: Global,
+    scope: &Scope<'s, &'e ()>,
+    desk: &'e Desk<L>,
+    passes: Vec<Pass<L>>,
+    lines: &'e [Line],
+    workers: usize,
+) -> Result<Vec<Pass<L>>, RushFault>
+    requires { IsBadCount workers → ⊥ }
+    ensures { IfOk result (λ r. Each (λ start pass. IsRun lines.now start pass) passes.items r.items) }
+{
+    let room = Vec::with_capacity(alloc, passes.len())?;
+    let mut all = Vec::with_capacity(alloc, passes.len())?;
+    for pass in passes {
+        all.push_reserved(start(rt, alloc, scope, desk, pass, lines, workers));
+    }
+    join_all(rt, lines, all, room)
+}
+
+/// Runs the lines of each pass's team on a thread of its own, and joins all threads. The passes come back in their
+/// order.
+pub(crate) fn run_teams<L: Ledger + Send + Sync, R: Threads + Wait + Sync>(
+    rt: &R,
+    alloc: Global,
+    desk: &Desk<L>,
+    passes: Vec<Pass<L>>,
+    lines: &[Line],
+    workers: usize,
+) -> Result<Vec<Pass<L>>, RushFault>
+    requires { IsBadCount workers → ⊥ }
+    ensures { IfOk result (λ r. Each (λ start pass. IsRun lines.now start pass) passes.items r.items) }
+{
+    thread::scope(
+        thread::scope_env(),
+        rt,
+        |scope| -> Result<Vec<Pass<L>>, RushFault>
+            requires { IsBadCount workers → ⊥ }
+            ensures { IfOk result (λ r. Each (λ start pass. IsRun lines.entry.now start pass) passes.items r.items) }
+        { run_all(rt, alloc, scope, desk, passes, lines, workers) },
+    )
+}
