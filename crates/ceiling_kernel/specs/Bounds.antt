@@ -25,4 +25,5 @@ pub record PassesBy (node : Node) (i t : ℕ) : Type 0 where
 abbrev pub BoundHolds : Node → List Job → Type 0
 BoundHolds node jobs =
     (j t : ℕ) → j < length jobs → PassesBy node (job_at jobs j).task t
-    → (task_of node jobs j).cost ≤ executed_before node jobs ((job_at jobs j).arrival + (lateness_of (task_of node jobs j) + t)) j
+    → (task_of node jobs j).cost
+    ≤ executed_before node jobs ((job_at jobs j).arrival + (lateness_of (task_of node jobs j) + t)) j

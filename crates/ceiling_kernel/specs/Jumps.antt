@@ -17,9 +17,12 @@ NoneReadyBetween jobs t u = (j : ℕ) → j < length jobs → t < (job_at jobs j
 abbrev pub PickStays : Node → List Job → Type 0
 PickStays node jobs =
     (t k p : ℕ) → picked node jobs t ≡ Some p → NoneReadyBetween jobs t (t + k)
-    → executed_before node jobs t p + k ≤ change_after (task_of node jobs p).sections (executed_before node jobs t p) (task_of node jobs p).cost
+    → executed_before node jobs t p + k
+    ≤ change_after (task_of node jobs p).sections (executed_before node jobs t p) (task_of node jobs p).cost
     → (d : ℕ) → d < k → picked node jobs (t + d) ≡ Some p
 
 -- where tick t picks no job, none is picked until one becomes ready
 abbrev pub IdleStays : Node → List Job → Type 0
-IdleStays node jobs = (t k : ℕ) → picked node jobs t ≡ None → NoneReadyBetween jobs t (t + k) → (d : ℕ) → d < k → picked node jobs (t + d) ≡ None
+IdleStays node jobs =
+    (t k : ℕ) → picked node jobs t ≡ None → NoneReadyBetween jobs t (t + k)
+    → (d : ℕ) → d < k → picked node jobs (t + d) ≡ None

@@ -29,7 +29,8 @@ with_head lists p task = slice_set lists p (task ∷ list_at lists p)
 abbrev pub moved_to : List (List ℕ) → (old new task : ℕ) → List (List ℕ)
 moved_to lists old new task =
     if old == new then lists
-    else (if nat_lt new old then with_head (without_head lists old) new task else with_tail (without_head lists old) new task)
+    else (if nat_lt new old then with_head (without_head lists old) new task
+    else with_tail (without_head lists old) new task)
 
 -- the head of the highest list that isn't empty, after one that was found before
 abbrev pub head_or : List ℕ → Option ℕ → Option ℕ
@@ -47,12 +48,18 @@ StandsAt [] n i = ⊥
 StandsAt (x ∷ xs) zero i = x ≡ i
 StandsAt (x ∷ xs) (suc n) i = StandsAt xs n i
 
--- each list holds the tasks whose pending jobs have its priority, by rising own level; a slot holds a task's pending job
+-- each list holds the tasks whose pending jobs have its priority, by rising own level;
+-- a slot holds a task's pending job
 pub record Queues (slot : ℕ → Option Pending) (list : ℕ → List ℕ) : Type 0 where
   pub sound : (p n i : ℕ) → StandsAt (list p) n i → (q : Pending) × (slot i ≡ Some q) × (q.active ≡ p)
   pub complete : (i : ℕ) (q : Pending) → slot i ≡ Some q → (n : ℕ) × StandsAt (list q.active) n i
-  pub rising : (p n m i k : ℕ) (q r : Pending) → n < m → StandsAt (list p) n i → StandsAt (list p) m k → slot i ≡ Some q → slot k ≡ Some r → q.level < r.level
+  pub rising : (p n m i k : ℕ) (q r : Pending) → n < m
+      → StandsAt (list p) n i → StandsAt (list p) m k
+      → slot i ≡ Some q → slot k ≡ Some r
+      → q.level < r.level
 
 -- where a job executes above its own level, no other pending job has that level's priority
 abbrev pub IsAlone : (slot : ℕ → Option Pending) → Type 0
-IsAlone slot = (i k : ℕ) (q r : Pending) → slot i ≡ Some q → slot k ≡ Some r → i ≢ k → q.level < q.active → r.active ≢ q.level
+IsAlone slot =
+    (i k : ℕ) (q r : Pending) → slot i ≡ Some q → slot k ≡ Some r → i ≢ k
+    → q.level < q.active → r.active ≢ q.level

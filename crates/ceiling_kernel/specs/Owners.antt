@@ -32,5 +32,8 @@ with_owners owners (s ∷ ss) e owner = with_owners (with_inside owners s e owne
 
 -- the owner of each lock is the task whose pending job holds it; a slot holds a task's pending job
 pub record AreOwners (U : List Task) (slot : ℕ → Option Pending) (owner : List ℕ → Option ℕ) : Type 0 where
-  pub sound : (lock : List ℕ) (i : ℕ) → owner lock ≡ Some i → (p : Pending) × (slot i ≡ Some p) × (holds_lock (task_at U i).sections p.executed lock ≡ true)
-  pub complete : (lock : List ℕ) (i : ℕ) (p : Pending) → slot i ≡ Some p → holds_lock (task_at U i).sections p.executed lock ≡ true → owner lock ≡ Some i
+  pub sound : (lock : List ℕ) (i : ℕ) → owner lock ≡ Some i
+      → (p : Pending) × (slot i ≡ Some p) × (holds_lock (task_at U i).sections p.executed lock ≡ true)
+  pub complete : (lock : List ℕ) (i : ℕ) (p : Pending) → slot i ≡ Some p
+      → holds_lock (task_at U i).sections p.executed lock ≡ true
+      → owner lock ≡ Some i

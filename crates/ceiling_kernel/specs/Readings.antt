@@ -10,7 +10,8 @@ pub record IsPicked (node : Node) (jobs : List Job) (t p : ℕ) : Type 0 where
   pub pending : is_pending node jobs (executed_before node jobs t) t p ≡ true
   pub first : (k : ℕ) → k < length jobs → is_pending node jobs (executed_before node jobs t) t k ≡ true
       → (active_of node jobs (executed_before node jobs t) k < active_of node jobs (executed_before node jobs t) p)
-      ⊎ ((active_of node jobs (executed_before node jobs t) k ≡ active_of node jobs (executed_before node jobs t) p) × (level_of node jobs p ≤ level_of node jobs k))
+      ⊎ ((active_of node jobs (executed_before node jobs t) k ≡ active_of node jobs (executed_before node jobs t) p)
+      × (level_of node jobs p ≤ level_of node jobs k))
 
 -- what the tick rule picks goes first
 abbrev pub PicksFirst : Node → List Job → Type 0
@@ -18,10 +19,12 @@ PicksFirst node jobs = (t p : ℕ) → picked node jobs t ≡ Some p → IsPicke
 
 -- where the tick rule picks no job, none is pending
 abbrev pub IdlesEmpty : Node → List Job → Type 0
-IdlesEmpty node jobs = (t k : ℕ) → picked node jobs t ≡ None → k < length jobs → is_pending node jobs (executed_before node jobs t) t k ≡ false
+IdlesEmpty node jobs =
+    (t k : ℕ) → picked node jobs t ≡ None → k < length jobs
+    → is_pending node jobs (executed_before node jobs t) t k ≡ false
 
--- The slices of the ticks from `from` up to `until`, by time, are the longest runs of ticks of one job: no tick outside of them
--- picks a job, each tick of a slice picks its job, and the tick after it picks another or none.
+-- The slices of the ticks from `from` up to `until`, by time, are the longest runs of ticks of one job: no tick outside
+-- of them picks a job, each tick of a slice picks its job, and the tick after it picks another or none.
 abbrev pub AreLongestRuns : (run : ℕ → Option ℕ) → (from until : ℕ) → List Slice → Type 0
 AreLongestRuns run from until [] = (t : ℕ) → from ≤ t → t < until → run t ≡ None
 AreLongestRuns run from until (s ∷ ss) =
@@ -39,8 +42,12 @@ pub record IsFinishAt (node : Node) (jobs : List Job) (j f : ℕ) : Type 0 where
 
 -- a finish that is known by a time is that of the job, and not after that time
 abbrev pub FinishesAreEnds : Node → List Job → Type 0
-FinishesAreEnds node jobs = (until j f : ℕ) → 0 < (task_of node jobs j).cost → finish_before node jobs until j ≡ Some f → (f ≤ until) × IsFinishAt node jobs j f
+FinishesAreEnds node jobs =
+    (until j f : ℕ) → 0 < (task_of node jobs j).cost → finish_before node jobs until j ≡ Some f
+    → (f ≤ until) × IsFinishAt node jobs j f
 
 -- a job without a finish by a time lacks some of its cost then
 abbrev pub UnfinishedLack : Node → List Job → Type 0
-UnfinishedLack node jobs = (until j : ℕ) → 0 < (task_of node jobs j).cost → finish_before node jobs until j ≡ None → executed_before node jobs until j < (task_of node jobs j).cost
+UnfinishedLack node jobs =
+    (until j : ℕ) → 0 < (task_of node jobs j).cost → finish_before node jobs until j ≡ None
+    → executed_before node jobs until j < (task_of node jobs j).cost

@@ -61,7 +61,8 @@ is_unknown U rs k = is_none (task_named U (release_at rs k).name)
 -- job k comes less than a period after job j of its task
 abbrev pub is_soon_job : List Task → List Job → ℕ → ℕ → Bool
 is_soon_job U jobs k j =
-    ((job_at jobs j).task == (job_at jobs k).task) && nat_lt (job_at jobs k).arrival ((job_at jobs j).arrival + (task_at U (job_at jobs k).task).period)
+    ((job_at jobs j).task == (job_at jobs k).task)
+    && nat_lt (job_at jobs k).arrival ((job_at jobs j).arrival + (task_at U (job_at jobs k).task).period)
 
 -- it comes less than a period after a job of its task before it
 abbrev pub is_too_soon : List Task → List Job → ℕ → Bool

@@ -1,4 +1,5 @@
--- What a run answers: the trace of the tick rule, the first overrun, or the refusal of the release list; and what the analysis says of it.
+-- What a run answers: the trace of the tick rule, the first overrun, or the refusal of the release list; and what the
+-- analysis says of it.
 use Rattle.std.specs.Prelude.{◌≡◌, ℕ, ◌+◌, ◌<◌, ◌≤◌, Some, None, Result, Ok, Err, List, [], ◌∷◌, length, slice_index_or}
 use Rattle.ceiling_kernel.specs.declared.trace.Release.{Release}
 use Rattle.ceiling_kernel.specs.declared.trace.JobRecord.{JobRecord}
@@ -45,16 +46,21 @@ pub record IsOverrun (node : Node) (rs : List Release) (name : List ℕ) (time :
 
 -- what a run answers: the trace of the tick rule, the first overrun, or the refusal
 abbrev pub Runs : Node → List Release → ℕ → Result Trace RunFault → Type 0
-Runs node rs until (Ok trace) = (refusal_of node.tasks rs until ≡ None) × NoOverrun node (jobs_of node.tasks rs) × IsTrace node rs until trace
+Runs node rs until (Ok trace) =
+    (refusal_of node.tasks rs until ≡ None)
+    × NoOverrun node (jobs_of node.tasks rs)
+    × IsTrace node rs until trace
 Runs node rs until (Err fault.OutOfMemory) = Unit {0}
-Runs node rs until (Err (fault.Overrun name time)) = (refusal_of node.tasks rs until ≡ None) × IsOverrun node rs name time
+Runs node rs until (Err (fault.Overrun name time)) =
+    (refusal_of node.tasks rs until ≡ None) × IsOverrun node rs name time
 Runs node rs until (Err e) = refusal_of node.tasks rs until ≡ Some e
 
 -- ---- the bound of the analysis (Audsley et al. 1993)
 -- each job of a task that passes by t, with that bound within the run, has a finish by then
 abbrev pub MeetsBounds : Node → List Release → ℕ → Trace → Type 0
 MeetsBounds node rs until trace =
-    (j t : ℕ) → j < length rs → PassesBy node (task_number node.tasks (release_at rs j)) t → (release_at rs j).time + t ≤ until
+    (j t : ℕ) → j < length rs → PassesBy node (task_number node.tasks (release_at rs j)) t
+    → (release_at rs j).time + t ≤ until
     → (f : ℕ) × ((slice_index_or trace.jobs.items j no_record).finish ≡ Some f) × (f ≤ (release_at rs j).time + t)
 
 -- a fault that isn't an overrun

@@ -34,7 +34,8 @@ held_top (s ∷ ss) e = max (if is_within s e then s.top else 0) (held_top ss e)
 -- the first boundary above e, or the limit
 abbrev pub next_change : List NodeSection → ℕ → ℕ → ℕ
 next_change [] e limit = limit
-next_change (s ∷ ss) e limit = if nat_le e s.at then s.at + 1 else (if nat_lt e s.stop then s.stop else next_change ss e limit)
+next_change (s ∷ ss) e limit =
+    if nat_le e s.at then s.at + 1 else (if nat_lt e s.stop then s.stop else next_change ss e limit)
 
 -- the active priority of a job of task i that has executed e ticks
 abbrev pub active_at : Node → ℕ → ℕ → ℕ
@@ -44,7 +45,8 @@ active_at node i e = max (level_at node i) (held_ceiling node (task_at node.task
 -- the better of one that was found before and a pending job
 abbrev pub better_pending : Option Pending → Pending → Pending
 better_pending None p = p
-better_pending (Some q) p = if nat_lt q.active p.active || ((q.active == p.active) && nat_lt p.level q.level) then p else q
+better_pending (Some q) p =
+    if nat_lt q.active p.active || ((q.active == p.active) && nat_lt p.level q.level) then p else q
 
 -- the best of the pending jobs in the slots, after one that was found before
 abbrev pub best_slot : List (Option Pending) → Option Pending → Option Pending

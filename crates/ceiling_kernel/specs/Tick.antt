@@ -1,8 +1,8 @@
--- The tick rule of the simulated kernel: which job executes in which tick, over plain records and apart from how the code runs.
--- One processor; tick t lasts from microsecond t to microsecond t + 1. The sources are POSIX.1-2017:
--- SCHED_FIFO, under which the head of the highest non-empty thread list runs, and
--- pthread_mutexattr_setprotocol with PTHREAD_PRIO_PROTECT, under which an owner of mutexes executes at the higher of its own
--- priority and the highest ceiling of those that it owns, whether or not others are blocked on them.
+-- The tick rule of the simulated kernel: which job executes in which tick, over plain records and apart from how the
+-- code runs. One processor; tick t lasts from microsecond t to microsecond t + 1. The sources are POSIX.1-2017:
+-- SCHED_FIFO, under which the head of the highest non-empty thread list runs, and pthread_mutexattr_setprotocol with
+-- PTHREAD_PRIO_PROTECT, under which an owner of mutexes executes at the higher of its own priority and the highest
+-- ceiling of those that it owns, whether or not others are blocked on them.
 use Rattle.std.specs.Prelude.{ℕ, zero, suc, ◌+◌, max, Bool, ◌&&◌, ◌||◌, nat_lt, nat_le, ◌==◌, if◌then◌else◌, Option, Some, None, List, [], ◌∷◌, length, slice_index_or}
 use Rattle.std.specs.Option.{unwrap_or}
 use Rattle.task_sheet.specs.Sheet.{Task, CriticalSection, task_at}
@@ -19,7 +19,8 @@ pub record Node : Type 0 where
 abbrev pub node_in : List Task → List ℕ → Node
 node_in U order = record { tasks = U; order = order }
 
--- a job: the index of its task, when it arrives, and from when on it may execute, which is its arrival and how late it is
+-- a job: the index of its task, when it arrives, and from when on it may execute, which is its arrival
+-- and how late it is
 pub record Job : Type 0 where
   pub task : ℕ
   pub arrival : ℕ
@@ -63,8 +64,10 @@ is_inside s e = nat_lt s.at e && nat_lt e (s.at + s.len)
 abbrev pub held_ceiling : Node → List CriticalSection → ℕ → ℕ
 held_ceiling node sections e = greatest_of (λ s. if is_inside s e then top_ceiling node s.locks else 0) sections
 
--- ---- the pick: of the jobs below n that are pending, the one of greatest active priority, and among equals the one of lower own level
--- An owner of a lock, whose active priority a ceiling raises, has the lower own level of two that are equal: it runs on.
+-- ---- the pick: of the jobs below n that are pending, the one of greatest active priority, and among equals the one
+-- of lower own level
+-- An owner of a lock, whose active priority a ceiling raises, has the lower own level of two that are equal:
+-- it runs on.
 
 -- job k gives way to job j
 abbrev pub gives_way : (active level : ℕ → ℕ) → ℕ → ℕ → Bool
@@ -91,11 +94,13 @@ level_of node jobs j = level_at node (job_at jobs j).task
 
 -- job j's active priority: the highest of its own level and the ceilings of the locks that it holds
 abbrev pub active_of : Node → List Job → (executed : ℕ → ℕ) → ℕ → ℕ
-active_of node jobs executed j = max (level_of node jobs j) (held_ceiling node (task_of node jobs j).sections (executed j))
+active_of node jobs executed j =
+    max (level_of node jobs j) (held_ceiling node (task_of node jobs j).sections (executed j))
 
 -- the job that executes in tick t
 abbrev pub pick : Node → List Job → (executed : ℕ → ℕ) → ℕ → Option ℕ
-pick node jobs executed t = best (is_pending node jobs executed t) (active_of node jobs executed) (level_of node jobs) (length jobs)
+pick node jobs executed t =
+    best (is_pending node jobs executed t) (active_of node jobs executed) (level_of node jobs) (length jobs)
 
 -- one tick of that job
 abbrev pub one_more : Option ℕ → (executed : ℕ → ℕ) → ℕ → ℕ
@@ -105,7 +110,8 @@ one_more (Some p) executed j = if p == j then executed j + 1 else executed j
 -- how many ticks each job has executed before tick t
 unfoldable pub executed_before : Node → List Job → ℕ → ℕ → ℕ
 executed_before node jobs zero j = 0
-executed_before node jobs (suc t) j = one_more (pick node jobs (executed_before node jobs t) t) (executed_before node jobs t) j
+executed_before node jobs (suc t) j =
+    one_more (pick node jobs (executed_before node jobs t) t) (executed_before node jobs t) j
 
 -- THE TICK RULE: the job that tick t picks
 unfoldable pub picked : Node → List Job → ℕ → Option ℕ

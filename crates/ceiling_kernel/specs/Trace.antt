@@ -30,4 +30,5 @@ slices_of node jobs until = reverse (slices_before (picked node jobs) until)
 unfoldable pub finish_before : Node → List Job → ℕ → ℕ → Option ℕ
 finish_before node jobs zero j = None
 finish_before node jobs (suc t) j =
-    option_or (finish_before node jobs t j) (if nat_le (task_of node jobs j).cost (executed_before node jobs (suc t) j) then Some (suc t) else None)
+    option_or (finish_before node jobs t j)
+    (if nat_le (task_of node jobs j).cost (executed_before node jobs (suc t) j) then Some (suc t) else None)

@@ -21,14 +21,17 @@ lateness_of t = 0
 pub record IsLegal (node : Node) (jobs : List Job) : Type 0 where
   pub known : (j : ℕ) → j < length jobs → (job_at jobs j).task < length node.tasks
   pub not_early : (j : ℕ) → j < length jobs → (job_at jobs j).arrival ≤ (job_at jobs j).ready
-  pub not_late : (j : ℕ) → j < length jobs → (job_at jobs j).ready ≤ (job_at jobs j).arrival + lateness_of (task_of node jobs j)
+  pub not_late : (j : ℕ) → j < length jobs
+      → (job_at jobs j).ready ≤ (job_at jobs j).arrival + lateness_of (task_of node jobs j)
   pub spaced : (j k : ℕ) → j < k → k < length jobs → (job_at jobs j).task ≡ (job_at jobs k).task
       → (job_at jobs j).arrival + (task_of node jobs k).period ≤ (job_at jobs k).arrival
 
 -- job k overruns the job before it: that one, of the same task, isn't finished when k becomes ready
 abbrev pub Overruns : Node → List Job → ℕ → Type 0
 Overruns node jobs k =
-    (j : ℕ) × (j < k) × ((job_at jobs j).task ≡ (job_at jobs k).task) × (executed_before node jobs (job_at jobs k).ready j < (task_of node jobs j).cost)
+    (j : ℕ) × (j < k)
+    × ((job_at jobs j).task ≡ (job_at jobs k).task)
+    × (executed_before node jobs (job_at jobs k).ready j < (task_of node jobs j).cost)
 
 -- no job overruns the one before it
 abbrev pub NoOverrun : Node → List Job → Type 0
@@ -47,11 +50,13 @@ holds_lock sections e lock = list_any (λ s. is_inside s e && names_lock s lock)
 abbrev pub asks_lock : List CriticalSection → ℕ → List ℕ → Bool
 asks_lock sections e lock = list_any (λ s. (s.at == e) && names_lock s lock) sections
 
--- Job p, which asks for a lock in tick t, holds none, and nobody holds that one; its priority is then its own level, at most the
--- lock's ceiling: so it doesn't wait, and pthread_mutex_lock doesn't fail with EINVAL (POSIX.1-2017).
+-- Job p, which asks for a lock in tick t, holds none, and nobody holds that one; its priority is then its own level, at
+-- most the lock's ceiling: so it doesn't wait, and pthread_mutex_lock doesn't fail with EINVAL (POSIX.1-2017).
 pub record IsGranted (node : Node) (jobs : List Job) (t p : ℕ) (lock : List ℕ) : Type 0 where
-  pub holds_none : (other : List ℕ) → holds_lock (task_of node jobs p).sections (executed_before node jobs t p) other ≡ false
-  pub is_free : (k : ℕ) → k < length jobs → holds_lock (task_of node jobs k).sections (executed_before node jobs t k) lock ≡ false
+  pub holds_none : (other : List ℕ)
+      → holds_lock (task_of node jobs p).sections (executed_before node jobs t p) other ≡ false
+  pub is_free : (k : ℕ) → k < length jobs
+      → holds_lock (task_of node jobs k).sections (executed_before node jobs t k) lock ≡ false
   pub at_own_level : active_of node jobs (executed_before node jobs t) p ≡ level_of node jobs p
   pub within_ceiling : level_of node jobs p ≤ ceiling node lock
 
@@ -59,16 +64,20 @@ pub record IsGranted (node : Node) (jobs : List Job) (t p : ℕ) (lock : List �
 abbrev pub EachIsGranted : Node → List Job → Type 0
 EachIsGranted node jobs =
     (t p : ℕ) (lock : List ℕ) → picked node jobs t ≡ Some p
-    → asks_lock (task_of node jobs p).sections (executed_before node jobs t p) lock ≡ true → IsGranted node jobs t p lock
+    → asks_lock (task_of node jobs p).sections (executed_before node jobs t p) lock ≡ true
+    → IsGranted node jobs t p lock
 
 -- as long as no job overruns, whoever asks for a lock gets it
 abbrev pub NobodyWaits : Node → List Job → Type 0
 NobodyWaits node jobs =
     (t p : ℕ) (lock : List ℕ) → NoOverrunBy node jobs t → picked node jobs t ≡ Some p
-    → asks_lock (task_of node jobs p).sections (executed_before node jobs t p) lock ≡ true → IsGranted node jobs t p lock
+    → asks_lock (task_of node jobs p).sections (executed_before node jobs t p) lock ≡ true
+    → IsGranted node jobs t p lock
 
 -- as long as no job overruns, no two jobs hold a lock after a tick
 abbrev pub OneOwner : Node → List Job → Type 0
 OneOwner node jobs =
-    (t j k : ℕ) (lock : List ℕ) → NoOverrunBy node jobs t → holds_lock (task_of node jobs j).sections (executed_before node jobs (t + 1) j) lock ≡ true
-    → holds_lock (task_of node jobs k).sections (executed_before node jobs (t + 1) k) lock ≡ true → j ≡ k
+    (t j k : ℕ) (lock : List ℕ) → NoOverrunBy node jobs t
+    → holds_lock (task_of node jobs j).sections (executed_before node jobs (t + 1) j) lock ≡ true
+    → holds_lock (task_of node jobs k).sections (executed_before node jobs (t + 1) k) lock ≡ true
+    → j ≡ k

@@ -38,7 +38,10 @@ fn first_unsorted(releases: &[Release]) -> Option<usize>
 
 // The index of each release's task, or the place, from 0, of the first whose task is unknown.
 fn find_tasks(alloc: Global, set: &TaskSet, releases: &[Release]) -> Result<Vec<usize>, RunFault>
-    ensures { MatchResult result (λ places. (first_where (is_unknown set.now releases.now) (length releases.now) ≡ None) × (places.items ≡ map (task_number set.now) releases.now)) (IsUnknown set.now releases.now) }
+    ensures { MatchResult result
+        (λ places. (first_where (is_unknown set.now releases.now) (length releases.now) ≡ None)
+        × (places.items ≡ map (task_number set.now) releases.now))
+        (IsUnknown set.now releases.now) }
 {
     let mut places = Vec::new(alloc);
     for k in 0..releases.len() {
@@ -97,7 +100,10 @@ pub fn accept(
     releases: &[Release],
     until: u64,
 ) -> Result<Vec<usize>, RunFault>
-    ensures { MatchResult result (λ places. (refusal_of set.now releases.now until ≡ None) × (places.items ≡ map (task_number set.now) releases.now)) (λ e. IsRefusal e (refusal_of set.now releases.now until)) }
+    ensures { MatchResult result
+        (λ places. (refusal_of set.now releases.now until ≡ None)
+        × (places.items ≡ map (task_number set.now) releases.now))
+        (λ e. IsRefusal e (refusal_of set.now releases.now until)) }
 {
     if let Some(k) = first_unsorted(releases) {
         return Err(RunFault::Unsorted { place: k + 1 });

@@ -14,7 +14,8 @@ use task_sheet::{Name, Section, TaskSet};
 
 // The places of locks in the order of first sight.
 fn places_of(alloc: Global, table: &LockTable, locks: &[Name]) -> Result<Vec<usize>, AllocError>
-    ensures { (U : List Task) → IsTableOf U table.now → IfOk result (λ places. places.items ≡ places_in (locks_of U) locks.now) }
+    ensures { (U : List Task) → IsTableOf U table.now
+        → IfOk result (λ places. places.items ≡ places_in (locks_of U) locks.now) }
 {
     let mut places = Vec::new(alloc);
     for lock in locks {
@@ -36,7 +37,8 @@ fn sections_of(
     requires few { length order.now ≤ 32 }
     requires fit { All (λ s. s.at + s.len < 2 ^ 64) sections.now }
     requires run { All (λ s. 0 < s.len) sections.now }
-    ensures { (U : List Task) → IsTableOf U table.now → IfOk result (λ kept. AreSectionsOf (node_in U order.now) sections.now kept.items) }
+    ensures { (U : List Task) → IsTableOf U table.now
+        → IfOk result (λ kept. AreSectionsOf (node_in U order.now) sections.now kept.items) }
 {
     let mut kept = Vec::new(alloc);
     for section in sections {

@@ -10,8 +10,8 @@ ghost use Rattle.ceiling_kernel.specs.Waits.{IsNode, IsLegal, NobodyWaits, OneOw
 ghost use Rattle.ceiling_kernel.specs.Jumps.{PickStays, IdleStays};
 ghost use Rattle.ceiling_kernel.specs.Bounds.{above_of, after_of, BoundHolds};
 
-/// The tick rule picks a pending job of greatest active priority, and among equals the one of lower own level; it picks none
-/// only where none is pending.
+/// The tick rule picks a pending job of greatest active priority, and among equals the one of lower own level; it picks
+/// none only where none is pending.
 pub fn picks_go_first()
     ensures picked { (node : Node) (jobs : List Job) → PicksFirst node jobs }
     ensures idle { (node : Node) (jobs : List Job) → IdlesEmpty node jobs }
@@ -19,18 +19,20 @@ pub fn picks_go_first()
 
 /// The slices of a trace are the longest runs of ticks of one job, by time, and leave out no tick that picks a job.
 pub fn slices_are_longest_runs()
-    ensures { (node : Node) (jobs : List Job) (until : ℕ) → AreLongestRuns (picked node jobs) 0 until (slices_of node jobs until) }
+    ensures { (node : Node) (jobs : List Job) (until : ℕ)
+        → AreLongestRuns (picked node jobs) 0 until (slices_of node jobs until) }
 {}
 
-/// A job's finish is the end of the tick in which it executes the last of its cost; without one by a time, it lacks some.
+/// A job's finish is the end of the tick in which it executes the last of its cost;
+/// without one by a time, it lacks some.
 pub fn finishes_are_ends()
     ensures finished { (node : Node) (jobs : List Job) → FinishesAreEnds node jobs }
     ensures unfinished { (node : Node) (jobs : List Job) → UnfinishedLack node jobs }
 {}
 
-/// Whenever a job asks for locks it holds none and nobody holds any of them, and its priority, then its own level, is at
-/// most the ceiling of each: no job waits, and EINVAL can't occur. It holds for every order, passing or not, as long as
-/// no job overruns the one before it.
+/// Whenever a job asks for locks it holds none and nobody holds any of them, and its priority, then its own level, is
+/// at most the ceiling of each: no job waits, and EINVAL can't occur. It holds for every order, passing or not, as long
+/// as no job overruns the one before it.
 pub fn nobody_waits()
     ensures { (node : Node) (jobs : List Job) → IsNode node → IsLegal node jobs → NobodyWaits node jobs }
 {}
@@ -49,12 +51,15 @@ pub fn picks_stay()
 
 /// The tasks at higher levels than a task are those that stand after it in the order: what the analysis has above it.
 pub fn levels_follow_the_order()
-    ensures { (node : Node) → IsNode node → (i h : ℕ) → i < length node.tasks → among (after_of node.order i) h ≡ above_of node i h }
+    ensures { (node : Node) → IsNode node → (i h : ℕ) → i < length node.tasks
+        → among (after_of node.order i) h ≡ above_of node i h }
 {}
 
 /// Each job of a task that passes finishes within its bound, and in a set with a passing order no job overruns the one
 /// before it (Audsley et al. 1993).
 pub fn bound_holds()
     ensures bound { (node : Node) (jobs : List Job) → IsNode node → IsLegal node jobs → BoundHolds node jobs }
-    ensures no_overrun { (node : Node) (jobs : List Job) → IsNode node → IsLegal node jobs → IsPassingOrder node.tasks node.order → NoOverrun node jobs }
+    ensures no_overrun { (node : Node) (jobs : List Job) → IsNode node → IsLegal node jobs
+        → IsPassingOrder node.tasks node.order
+        → NoOverrun node jobs }
 {}

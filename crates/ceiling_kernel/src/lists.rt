@@ -1,4 +1,5 @@
-//! The lists of the tasks whose jobs are pending: SCHED_FIFO of POSIX.1-2017, with one list per priority, the lowest first.
+//! The lists of the tasks whose jobs are pending: SCHED_FIFO of POSIX.1-2017, with one list per priority,
+//! the lowest first.
 ghost use Rattle.std.specs.Prelude.{◌≡◌, ◌<◌, ◌≤◌, ℕ, length, vec_len, slice_index_or, replicate, IfOk, None, []};
 ghost use Rattle.ceiling_kernel.specs.States.{best_slot};
 ghost use Rattle.ceiling_kernel.specs.Lists.{listed, list_at, Queues, with_tail, with_head, without_head, moved_to, head_of_highest};
@@ -52,7 +53,8 @@ pub(crate) fn drop_first(lists: &mut Vec<VecDeque<usize>>, priority: u32)
     let _ = lists[priority as usize].pop_front();
 }
 
-// The head of a list goes to the list of its job's new priority: to the head of a lower one, to the tail of a higher one.
+// The head of a list goes to the list of its job's new priority: to the head of a lower one,
+// to the tail of a higher one.
 pub(crate) fn move_first(
     lists: &mut Vec<VecDeque<usize>>,
     old: u32,

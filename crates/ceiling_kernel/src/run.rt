@@ -172,7 +172,9 @@ fn records_of(
     finishes: &[Option<u64>],
 ) -> Result<Vec<JobRecord>, AllocError>
     requires { length finishes.now ≡ length releases.now }
-    ensures { (node : Node) (t : ℕ) → AreFinishes node releases.now t finishes.now → IfOk result (λ records. records.items ≡ records_from node (jobs_of node.tasks releases.now) t 0 releases.now) }
+    ensures { (node : Node) (t : ℕ) → AreFinishes node releases.now t finishes.now
+        → IfOk result (λ records. records.items
+        ≡ records_from node (jobs_of node.tasks releases.now) t 0 releases.now) }
 {
     let mut records = Vec::new(alloc);
     for k in 0..releases.len() {
@@ -189,7 +191,8 @@ fn records_of(
 impl Simulation {
     // Before the first tick.
     fn start(alloc: Global, kernel: &Kernel, jobs: usize) -> Result<Simulation, AllocError>
-        ensures { (rs : List Release) → IsRunnable kernel.now rs → length rs ≡ jobs → IfOk result (λ s. IsRunning kernel.now rs s × (s.now ≡ 0)) }
+        ensures { (rs : List Release) → IsRunnable kernel.now rs → length rs ≡ jobs
+            → IfOk result (λ s. IsRunning kernel.now rs s × (s.now ≡ 0)) }
     {
         let count = kernel.tasks().len();
         let slots = all_none(alloc, count)?;
@@ -222,7 +225,9 @@ impl Simulation {
         requires running { IsRunning kernel.now releases.now self.old }
         requires next { self.old.next < length releases.now }
         requires ready { (release_at releases.now self.old.next).time ≤ self.old.now }
-        ensures ok { IfOk result (λ _. IsRunning kernel.now releases.now self.new × (self.new.now ≡ self.old.now) × (self.new.next ≡ self.old.next + 1)) }
+        ensures ok { IfOk result (λ _. IsRunning kernel.now releases.now self.new
+            × (self.new.now ≡ self.old.now)
+            × (self.new.next ≡ self.old.next + 1)) }
         ensures err { IfErr result (IsStop kernel.now releases.now) }
     {
         let job = self.next;
@@ -257,7 +262,8 @@ impl Simulation {
         requires runnable { IsRunnable kernel.now releases.now }
         requires running { IsRunning kernel.now releases.now self.old }
         requires before { self.old.now < until }
-        requires next { self.old.next < length releases.now → self.old.now < (release_at releases.now self.old.next).time }
+        requires next { self.old.next < length releases.now
+            → self.old.now < (release_at releases.now self.old.next).time }
         ensures ok { IfOk result (λ _. IsFurther kernel.now releases.now until self.old self.new) }
     {
         let limit = limit_of(releases, self.next, self.now, until);
@@ -320,8 +326,8 @@ impl Simulation {
 
 impl<'a> Kernel<'a> {
     /// The trace of the releases in the ticks before `until`, in microseconds. A list of releases is refused before
-    /// anything runs; Overrun names the first release, by time and then in the list, of a task whose job before it isn't
-    /// finished.
+    /// anything runs; Overrun names the first release, by time and then in the list, of a task whose job before it
+    /// isn't finished.
     pub fn run(&self, alloc: Global, releases: &[Release], until: u64) -> Result<Trace, RunFault>
         ensures trace { Runs self.now releases.now until result }
         ensures granted { IfOk result (λ _. EachIsGranted self.now (jobs_of self.now.tasks releases.now)) }

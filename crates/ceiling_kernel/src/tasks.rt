@@ -1,8 +1,8 @@
 //! What a kernel keeps of its tasks.
 ghost use Rattle.std.specs.Prelude.{◌<◌};
 
-/// A critical section: its locks are held once more than `at` ticks are executed and less than `stop`. They are known by
-/// their places in the set's order of first sight; `top` is the highest of their ceilings.
+/// A critical section: its locks are held once more than `at` ticks are executed and less than `stop`. They are known
+/// by their places in the set's order of first sight; `top` is the highest of their ceilings.
 #[derive(Drop)]
 pub struct NodeSection {
     pub at: u64,
