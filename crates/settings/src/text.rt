@@ -68,7 +68,8 @@ fn push_lock(
 ) -> Result<(), AllocError>
     requires within { All (λ index. index < 32) order.now }
     requires few { length order.now ≤ 32 }
-    ensures { OnOk result ((U : List Task) → IsTableOf U table.now → (lock : List ℕ) → slice_get (locks_of U) place ≡ Some lock
+    ensures { OnOk result ((U : List Task) → IsTableOf U table.now
+        → (lock : List ℕ) → slice_get (locks_of U) place ≡ Some lock
         → string_bytes text.new ≡ string_bytes text.old ++ mutex_line lock (ceiling_of U order.now lock)) }
 {
     match table.lock_at(place) {
@@ -101,8 +102,8 @@ fn order_of(alloc: Global, levels: &[LevelRecord]) -> Result<Vec<usize>, AllocEr
     Ok(order)
 }
 
-/// The lines that say what a node is set to for the best order of a set: the level of each task's thread, and the ceiling
-/// of each lock's mutex. The error is want of memory.
+/// The lines that say what a node is set to for the best order of a set: the level of each task's thread, and the
+/// ceiling of each lock's mutex. The error is want of memory.
 pub fn settings_text(alloc: Global, assignment: &Assignment) -> Result<String, AllocError>
     ensures { IfOk result (λ text. string_bytes text
         ≡ settings_lines assignment.now.set (order_of assignment.now.levels)) }
