@@ -17,7 +17,11 @@ pub record IsDocument (text : List ℕ) (tree : Members) : Type 0 where
 -- a set: the tree's sheets by rank, where the tree has no fault; Syntax: there is no tree; any other
 -- fault but want of memory: the tree's first
 abbrev pub ReadsSet : List ℕ → Result TaskSet SetFault → Type 0
-ReadsSet text (Ok set) = (tree : Members) × IsDocument text tree × (tree_fault tree ≡ None) × IsByRank (tree_sheets tree) set
+ReadsSet text (Ok set) =
+    (tree : Members)
+    × IsDocument text tree
+    × (tree_fault tree ≡ None)
+    × IsByRank (tree_sheets tree) set
 ReadsSet text (Err fault.OutOfMemory) = Unit {0}
 ReadsSet text (Err fault.Syntax) = (tree : Members) → IsDocument text tree → ⊥
 ReadsSet text (Err e) = (tree : Members) × IsDocument text tree × (tree_fault tree ≡ Some e)

@@ -86,5 +86,10 @@ task_at U k = slice_index_or U k no_task
 
 -- the two sheets say the same
 abbrev pub same_sheet : Task → Task → Bool
-same_sheet x y = same_bytes x.name y.name && (nat_eq x.weight y.weight && (nat_eq x.period y.period && (nat_eq x.deadline y.deadline
-    && (nat_eq x.cost y.cost && pointwise same_section x.sections y.sections))))
+same_sheet x y =
+    same_bytes x.name y.name
+    && (nat_eq x.weight y.weight
+    && (nat_eq x.period y.period
+    && (nat_eq x.deadline y.deadline
+    && (nat_eq x.cost y.cost
+    && pointwise same_section x.sections y.sections))))

@@ -24,7 +24,8 @@ pub same_sheet_laws : IsPartialEquivalence same_sheet
 same_sheet_laws = partial_equiv_from_equiv sheet_equiv
 
 -- an equivalence whose answer true gives equality decides equality
-decides : {X : Type 0} (E : X → X → Bool) → IsEquivalence E → (x y : X) → (E x y ≡ true → x ≡ y) → Decides (E x y) (x ≡ y)
+decides : {X : Type 0} (E : X → X → Bool) → IsEquivalence E → (x y : X) → (E x y ≡ true → x ≡ y)
+    → Decides (E x y) (x ≡ y)
 decides {X} E e x y same = let P : X → Type 0 = λ z. E x z ≡ true in (same, λ q. subst P q (e.refl x))
 
 pub same_section-Decides : (x y : CriticalSection) → Decides (same_section x y) (x ≡ y)
@@ -48,5 +49,13 @@ same_sheet-Decides x y = decides same_sheet sheet_equiv x y (λ h.
     let period : x.period ≡ y.period = (Decides-eqb x.period y.period).0 c.0 in
     let deadline : x.deadline ≡ y.deadline = (Decides-eqb x.deadline y.deadline).0 d.0 in
     let cost : x.cost ≡ y.cost = (Decides-eqb x.cost y.cost).0 e.0 in
-    let sections : x.sections ≡ y.sections = (slice_eq-Decides same_section-Decides x.sections y.sections _ refl).0 e.1 in
-    λ i. record { name = name i; weight = weight i; period = period i; deadline = deadline i; cost = cost i; sections = sections i })
+    let sections : x.sections ≡ y.sections =
+    (slice_eq-Decides same_section-Decides x.sections y.sections _ refl).0 e.1 in
+    λ i. record {
+      name = name i;
+      weight = weight i;
+      period = period i;
+      deadline = deadline i;
+      cost = cost i;
+      sections = sections i;
+    })

@@ -43,4 +43,5 @@ others_of xs name = filter (λ x. not (same_bytes x.name name)) xs
 -- the place of the first sheet that has the name of one before it, where some stand before the list
 abbrev pub first_repeat : List Task → ℕ → List Task → Option ℕ
 first_repeat seen place [] = None
-first_repeat seen place (x ∷ xs) = if has_name seen x.name then Some place else first_repeat (seen ++ x ∷ []) (place + 1) xs
+first_repeat seen place (x ∷ xs) =
+    if has_name seen x.name then Some place else first_repeat (seen ++ x ∷ []) (place + 1) xs

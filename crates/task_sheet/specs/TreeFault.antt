@@ -27,7 +27,8 @@ first (f ∷ fs) = option_or f (first fs)
 -- a key that is not known, and then the first that is missing
 abbrev pub keys_fault : (task section : ℕ) (known needed : List Key) → Members → Option SetFault
 keys_fault task section known needed ms =
-    option_or (unless (only_keys known ms) (fault.UnknownKey task section)) (option_map (fault.MissingKey task section) (first_missing needed ms))
+    option_or (unless (only_keys known ms) (fault.UnknownKey task section))
+    (option_map (fault.MissingKey task section) (first_missing needed ms))
 
 -- a section's keys, and then the kinds of their values
 abbrev pub section_table_fault : (task section : ℕ) → Members → Option SetFault
@@ -41,7 +42,8 @@ section_table_fault task section ms = first (
 -- the first fault of a task's sections, of which the first stands at a place
 abbrev pub section_tables_fault : (task place : ℕ) → List Members → Option SetFault
 section_tables_fault task place [] = None
-section_tables_fault task place (ms ∷ more) = option_or (section_table_fault task place ms) (section_tables_fault task (place + 1) more)
+section_tables_fault task place (ms ∷ more) =
+    option_or (section_table_fault task place ms) (section_tables_fault task (place + 1) more)
 
 -- the place of the first section with a lock whose name is no name, where the first stands at a place
 abbrev pub bad_section : ℕ → List CriticalSection → Option ℕ

@@ -20,37 +20,50 @@ pub fn valid_set_qualifies()
 
 /// In whatever order sheets are given, they have one list by rank at most.
 pub fn set_by_rank_is_one()
-    ensures { (xs ys first second : List Task) → IsPermutation xs ys → IsByRank xs first → IsByRank ys second → first ≡ second }
+    ensures { (xs ys first second : List Task) → IsPermutation xs ys → IsByRank xs first → IsByRank ys second
+        → first ≡ second }
 {}
 
 /// The blocking is the greatest length of the sections that block, and 0 where none does
 /// (Sha, Rajkumar, Lehoczky 1990).
 pub fn blocking_is_greatest()
-    ensures above { (U : List Task) (i : ℕ) (H : Indexes) (s : CriticalSection) → Blocks U i H s → s.len ≤ blocking_of U i H }
-    ensures some { (U : List Task) (i : ℕ) (H : Indexes) → (blocking_of U i H ≡ 0) ⊎ ((s : CriticalSection) × Blocks U i H s × (blocking_of U i H ≡ s.len)) }
+    ensures above { (U : List Task) (i : ℕ) (H : Indexes) (s : CriticalSection) → Blocks U i H s
+        → s.len ≤ blocking_of U i H }
+    ensures some { (U : List Task) (i : ℕ) (H : Indexes)
+        → (blocking_of U i H ≡ 0)
+        ⊎ ((s : CriticalSection) × Blocks U i H s × (blocking_of U i H ≡ s.len)) }
 {}
 
 /// The ceiling of a lock is the level of its highest user. In an order of the set it has none exactly where no task
 /// uses it.
 pub fn ceiling_is_highest()
-    ensures level { (U : List Task) (order lock : List ℕ) (level : ℕ) → (ceiling_of U order lock ≡ Some level) ↔ ((place : ℕ) × (level ≡ place + 1) × IsHighestUser U order lock place) }
-    ensures none { (U : List Task) (order lock : List ℕ) → IsOrder U order → (ceiling_of U order lock ≡ None) ↔ ((k : ℕ) → k < length U → IsFalse (uses (task_at U k) lock)) }
+    ensures level { (U : List Task) (order lock : List ℕ) (level : ℕ)
+        → (ceiling_of U order lock ≡ Some level)
+        ↔ ((place : ℕ) × (level ≡ place + 1) × IsHighestUser U order lock place) }
+    ensures none { (U : List Task) (order lock : List ℕ) → IsOrder U order
+        → (ceiling_of U order lock ≡ None)
+        ↔ ((k : ℕ) → k < length U → IsFalse (uses (task_at U k) lock)) }
 {}
 
 /// More tasks above take no demand away: what their sections no longer block, their jobs execute.
 pub fn exchange()
-    ensures one { (U : List Task) (i j : ℕ) (H : Indexes) (t : ℕ) → AllTasks U → 1 ≤ t → demand_of U i H t ≤ demand_of U i (with_index H j) t }
-    ensures part { (U : List Task) (i : ℕ) (H G : Indexes) (t : ℕ) → AllTasks U → IsPart H G → 1 ≤ t → demand_of U i H t ≤ demand_of U i G t }
+    ensures one { (U : List Task) (i j : ℕ) (H : Indexes) (t : ℕ) → AllTasks U → 1 ≤ t
+        → demand_of U i H t ≤ demand_of U i (with_index H j) t }
+    ensures part { (U : List Task) (i : ℕ) (H G : Indexes) (t : ℕ) → AllTasks U → IsPart H G → 1 ≤ t
+        → demand_of U i H t ≤ demand_of U i G t }
 {}
 
 /// Within the longest period, the demand of a valid set is under 1000 seconds.
 pub fn demand_fits()
-    ensures { (U : List Task) (i : ℕ) (H : Indexes) (t : ℕ) → IsTaskSet U → i < length U → t ≤ 10000000 → demand_of U i H t < 1000000000 }
+    ensures { (U : List Task) (i : ℕ) (H : Indexes) (t : ℕ) → IsTaskSet U → i < length U → t ≤ 10000000
+        → demand_of U i H t < 1000000000 }
 {}
 
 /// A task passes exactly where it has a response within its limit (Audsley et al. 1993).
 pub fn response_is_least()
-    ensures { (U : List Task) (i : ℕ) (H : Indexes) → AllTasks U → i < length U → Passes U i H ↔ ((r : ℕ) × IsResponse (demand_of U i H) r × (r ≤ limit_of (task_at U i))) }
+    ensures { (U : List Task) (i : ℕ) (H : Indexes) → AllTasks U → i < length U
+        → Passes U i H
+        ↔ ((r : ℕ) × IsResponse (demand_of U i H) r × (r ≤ limit_of (task_at U i))) }
 {}
 
 /// The test says whether a task passes.
@@ -60,17 +73,22 @@ pub fn passes_is_decided()
 
 /// Where there is a chain, the task does not pass.
 pub fn chain_refutes()
-    ensures { (U : List Task) (i : ℕ) (H : Indexes) (numbers : List ℕ) → AllTasks U → IsChain (demand_of U i H) (limit_of (task_at U i)) numbers → ¬ Passes U i H }
+    ensures { (U : List Task) (i : ℕ) (H : Indexes) (numbers : List ℕ) → AllTasks U
+        → IsChain (demand_of U i H) (limit_of (task_at U i)) numbers
+        → ¬ Passes U i H }
 {}
 
 /// A task fails exactly where it has a full chain.
 pub fn full_chain_shows()
-    ensures { (U : List Task) (i : ℕ) (H : Indexes) → AllTasks U → (¬ Passes U i H) ↔ ((numbers : List ℕ) × IsFullChain (demand_of U i H) (limit_of (task_at U i)) numbers) }
+    ensures { (U : List Task) (i : ℕ) (H : Indexes) → AllTasks U
+        → (¬ Passes U i H)
+        ↔ ((numbers : List ℕ) × IsFullChain (demand_of U i H) (limit_of (task_at U i)) numbers) }
 {}
 
 /// A demand has one full chain at most for a limit.
 pub fn full_chain_is_one()
-    ensures { (W : ℕ → ℕ) (limit : ℕ) (first second : List ℕ) → IsFullChain W limit first → IsFullChain W limit second → first ≡ second }
+    ensures { (W : ℕ → ℕ) (limit : ℕ) (first second : List ℕ) → IsFullChain W limit first → IsFullChain W limit second
+        → first ≡ second }
 {}
 
 /// Where there is an obstruction, no order passes.
@@ -80,23 +98,31 @@ pub fn obstruction_refutes()
 
 /// Two obstructions together are one.
 pub fn obstructions_unite()
-    ensures { (U : List Task) (S R : Indexes) → AllTasks U → IsObstruction U S → IsObstruction U R → IsObstruction U (either_of S R) }
+    ensures { (U : List Task) (S R : Indexes) → AllTasks U → IsObstruction U S → IsObstruction U R
+        → IsObstruction U (either_of S R) }
 {}
 
 /// No order passes exactly where there is an obstruction, and where there is one, there is a greatest.
 pub fn infeasible_is_obstructed()
     ensures exactly { (U : List Task) → AllTasks U → (¬ IsFeasible U) ↔ ((S : Indexes) × IsObstruction U S) }
-    ensures greatest { (U : List Task) (S : Indexes) → AllTasks U → IsObstruction U S → (G : Indexes) × IsGreatestObstruction U G }
+    ensures greatest { (U : List Task) (S : Indexes) → AllTasks U → IsObstruction U S
+        → (G : Indexes) × IsGreatestObstruction U G }
 {}
 
 /// The task of least rank that may stand there, level by level from the lowest up, gives the best order (Audsley 1991).
 pub fn least_first_is_best()
-    ensures { (U : List Task) (order : List ℕ) → AllChosen U (all_of U) order → ((k : ℕ) → IsFalse (left_after (all_of U) order k)) → IsBest U order }
+    ensures { (U : List Task) (order : List ℕ) → AllChosen U (all_of U) order
+        → ((k : ℕ) → IsFalse (left_after (all_of U) order k))
+        → IsBest U order }
 {}
 
 /// Where some are left and none of them may stand below the others, they are the greatest obstruction.
 pub fn rest_is_greatest()
-    ensures { (U : List Task) (placed : List ℕ) (k : ℕ) → AllTasks U → AllChosen U (all_of U) placed → IsTrue (left_after (all_of U) placed k) → NoneStands U (left_after (all_of U) placed) → IsGreatestObstruction U (left_after (all_of U) placed) }
+    ensures { (U : List Task) (placed : List ℕ) (k : ℕ) → AllTasks U
+        → AllChosen U (all_of U) placed
+        → IsTrue (left_after (all_of U) placed k)
+        → NoneStands U (left_after (all_of U) placed)
+        → IsGreatestObstruction U (left_after (all_of U) placed) }
 {}
 
 /// A set has one best order at most.
@@ -106,12 +132,15 @@ pub fn best_is_one()
 
 /// A set has a best order, or a greatest obstruction.
 pub fn best_or_obstructed()
-    ensures { (U : List Task) → AllTasks U → ((order : List ℕ) × IsBest U order) ⊎ ((S : Indexes) × IsGreatestObstruction U S) }
+    ensures { (U : List Task) → AllTasks U
+        → ((order : List ℕ) × IsBest U order)
+        ⊎ ((S : Indexes) × IsGreatestObstruction U S) }
 {}
 
 /// Levels that are ready give the best order.
 pub fn ready_is_best()
-    ensures { (U : List Task) (levels : List LevelData) → AllTasks U → IsReadyOrder U levels → IsBest U (order_of levels) }
+    ensures { (U : List Task) (levels : List LevelData) → AllTasks U → IsReadyOrder U levels
+        → IsBest U (order_of levels) }
 {}
 
 /// Where the members of a set are ready, no order passes.
@@ -121,8 +150,17 @@ pub fn ready_refutes()
 
 /// What the climb from the lowest level up leads to is the verdict.
 pub fn climb_gives_verdict()
-    ensures admitted { (U : List Task) (levels : List LevelData) → AllChosen U (all_of U) (order_of levels) → AllLevels U (all_of U) levels → ((k : ℕ) → IsFalse (left_after (all_of U) (order_of levels) k)) → IsVerdictOf U (Admitted levels) }
-    ensures infeasible { (U : List Task) (placed : List ℕ) (members : List FailureData) (k : ℕ) → AllTasks U → AllChosen U (all_of U) placed → IsTrue (left_after (all_of U) placed k) → (tasks_of members ≡ listed_below (length U) (left_after (all_of U) placed)) → AllFailures U (left_after (all_of U) placed) members → IsVerdictOf U (Infeasible members) }
+    ensures admitted { (U : List Task) (levels : List LevelData)
+        → AllChosen U (all_of U) (order_of levels)
+        → AllLevels U (all_of U) levels
+        → ((k : ℕ) → IsFalse (left_after (all_of U) (order_of levels) k))
+        → IsVerdictOf U (Admitted levels) }
+    ensures infeasible { (U : List Task) (placed : List ℕ) (members : List FailureData) (k : ℕ) → AllTasks U
+        → AllChosen U (all_of U) placed
+        → IsTrue (left_after (all_of U) placed k)
+        → (tasks_of members ≡ listed_below (length U) (left_after (all_of U) placed))
+        → AllFailures U (left_after (all_of U) placed) members
+        → IsVerdictOf U (Infeasible members) }
 {}
 
 /// A set has a verdict.
@@ -132,17 +170,21 @@ pub fn verdict_exists()
 
 /// A set has one verdict at most.
 pub fn verdict_is_one()
-    ensures { (U : List Task) (first second : VerdictData) → AllTasks U → IsVerdictOf U first → IsVerdictOf U second → first ≡ second }
+    ensures { (U : List Task) (first second : VerdictData) → AllTasks U → IsVerdictOf U first → IsVerdictOf U second
+        → first ≡ second }
 {}
 
 /// The verdict says whether some order passes.
 pub fn verdict_decides()
     ensures admitted { (U : List Task) (levels : List LevelData) → IsVerdictOf U (Admitted levels) → IsFeasible U }
-    ensures infeasible { (U : List Task) (members : List FailureData) → AllTasks U → IsVerdictOf U (Infeasible members) → ¬ IsFeasible U }
+    ensures infeasible { (U : List Task) (members : List FailureData) → AllTasks U → IsVerdictOf U (Infeasible members)
+        → ¬ IsFeasible U }
 {}
 
 /// A verdict is ready for a certificate.
 pub fn verdict_is_ready()
-    ensures admitted { (U : List Task) (levels : List LevelData) → AllTasks U → IsVerdictOf U (Admitted levels) → IsReadyOrder U levels }
-    ensures infeasible { (U : List Task) (members : List FailureData) → IsVerdictOf U (Infeasible members) → IsReadySet U members }
+    ensures admitted { (U : List Task) (levels : List LevelData) → AllTasks U → IsVerdictOf U (Admitted levels)
+        → IsReadyOrder U levels }
+    ensures infeasible { (U : List Task) (members : List FailureData) → IsVerdictOf U (Infeasible members)
+        → IsReadySet U members }
 {}

@@ -79,9 +79,9 @@ pub struct SheetFault {
     pub sections: Vec<Section>,
 }
 
-/// A critical section: a job takes the locks when it has executed `at` microseconds and executes on, and gives them back when it
-/// has executed `at + len`. A nested section is written as one section that holds all its locks for its whole length
-/// (Sha, Rajkumar, Lehoczky 1990; `PTHREAD_PRIO_PROTECT` of POSIX.1-2017).
+/// A critical section: a job takes the locks when it has executed `at` microseconds and executes on, and gives them
+/// back when it has executed `at + len`. A nested section is written as one section that holds all its locks for its
+/// whole length (Sha, Rajkumar, Lehoczky 1990; `PTHREAD_PRIO_PROTECT` of POSIX.1-2017).
 #[derive(Debug, Drop)]
 pub struct Section {
     /// The names of its locks: in a sheet 1 to 4, distinct.
