@@ -46,7 +46,8 @@ fn goes_past(mut requests: Requests, limit: u64, first: u64, numbers: &[u64]) ->
 // Whether the numbers are a chain of the task with these above it.
 fn is_chain(set: &TaskSet, task: usize, above: Members, numbers: &[u64]) -> bool
     requires { task < length set.now }
-    ensures { result ≡ is_chain (demand_of set.now task (indexes_of above)) (limit_of (task_at set.now task)) numbers.now }
+    ensures { result
+        ≡ is_chain (demand_of set.now task (indexes_of above)) (limit_of (task_at set.now task)) numbers.now }
 {
     let Some((first, rest)) = numbers.split_first() else {
         return false;

@@ -107,7 +107,8 @@ fn level_fault(
     fails: &[CertChain],
 ) -> Option<CheckFault>
     requires { task_of set.now name < length set.now }
-    ensures { let l : Level = record { name = name; time = time; fails = fails.now } in result ≡ level_fault set.now asked level (indexes_of left) l }
+    ensures { let l : Level = record { name = name; time = time; fails = fails.now } in
+        result ≡ level_fault set.now asked level (indexes_of left) l }
 {
     let task = task_of(set, name);
     match asked {

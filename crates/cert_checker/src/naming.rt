@@ -18,8 +18,10 @@ pub fn task_of(set: &TaskSet, name: Name) -> usize
 
 // The tasks that were seen, and one more, if it is one and was not seen.
 fn see(set: &TaskSet, seen: Members, name: Name) -> Option<Members>
-    ensures { MatchOption result ((nat_lt (task_of set.now name) (length set.now) && not (indexes_of seen (task_of set.now name))) ≡ false)
-        (λ m. ((nat_lt (task_of set.now name) (length set.now) && not (indexes_of seen (task_of set.now name))) ≡ true) × (indexes_of m ≡ with_index (indexes_of seen) (task_of set.now name))) }
+    ensures { MatchOption result
+        ((nat_lt (task_of set.now name) (length set.now) && not (indexes_of seen (task_of set.now name))) ≡ false)
+        (λ m. ((nat_lt (task_of set.now name) (length set.now) && not (indexes_of seen (task_of set.now name))) ≡ true)
+        × (indexes_of m ≡ with_index (indexes_of seen) (task_of set.now name))) }
 {
     let task = task_of(set, name);
     if task < set.len() && !seen.has(task) {
@@ -31,8 +33,10 @@ fn see(set: &TaskSet, seen: Members, name: Name) -> Option<Members>
 
 /// The tasks of chains, where each is one and none is named twice.
 pub fn tasks_of(set: &TaskSet, chains: &[CertChain]) -> Option<Members>
-    ensures { MatchOption result (are_new (length set.now) no_index (tasks_of (failures_of set.now chains.now)) ≡ false)
-        (λ m. (are_new (length set.now) no_index (tasks_of (failures_of set.now chains.now)) ≡ true) × (indexes_of m ≡ among (tasks_of (failures_of set.now chains.now)))) }
+    ensures { MatchOption result
+        (are_new (length set.now) no_index (tasks_of (failures_of set.now chains.now)) ≡ false)
+        (λ m. (are_new (length set.now) no_index (tasks_of (failures_of set.now chains.now)) ≡ true)
+        × (indexes_of m ≡ among (tasks_of (failures_of set.now chains.now)))) }
 {
     let mut seen = Members::empty();
     for chain in chains {
@@ -46,8 +50,10 @@ pub fn tasks_of(set: &TaskSet, chains: &[CertChain]) -> Option<Members>
 
 // The tasks of levels, where each is one and none is named twice.
 fn order_of(set: &TaskSet, levels: &[CertLevel]) -> Option<Members>
-    ensures { MatchOption result (are_new (length set.now) no_index (order_of (levels_of set.now levels.now)) ≡ false)
-        (λ m. (are_new (length set.now) no_index (order_of (levels_of set.now levels.now)) ≡ true) × (indexes_of m ≡ among (order_of (levels_of set.now levels.now)))) }
+    ensures { MatchOption result
+        (are_new (length set.now) no_index (order_of (levels_of set.now levels.now)) ≡ false)
+        (λ m. (are_new (length set.now) no_index (order_of (levels_of set.now levels.now)) ≡ true)
+        × (indexes_of m ≡ among (order_of (levels_of set.now levels.now)))) }
 {
     let mut seen = Members::empty();
     for level in levels {
@@ -73,7 +79,9 @@ fn has_all(set: &TaskSet, seen: Members) -> bool
 
 /// Whether the levels name each task of the set once, and nothing else.
 pub fn is_order(set: &TaskSet, levels: &[CertLevel]) -> bool
-    ensures { result ≡ (are_new (length set.now) no_index (order_of (levels_of set.now levels.now)) && has_all (length set.now) (among (order_of (levels_of set.now levels.now)))) }
+    ensures { result
+        ≡ (are_new (length set.now) no_index (order_of (levels_of set.now levels.now))
+        && has_all (length set.now) (among (order_of (levels_of set.now levels.now)))) }
 {
     match order_of(set, levels) {
         Some(seen) => has_all(set, seen),
