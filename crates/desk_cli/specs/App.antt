@@ -27,7 +27,8 @@ bare_app = made_bare (new_app (codes "desk"))
 abbrev pub pair_app : Text → Text → App
 pair_app name second = with_rule (set_app name) (input_rule second)
 
--- `admit SET`, `certify SET`, `check SET CERT`, `simulate SET RELEASES`, `headroom SET`, `settings SET` and `play SCRIPT`
+-- `admit SET`, `certify SET`, `check SET CERT`, `simulate SET RELEASES`, `headroom SET`, `settings SET`
+-- and `play SCRIPT`
 abbrev pub desk_app : App
 desk_app =
     with_subcommand

@@ -114,8 +114,8 @@ fn print_verdict<W: Write + Drop>(
     print_tasks(alloc, verdict.set(), &table, status_of(verdict), output)
 }
 
-/// `desk headroom`: reads a task set, and prints the first line of its verdict, and then for each task by rank its cost and
-/// the greatest cost, in microseconds, with which some order passes, all else equal; or why the input was refused.
+/// `desk headroom`: reads a task set, and prints the first line of its verdict, and then for each task by rank its cost
+/// and the greatest cost, in microseconds, with which some order passes, all else equal; or why the input was refused.
 pub fn print_headroom<R: Read + Drop, W: Write + Drop>(
     alloc: Global,
     set: &mut Watched<R>,

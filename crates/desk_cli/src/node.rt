@@ -25,15 +25,16 @@ fn node_text(alloc: Global, verdict: &Verdict) -> Result<String, AllocError>
     }
 }
 
-/// `desk settings`: reads a task set, and prints the level of each task's thread and the ceiling of each lock's mutex in
-/// the set's best order; or the tasks of its greatest obstruction; or why the input was refused.
+/// `desk settings`: reads a task set, and prints the level of each task's thread and the ceiling of each lock's mutex
+/// in the set's best order; or the tasks of its greatest obstruction; or why the input was refused.
 pub fn print_settings<R: Read + Drop, W: Write + Drop>(
     alloc: Global,
     set: &mut Watched<R>,
     output: &mut Watched<W>,
 ) -> Status
     ensures printed { output.new.has_failed ≡ false
-        → Says settings_of (R.remaining set.old.inner) (W.contents output.old.inner) (W.contents output.new.inner) result }
+        → Says settings_of (R.remaining set.old.inner)
+        (W.contents output.old.inner) (W.contents output.new.inner) result }
     ensures failed { result ≡ Status.InputOrOutputFailed → IsDisturbed set.new ⊎ (output.new.has_failed ≡ true) }
     ensures unread { set.old.has_failed ≡ false → set.new.has_failed ≡ true → output.old.has_failed ≡ false
         → result ≡ Status.InputOrOutputFailed }

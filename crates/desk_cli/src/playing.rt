@@ -26,8 +26,8 @@ fn lines_of<R: Read + Drop>(alloc: Global, script: &mut Watched<R>) -> Result<Ve
     Ok(lines)
 }
 
-/// `desk play`: reads a script of drafts, findings and commits, plays it on an empty desk, and prints the line of each reply
-/// as it comes, and then the book; or why the script was refused, and then nothing of it was played.
+/// `desk play`: reads a script of drafts, findings and commits, plays it on an empty desk, and prints the line of each
+/// reply as it comes, and then the book; or why the script was refused, and then nothing of it was played.
 pub fn play<R: Read + Drop, W: Write + Drop>(
     alloc: Global,
     script: &mut Watched<R>,
