@@ -1,5 +1,5 @@
 -- The questions of a climb, and those of its verdict.
-use Rattle.std.proofs.Common.{◌≡◌, ℕ, zero, suc, ◌<◌, ◌≤◌, inl, inr, true, false, ◌==◌, List, length, Result, Ok, Err, is_err, [], ◌∷◌, ◌++◌, slice_get, get_or, Some, IsTrue, IsFalse, refl, sym, ◌∙◌, ap, subst, arith}
+use Rattle.std.proofs.Common.{◌≡◌, ℕ, zero, suc, ◌<◌, ◌≤◌, ◌⊎◌, inl, inr, true, false, ◌==◌, List, length, Ok, [], ◌∷◌, ◌++◌, slice_get, get_or, Some, IsTrue, IsFalse, refl, sym, ◌∙◌, ap, subst, arith}
 use Rattle.std.specs.Ordering.{nat_cmp}
 use Rattle.std.specs.FinSet as members
 use Rattle.std.proofs.lemmas.List.Folds.{list_any-append, list_any_at}
@@ -21,10 +21,9 @@ use Rattle.task_sheet.proofs.VerdictLaws.{IsBestOrder-feasible, IsStuck-infeasib
 use Rattle.assignment.specs.Questions.{QuestionData}
 use Rattle.assignment.specs.Levels.{LevelState, IsDecided}
 use Rattle.assignment.specs.Climbs.{ClimbState, IsPlaced, IsEnded, IsUnfinished}
-use Rattle.assignment.specs.Climbing.{ClosesLevel, Finishes}
+use Rattle.assignment.specs.Climbing.{Finishes}
 use Rattle.assignment.specs.Verdict.{verdict_of}
 use Rattle.assignment.specs.declared.verdict.Verdict.{Verdict}
-use Rattle.assignment.specs.declared.climb.ClimbFault.{ClimbFault}
 use Rattle.assignment.proofs.ClimbLaws.{not_unfinished}
 use Rattle.candidate_workers.specs.Passing.{question_on, NoneShut}
 use Rattle.candidate_workers.specs.Asked.{IsAmong, IsOfLevels, IsOfVerdict}
@@ -208,12 +207,9 @@ IsFreeClimb-start shut U V c same e = record {
   stuck = λ is. absurd (both_ways c.stuck (ap (λ (d : ClimbState). d.stuck) e) is);
 }
 
-pub IsFreeClimb-closed : (shut : QuestionData → Type 0) (U : List Task) (old : ClimbState) (l : LevelState) (new : ClimbState) (result : Result (Unit {0}) ClimbFault) → is_err result ≡ false → ClosesLevel old l new result → IsFreeClimb shut U old → l.set ≡ U → l.left ≡ old.left → NoneShut shut l → ((k : ℕ) × IsTrue (members.contains old.left k)) → IsFreeClimb shut U new
-IsFreeClimb-closed shut U old l new (Ok done) is closed so set left none some = elim closed.2 [
-  | inl placed ↦ IsFreeClimb-placed shut U old new l so set left none closed.1 closed.0.goes_on placed
-  | inr ended ↦ IsFreeClimb-ended shut U old new l so set left none closed.1 some ended
-]
-IsFreeClimb-closed shut U old l new (Err fault) is closed so set left none some = absurd (both_ways true is refl)
+pub IsFreeClimb-closed : (shut : QuestionData → Type 0) (U : List Task) (old : ClimbState) (l : LevelState) (new : ClimbState) → IsFreeClimb shut U old → l.set ≡ U → l.left ≡ old.left → NoneShut shut l → IsDecided l → IsUnfinished old → IsPlaced old new ⊎ IsEnded old new → IsFreeClimb shut U new
+IsFreeClimb-closed shut U old l new so set left none decided goes (inl placed) = IsFreeClimb-placed shut U old new l so set left none decided goes.goes_on placed
+IsFreeClimb-closed shut U old l new so set left none decided goes (inr ended) = IsFreeClimb-ended shut U old new l so set left none decided goes.some ended
 
 -- what a finished climb gives
 pub finished_free : (shut : QuestionData → Type 0) (U : List Task) (c : ClimbState) (v : Verdict) → IsTaskSet U → IsFreeClimb shut U c → Finishes c (Ok v) → (q : QuestionData) → IsOfVerdict U (verdict_of v) q → shut q → ⊥

@@ -60,4 +60,6 @@ pub record AreClaims (level : LevelState) (tasks : List ℕ) (claimed : Claimed)
   pub cut_above : (k : ℕ) → 0 < times k (whole_view claimed).cut → claimed.least < k
   pub told :
       (j : ℕ) →
-      times j tasks ≡ times j (map (candidate_at level) (whole_view claimed).failed) + times j (map (candidate_at level) (whole_view claimed).passed)
+      times j tasks
+      ≡ times j (map (candidate_at level) (whole_view claimed).failed)
+      + times j (map (candidate_at level) (whole_view claimed).passed)

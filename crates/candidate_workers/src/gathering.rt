@@ -59,7 +59,8 @@ fn rank_of(fault: &AssayFault) -> u8
 
 // The first of some faults, and of one more.
 fn first_of(first: Option<AssayFault>, other: AssayFault) -> AssayFault
-    ensures { (faults : List AssayFault) → IsFirstFault faults first → IsFirstFault (faults ++ other ∷ []) (Some result) }
+    ensures { (faults : List AssayFault) → IsFirstFault faults first →
+        IsFirstFault (faults ++ other ∷ []) (Some result) }
 {
     match first {
         None => other,
@@ -75,7 +76,8 @@ fn first_of(first: Option<AssayFault>, other: AssayFault) -> AssayFault
 
 // The first of some faults, and of that of one more worker, if it has one.
 fn first_with(first: Option<AssayFault>, handed: &Handed) -> Option<AssayFault>
-    ensures { (faults : List AssayFault) → IsFirstFault faults first → IsFirstFault (faults ++ work_faults (handed.now ∷ [])) result }
+    ensures { (faults : List AssayFault) → IsFirstFault faults first →
+        IsFirstFault (faults ++ work_faults (handed.now ∷ [])) result }
 {
     match handed {
         Ok(_) => first,

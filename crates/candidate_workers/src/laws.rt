@@ -8,5 +8,7 @@ ghost use Rattle.candidate_workers.specs.Crews.{AreClaims};
 /// The workers handed on a finding for each candidate up to the least that passes, and for all where none passes: they
 /// leave the collector nothing to answer.
 pub fn claims_find_all()
-    ensures { (level : LevelState) (tasks : List ℕ) (claimed : Claimed) (k : ℕ) → AreClaims level tasks claimed → k < count_of level → k ≤ claimed.least → 0 < times (candidate_at level k) tasks }
+    ensures { (level : LevelState) (tasks : List ℕ) (claimed : Claimed) (k : ℕ) →
+        AreClaims level tasks claimed → k < count_of level → k ≤ claimed.least →
+        0 < times (candidate_at level k) tasks }
 {}
