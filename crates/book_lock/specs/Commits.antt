@@ -20,9 +20,15 @@ abbrev pub IsSameChange : Draft → Draft → Type 0
 IsSameChange d e = (e.team ≡ d.team) × (e.changes ≡ d.changes)
 
 -- one round outside the lock, and what followed under it
-abbrev pub IsRound : (QuestionData → Type 0) → (QuestionData → Type 0) → Draft → Known → Result Round CommitFault → Known → Type 0
+abbrev pub IsRound :
+    (QuestionData → Type 0) → (QuestionData → Type 0) → Draft → Known → Result Round CommitFault → Known → Type 0
 IsRound may always d old (Ok (Decided place)) new = NoneShut always (on_base d) × IsReceived d old place new
-IsRound may always d old (Ok (Overtaken back base)) new = NoneShut always (on_base d) × IsSameChange d back × (base.value ≡ d.base) × (d.base.version < back.base.version) × (new ≡ old)
+IsRound may always d old (Ok (Overtaken back base)) new =
+    NoneShut always (on_base d)
+    × IsSameChange d back
+    × (base.value ≡ d.base)
+    × (d.base.version < back.base.version)
+    × (new ≡ old)
 IsRound may always d old (Err fault) new = IsUntested may (on_base d) fault.cause × (fault.draft ≡ d) × (new ≡ old)
 
 -- some test of these changes, on the base or on a later state, wasn't made
@@ -33,7 +39,9 @@ IsUntestedOn may d cause = (desk : Desk) × IsUntested may (applied d.team desk.
 abbrev pub IsLater : (QuestionData → Type 0) → Draft → Desk → Known → Result ℕ CommitFault → Known → Type 0
 IsLater may d base old (Ok place) new = IsReceived d old place new
 IsLater may d base old (Err fault) new =
-    IsUntestedOn may d fault.cause × (fault.draft ≡ (let e : Draft = record { team = d.team; base = base; changes = d.changes } in e)) × (new ≡ old)
+    IsUntestedOn may d fault.cause
+    × (fault.draft ≡ (let e : Draft = record { team = d.team; base = base; changes = d.changes } in e))
+    × (new ≡ old)
 
 -- why there is no decision. The question that was shut out may be on the set that the changes come to on a later state.
 abbrev pub IsUndecided : (QuestionData → Type 0) → ℕ → Draft → Known → CommitCause → Type 0
@@ -41,7 +49,9 @@ IsUndecided may workers d p OtherTeam = d.team ≢ p.team
 IsUndecided may workers d p BadWorkers = (d.team ≡ p.team) × IsBadCount workers
 IsUndecided may workers d p cause = (d.team ≡ p.team) × (¬ IsBadCount workers) × IsUntestedOn may d cause
 
-abbrev pub Commits : (QuestionData → Type 0) → (QuestionData → Type 0) → ℕ → Draft → Known → Result ℕ CommitFault → Known → Type 0
+abbrev pub Commits :
+    (QuestionData → Type 0) → (QuestionData → Type 0) → ℕ → Draft → Known → Result ℕ CommitFault → Known → Type 0
 Commits may always workers d old (Ok place) new =
     (d.team ≡ old.team) × (¬ IsBadCount workers) × NoneShut always (on_base d) × IsReceived d old place new
-Commits may always workers d old (Err fault) new = IsUndecided may workers d old fault.cause × (fault.draft ≡ d) × (new ≡ old)
+Commits may always workers d old (Err fault) new =
+    IsUndecided may workers d old fault.cause × (fault.draft ≡ d) × (new ≡ old)

@@ -24,4 +24,5 @@ first_name (Some first) name = if is_lt (slice_cmp nat_cmp name first) then name
 -- the first by bytes of a name and of the names of those sheets that the test tells
 abbrev pub first_told : (List ℕ → Bool) → List Task → Option (List ℕ) → Option (List ℕ)
 first_told test [] first = first
-first_told test (x ∷ xs) first = if test x.name then first_told test xs (Some (first_name first x.name)) else first_told test xs first
+first_told test (x ∷ xs) first =
+    if test x.name then first_told test xs (Some (first_name first x.name)) else first_told test xs first

@@ -14,7 +14,9 @@ IsOwn desk p = own_of p.team desk.tasks ≡ p.tasks
 
 abbrev pub Opens : Book → Known → Result Draft OpenFault → Type 0
 Opens b p (Ok d) =
-    IsOwn b.desk p × (is_up_to b.desk.version p.receipts ≡ true) × (d ≡ (let n : Draft = record { team = p.team; base = b.desk; changes = [] } in n))
+    IsOwn b.desk p
+    × (is_up_to b.desk.version p.receipts ≡ true)
+    × (d ≡ (let n : Draft = record { team = p.team; base = b.desk; changes = [] } in n))
 Opens b p (Err (Foreign name)) = IsForeignName (own_of p.team b.desk.tasks) p.tasks name
 Opens b p (Err (Behind version)) = IsOwn b.desk p × (version ≡ b.desk.version) × (is_up_to version p.receipts ≡ false)
 Opens b p (Err OutOfMemory) = Unit {0}

@@ -18,7 +18,11 @@ own_after (Infeasible obstruction) changed own = own
 
 -- the pass after the decision at that place
 abbrev pub receiving : Known → ℕ → Entry → Known
-receiving p place l = record { team = p.team; tasks = own_after l.decision (own_changes l.changes p.tasks) p.tasks; receipts = p.receipts ++ (place, l) ∷ [] }
+receiving p place l = record {
+  team = p.team;
+  tasks = own_after l.decision (own_changes l.changes p.tasks) p.tasks;
+  receipts = p.receipts ++ (place, l) ∷ [];
+}
 
 abbrev pub version_in : Ruling → ℕ
 version_in (Admitted version) = version

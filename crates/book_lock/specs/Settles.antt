@@ -19,8 +19,10 @@ IsEntered b d old place next new =
 
 -- what happens to the book and to the pass
 abbrev pub Settles : Book → ProposalData → Known → Result Outcome DeskFault → Book → Known → Type 0
-Settles b p old (Ok (Decided place)) next new = (p.draft.base.version ≡ b.desk.version) × IsEntered b p.draft old place next new
-Settles b p old (Ok (Stale fresh back)) next new = (p.draft.base.version < b.desk.version) × (fresh.value ≡ b.desk) × (back ≡ p) × (next ≡ b) × (new ≡ old)
+Settles b p old (Ok (Decided place)) next new =
+    (p.draft.base.version ≡ b.desk.version) × IsEntered b p.draft old place next new
+Settles b p old (Ok (Stale fresh back)) next new =
+    (p.draft.base.version < b.desk.version) × (fresh.value ≡ b.desk) × (back ≡ p) × (next ≡ b) × (new ≡ old)
 Settles b p old (Err (Stranger back)) next new = IsStrange b p × (back ≡ p) × (next ≡ b) × (new ≡ old)
 Settles b p old (Err (OutOfMemory back)) next new = (back ≡ p) × (next ≡ b) × (new ≡ old)
 Settles b p old (Err (OtherTeam back)) next new = ⊥
@@ -37,7 +39,8 @@ IsReceived d old place new = (l : Entry) × (l.team ≡ d.team) × (l.changes �
 -- what `settle` answers to such a caller
 abbrev pub Answers : ProposalData → Known → Result Outcome DeskFault → Known → Type 0
 Answers p old (Ok (Decided place)) new = (p.draft.team ≡ old.team) × IsReceived p.draft old place new
-Answers p old (Ok (Stale fresh back)) new = (p.draft.team ≡ old.team) × (p.draft.base.version < fresh.value.version) × (back ≡ p) × (new ≡ old)
+Answers p old (Ok (Stale fresh back)) new =
+    (p.draft.team ≡ old.team) × (p.draft.base.version < fresh.value.version) × (back ≡ p) × (new ≡ old)
 Answers p old (Err (OtherTeam back)) new = (p.draft.team ≢ old.team) × (back ≡ p) × (new ≡ old)
 Answers p old (Err (Stranger back)) new = (p.draft.team ≡ old.team) × (back ≡ p) × (new ≡ old)
 Answers p old (Err (OutOfMemory back)) new = (p.draft.team ≡ old.team) × (back ≡ p) × (new ≡ old)

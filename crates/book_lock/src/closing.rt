@@ -153,9 +153,11 @@ impl<L: Ledger> Desk<L> {
         Ok((Desk { locked, teams }, passes))
     }
 
-    /// The state and the log, where each team's receipts are its entries. Refused in this order: `MissingPass`, `ReceiptMismatch`.
+    /// The state and the log, where each team's receipts are its entries.
+    /// Refused in this order: `MissingPass`, `ReceiptMismatch`.
     pub fn close(self, passes: Vec<Pass<L>>) -> Result<Closing, CloseFault<L>>
-        ensures ok { IfOk result (λ closing. IsClosed self passes.items (let b : Book = record { desk = closing.state.value; log = map (λ e. e.value) closing.log.items } in b)) }
+        ensures ok { IfOk result (λ closing. IsClosed self passes.items
+            (let b : Book = record { desk = closing.state.value; log = map (λ e. e.value) closing.log.items } in b)) }
         ensures err { IfErr result (λ fault. IsUnclosed self passes.items fault.cause) }
         ensures desk { IfErr result (λ fault. fault.desk ≡ self) }
         ensures passes { IfErr result (λ fault. fault.passes.items ≡ passes.items) }

@@ -41,7 +41,8 @@ impl CommitFault {
     // The same, with the draft on another base.
     fn on(self, base: Arc<NodeState>) -> CommitFault
         ensures cause { result.cause ≡ self.cause }
-        ensures draft { result.draft ≡ record { team = self.draft.team; base = base.value; changes = self.draft.changes } }
+        ensures draft { result.draft
+            ≡ record { team = self.draft.team; base = base.value; changes = self.draft.changes } }
     {
         CommitFault {
             cause: self.cause,
@@ -137,8 +138,8 @@ impl<L: Ledger> Desk<L> {
         }
     }
 
-    /// Commits a draft: up to three rounds outside the lock, and then a decision under it. The place of the pass's new receipt.
-    /// Refused in this order: `OtherTeam`, `BadWorkers`; then what came of the tests.
+    /// Commits a draft: up to three rounds outside the lock, and then a decision under it. The place of the pass's new
+    /// receipt. Refused in this order: `OtherTeam`, `BadWorkers`; then what came of the tests.
     pub fn commit<G: Gate + Sync, R: Threads + Wait>(
         &self,
         rt: &R,
@@ -148,7 +149,8 @@ impl<L: Ledger> Desk<L> {
         workers: usize,
         gate: &G,
     ) -> Result<usize, CommitFault>
-        ensures { Commits (λ q. G.may_shut gate.now q) (λ q. G.always_shuts gate.now q) workers draft pass.old result pass.new }
+        ensures { Commits (λ q. G.may_shut gate.now q) (λ q. G.always_shuts gate.now q)
+            workers draft pass.old result pass.new }
     {
         if draft.team().number() != pass.team().number() {
             let cause = CommitCause::OtherTeam;
