@@ -1,12 +1,13 @@
 -- What a pass knows, and how it goes on.
-use Rattle.std.specs.Prelude.{◌≡◌, ℕ, ◌+◌, ◌==◌, List, [], ◌∷◌, ◌++◌, Bool, true, false, ◌||◌, ◌&&◌, nat_le, zero, suc, if◌then◌else◌}
+use Rattle.std.specs.Prelude.{◌≡◌, ℕ, ◌+◌, ◌-◌, ◌==◌, List, [], ◌∷◌, ◌++◌, length, Bool, true, false, ◌||◌, ◌&&◌, nat_le, zero, suc, if◌then◌else◌}
 use Rattle.task_sheet.specs.Sheet.{Task}
 use Rattle.book_lock.specs.Own.{own_changes}
 use Rattle.drafts.specs.Machine.{Ruling, Admitted, Refused, Infeasible, Entry}
 
--- its team, the team's tasks by rank, and each decision with its place
+-- its team, its parts of the ledger of decisions, the team's tasks by rank, and each decision with its place
 pub record Known : Type 0 where
   pub team : ℕ
+  pub parts : ℕ
   pub tasks : List Task
   pub receipts : List (ℕ × Entry)
 
@@ -20,6 +21,7 @@ own_after (Infeasible obstruction) changed own = own
 abbrev pub receiving : Known → ℕ → Entry → Known
 receiving p place l = record {
   team = p.team;
+  parts = p.parts;
   tasks = own_after l.decision (own_changes l.changes p.tasks) p.tasks;
   receipts = p.receipts ++ (place, l) ∷ [];
 }
@@ -40,13 +42,23 @@ places_of team place [] = []
 places_of team place (l ∷ ls) =
     if l.team == team then (place, l) ∷ places_of team (place + 1) ls else places_of team (place + 1) ls
 
-abbrev pub newcomer : ℕ → Known
-newcomer team = record { team = team; tasks = []; receipts = [] }
+abbrev pub newcomer : ℕ → ℕ → Known
+newcomer team parts = record { team = team; parts = parts; tasks = []; receipts = [] }
 
--- so many passes of the teams from there on
+-- so many passes of the teams from there on: each has a part of the eight of the ledger, and team 1 those left over too
 abbrev pub newcomers : ℕ → ℕ → List Known
 newcomers team zero = []
-newcomers team (suc n) = newcomer team ∷ newcomers (team + 1) n
+newcomers team (suc n) = newcomer team (if team == 1 then 8 - n else 1) ∷ newcomers (team + 1) n
+
+-- the parts of all passes together
+abbrev pub parts_of : List Known → ℕ
+parts_of [] = 0
+parts_of (p ∷ ps) = p.parts + parts_of ps
+
+-- how many decisions all passes count together
+abbrev pub count_of : List Known → ℕ
+count_of [] = 0
+count_of (p ∷ ps) = length p.receipts + count_of ps
 
 -- some pass is of that team
 abbrev pub has_team : ℕ → List Known → Bool

@@ -1,9 +1,9 @@
 //! Making and closing a desk.
 
-ghost use Rattle.std.specs.Prelude.{◌≡◌, ◌≤◌, ◌<◌, ◌^◌, ◌↔◌, ℕ, length, map, IsTrue, IfOk, IfErr, MatchOption};
+ghost use Rattle.std.specs.Prelude.{◌≡◌, ◌≤◌, ◌<◌, ◌^◌, ◌↔◌, ℕ, [], length, map, IsTrue, IfOk, IfErr, MatchOption};
 ghost use Rattle.drafts.specs.Books.{Book};
 ghost use Rattle.book_lock.specs.PassFields.{receipt_of};
-ghost use Rattle.book_lock.specs.Passes.{newcomers, has_team, places_of};
+ghost use Rattle.book_lock.specs.Passes.{newcomers, has_team, places_of, parts_of, count_of};
 ghost use Rattle.book_lock.specs.Closing.{IsBadTeams, IsNoDesk, AllThere, IsMissing, IsReceipted, AllReceipted, IsMismatch, IsClosed, IsUnclosed};
 
 use crate::content::is_same_entry;
@@ -12,7 +12,7 @@ use crate::locked::Locked;
 use crate::pass::{Pass, Receipt};
 use drafts::{Book, Entry, NodeState, Team};
 use std::alloc::Global;
-use std::sync::ledger::{Blank, Ledger};
+use std::sync::ledger::{Blank, Ledger, Share};
 use std::sync::{Arc, Mutex};
 
 /// Why there is no desk; the blank is handed back.
@@ -126,11 +126,25 @@ fn mismatch<L: Ledger>(teams: u64, passes: &[Pass<L>], log: &[Arc<Entry>]) -> Op
     None
 }
 
+// The shares of all passes in one, where there are passes.
+fn united<L: Ledger>(passes: Vec<Pass<L>>) -> Option<Share<L>>
+    ensures { MatchOption result (passes.items ≡ [])
+        (λ all. (all.parts ≡ parts_of passes.items) × (all.amount ≡ count_of passes.items)) }
+{
+    let mut rest = passes.into_iter();
+    let mut all = rest.next()?.into_share();
+    for pass in rest {
+        all.merge(pass.into_share());
+    }
+    Some(all)
+}
+
 impl<L: Ledger> Desk<L> {
-    /// A desk for so many teams, and a pass for each. Refused: `BadTeams`.
+    /// A desk for so many teams, and a pass for each; together these have all parts of the ledger. Refused: `BadTeams`.
     pub fn new(alloc: Global, blank: Blank, teams: u64) -> Result<(Desk<L>, Vec<Pass<L>>), NewFault>
         requires { (blank.name ≡ L.name) × (blank.parts ≡ L.parts) × (L.parts ≡ 8) }
         ensures ok { IfOk result (λ r. (¬ IsBadTeams teams) × (r.0 ≡ teams) × (r.1.items ≡ newcomers 1 teams)) }
+        ensures whole { IfOk result (λ r. parts_of r.1.items ≡ L.parts) }
         ensures err { IfErr result (λ fault. IsNoDesk blank teams fault) }
     {
         if teams == 0 || teams > 8 {
@@ -153,11 +167,15 @@ impl<L: Ledger> Desk<L> {
         Ok((Desk { locked, teams }, passes))
     }
 
-    /// The state and the log, where each team's receipts are its entries.
+    /// The state and the log, where each team's receipts are its entries. The log has no fewer entries than the passes
+    /// count together, and just as many where they have all parts of the ledger, as those of `new` have.
     /// Refused in this order: `MissingPass`, `ReceiptMismatch`.
     pub fn close(self, passes: Vec<Pass<L>>) -> Result<Closing, CloseFault<L>>
         ensures ok { IfOk result (λ closing. IsClosed self passes.items
             (let b : Book = record { desk = closing.state.value; log = map (λ e. e.value) closing.log.items } in b)) }
+        ensures bound { IfOk result (λ closing. count_of passes.items ≤ length closing.log.items) }
+        ensures counted { IfOk result (λ closing. parts_of passes.items ≡ L.parts →
+            length closing.log.items ≡ count_of passes.items) }
         ensures err { IfErr result (λ fault. IsUnclosed self passes.items fault.cause) }
         ensures desk { IfErr result (λ fault. fault.desk ≡ self) }
         ensures passes { IfErr result (λ fault. fault.passes.items ≡ passes.items) }
@@ -172,7 +190,7 @@ impl<L: Ledger> Desk<L> {
                 passes,
             });
         }
-        let locked = locked.into_inner();
+        let mut locked = locked.into_inner();
         if let Some(team) = mismatch(teams, &passes, locked.log()) {
             let cause = CloseCause::ReceiptMismatch { team };
             let locked = Mutex::new(locked);
@@ -183,6 +201,10 @@ impl<L: Ledger> Desk<L> {
                 passes,
             });
         }
+        let Some(mut all) = united(passes) else {
+            unreachable!()
+        };
+        locked.audit(&mut all);
         let (state, log) = locked.into_parts();
         Ok(Closing { state, log })
     }

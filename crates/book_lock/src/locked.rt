@@ -1,6 +1,6 @@
 //! What lies under the lock, and the functions that are lent it.
 
-ghost use Rattle.std.specs.Prelude.{◌≡◌, [], length, map};
+ghost use Rattle.std.specs.Prelude.{◌≡◌, ◌≤◌, [], length, map};
 ghost use Rattle.drafts.specs.Books.{empty_book};
 ghost use Rattle.book_lock.specs.LockedFields.{IsLegalBook};
 ghost use Rattle.book_lock.specs.Settles.{Settles, Holds};
@@ -56,11 +56,11 @@ impl<L: Ledger> Locked<L> {
         self.book.log()
     }
 
-    /// The share of all passes together has as many decisions as the log, which is legal.
+    /// A share has no more decisions than the log, which is legal; that of all passes together has as many.
     pub fn audit(&mut self, all: &mut Share<L>)
-        requires { all.old.parts ≡ L.parts }
         ensures legal { IsLegalBook self.old }
-        ensures counted { length self.old.log ≡ all.old.amount }
+        ensures bound { all.old.amount ≤ length self.old.log }
+        ensures counted { all.old.parts ≡ L.parts → length self.old.log ≡ all.old.amount }
         ensures same { self.new ≡ self.old }
     {
         let _ = self.book.state();

@@ -36,7 +36,12 @@ impl<L: Ledger> Model for Pass<L> {
 
     ghost Value = { Known };
 
-    ghost view = { λ p. record { team = p.team; tasks = p.tasks; receipts = map receipt_of p.receipts.items } };
+    ghost view = { λ p. record {
+      team = p.team;
+      parts = p.share.parts;
+      tasks = p.tasks;
+      receipts = map receipt_of p.receipts.items;
+    } };
 
     ghost invariant = { λ p. (0 < p.share.parts) × (p.share.amount ≡ length p.receipts.items) };
 }
@@ -44,7 +49,7 @@ impl<L: Ledger> Model for Pass<L> {
 impl<L: Ledger> Pass<L> {
     pub(crate) fn new(alloc: Global, team: Team, share: Share<L>) -> Pass<L>
         requires { (0 < share.parts) × (share.amount ≡ 0) }
-        ensures { result ≡ newcomer team }
+        ensures { result ≡ newcomer team share.parts }
     {
         Pass {
             team,
@@ -52,6 +57,20 @@ impl<L: Ledger> Pass<L> {
             tasks: OwnTasks::new(alloc),
             receipts: Vec::new(alloc),
         }
+    }
+
+    // Its share of the ledger.
+    pub(crate) fn into_share(self) -> Share<L>
+        ensures parts { result.parts ≡ self.parts }
+        ensures amount { result.amount ≡ length self.receipts }
+    {
+        let Pass {
+            team: _,
+            share,
+            tasks: _,
+            receipts: _,
+        } = self;
+        share
     }
 
     /// The team.
