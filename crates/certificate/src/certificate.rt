@@ -10,7 +10,7 @@ ghost use Rattle.certificate.specs.Lines.{Gives, certificate_in};
 
 use crate::body::{CertBody, certificate_in};
 use crate::fault::CertFault;
-use crate::held::{Held, send};
+use crate::held::Held;
 use crate::naming::body_of;
 use crate::watched::{Watched, WriteFailed};
 use crate::writing::put_body;
@@ -64,7 +64,7 @@ impl Certificate {
     {
         let mut held = Held::new();
         put_body(&self.body, &mut held, out)?;
-        send(&mut held, out)
+        held.send(out)
     }
 }
 

@@ -1,5 +1,5 @@
 //! Bytes that are held back, so that a writer gets many at once.
-ghost use Rattle.std.specs.Prelude.{◌≡◌, ◌++◌, ◌+◌, ◌<◌, ◌≤◌, [], length, OnOk, OnErr, true};
+ghost use Rattle.std.specs.Prelude.{◌≡◌, ◌++◌, ◌+◌, ◌<◌, ◌≤◌, [], length, IsErr, OnOk, OnErr, true};
 ghost use Rattle.std.specs.Io.KnownBytes.{Appends};
 ghost use Rattle.certificate.specs.Sending.{Sends};
 
@@ -10,7 +10,7 @@ use std::marker::Model;
 // How many bytes are held back at most.
 const ROOM: usize = 4096;
 
-/// Up to 4096 bytes that wait to be written.
+/// Up to 4096 bytes that wait to be written. They lie in the value itself, and take no memory.
 #[derive(Drop)]
 pub struct Held {
     bytes: [u8; ROOM],
@@ -64,35 +64,40 @@ impl Held {
         self.bytes[self.len..end].copy_from_slice(text);
         self.len = end;
     }
-}
 
-/// Writes what is held back.
-pub fn send<W: Write + Drop>(held: &mut Held, out: &mut Watched<W>) -> Result<(), WriteFailed>
-    ensures sent { OnOk result (Appends (W.contents out.old.inner) (W.contents out.new.inner) held.old) }
-    ensures empty { OnOk result (held.new ≡ []) }
-    ensures ok { OnOk result (out.new.has_failed ≡ out.old.has_failed) }
-    ensures failed { OnErr result (out.new.has_failed ≡ true) }
-{
-    out.write(held.bytes())?;
-    held.clear();
-    Ok(())
-}
-
-/// Puts a few bytes behind those that are held back.
-pub fn put<W: Write + Drop>(
-    text: &[u8],
-    held: &mut Held,
-    out: &mut Watched<W>,
-) -> Result<(), WriteFailed>
-    requires { length text.now ≤ 64 }
-    ensures sent { OnOk result
-        (Sends (W.contents out.old.inner) held.old (W.contents out.new.inner) held.new text.now) }
-    ensures ok { OnOk result (out.new.has_failed ≡ out.old.has_failed) }
-    ensures failed { OnErr result (out.new.has_failed ≡ true) }
-{
-    if !held.has_room(text.len()) {
-        send(held, out)?;
+    /// Writes what is held back.
+    pub fn send<W: Write + Drop>(&mut self, out: &mut Watched<W>) -> Result<(), WriteFailed>
+        ensures sent { OnOk result (Appends (W.contents out.old.inner) (W.contents out.new.inner) self.old) }
+        ensures empty { OnOk result (self.new ≡ []) }
+        ensures ok { OnOk result (out.new.has_failed ≡ out.old.has_failed) }
+        ensures failed { OnErr result (out.new.has_failed ≡ true) }
+        ensures stuck { out.old.has_failed ≡ true → IsErr result × (out.new ≡ out.old) }
+    {
+        out.write(self.bytes())?;
+        self.clear();
+        Ok(())
     }
-    held.push(text);
-    Ok(())
+
+    /// Puts a text behind what is held back, which is written first where there is no room for both. A text that has no
+    /// room by itself is written at once.
+    pub fn put<W: Write + Drop>(
+        &mut self,
+        text: &[u8],
+        out: &mut Watched<W>,
+    ) -> Result<(), WriteFailed>
+        ensures sent { OnOk result
+            (Sends (W.contents out.old.inner) self.old (W.contents out.new.inner) self.new text.now) }
+        ensures ok { OnOk result (out.new.has_failed ≡ out.old.has_failed) }
+        ensures failed { OnErr result (out.new.has_failed ≡ true) }
+        ensures stuck { out.old.has_failed ≡ true → out.new ≡ out.old }
+    {
+        if !self.has_room(text.len()) {
+            self.send(out)?;
+            if !self.has_room(text.len()) {
+                return out.write(text);
+            }
+        }
+        self.push(text);
+        Ok(())
+    }
 }

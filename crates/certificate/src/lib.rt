@@ -18,5 +18,6 @@ mod writing;
 pub use body::CertBody;
 pub use certificate::{Certificate, read};
 pub use fault::CertFault;
+pub use held::Held;
 pub use value::{CertChain, CertLevel};
 pub use watched::{ReadFault, Watched, WriteFailed};

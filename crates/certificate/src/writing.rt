@@ -8,7 +8,7 @@ ghost use Rattle.certificate.specs.Sending.{Sends};
 
 use crate::body::CertBody;
 use crate::digits::Digits;
-use crate::held::{Held, put};
+use crate::held::Held;
 use crate::value::{CertChain, CertLevel};
 use crate::watched::{Watched, WriteFailed};
 use std::io::Write;
@@ -26,7 +26,7 @@ fn put_number<W: Write + Drop>(
     ensures failed { OnErr result (out.new.has_failed ≡ true) }
 {
     let digits = Digits::of(number);
-    put(digits.bytes(), held, out)
+    held.put(digits.bytes(), out)
 }
 
 // A name.
@@ -39,7 +39,7 @@ fn put_name<W: Write + Drop>(
     ensures ok { OnOk result (out.new.has_failed ≡ out.old.has_failed) }
     ensures failed { OnErr result (out.new.has_failed ≡ true) }
 {
-    put(name.bytes(), held, out)
+    held.put(name.bytes(), out)
 }
 
 // Each number after a space.
@@ -54,7 +54,7 @@ fn put_numbers<W: Write + Drop>(
     ensures failed { OnErr result (out.new.has_failed ≡ true) }
 {
     for number in numbers {
-        put(b" ", held, out)?;
+        held.put(b" ", out)?;
         put_number(*number, held, out)?;
     }
     Ok(())
@@ -67,17 +67,16 @@ fn put_chain<W: Write + Drop>(
     held: &mut Held,
     out: &mut Watched<W>,
 ) -> Result<(), WriteFailed>
-    requires { length word.now ≤ 64 }
     ensures sent { OnOk result (Sends (W.contents out.old.inner) held.old
         (W.contents out.new.inner) held.new (chain_line word.now chain.now)) }
     ensures ok { OnOk result (out.new.has_failed ≡ out.old.has_failed) }
     ensures failed { OnErr result (out.new.has_failed ≡ true) }
 {
-    put(word, held, out)?;
-    put(b" ", held, out)?;
+    held.put(word, out)?;
+    held.put(b" ", out)?;
     put_name(chain.name, held, out)?;
     put_numbers(&chain.numbers, held, out)?;
-    put(b"\n", held, out)
+    held.put(b"\n", out)
 }
 
 // A line for each chain, behind a word.
@@ -87,7 +86,6 @@ fn put_chains<W: Write + Drop>(
     held: &mut Held,
     out: &mut Watched<W>,
 ) -> Result<(), WriteFailed>
-    requires { length word.now ≤ 64 }
     ensures sent { OnOk result (Sends (W.contents out.old.inner) held.old
         (W.contents out.new.inner) held.new (chain_lines word.now chains.now)) }
     ensures ok { OnOk result (out.new.has_failed ≡ out.old.has_failed) }
@@ -106,15 +104,14 @@ fn put_place<W: Write + Drop>(
     held: &mut Held,
     out: &mut Watched<W>,
 ) -> Result<(), WriteFailed>
-    requires { length word.now ≤ 64 }
     ensures sent { OnOk result (Sends (W.contents out.old.inner) held.old
         (W.contents out.new.inner) held.new (word.now ++ decimal k ++ 32 ∷ [])) }
     ensures ok { OnOk result (out.new.has_failed ≡ out.old.has_failed) }
     ensures failed { OnErr result (out.new.has_failed ≡ true) }
 {
-    put(word, held, out)?;
+    held.put(word, out)?;
     put_number(k, held, out)?;
-    put(b" ", held, out)
+    held.put(b" ", out)
 }
 
 // A name, a space, a number and the end of the line.
@@ -130,9 +127,9 @@ fn put_time<W: Write + Drop>(
     ensures failed { OnErr result (out.new.has_failed ≡ true) }
 {
     put_name(name, held, out)?;
-    put(b" ", held, out)?;
+    held.put(b" ", out)?;
     put_number(t, held, out)?;
-    put(b"\n", held, out)
+    held.put(b"\n", out)
 }
 
 // The line of a level.
@@ -176,16 +173,15 @@ fn put_count<W: Write + Drop>(
     held: &mut Held,
     out: &mut Watched<W>,
 ) -> Result<(), WriteFailed>
-    requires { length word.now ≤ 64 }
     ensures sent { OnOk result
         (Sends (W.contents out.old.inner) held.old (W.contents out.new.inner) held.new (count_line word.now count)) }
     ensures ok { OnOk result (out.new.has_failed ≡ out.old.has_failed) }
     ensures failed { OnErr result (out.new.has_failed ≡ true) }
 {
-    put(word, held, out)?;
-    put(b" ", held, out)?;
+    held.put(word, out)?;
+    held.put(b" ", out)?;
     put_number(count as u64, held, out)?;
-    put(b"\n", held, out)
+    held.put(b"\n", out)
 }
 
 // What follows the head of a `best` certificate.
@@ -201,7 +197,7 @@ fn put_best<W: Write + Drop>(
 {
     put_count(b"best", levels.len(), held, out)?;
     put_levels(levels, held, out)?;
-    put(b"end\n", held, out)
+    held.put(b"end\n", out)
 }
 
 // What follows the head of a `none` certificate.
@@ -218,7 +214,7 @@ fn put_none<W: Write + Drop>(
 {
     put_count(b"none", members.len(), held, out)?;
     put_chains(b"member", members, held, out)?;
-    put(b"end\n", held, out)
+    held.put(b"end\n", out)
 }
 
 /// Puts the spelling of a whole certificate.
@@ -232,7 +228,7 @@ pub fn put_body<W: Write + Drop>(
     ensures ok { OnOk result (out.new.has_failed ≡ out.old.has_failed) }
     ensures failed { OnErr result (out.new.has_failed ≡ true) }
 {
-    put(b"desk-certificate 1\n", held, out)?;
+    held.put(b"desk-certificate 1\n", out)?;
     match body {
         CertBody::Best(levels) => put_best(levels, held, out),
         CertBody::NoOrder(members) => put_none(members, held, out),
