@@ -52,14 +52,16 @@ abbrev pub IsFoundLine : World → ℕ → List ℕ → ℕ → World → List �
 IsFoundLine w draft name other v text (Some why) = (v ≡ w) × (text ≡ refused_line (cause_word why))
 IsFoundLine w draft name other v text None =
     (finding : Option FindingData)
-    × IsQuestionOf (live_at w.drafts other) name (option_map (λ f. f.question) finding) × IsBrought w draft v text finding
+    × IsQuestionOf (live_at w.drafts other) name (option_map (λ f. f.question) finding)
+    × IsBrought w draft v text finding
 
 -- ---- all findings that a draft misses
 -- the draft was brought these findings, the last one first, each on the missing candidate of least rank
 abbrev pub IsBroughtAll : World → ℕ → List FindingData → World → Type 0
 IsBroughtAll w draft [] v = v ≡ w
 IsBroughtAll w draft (f ∷ findings) v =
-    (u : World) × (r : Reply) × IsBroughtAll w draft findings u × IsStanding (live_at u.drafts draft) (standing.Asking f.question)
+    (u : World) × (r : Reply) × IsBroughtAll w draft findings u
+    × IsStanding (live_at u.drafts draft) (standing.Asking f.question)
     × IsReply u (event.Found draft f) r × (v ≡ happens u (event.Found draft f) r)
 
 -- nothing is asked any more, and this is said
@@ -81,7 +83,8 @@ IsPlayed w (Open team) v text = Answers w (event.Open team) v text
 IsPlayed w (Put draft sheet) v text = Answers w (event.Put draft sheet) v text
 IsPlayed w (Remove draft name) v text = Answers w (event.Remove draft name) v text
 IsPlayed w (Found draft name other) v text =
-    IsFoundLine w draft name other v text (first_cause (no_levels (live_at w.drafts draft)) (no_levels (live_at w.drafts other)))
+    IsFoundLine w draft name other v text
+    (first_cause (no_levels (live_at w.drafts draft)) (no_levels (live_at w.drafts other)))
 IsPlayed w (Test draft) v text = IsTestLine w draft v text
 IsPlayed w (Commit draft) v text = Answers w (event.Commit draft) v text
 IsPlayed w (Abandon draft) v text = Answers w (event.Abandon draft) v text
@@ -95,7 +98,9 @@ ArePlayed w (line ∷ lines) v text =
 
 -- the book: its version and the best order of its tasks
 abbrev pub IsBookText : Desk → List ℕ → Type 0
-IsBookText desk text = (levels : List LevelData) × IsBestOrder (set_of desk.tasks) levels × (text ≡ state_lines desk.version desk.tasks levels)
+IsBookText desk text =
+    (levels : List LevelData) × IsBestOrder (set_of desk.tasks) levels
+    × (text ≡ state_lines desk.version desk.tasks levels)
 
 -- all lines are played from an empty desk on, and then the book is printed
 abbrev pub PlaysAll : World → List Line → List ℕ → Type 0

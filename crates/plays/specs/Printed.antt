@@ -90,7 +90,8 @@ holder tasks (Some task) = option_map (λ o. o.team) (held task.name tasks)
 abbrev pub held_line : List Owned → ℕ → LevelData → List ℕ
 held_line tasks number level =
     codes "level " ++ decimal number ++ codes " " ++ (task_at (set_of tasks) level.task).name ++ codes " "
-    ++ team_text (holder tasks (slice_get (set_of tasks) level.task)) ++ codes " " ++ decimal level.response ++ codes "\n"
+    ++ team_text (holder tasks (slice_get (set_of tasks) level.task)) ++ codes " "
+    ++ decimal level.response ++ codes "\n"
 
 -- a line for each level, of which the first has a number
 abbrev pub held_lines : List Owned → ℕ → List LevelData → List ℕ

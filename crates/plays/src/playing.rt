@@ -1,13 +1,14 @@
 //! Playing lines.
 ghost use Rattle.std.specs.Prelude.{◌≡◌, ◌≢◌, ℕ, List, Err, OnOk, IfOk, string_bytes, true};
 ghost use Rattle.std.specs.Io.KnownBytes.{Appends};
+ghost use Rattle.certificate.specs.Sending.{Sends};
 ghost use Rattle.desk_core.specs.World.{live_at, start};
 ghost use Rattle.plays.specs.Plays.{Answers, first_cause, IsFoundLine, IsPlayed, IsSaid, IsTestLine, no_levels, PlaysAll, PlaysSome};
 ghost use Rattle.plays.specs.Testing.{IsOver};
 
 use crate::asking::{bring_all, find, why_not};
 use crate::printing::{book_text, refused_text, reply_text, tested_text};
-use certificate::Watched;
+use certificate::{Held, Watched};
 use desk_core::{Cause, Core, Event, Standing};
 use scripts::{Line, Row};
 use std::alloc::{AllocError, Global};
@@ -89,7 +90,44 @@ fn play_row(alloc: Global, core: &mut Core, row: Row) -> Result<String, AllocErr
     }
 }
 
-/// Plays lines from an empty desk on. The line of each is written as it was played, and at the end the book.
+// Plays lines from an empty desk on. The line of each is put as it was played, and at the end the book.
+fn put_lines<W: Write + Drop>(
+    alloc: Global,
+    lines: Vec<Line>,
+    held: &mut Held,
+    out: &mut Watched<W>,
+) -> Result<(), PlayFault>
+    ensures all { OnOk result ((text : List ℕ) × PlaysAll start lines.items text
+        × Sends (W.contents out.old.inner) held.old (W.contents out.new.inner) held.new text) }
+    ensures some { result ≡ Err PlayFault.OutOfMemory → (text : List ℕ) × PlaysSome start lines.items text
+        × Sends (W.contents out.old.inner) held.old (W.contents out.new.inner) held.new text }
+    ensures ok { result ≢ Err PlayFault.WriteFailed → out.new.has_failed ≡ out.old.has_failed }
+    ensures failed { result ≡ Err PlayFault.WriteFailed → out.new.has_failed ≡ true }
+{
+    let Ok(mut core) = Core::new(alloc) else {
+        return Err(PlayFault::OutOfMemory);
+    };
+    for line in lines {
+        let Line { number: _, row } = line;
+        let Ok(text) = play_row(alloc, &mut core, row) else {
+            return Err(PlayFault::OutOfMemory);
+        };
+        if held.put(text.as_bytes(), out).is_err() {
+            return Err(PlayFault::WriteFailed);
+        }
+    }
+    let Ok(text) = book_text(alloc, core.book().state()) else {
+        return Err(PlayFault::OutOfMemory);
+    };
+    match held.put(text.as_bytes(), out) {
+        Ok(()) => Ok(()),
+        Err(_) => Err(PlayFault::WriteFailed),
+    }
+}
+
+/// Plays lines from an empty desk on. The line of each is put as it was played, through a buffer of 4096 bytes, and at
+/// the end the book. The buffer takes no memory, and what it holds is written before any answer but that the writer
+/// failed.
 pub fn play_lines<W: Write + Drop>(
     alloc: Global,
     lines: Vec<Line>,
@@ -102,23 +140,13 @@ pub fn play_lines<W: Write + Drop>(
     ensures ok { result ≢ Err PlayFault.WriteFailed → out.new.has_failed ≡ out.old.has_failed }
     ensures failed { result ≡ Err PlayFault.WriteFailed → out.new.has_failed ≡ true }
 {
-    let Ok(mut core) = Core::new(alloc) else {
-        return Err(PlayFault::OutOfMemory);
-    };
-    for line in lines {
-        let Line { number: _, row } = line;
-        let Ok(text) = play_row(alloc, &mut core, row) else {
-            return Err(PlayFault::OutOfMemory);
-        };
-        if out.write(text.as_bytes()).is_err() {
-            return Err(PlayFault::WriteFailed);
-        }
+    let mut held = Held::new();
+    let played = put_lines(alloc, lines, &mut held, out);
+    if let Err(PlayFault::WriteFailed) = played {
+        return played;
     }
-    let Ok(text) = book_text(alloc, core.book().state()) else {
-        return Err(PlayFault::OutOfMemory);
-    };
-    match out.write(text.as_bytes()) {
-        Ok(()) => Ok(()),
+    match held.send(out) {
+        Ok(()) => played,
         Err(_) => Err(PlayFault::WriteFailed),
     }
 }

@@ -73,7 +73,8 @@ fn push_name(text: &mut String, set: &TaskSet, task: usize) -> Result<(), AllocE
 
 // The names of an obstruction's members, each after a space.
 fn push_members(text: &mut String, obstruction: &Obstruction) -> Result<(), AllocError>
-    ensures { OnOk result (string_bytes text.new ≡ string_bytes text.old ++ members_text obstruction.now.set obstruction.now.members) }
+    ensures { OnOk result (string_bytes text.new
+        ≡ string_bytes text.old ++ members_text obstruction.now.set obstruction.now.members) }
 {
     let set = obstruction.set();
     for member in obstruction.members() {
@@ -179,7 +180,8 @@ fn push_level(
     number: usize,
     level: &LevelRecord,
 ) -> Result<(), AllocError>
-    ensures { OnOk result (string_bytes text.new ≡ string_bytes text.old ++ held_line state.now.tasks number level.now) }
+    ensures { OnOk result (string_bytes text.new
+        ≡ string_bytes text.old ++ held_line state.now.tasks number level.now) }
 {
     let response = level.response;
     write!(text, "level {number} ")?;

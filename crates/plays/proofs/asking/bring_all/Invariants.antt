@@ -1,4 +1,4 @@
-use Rattle.std.proofs.Common.{ℕ, ◌-◌, ◌^◌, List}
+use Rattle.std.proofs.Common.{◌-◌, ◌^◌, List}
 use Rattle.assignment.specs.Questions.{FindingData}
 use Rattle.desk_core.specs.World.{live_at}
 use Rattle.plays.specs.Plays.{IsBroughtAll}
