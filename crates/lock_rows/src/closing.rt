@@ -79,7 +79,8 @@ fn close_with<L: Ledger>(
     }
 }
 
-// A desk on which team 1 commits once: the team that is missing with its pass alone, and the length of the log with both.
+// A desk on which team 1 commits once: the team that is missing with its pass alone, and the length of the log with
+// both.
 fn closed_on<L: Ledger, R: Threads + Wait>(
     rt: &R,
     alloc: Global,

@@ -152,7 +152,8 @@ fn commit_held<L: Ledger, R: Threads + Wait>(
     (place, pass)
 }
 
-// Commits once a question has come to the other's gate, and lets it go on; the place, 0 where there is none, and the pass.
+// Commits once a question has come to the other's gate, and lets it go on; the place, 0 where there is none, and the
+// pass.
 fn commit_during<L: Ledger, R: Threads + Wait>(
     rt: &R,
     alloc: Global,

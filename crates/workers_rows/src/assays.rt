@@ -3,10 +3,11 @@ ghost use Rattle.std.specs.Prelude.{◌≡◌, false, IfErr};
 ghost use Rattle.candidate_workers.specs.Faults.{is_shut};
 
 use crate::gates::{MeetingGate, ShutOne};
-use crate::sets::{THREE_TASKS, lowest_level, set_of, three_levels};
+use crate::sets::{lowest_level, three_levels};
 use assignment::Verdict;
 use candidate_workers::{AssayFault, Crew, OpenGate, assay, share_out};
 use ceilings::LockTable;
+use example_sets::{THREE_TASKS, shared_set};
 use std::alloc::Global;
 use std::process::Abort;
 use std::sync::atomic::AtomicBool;
@@ -37,7 +38,7 @@ fn lowest_crew<R: Threads + Wait + Abort>(
     workers: usize,
 ) -> Result<Crew, Fail> {
     assert!(rt; 0 < workers && workers <= 8);
-    let set = set_of(alloc, THREE_TASKS)?;
+    let set = shared_set(alloc, THREE_TASKS)?;
     let level = lowest_level(alloc, &set)?;
     let table = LockTable::new(alloc, level.set())?;
     let crew = share_out(rt, alloc, &OpenGate, &table, &level, workers)?;
@@ -48,14 +49,14 @@ fn lowest_crew<R: Threads + Wait + Abort>(
 fn numbers_of_workers(rt: HostRuntime) -> Result<(), Fail> {
     let alloc = rt.alloc();
     for workers in [1usize, 2, 8] {
-        let Ok(verdict) = assay_openly(&rt, alloc, set_of(alloc, THREE_TASKS)?, workers) else {
+        let Ok(verdict) = assay_openly(&rt, alloc, shared_set(alloc, THREE_TASKS)?, workers) else {
             return Err("a verdict")?;
         };
         let found = three_levels(&verdict);
         assert!(rt; found == BEST);
     }
     for workers in [0usize, 9] {
-        let answer = assay_openly(&rt, alloc, set_of(alloc, THREE_TASKS)?, workers);
+        let answer = assay_openly(&rt, alloc, shared_set(alloc, THREE_TASKS)?, workers);
         assert!(rt; matches!(answer, Err(AssayFault::BadWorkers)));
     }
     Ok(())
@@ -71,7 +72,7 @@ fn shut_out<R: Threads + Wait>(
     let answer = assay(
         rt,
         alloc,
-        set_of(alloc, THREE_TASKS)?,
+        shared_set(alloc, THREE_TASKS)?,
         workers,
         &ShutOne { task },
     );
@@ -100,7 +101,7 @@ fn workers_at_the_same_time(rt: HostRuntime) -> Result<(), Fail> {
         first: AtomicBool::new(false),
         second: AtomicBool::new(false),
     };
-    let Ok(verdict) = assay(&rt, alloc, set_of(alloc, THREE_TASKS)?, 2, &gate) else {
+    let Ok(verdict) = assay(&rt, alloc, shared_set(alloc, THREE_TASKS)?, 2, &gate) else {
         return Err("a verdict")?;
     };
     let found = three_levels(&verdict);

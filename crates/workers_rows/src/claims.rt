@@ -4,9 +4,10 @@ ghost use Rattle.assignment.specs.Levels.{IsAsked};
 ghost use Rattle.candidate_workers.specs.Claims.{count_of, passes_at, late, IsDone};
 ghost use Rattle.candidate_workers.specs.Seats.{seat_view, level_of, SitsAt, IsFindingAt};
 
-use crate::sets::{THREE_TASKS, THREE_TASKS_TOO_TIGHT, lowest_level, set_of};
+use crate::sets::lowest_level;
 use assignment::{Climb, Finding, Level};
 use candidate_workers::{ClaimSeat, ClaimTable};
+use example_sets::{THREE_TASKS, THREE_TASKS_TOO_TIGHT, shared_set};
 use std::alloc::Global;
 use std::process::Abort;
 use std::sync::Arc;
@@ -62,7 +63,8 @@ fn draw(
     requires room { late (seat_view seat.old) < (seat_view seat.old).spare }
     ensures seat { OnOk result (SitsAt claims.now seat.new) }
     ensures spare { OnOk result ((seat_view seat.new).spare ≡ (seat_view seat.old).spare) }
-    ensures open { OnOk result (want < count_of level.now → (seat.new.held ≡ Some want) × (late (seat_view seat.new) ≡ late (seat_view seat.old))) }
+    ensures open { OnOk result (want < count_of level.now →
+        (seat.new.held ≡ Some want) × (late (seat_view seat.new) ≡ late (seat_view seat.old))) }
     ensures past { OnOk result (count_of level.now ≤ want → (seat.new.held ≡ None) × IsDone (seat_view seat.new)) }
 {
     if let Some(place) = held {
@@ -86,7 +88,8 @@ fn lower_to(
 ) -> Result<(), Fail>
     requires level { level_of claims.now ≡ level.now }
     requires seat { SitsAt claims.now seat.old × (seat.old.held ≡ Some place) }
-    ensures seat { OnOk result (SitsAt claims.now seat.new × (seat.new.held ≡ None) × IsDone (seat_view seat.new) × ((seat_view seat.new).spare ≡ (seat_view seat.old).spare)) }
+    ensures seat { OnOk result (SitsAt claims.now seat.new × (seat.new.held ≡ None) × IsDone (seat_view seat.new)
+        × ((seat_view seat.new).spare ≡ (seat_view seat.old).spare)) }
 {
     let finding = finding_at(rt, alloc, level, place)?;
     if !finding.passes() {
@@ -100,7 +103,7 @@ fn lower_to(
 fn three_candidates(rt: &impl Abort, alloc: Global, text: &str) -> Result<Level, Fail>
     ensures { IfOk result (λ level. count_of level ≡ 3) }
 {
-    let level = lowest_level(alloc, &set_of(alloc, text)?)?;
+    let level = lowest_level(alloc, &shared_set(alloc, text)?)?;
     assert!(rt; level.left().len() == 3);
     Ok(level)
 }
@@ -125,7 +128,7 @@ fn above_the_lowest(rt: &impl Abort, alloc: Global, set: &Arc<TaskSet>) -> Resul
 fn two_candidates(rt: &impl Abort, alloc: Global) -> Result<Level, Fail>
     ensures { IfOk result (λ level. count_of level ≡ 2) }
 {
-    let set = set_of(alloc, THREE_TASKS)?;
+    let set = shared_set(alloc, THREE_TASKS)?;
     let climb = above_the_lowest(rt, alloc, &set)?;
     let left = climb.left();
     assert!(rt; left.len() == 2 && !left.has(2));

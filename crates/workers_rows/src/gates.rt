@@ -25,8 +25,8 @@ impl Gate for ShutOne {
     }
 }
 
-/// Where two tasks stand above, it holds the question on the first task until that on the second has come, and the other
-/// way round.
+/// Where two tasks stand above, it holds the question on the first task until that on the second has come, and the
+/// other way round.
 #[derive(Drop)]
 pub struct MeetingGate {
     pub first: AtomicBool,
