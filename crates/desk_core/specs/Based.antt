@@ -5,7 +5,8 @@ use Rattle.desk_core.specs.World.{Live}
 
 abbrev pub IsBased : Desk → Option Live → Type 0
 IsBased desk None = Unit {0}
-IsBased desk (Some l) = (l.draft.base.version ≤ desk.version) × (l.draft.base.version ≡ desk.version → l.draft.base ≡ desk)
+IsBased desk (Some l) =
+    (l.draft.base.version ≤ desk.version) × (l.draft.base.version ≡ desk.version → l.draft.base ≡ desk)
 
 abbrev pub AllBased : Desk → List (Option Live) → Type 0
 AllBased desk [] = Unit {0}

@@ -10,7 +10,8 @@ use Rattle.desk_core.specs.declared.told.Told.TheVariants.{Stranger, Twice, Take
 -- a decided level is closed
 abbrev pub IsClosing : ClimbState → ClimbState → Told → Type 0
 IsClosing old new (LevelDone level task response) =
-    (placed : IsPlaced old new) × IsUnfinished new × (level ≡ length new.levels) × (task ≡ placed.level.task) × (response ≡ placed.level.response)
+    (placed : IsPlaced old new) × IsUnfinished new
+    × (level ≡ length new.levels) × (task ≡ placed.level.task) × (response ≡ placed.level.response)
 IsClosing old new Tested = (¬ IsUnfinished new) × (IsPlaced old new ⊎ IsEnded old new)
 IsClosing old new Stranger = ⊥
 IsClosing old new Twice = ⊥
@@ -27,6 +28,7 @@ IsDeciding c l q c' kept told = IsNew l q × IsDecided (with_finding l q.task) �
 abbrev pub IsTakenAt : ClimbState → LevelState → QuestionData → ClimbState → Option LevelState → Told → Type 0
 IsTakenAt c l q c' kept Stranger = (¬ IsAsked l q) × (kept ≡ Some l) × (c' ≡ c)
 IsTakenAt c l q c' kept Twice = (IsAsked l q × IsFalse (contains l.missing q.task)) × (kept ≡ Some l) × (c' ≡ c)
-IsTakenAt c l q c' kept Taken = IsNew l q × (¬ IsDecided (with_finding l q.task)) × (kept ≡ Some (with_finding l q.task)) × (c' ≡ c)
+IsTakenAt c l q c' kept Taken =
+    IsNew l q × (¬ IsDecided (with_finding l q.task)) × (kept ≡ Some (with_finding l q.task)) × (c' ≡ c)
 IsTakenAt c l q c' kept (LevelDone level task response) = IsDeciding c l q c' kept (LevelDone level task response)
 IsTakenAt c l q c' kept Tested = IsDeciding c l q c' kept Tested

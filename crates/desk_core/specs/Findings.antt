@@ -26,11 +26,13 @@ is_on left a = same_members (insert a.above a.task) left
 -- what is missing of the candidates after findings
 abbrev pub missing_after : (left missing : FinSet nat_cmp) → List Asked → FinSet nat_cmp
 missing_after left missing [] = missing
-missing_after left missing (a ∷ found) = missing_after left (if is_on left a then remove missing a.task else missing) found
+missing_after left missing (a ∷ found) =
+    missing_after left (if is_on left a then remove missing a.task else missing) found
 
 -- a level with the findings on its candidates
 abbrev pub level_of : List Task → List Asked → ℕ → LevelState
-level_of U found k = record { set = U; left = level_at U k; missing = missing_after (level_at U k) (level_at U k) found }
+level_of U found k =
+    record { set = U; left = level_at U k; missing = missing_after (level_at U k) (level_at U k) found }
 
 -- the findings decide the level
 abbrev pub Decides : List Task → List Asked → ℕ → Type 0
@@ -61,9 +63,12 @@ pub record IsLevelDone (U : List Task) (found : List Asked) (k level task respon
 -- the answer to a finding, by its question
 abbrev pub IsTold : List Task → List Asked → QuestionData → Told → Type 0
 IsTold U found q Stranger = (k : ℕ) → IsPresent U found k → ¬ IsAsked (level_of U found k) q
-IsTold U found q Twice = (k : ℕ) × IsPresent U found k × IsAsked (level_of U found k) q × IsFalse (contains (level_of U found k).missing q.task)
+IsTold U found q Twice =
+    (k : ℕ) × IsPresent U found k × IsAsked (level_of U found k) q
+    × IsFalse (contains (level_of U found k).missing q.task)
 IsTold U found q Taken = (k : ℕ) × IsNews U found q k × IsPresent U (found ++ asked_of q ∷ []) k
-IsTold U found q (LevelDone level task response) = (k : ℕ) × IsNews U found q k × IsLevelDone U (found ++ asked_of q ∷ []) k level task response
+IsTold U found q (LevelDone level task response) =
+    (k : ℕ) × IsNews U found q k × IsLevelDone U (found ++ asked_of q ∷ []) k level task response
 IsTold U found q Tested = (k : ℕ) × IsNews U found q k × IsTested U (found ++ asked_of q ∷ [])
 
 -- the findings then

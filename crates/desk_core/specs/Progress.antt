@@ -29,4 +29,7 @@ pub record IsProgress (U : List Task) (c : ClimbState) (l : LevelState) (found :
   pub level : l ≡ level_of U found (length c.levels)
   pub before : (j : ℕ) → j < length c.levels → Decides U found j
   pub wide : AreWide (len c.left) found
-  pub here : MatchBool c.stuck (NoneStands U (indexes_of c.left) × IsDecided l) ((i : ℕ) → IsTrue (contains c.left i) → ¬ IsDecided l)
+  pub here :
+      MatchBool c.stuck
+      (NoneStands U (indexes_of c.left) × IsDecided l)
+      ((i : ℕ) → IsTrue (contains c.left i) → ¬ IsDecided l)

@@ -25,8 +25,10 @@ abbrev pub IsStage : Result (List Owned) Refusal → Stage → Type 0
 IsStage outcome Fresh = Unit {0}
 IsStage (Ok tasks) (Trying trial) = trial.set ≡ set_of tasks
 IsStage (Ok tasks) (Complete verdict found names) =
-    (verdict_set verdict ≡ set_of tasks) × IsVerdictOf (set_of tasks) (verdict_of verdict) × IsTestedOn (Ok tasks) found.items × IsShown (set_of tasks) names.items
-IsStage (Ok tasks) (Tested judged found names) = IsJudged (Ok tasks) judged × IsTestedOn (Ok tasks) found.items × IsShown (set_of tasks) names.items
+    (verdict_set verdict ≡ set_of tasks) × IsVerdictOf (set_of tasks) (verdict_of verdict)
+    × IsTestedOn (Ok tasks) found.items × IsShown (set_of tasks) names.items
+IsStage (Ok tasks) (Tested judged found names) =
+    IsJudged (Ok tasks) judged × IsTestedOn (Ok tasks) found.items × IsShown (set_of tasks) names.items
 IsStage (Err refusal) (Trying trial) = ⊥
 IsStage (Err refusal) (Complete verdict found names) = ⊥
 IsStage (Err refusal) (Tested judged found names) = ⊥

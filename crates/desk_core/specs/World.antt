@@ -69,14 +69,17 @@ edit_reply (Err refusal) = Refused (cause_of refusal)
 
 abbrev pub edited : Live → Result (List (List ℕ × Change)) EditRefusal → Live
 edited l (Err refusal) = l
-edited l (Ok changes) = record { draft = record { team = l.draft.team; base = l.draft.base; changes = changes }; found = [] }
+edited l (Ok changes) =
+    record { draft = record { team = l.draft.team; base = l.draft.base; changes = changes }; found = [] }
 
 -- ---- findings, on the base
 -- the names that a complete verdict shows: none where an order passes, else those of the greatest obstruction, by rank
 abbrev pub IsShown : List Task → List (List ℕ) → Type 0
 IsShown U names =
     (IsFeasible U × (names ≡ []))
-    ⊎ ((¬ IsFeasible U) × ((members : List FailureData) × IsVerdictOf U (verdict.Infeasible members) × (names ≡ map (λ i. (task_at U i).name) (tasks_of members))))
+    ⊎ ((¬ IsFeasible U)
+    × ((members : List FailureData) × IsVerdictOf U (verdict.Infeasible members)
+    × (names ≡ map (λ i. (task_at U i).name) (tasks_of members))))
 
 abbrev pub IsTestedReply : List Task → Reply → Type 0
 IsTestedReply U (Tested infeasible) = IsShown U infeasible.items
@@ -91,7 +94,8 @@ IsToldReply U told.Tested reply = IsTestedReply U reply
 
 abbrev pub IsFoundAnswer : Result (List Owned) Refusal → List Asked → QuestionData → Reply → Type 0
 IsFoundAnswer (Err refusal) found q reply = reply ≡ Refused Untestable
-IsFoundAnswer (Ok tasks) found q reply = (t : Told) × IsTold (set_of tasks) found q t × IsToldReply (set_of tasks) t reply
+IsFoundAnswer (Ok tasks) found q reply =
+    (t : Told) × IsTold (set_of tasks) found q t × IsToldReply (set_of tasks) t reply
 
 abbrev pub IsFoundReply : Option Live → QuestionData → Reply → Type 0
 IsFoundReply None q reply = reply ≡ Refused NoSuchDraft
@@ -145,8 +149,10 @@ committed desk _ l = Some l
 -- the core may answer this to the event
 abbrev pub IsReply : World → Event → Reply → Type 0
 IsReply w (Open team) reply = reply ≡ Opened (length w.drafts + 1) w.book.desk.version
-IsReply w (Put draft sheet) reply = reply ≡ live_reply (live_at w.drafts draft) (λ l. edit_reply (after_put l.draft sheet))
-IsReply w (Remove draft name) reply = reply ≡ live_reply (live_at w.drafts draft) (λ l. edit_reply (after_remove l.draft name))
+IsReply w (Put draft sheet) reply =
+    reply ≡ live_reply (live_at w.drafts draft) (λ l. edit_reply (after_put l.draft sheet))
+IsReply w (Remove draft name) reply =
+    reply ≡ live_reply (live_at w.drafts draft) (λ l. edit_reply (after_remove l.draft name))
 IsReply w (Found draft finding) reply = IsFoundReply (live_at w.drafts draft) finding.question reply
 IsReply w (Commit draft) reply = IsCommitReply w.book (live_at w.drafts draft) reply
 IsReply w (Abandon draft) reply = reply ≡ live_reply (live_at w.drafts draft) (λ l. Done)
@@ -158,14 +164,16 @@ if_there (Some l) w next = next
 -- a draft that is live gets its slot, and the book is this
 abbrev pub on_draft : World → ℕ → Book → (Live → Option Live) → World
 on_draft w draft book f =
-    if_there (live_at w.drafts draft) w (record { book = book; drafts = slice_set w.drafts (draft - 1) (after_slot (live_at w.drafts draft) f) })
+    if_there (live_at w.drafts draft) w
+    (record { book = book; drafts = slice_set w.drafts (draft - 1) (after_slot (live_at w.drafts draft) f) })
 
 -- what is then
 abbrev pub happens : World → Event → Reply → World
 happens w (Open team) reply = record { book = w.book; drafts = w.drafts ++ Some (opened team w.book.desk) ∷ [] }
 happens w (Put draft sheet) reply = on_draft w draft w.book (λ l. Some (edited l (after_put l.draft sheet)))
 happens w (Remove draft name) reply = on_draft w draft w.book (λ l. Some (edited l (after_remove l.draft name)))
-happens w (Found draft finding) reply = on_draft w draft w.book (λ l. Some (with_finding l (asked_of finding.question) reply))
+happens w (Found draft finding) reply =
+    on_draft w draft w.book (λ l. Some (with_finding l (asked_of finding.question) reply))
 happens w (Commit draft) reply = on_draft w draft (book_after w.book reply) (committed w.book.desk reply)
 happens w (Abandon draft) reply = on_draft w draft w.book (λ l. None)
 

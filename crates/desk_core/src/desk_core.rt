@@ -47,7 +47,8 @@ pub struct StepFault {
 
 // The place of a draft that is live.
 fn place_of(drafts: &[Option<Live>], number: usize) -> Option<usize>
-    ensures { MatchOption result (live_at drafts.now number ≡ None) (λ i. (i + 1 ≡ number) × (i < length drafts.now) × (live_at drafts.now number ≡ slice_index_or drafts.now i None) × IsSome (live_at drafts.now number)) }
+    ensures { MatchOption result (live_at drafts.now number ≡ None) (λ i. (i + 1 ≡ number) × (i < length drafts.now)
+        × (live_at drafts.now number ≡ slice_index_or drafts.now i None) × IsSome (live_at drafts.now number)) }
 {
     if number == 0 {
         return None;
@@ -183,8 +184,8 @@ impl Core {
         }
     }
 
-    /// The question on the candidate of a name at a draft's present level: none where no candidate has the name, or the draft has
-    /// no present level. The first question begins the draft's test.
+    /// The question on the candidate of a name at a draft's present level: none where no candidate has the name, or the
+    /// draft has no present level. The first question begins the draft's test.
     pub fn question(
         &mut self,
         alloc: Global,
@@ -200,8 +201,8 @@ impl Core {
         }
     }
 
-    /// The answer to a question, by the lock table of a draft's test where the question is on its set. The fault is want of
-    /// memory.
+    /// The answer to a question, by the lock table of a draft's test where the question is on its set. The fault is
+    /// want of memory.
     pub fn answer(
         &self,
         alloc: Global,

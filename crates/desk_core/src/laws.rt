@@ -15,19 +15,22 @@ ghost use Rattle.desk_core.specs.World.{World, IsRun, after_all};
 ghost use Rattle.desk_core.specs.declared.events.Event.{Event};
 ghost use Rattle.desk_core.specs.declared.events.Reply.{Reply};
 
-/// A level's chosen one, as a function, is the task of least rank that may stand below the others, and none where none may.
+/// A level's chosen one, as a function, is the task of least rank that may stand below the others, and none where none
+/// may.
 pub fn chosen_is_least()
-    ensures some { (U : List Task) (L : Indexes) (i : ℕ) → IsPart L (all_of U) → IsChosen U L i → chosen_of U L ≡ Some i }
+    ensures some { (U : List Task) (L : Indexes) (i : ℕ) → IsPart L (all_of U) → IsChosen U L i
+        → chosen_of U L ≡ Some i }
     ensures none { (U : List Task) (L : Indexes) → NoneStands U L → chosen_of U L ≡ None }
 {}
 
 /// The answer to a finding is determined.
 pub fn answer_is_one()
-    ensures { (U : List Task) (found : List Asked) (q : QuestionData) (first second : Told) → IsTold U found q first → IsTold U found q second → first ≡ second }
+    ensures { (U : List Task) (found : List Asked) (q : QuestionData) (first second : Told)
+        → IsTold U found q first → IsTold U found q second → first ≡ second }
 {}
 
-/// The levels of a set are what is left of it after the tasks that were chosen, each among those left before it; at a level
-/// where no task may stand below the others, it stays so.
+/// The levels of a set are what is left of it after the tasks that were chosen, each among those left before it; at a
+/// level where no task may stand below the others, it stays so.
 pub fn levels_are_left()
     ensures chosen { (U : List Task) (placed : List ℕ) → AllChosen U (all_of U) placed
         → indexes_of (level_at U (length placed)) ≡ left_after (all_of U) placed }
@@ -37,8 +40,9 @@ pub fn levels_are_left()
 
 /// The replies to a list of events are determined, by what they say, and so is the world that they lead to.
 pub fn replies_are_one()
-    ensures said { (w : World) (events : List Event) (first second : List Reply) → IsRun w events first → IsRun w events second
-        → map said_of first ≡ map said_of second }
-    ensures world { (w : World) (events : List Event) (first second : List Reply) → IsRun w events first → IsRun w events second
+    ensures said { (w : World) (events : List Event) (first second : List Reply)
+        → IsRun w events first → IsRun w events second → map said_of first ≡ map said_of second }
+    ensures world { (w : World) (events : List Event) (first second : List Reply)
+        → IsRun w events first → IsRun w events second
         → after_all w events first ≡ after_all w events second }
 {}

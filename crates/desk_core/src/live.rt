@@ -318,7 +318,8 @@ pub fn remove_in(slot: &mut Option<Live>, name: Name) -> Result<Reply, AllocErro
 /// Brings a finding to a live draft.
 pub fn found_in(alloc: Global, slot: &mut Option<Live>, finding: Finding) -> Result<Reply, Finding>
     ensures reply { IfOk result (λ r. IsFoundReply slot.old finding.question r) }
-    ensures ok { IfOk result (λ r. slot.new ≡ after_slot slot.old (λ l. Some (with_finding l (asked_of finding.question) r))) }
+    ensures ok { IfOk result
+        (λ r. slot.new ≡ after_slot slot.old (λ l. Some (with_finding l (asked_of finding.question) r))) }
     ensures based { (desk : Desk) → IsBased desk slot.old → IsBased desk slot.new }
     ensures err { OnErr result (slot.new ≡ slot.old) }
     ensures back { IfErr result (λ back. back ≡ finding) }
@@ -332,7 +333,8 @@ pub fn found_in(alloc: Global, slot: &mut Option<Live>, finding: Finding) -> Res
     }
 }
 
-/// Commits a live draft: by what was judged where it is tested on the present state, else by a test on the present state.
+/// Commits a live draft: by what was judged where it is tested on the present state, else by a test on the present
+/// state.
 pub fn commit_in(
     alloc: Global,
     book: &mut Book,

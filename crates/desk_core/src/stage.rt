@@ -78,7 +78,8 @@ fn keep(
     found: Vec<Asked>,
     names: Vec<Name>,
 ) -> Result<Option<Judged>, AllocError>
-    ensures kept { (outcome : Result (List Owned) Refusal) → IsStage outcome (Complete verdict found names) → IsStage outcome stage.new }
+    ensures kept { (outcome : Result (List Owned) Refusal) → IsStage outcome (Complete verdict found names)
+        → IsStage outcome stage.new }
     ensures found { found_of stage.new ≡ found.items }
     ensures ok { (outcome : Result (List Owned) Refusal) → IsStage outcome (Complete verdict found names)
         → IfOk result (λ judged. IsReady outcome found.items judged) }
@@ -107,7 +108,8 @@ fn keep(
 // Keeps the verdict of a trial that is complete, and gives it.
 fn complete(alloc: Global, stage: &mut Stage, trial: Trial) -> Result<Option<Judged>, AllocError>
     requires { IsTested trial.set trial.found }
-    ensures kept { (outcome : Result (List Owned) Refusal) → IsStage outcome (Trying trial) → IsStage outcome stage.new }
+    ensures kept { (outcome : Result (List Owned) Refusal) → IsStage outcome (Trying trial)
+        → IsStage outcome stage.new }
     ensures found { found_of stage.new ≡ trial.found }
     ensures ok { (outcome : Result (List Owned) Refusal) → IsStage outcome (Trying trial)
         → IfOk result (λ judged. IsReady outcome trial.found judged) }

@@ -24,8 +24,8 @@ use std::marker::Model;
 use std::sync::Arc;
 use task_sheet::{Members, Name, TaskSet};
 
-/// A climb over a set, which goes on as findings decide its levels, with the table of the set's locks. The present level is kept
-/// from its first finding on.
+/// A climb over a set, which goes on as findings decide its levels, with the table of the set's locks. The present
+/// level is kept from its first finding on.
 #[derive(Drop)]
 pub struct Trial {
     set: Arc<TaskSet>,
@@ -150,7 +150,8 @@ fn missing_of(climb: &Climb, level: &Option<Level>) -> Members
 // The least member below a number.
 fn least(members: Members, count: usize) -> Option<usize>
     requires { count ≤ 32 }
-    ensures { MatchOption result ((j : ℕ) → j < count → IsFalse (contains members j)) (λ i. (i < count) × IsTrue (contains members i) × ((j : ℕ) → j < i → IsFalse (contains members j))) }
+    ensures { MatchOption result ((j : ℕ) → j < count → IsFalse (contains members j))
+        (λ i. (i < count) × IsTrue (contains members i) × ((j : ℕ) → j < i → IsFalse (contains members j))) }
 {
     for i in 0..count {
         if members.has(i) {
@@ -223,8 +224,8 @@ impl Trial {
         }
     }
 
-    /// The question on the candidate of a name at the present level; none where no candidate has the name, or the verdict is
-    /// complete.
+    /// The question on the candidate of a name at the present level; none where no candidate has the name, or the
+    /// verdict is complete.
     pub fn question(&self, name: Name) -> Result<Option<Question>, AllocError>
         ensures { IfOk result (λ question. IsNamed self.now.set self.now.found name question) }
     {
@@ -243,7 +244,8 @@ impl Trial {
         Ok(Some(Question::new(set, left.without(task), task)))
     }
 
-    /// The answer to a question, by the table of the trial where the question is on its set. The fault is want of memory.
+    /// The answer to a question, by the table of the trial where the question is on its set. The fault is want of
+    /// memory.
     pub fn answer(&self, alloc: Global, question: Question) -> Result<Finding, AnswerFault>
         ensures ok { IfOk result (λ finding. finding.question ≡ question) }
         ensures err { IfErr result (λ fault. fault.question ≡ question) }
@@ -296,7 +298,8 @@ impl Trial {
     pub fn take(&mut self, alloc: Global, finding: Finding) -> Result<Told, Finding>
         ensures told { IfOk result (λ told. IsTold self.old.set self.old.found finding.question told) }
         ensures same { self.new.set ≡ self.old.set }
-        ensures found { IfOk result (λ told. self.new.found ≡ found_after self.old.found (asked_of finding.question) told) }
+        ensures found { IfOk result
+            (λ told. self.new.found ≡ found_after self.old.found (asked_of finding.question) told) }
         ensures err { OnErr result (self.new ≡ self.old) }
         ensures back { IfErr result (λ back. back ≡ finding) }
     {

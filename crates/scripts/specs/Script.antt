@@ -35,7 +35,8 @@ with_line number (Ok row) rest = before (record { number = number; row = row } �
 -- what numbered lines say, where so many drafts were opened above them; or the fault of the first faulty one
 unfoldable pub script_from : ℕ → List (ℕ × List ℕ) → Result (List Line) ScriptFault
 script_from opened [] = Ok []
-script_from opened (l ∷ ls) = with_line l.0 (row_in opened (words l.1)) (λ row. script_from (opened_after opened row) ls)
+script_from opened (l ∷ ls) =
+    with_line l.0 (row_in opened (words l.1)) (λ row. script_from (opened_after opened row) ls)
 
 -- what the lines of a text say that are not skipped, or the fault of the first faulty one
 abbrev pub script_in : List ℕ → Result (List Line) ScriptFault

@@ -22,8 +22,8 @@ pub enum Row {
         draft: usize,
         name: Name,
     },
-    /// `found DRAFT NAME`, `found DRAFT NAME OTHER`: a draft is brought the finding on a task at the present level of another
-    /// draft, or of itself where no other is named.
+    /// `found DRAFT NAME`, `found DRAFT NAME OTHER`: a draft is brought the finding on a task at the present level of
+    /// another draft, or of itself where no other is named.
     Found {
         draft: usize,
         name: Name,

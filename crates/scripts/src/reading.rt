@@ -32,10 +32,11 @@ fn fault_at(number: u64, fault: RowFault) -> ScriptFault
     }
 }
 
-/// Reads a script. Empty lines and lines that begin with `#` are skipped and counted; the last line may lack its LF. The
-/// first faulty line decides.
+/// Reads a script. Empty lines and lines that begin with `#` are skipped and counted; the last line may lack its LF.
+/// The first faulty line decides.
 pub fn read_script(alloc: Global, text: &[u8]) -> Result<Vec<Line>, ScriptFault>
-    ensures { MatchResult result (λ lines. script_in text.now ≡ Ok lines.items) (λ fault. IsFault fault (script_in text.now)) }
+    ensures { MatchResult result
+        (λ lines. script_in text.now ≡ Ok lines.items) (λ fault. IsFault fault (script_in text.now)) }
 {
     let mut lines = Vec::new(alloc);
     let mut opened = 0;
