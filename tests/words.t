@@ -19,13 +19,13 @@ Help is no mistake:
   output
   $ desk_says help
   output
-  $ for command in admit certify check simulate headroom settings play; do desk_says $command --help; desk_says help $command; done | uniq
+  $ for command in admit certify check simulate headroom settings play rush; do desk_says $command --help; desk_says help $command; done | uniq
   output
 
 It names each command, and of a command its inputs:
 
   $ desk --help > output
-  $ for command in admit certify check simulate headroom settings play; do grep -q "^  $command  *[A-Z]" output || echo $command; done
+  $ for command in admit certify check simulate headroom settings play rush; do grep -q "^  $command  *[A-Z]" output || echo $command; done
   $ desk admit --help | grep -c '<SET>$'
   1
   $ desk certify --help | grep -c '<SET>$'
@@ -33,6 +33,8 @@ It names each command, and of a command its inputs:
   $ desk check --help | grep -c '<SET> <CERT>$'
   1
   $ desk simulate --help | grep -c '<SET> <RELEASES>$'
+  1
+  $ desk rush --help | grep -c '<SCRIPT> <WORKERS>$'
   1
 
 No such command, also in other letters; a word too few; a word too many; an option that isn't there:

@@ -37,7 +37,7 @@ fn run(rt: &HostRuntime) -> Status {
     // written.
     let _folder = fs::open(rt, "/");
     match read_words(rt.alloc(), &texts) {
-        Ok(call) => run_call(rt.alloc(), call, &Process { rt }, &mut output),
+        Ok(call) => run_call(rt, rt.alloc(), call, &Process { rt }, &mut output),
         Err(fault) => refuse_words(&fault, &mut output, &mut errors),
     }
 }

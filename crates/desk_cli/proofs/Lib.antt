@@ -1,5 +1,7 @@
 pub mod Inputs
 pub mod Matches
 pub mod Help
+pub mod Walks
+pub mod Workers
 pub mod Commands
 pub mod Headrooms

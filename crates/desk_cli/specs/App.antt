@@ -2,6 +2,7 @@
 use Rattle.std.specs.Prelude.{Some, codes, true}
 use Rattle.clap.specs.Words.{App, Rule, Text, new_app, new_rule, with_rule, with_subcommand}
 use Rattle.clap.specs.declared.builder.ArgAction.TheVariants.{Set}
+use Rattle.clap.specs.declared.builder.value_parser.ValueParser.TheVariants.{Unsigned}
 
 -- an input that has to be named
 abbrev pub input_rule : Text → Rule
@@ -27,11 +28,20 @@ bare_app = made_bare (new_app (codes "desk"))
 abbrev pub pair_app : Text → Text → App
 pair_app name second = with_rule (set_app name) (input_rule second)
 
--- `admit SET`, `certify SET`, `check SET CERT`, `simulate SET RELEASES`, `headroom SET`, `settings SET`
--- and `play SCRIPT`
+-- a number of workers that has to be named, from 1 to 8
+abbrev pub workers_rule : Rule
+workers_rule = record (input_rule (codes "WORKERS")) { parser = Some (Unsigned 1 8) }
+
+-- the command with a script and a number of workers
+abbrev pub rush_app : App
+rush_app = with_rule (one_app (codes "rush") (codes "SCRIPT")) workers_rule
+
+-- `admit SET`, `certify SET`, `check SET CERT`, `simulate SET RELEASES`, `headroom SET`, `settings SET`, `play SCRIPT`
+-- and `rush SCRIPT WORKERS`
 abbrev pub desk_app : App
 desk_app =
     with_subcommand
+    (with_subcommand
     (with_subcommand
     (with_subcommand
     (with_subcommand
@@ -43,4 +53,5 @@ desk_app =
     (pair_app (codes "simulate") (codes "RELEASES")).top)
     (set_app (codes "headroom")).top)
     (set_app (codes "settings")).top)
-    (one_app (codes "play") (codes "SCRIPT")).top
+    (one_app (codes "play") (codes "SCRIPT")).top)
+    rush_app.top

@@ -15,3 +15,4 @@ pub mod TextFaults
 pub mod TraceLines
 pub mod Running
 pub mod Playing
+pub mod Rushing

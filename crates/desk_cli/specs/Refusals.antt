@@ -18,6 +18,8 @@ use Rattle.desk_cli.specs.declared.releases.TextFault.{TextFault}
 use Rattle.desk_cli.specs.declared.releases.TextFault.TheVariants as line
 use Rattle.scripts.specs.declared.line.ScriptFault.{ScriptFault}
 use Rattle.scripts.specs.declared.line.ScriptFault.TheVariants as script
+use Rattle.rushes.specs.declared.fault.RushFault.{RushFault}
+use Rattle.rushes.specs.declared.fault.RushFault.TheVariants as rush
 use Rattle.desk_cli.specs.declared.input.InputFault.TheVariants as input
 use Rattle.desk_cli.specs.declared.refusal.Refusal.{Refusal}
 use Rattle.desk_cli.specs.declared.refusal.Refusal.TheVariants as refusal
@@ -122,6 +124,14 @@ script_words (script.BadLine number) = at_task (codes "BadLine") number
 script_words (script.Sheet number cause) = codes "line " ++ decimal number ++ codes " " ++ lone_cause_words cause
 script_words script.OutOfMemory = codes "OutOfMemory"
 
+-- why lines were not run to the end of all teams
+abbrev pub rush_words : RushFault → List ℕ
+rush_words rush.OutOfMemory = codes "OutOfMemory"
+rush_words rush.ThreadRefused = codes "ThreadRefused"
+rush_words rush.Foreign = codes "Foreign"
+rush_words rush.Behind = codes "Behind"
+rush_words rush.ReceiptMismatch = codes "ReceiptMismatch"
+
 -- the name of a refusal with its fields
 abbrev pub words_of : Refusal → List ℕ
 words_of (refusal.Input input.TooLong) = codes "InputTooLong"
@@ -133,6 +143,7 @@ words_of (refusal.Check fault) = check_words fault
 words_of (refusal.Text fault) = text_words fault
 words_of (refusal.Run fault) = run_words fault
 words_of (refusal.Script fault) = script_words fault
+words_of (refusal.Rush fault) = rush_words fault
 words_of refusal.OutOfMemory = codes "OutOfMemory"
 
 -- the line of a refusal
@@ -155,4 +166,5 @@ status_of (refusal.Run run.OutOfMemory) = status.OutOfMemory
 status_of (refusal.Run _) = status.BadInput
 status_of (refusal.Script script.OutOfMemory) = status.OutOfMemory
 status_of (refusal.Script _) = status.BadInput
+status_of (refusal.Rush _) = status.OutOfMemory
 status_of refusal.OutOfMemory = status.OutOfMemory

@@ -9,7 +9,8 @@ use Rattle.desk_cli.specs.Simulate.{SaysSimulated}
 use Rattle.desk_cli.specs.declared.words.Input.{Input}
 use Rattle.desk_cli.specs.declared.words.Call.{Call}
 use Rattle.desk_cli.specs.Playing.{SaysPlayed}
-use Rattle.desk_cli.specs.declared.words.Call.TheVariants.{Admit, Certify, Check, Simulate, Headroom, Settings, Play}
+use Rattle.desk_cli.specs.Rushing.{SaysRushed}
+use Rattle.desk_cli.specs.declared.words.Call.TheVariants.{Admit, Certify, Check, Simulate, Headroom, Settings, Play, Rush}
 use Rattle.desk_cli.specs.declared.status.Status.{Status}
 
 -- where inputs have some bytes, the answer of the call's command is printed after what the writer held, and
@@ -22,3 +23,4 @@ CallSays has (Simulate set releases) before after s = SaysSimulated (has set) (h
 CallSays has (Headroom set) before after s = SaysHeadroom (has set) before after s
 CallSays has (Settings set) before after s = Says settings_of (has set) before after s
 CallSays has (Play script) before after s = SaysPlayed (has script) before after s
+CallSays has (Rush script workers) before after s = SaysRushed (has script) before after s

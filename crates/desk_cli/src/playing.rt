@@ -14,7 +14,10 @@ use std::alloc::Global;
 use std::io::{Read, Write};
 
 // The lines of the script that the reader has, or why there are none.
-fn lines_of<R: Read + Drop>(alloc: Global, script: &mut Watched<R>) -> Result<Vec<Line>, Refusal>
+pub(crate) fn lines_of<R: Read + Drop>(
+    alloc: Global,
+    script: &mut Watched<R>,
+) -> Result<Vec<Line>, Refusal>
     ensures answer { Scripts (R.remaining script.old.inner) result }
     ensures failed { result ≡ Err (Refusal.Input InputFault.ReadFailed) → IsDisturbed script.new }
     ensures answered { script.old.has_failed ≡ false → script.new.has_failed ≡ true
@@ -26,8 +29,9 @@ fn lines_of<R: Read + Drop>(alloc: Global, script: &mut Watched<R>) -> Result<Ve
     Ok(lines)
 }
 
-/// `desk play`: reads a script of drafts, findings and commits, plays it on an empty desk, and prints the line of each
-/// reply as it comes, and then the book; or why the script was refused, and then nothing of it was played.
+/// `desk play`: reads a script of drafts, findings and commits, plays it on an empty desk, and prints the lines of the
+/// replies while it goes, through a buffer, and then the book; or why the script was refused, and then nothing of it
+/// was played.
 pub fn play<R: Read + Drop, W: Write + Drop>(
     alloc: Global,
     script: &mut Watched<R>,

@@ -1,8 +1,8 @@
 //! Why a command was refused, and the line that says so.
 ghost use Rattle.std.specs.Prelude.{◌≡◌, Some};
 ghost use Rattle.std.specs.Fmt.{DisplaysOnOk};
-ghost use Rattle.desk_cli.specs.declared.refusal.Refusal.TheVariants.{Certificate, Check, Input, OutOfMemory, Run, Script, Set, Text};
-ghost use Rattle.desk_cli.specs.Refusals.{cause_words, certificate_words, check_words, fault_words, lone_cause_words, refusal_line, run_words, script_words, status_of, text_words, words_of};
+ghost use Rattle.desk_cli.specs.declared.refusal.Refusal.TheVariants.{Certificate, Check, Input, OutOfMemory, Run, Rush, Script, Set, Text};
+ghost use Rattle.desk_cli.specs.Refusals.{cause_words, certificate_words, check_words, fault_words, lone_cause_words, refusal_line, run_words, rush_words, script_words, status_of, text_words, words_of};
 
 use crate::input::InputFault;
 use crate::releases::TextFault;
@@ -10,6 +10,7 @@ use crate::status::Status;
 use ceiling_kernel::RunFault;
 use cert_checker::CheckFault;
 use certificate::CertFault;
+use rushes::RushFault;
 use scripts::ScriptFault;
 use std::alloc::{AllocError, AllocFailed};
 use std::fmt;
@@ -32,6 +33,8 @@ pub enum Refusal {
     Run(RunFault),
     /// The script's input is no script.
     Script(ScriptFault),
+    /// The lines of a script were not run to the end of all teams.
+    Rush(RushFault),
     /// Memory ran out after the inputs were read.
     OutOfMemory,
 }
@@ -92,6 +95,14 @@ impl From<ScriptFault> for Refusal {
     }
 }
 
+impl From<RushFault> for Refusal {
+    ghost from_gives = { λ fault refusal. refusal ≡ Rush fault };
+
+    fn from(fault: RushFault) -> Refusal {
+        Refusal::Rush(fault)
+    }
+}
+
 impl From<AllocError> for Refusal {
     ghost from_gives = { λ _ refusal. refusal ≡ OutOfMemory };
 
@@ -128,6 +139,7 @@ impl Refusal {
             Refusal::Run(_) => Status::BadInput,
             Refusal::Script(ScriptFault::OutOfMemory) => Status::OutOfMemory,
             Refusal::Script(_) => Status::BadInput,
+            Refusal::Rush(_) => Status::OutOfMemory,
             Refusal::OutOfMemory => Status::OutOfMemory,
         }
     }
@@ -270,6 +282,19 @@ fn write_run_fault<W: fmt::Write>(fault: RunFault, f: &mut fmt::Formatter<W>) ->
     }
 }
 
+// The name of why lines were not run to the end.
+fn write_rush_fault<W: fmt::Write>(fault: RushFault, f: &mut fmt::Formatter<W>) -> fmt::Result
+    ensures { DisplaysOnOk W.write_str_gives f.old result (Some (rush_words fault)) f.new }
+{
+    match fault {
+        RushFault::OutOfMemory => f.write_str("OutOfMemory"),
+        RushFault::ThreadRefused => f.write_str("ThreadRefused"),
+        RushFault::Foreign => f.write_str("Foreign"),
+        RushFault::Behind => f.write_str("Behind"),
+        RushFault::ReceiptMismatch => f.write_str("ReceiptMismatch"),
+    }
+}
+
 // The name of a refusal, with its fields.
 fn write_words<W: fmt::Write>(refusal: Refusal, f: &mut fmt::Formatter<W>) -> fmt::Result
     ensures { DisplaysOnOk W.write_str_gives f.old result (Some (words_of refusal)) f.new }
@@ -284,6 +309,7 @@ fn write_words<W: fmt::Write>(refusal: Refusal, f: &mut fmt::Formatter<W>) -> fm
         Refusal::Text(fault) => write_text_fault(fault, f),
         Refusal::Run(fault) => write_run_fault(fault, f),
         Refusal::Script(fault) => write_script_fault(fault, f),
+        Refusal::Rush(fault) => write_rush_fault(fault, f),
         Refusal::OutOfMemory => f.write_str("OutOfMemory"),
     }
 }

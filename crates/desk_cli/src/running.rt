@@ -1,6 +1,7 @@
 //! Running a call on the inputs that it names.
 ghost use Rattle.std.specs.Prelude.{◌≡◌, ℕ, List, Option, true, false, IfOk};
 ghost use Rattle.desk_cli.specs.declared.words.Input.{Input};
+ghost use Rattle.desk_cli.specs.Calls.{HasWorkers};
 ghost use Rattle.desk_cli.specs.Running.{CallSays};
 
 use crate::admission::admit;
@@ -12,12 +13,15 @@ use crate::node::print_settings;
 use crate::output::refuse;
 use crate::playing::play;
 use crate::refusal::Refusal;
+use crate::rushing::rush;
 use crate::simulation::simulate;
 use crate::status::Status;
 use crate::words::{Call, Input};
 use certificate::Watched;
 use std::alloc::Global;
 use std::io::{Read, Write};
+use std::sync::Wait;
+use std::thread::Threads;
 
 // What an input that was not opened is refused as.
 const NOT_OPENED: Refusal = Refusal::Input(InputFault::ReadFailed);
@@ -53,12 +57,14 @@ fn open_both<O: Opens>(
 }
 
 /// Opens the inputs of a call, in the order in which they are named, and runs its command.
-pub fn run_call<O: Opens, W: Write + Drop>(
+pub fn run_call<O: Opens, W: Write + Drop, R: Threads + Wait + Sync>(
+    rt: &R,
     alloc: Global,
     call: Call<'_>,
     inputs: &O,
     output: &mut Watched<W>,
 ) -> Status
+    requires { HasWorkers call }
     ensures printed { output.new.has_failed ≡ false
         → CallSays (O.bytes inputs.now) call.entry (W.contents output.old.inner) (W.contents output.new.inner) result }
     ensures unwritten { output.old.has_failed ≡ false → output.new.has_failed ≡ true
@@ -101,6 +107,10 @@ pub fn run_call<O: Opens, W: Write + Drop>(
         },
         Call::Play { script } => match inputs.open(script) {
             Ok(script) => play(alloc, &mut Watched::new(script), output),
+            Err(_) => refuse(NOT_OPENED, output),
+        },
+        Call::Rush { script, workers } => match inputs.open(script) {
+            Ok(script) => rush(rt, alloc, &mut Watched::new(script), workers, output),
             Err(_) => refuse(NOT_OPENED, output),
         },
     }

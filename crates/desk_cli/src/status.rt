@@ -15,7 +15,7 @@ pub enum Status {
     BadInput,
     /// A certificate was refused, by its reading or by its check.
     BadCertificate,
-    /// Memory ran out.
+    /// Memory ran out; or, of a rush, the system refused a thread, or the desk was at fault.
     OutOfMemory,
     /// A file was not opened, or a read or a write failed.
     InputOrOutputFailed,

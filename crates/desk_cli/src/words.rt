@@ -1,10 +1,10 @@
 //! The words of a command line.
 ghost use Rattle.std.specs.Prelude.{◌≡◌, ◌⊎◌, map, Ok, Some, Err, IfOk, IfErr, true, false, codes};
 ghost use Rattle.std.specs.Io.KnownBytes.{Appends};
-ghost use Rattle.clap.specs.Words.{FailsBy, app_of, fault_of, first_value, found_of, new_app, rows_of, rule_of, subcommand_of, subcommand_rows_of, with_subcommand};
+ghost use Rattle.clap.specs.Words.{FailsBy, app_of, fault_of, first_of, first_value, found_of, new_app, rows_of, rule_of, subcommand_of, subcommand_rows_of, with_subcommand};
 ghost use Rattle.clap.specs.declared.builder.command.Command.TheViews.{out-Command as fields_of};
-ghost use Rattle.desk_cli.specs.App.{bare_app, desk_app, input_rule, one_app, pair_app, set_app};
-ghost use Rattle.desk_cli.specs.Calls.{Calls, IsCall, IsCommand, IsTaken, IsMemory, IsWordsFault, Names, fault_status, goes_out, is_standard, is_twice};
+ghost use Rattle.desk_cli.specs.App.{bare_app, desk_app, input_rule, one_app, pair_app, rush_app, set_app, workers_rule};
+ghost use Rattle.desk_cli.specs.Calls.{Calls, HasWorkers, IsCall, IsCommand, IsTaken, IsMemory, IsWordsFault, IsWorkers, Names, TakesWorkers, fault_status, goes_out, is_standard, is_twice};
 ghost use Rattle.desk_cli.specs.Refusals.{refusal_line};
 
 use crate::output::{print, refuse};
@@ -12,7 +12,7 @@ use crate::refusal::Refusal;
 use crate::status::Status;
 use certificate::Watched;
 use clap::error::ErrorKind;
-use clap::{Arg, ArgAction, ArgMatches, Command, Error};
+use clap::{Arg, ArgAction, ArgMatches, Command, Error, value_parser};
 use std::alloc::{AllocError, Global};
 use std::io::Write;
 
@@ -66,6 +66,11 @@ pub enum Call<'a> {
     Play {
         script: Input<'a>,
     },
+    /// `rush SCRIPT WORKERS`
+    Rush {
+        script: Input<'a>,
+        workers: usize,
+    },
 }
 
 /// Why words are no call.
@@ -100,6 +105,11 @@ const SETTINGS_ABOUT: &str =
 const PLAY_ABOUT: &str =
     "Plays a script of drafts, findings and commits, and prints what each line comes to";
 
+const RUSH_ABOUT: &str =
+    "Runs the lines of each team of a script on a thread of its own, and prints the log and the book";
+
+const WORKERS_HELP: &str = "How many threads test the set of a commit, from 1 to 8";
+
 const SCRIPT_HELP: &str = "A script: a path, or - for standard input";
 
 const SET_HELP: &str = "A task set in TOML: a path, or - for standard input";
@@ -112,6 +122,13 @@ fn input_arg<'a>(alloc: Global, name: &'a str, help: &'a str) -> Arg<'a>
         .required(true)
         .action(ArgAction::Set)
         .help(help)
+}
+
+fn workers_arg<'a>(alloc: Global) -> Arg<'a>
+    ensures rule { rule_of result ≡ workers_rule }
+    ensures local { result.global ≡ false }
+{
+    input_arg(alloc, "WORKERS", WORKERS_HELP).value_parser(value_parser!(usize).range(1..=8))
 }
 
 fn new_command<'a>(alloc: Global, name: &'a str, about: &'a str) -> Command<'a>
@@ -176,6 +193,17 @@ fn pair_command<'a>(
     Ok(command)
 }
 
+// The command with a script and a number of workers.
+fn rush_command<'a>(alloc: Global) -> Result<Command<'a>, AllocError>
+    ensures app { IfOk result (λ c. app_of c ≡ rush_app) }
+    ensures local { IfOk result (λ c. (fields_of c).has_globals ≡ false) }
+{
+    let workers = workers_arg(alloc);
+    let first = one_command(alloc, "rush", RUSH_ABOUT, "SCRIPT", SCRIPT_HELP)?;
+    let command = first.arg(workers)?;
+    Ok(command)
+}
+
 // The command with one more command below it.
 fn with_command<'a>(above: Command<'a>, command: Command<'a>) -> Result<Command<'a>, AllocError>
     requires above { (fields_of above).has_globals ≡ false }
@@ -205,7 +233,9 @@ fn desk_command<'a>(alloc: Global) -> Result<Command<'a>, AllocError>
     let settings = set_command(alloc, "settings", SETTINGS_ABOUT)?;
     let sixth = with_command(fifth, settings)?;
     let play = one_command(alloc, "play", PLAY_ABOUT, "SCRIPT", SCRIPT_HELP)?;
-    let desk = with_command(sixth, play)?;
+    let seventh = with_command(sixth, play)?;
+    let rush = rush_command(alloc)?;
+    let desk = with_command(seventh, rush)?;
     Ok(desk)
 }
 
@@ -227,6 +257,17 @@ fn input_at<'a>(matches: &ArgMatches<'a>, id: &str) -> Input<'a>
         None => Input::Standard,
         Some("-") => Input::Standard,
         Some(path) => Input::File(path),
+    }
+}
+
+// The number of workers that the argument of that name says.
+fn workers_at(matches: &ArgMatches<'_>) -> usize
+    requires { TakesWorkers (rows_of (found_of matches.now)) }
+    ensures { IsWorkers (first_of (codes "WORKERS") (rows_of (found_of matches.now))) result }
+{
+    match matches.get_one::<usize>("WORKERS") {
+        Some(workers) => workers,
+        None => unreachable!(),
     }
 }
 
@@ -257,6 +298,11 @@ fn call_named<'a>(name: &str, found: &ArgMatches<'a>) -> Call<'a>
         let script = input_at(found, "SCRIPT");
         return Call::Play { script };
     }
+    if name == "rush" {
+        let script = input_at(found, "SCRIPT");
+        let workers = workers_at(found);
+        return Call::Rush { script, workers };
+    }
     Call::Admit { set }
 }
 
@@ -286,6 +332,7 @@ impl Call<'_> {
             Call::Headroom { .. } => false,
             Call::Settings { .. } => false,
             Call::Play { .. } => false,
+            Call::Rush { .. } => false,
         }
     }
 }
@@ -295,6 +342,7 @@ pub fn read_words<'a>(alloc: Global, words: &'a [&'a str]) -> Result<Call<'a>, W
     ensures call { IfOk result (Calls (map (λ s. s.now) words.entry.now)) }
     ensures taken { IfOk result (λ _. IsTaken (map (λ s. s.now) words.entry.now)) }
     ensures once { IfOk result (λ call. is_twice call ≡ false) }
+    ensures workers { IfOk result HasWorkers }
     ensures fault { IfErr result (IsWordsFault (map (λ s. s.now) words.entry.now)) }
 {
     if words.is_empty() {

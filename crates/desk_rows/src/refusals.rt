@@ -1,6 +1,6 @@
 //! The lines of refusals that no typed words reach.
 use ceiling_kernel::RunFault;
-use desk_cli::{Refusal, Status, Watched, refuse};
+use desk_cli::{Refusal, RushFault, Status, Watched, refuse};
 use example_sets::name;
 use std::alloc::Global;
 use std::test::Fail;
@@ -31,5 +31,24 @@ fn overrun(rt: HostRuntime) -> Result<(), Fail> {
     let (printed, status) = refused(rt.alloc(), Refusal::Run(fault))?;
     assert_eq!(rt; printed.as_str(), "refused: Overrun x 500\n");
     assert_eq!(rt; status, Status::BadInput);
+    Ok(())
+}
+
+// Faults of a rush, and their lines.
+const RUSH_LINES: [(RushFault, &str); 5] = [
+    (RushFault::OutOfMemory, "refused: OutOfMemory\n"),
+    (RushFault::ThreadRefused, "refused: ThreadRefused\n"),
+    (RushFault::Foreign, "refused: Foreign\n"),
+    (RushFault::Behind, "refused: Behind\n"),
+    (RushFault::ReceiptMismatch, "refused: ReceiptMismatch\n"),
+];
+
+#[test]
+fn faults_of_a_rush(rt: HostRuntime) -> Result<(), Fail> {
+    for (fault, line) in RUSH_LINES {
+        let (printed, status) = refused(rt.alloc(), Refusal::Rush(fault))?;
+        assert_eq!(rt; printed.as_str(), line);
+        assert_eq!(rt; status, Status::OutOfMemory);
+    }
     Ok(())
 }

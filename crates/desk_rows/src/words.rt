@@ -3,7 +3,7 @@ use desk_cli::{Call, Input, read_words};
 use std::test::Fail;
 
 // Words, and the call that they name.
-const CALLS: [(&[&str], Call<'static>); 6] = [
+const CALLS: [(&[&str], Call<'static>); 8] = [
     (
         &[],
         Call::Admit {
@@ -41,6 +41,20 @@ const CALLS: [(&[&str], Call<'static>); 6] = [
         Call::Simulate {
             set: Input::Standard,
             releases: Input::File("r"),
+        },
+    ),
+    (
+        &["rush", "s", "3"],
+        Call::Rush {
+            script: Input::File("s"),
+            workers: 3,
+        },
+    ),
+    (
+        &["rush", "-", "+08"],
+        Call::Rush {
+            script: Input::Standard,
+            workers: 8,
         },
     ),
 ];

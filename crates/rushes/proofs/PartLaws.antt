@@ -1,5 +1,5 @@
 -- From the passes of all teams to their parts of the log.
-use Rattle.std.proofs.Common.{◌≡◌, ◌∙◌, ℕ, ◌+◌, ◌<◌, ◌≤◌, ◌==◌, zero, suc, List, [], ◌∷◌, Bool, true, false, ◌||◌, refl, sym, subst, inl, inr, arith}
+use Rattle.std.proofs.Common.{◌≡◌, ◌∙◌, ℕ, ◌+◌, ◌-◌, ◌<◌, ◌≤◌, ◌==◌, if◌then◌else◌, zero, suc, List, [], ◌∷◌, Bool, true, false, ◌||◌, refl, sym, subst, inl, inr, arith}
 use Rattle.std.specs.Prelude.{Result, Ok, Err, IfOk, IfErr}
 use Rattle.std.proofs.lemmas.Bool.{cases_order}
 use Rattle.std.proofs.lemmas.Bool.Decides.{Decides-eqb}
@@ -28,7 +28,7 @@ pub all_there : (lines : List Line) (first n : ℕ) (passes : List Known) → Ar
 all_there lines first zero passes runs team low high = absurd (omega arith)
 all_there lines first (suc n) [] runs team low high = absurd runs
 all_there lines first (suc n) (p ∷ ps) runs team low high = elim (cases_order first team) [
-  | inl same ↦ or_left (p.team == team) (has_team team ps) ((Decides-eqb p.team team).1 (run_team lines (newcomer first) p runs.0 ∙ same))
+  | inl same ↦ or_left (p.team == team) (has_team team ps) ((Decides-eqb p.team team).1 (run_team lines (newcomer first (if first == 1 then 8 - n else 1)) p runs.0 ∙ same))
   | inr (inl less) ↦ or_right (p.team == team) (has_team team ps) (all_there lines (first + 1) n ps runs.1 team (omega arith) (omega arith))
   | inr (inr more) ↦ absurd (omega arith)
 ]
@@ -40,9 +40,10 @@ part_of lines first zero passes runs team low high entries have = absurd (omega 
 part_of lines first (suc n) [] runs team low high entries have = absurd runs
 part_of lines first (suc n) (p ∷ ps) runs team low high entries have = elim (cases_order first team) [
   | inl same ↦ (
+    (if first == 1 then 8 - n else 1),
     p,
-    subst (λ (t : ℕ). IsRun lines (newcomer t) p) same runs.0,
-    have.0 (run_team lines (newcomer first) p runs.0 ∙ same),
+    subst (λ (t : ℕ). IsRun lines (newcomer t (if first == 1 then 8 - n else 1)) p) same runs.0,
+    have.0 (run_team lines (newcomer first (if first == 1 then 8 - n else 1)) p runs.0 ∙ same),
   )
   | inr (inl less) ↦ part_of lines (first + 1) n ps runs.1 team (omega arith) (omega arith) entries have.1
   | inr (inr more) ↦ absurd (omega arith)

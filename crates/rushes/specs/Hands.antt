@@ -90,9 +90,10 @@ abbrev pub IsRun : List Line → Known → Known → Type 0
 IsRun lines start pass = (last : Hand) × AreDone (fresh start) lines last × (last.pass ≡ pass)
 
 -- ---- all teams
--- these entries with their places are what the lines of a team came to
+-- these entries with their places are what the lines of a team came to, whatever parts of the ledger its pass has
 abbrev pub IsPart : List Line → ℕ → List (ℕ × Entry) → Type 0
-IsPart lines team entries = (pass : Known) × IsRun lines (newcomer team) pass × (pass.receipts ≡ entries)
+IsPart lines team entries =
+    (parts : ℕ) × (pass : Known) × IsRun lines (newcomer team parts) pass × (pass.receipts ≡ entries)
 
 -- the state and the log of a desk that was closed
 abbrev pub book_of : Closing → Book

@@ -32,3 +32,8 @@ pub returns-in-Err-open-4-clause-printed : goal.returns-in-Err-open-4-clause-pri
 returns-in-Err-open-4-clause-printed g c =
     let r = refusal.Input input.ReadFailed in
     rw c.in-Play.is (λ sound. (refusal_line r, c.refuse-in-Err-open-4.ensures.printed sound, inl (r, tt, refl, c.refuse-in-Err-open-4.ensures.status sound)))
+
+pub returns-in-Err-open-5-clause-printed : goal.returns-in-Err-open-5-clause-printed
+returns-in-Err-open-5-clause-printed g c =
+    let r = refusal.Input input.ReadFailed in
+    rw c.in-Rush.is (λ sound. (refusal_line r, c.refuse-in-Err-open-5.ensures.printed sound, inl (r, tt, refl, c.refuse-in-Err-open-5.ensures.status sound)))

@@ -7,6 +7,8 @@ returns-clause-app c =
     let top = λ (a : App). a.top in
     c.in_ok-desk.ensures.app
     ∙ ap₂ with_subcommand
+    (c.in_ok-seventh.ensures.app
+    ∙ ap₂ with_subcommand
     (c.in_ok-sixth.ensures.app
     ∙ ap₂ with_subcommand
     (c.in_ok-fifth.ensures.app
@@ -23,4 +25,5 @@ returns-clause-app c =
     (ap top c.in_ok-simulate.ensures.app))
     (ap top c.in_ok-headroom.ensures.app))
     (ap top c.in_ok-settings.ensures.app))
-    (ap top c.in_ok-play.ensures.app)
+    (ap top c.in_ok-play.ensures.app))
+    (ap top c.in_ok-rush.ensures.app)
