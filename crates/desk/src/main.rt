@@ -10,17 +10,19 @@ use either::{Either, Left, Right};
 use std::fs::File;
 use std::io::{self, ErrorKind, Stderr, Stdin, Stdout};
 use std::process::ExitCode;
+use std::sync::Wait;
+use std::thread::Threads;
 use std::{env, fs};
 
 /// An input, opened.
 type Source = Either<File, Stdin>;
 
 fn main(rt: HostRuntime) -> ExitCode {
-    ExitCode::from(run(&rt).code())
+    ExitCode::from(run(&rt, &rt).code())
 }
 
-// Reads the words and runs the call that they name.
-fn run(rt: &HostRuntime) -> Status {
+// Reads the words and runs the call that they name, on these threads.
+fn run<T: Threads + Wait + Sync>(rt: &HostRuntime, threads: &T) -> Status {
     let mut output = Watched::new(rt.stdout());
     let mut errors = Watched::new(rt.stderr());
     let words = match words_of(rt) {
@@ -37,7 +39,7 @@ fn run(rt: &HostRuntime) -> Status {
     // written.
     let _folder = fs::open(rt, "/");
     match read_words(rt.alloc(), &texts) {
-        Ok(call) => run_call(rt, rt.alloc(), call, &Process { rt }, &mut output),
+        Ok(call) => run_call(threads, rt.alloc(), call, &Process { rt }, &mut output),
         Err(fault) => refuse_words(&fault, &mut output, &mut errors),
     }
 }
