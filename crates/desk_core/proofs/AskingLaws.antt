@@ -1,5 +1,5 @@
 -- The question that comes next, and the question on the task of a name.
-use Rattle.std.proofs.Common.{◌≡◌, ℕ, zero, suc, ◌<◌, inl, inr, Bool, true, false, nat_lt, List, [], ◌∷◌, length, position, Option, Some, None, refl, sym, ◌∙◌, ap, subst, arith, IsTrue, IsFalse}
+use Rattle.std.proofs.Common.{◌≡◌, ℕ, zero, suc, ◌<◌, inl, inr, Bool, true, false, nat_lt, List, [], ◌∷◌, length, position, Some, None, refl, sym, ◌∙◌, ap, subst, arith, IsTrue, IsFalse}
 use Rattle.std.specs.Ordering.{nat_cmp}
 use Rattle.std.specs.FinSet as members
 use Rattle.std.proofs.lemmas.Bool.{cases_Bool, both_ways, ltb-true, lt-ltb}
@@ -14,12 +14,13 @@ use Rattle.task_sheet.specs.Indexes.{indexes_of}
 use Rattle.task_sheet.proofs.IndexLaws.{without-parts}
 use Rattle.task_sheet.proofs.MembersIndexes.{indexes_of-remove}
 use Rattle.assignment.specs.Questions.{QuestionData}
-use Rattle.assignment.specs.Levels.{LevelState}
+use Rattle.assignment.specs.Levels.{LevelState, IsAsked}
 use Rattle.assignment.specs.Climbs.{ClimbState, IsUnfinished}
 use Rattle.desk_core.specs.declared.asked.Asked.{Asked}
 use Rattle.task_sheet.specs.Choices.{level_at}
 use Rattle.desk_core.specs.Findings.{is_on, missing_after}
 use Rattle.desk_core.specs.Progress.{IsProgress}
+use Rattle.desk_core.specs.Advances.{IsLeast}
 use Rattle.desk_core.specs.Asking.{IsNextAsked, IsAskedBy}
 use Rattle.desk_core.proofs.FindingLaws.{IsPresent-one}
 use Rattle.desk_core.proofs.ProgressLaws.{progress-present}
@@ -49,6 +50,14 @@ asking-next U c l found so going q of_set rest missing least =
       missing = is;
       least = λ j lt. subst (λ m. IsFalse (members.contains m j)) here (least j lt);
     }
+
+pub least-next : (U : List Task) (c : ClimbState) (l : LevelState) (found : List Asked) → IsProgress U c l found → IsUnfinished c → (q : QuestionData) → IsLeast l q → IsNextAsked U found q (length c.levels)
+least-next U c l found so going q least = record {
+  present = progress-present U c l found so going;
+  asked = subst (λ (x : LevelState). IsAsked x q) so.level least.asked;
+  missing = subst (λ (x : LevelState). IsTrue (members.contains x.missing q.task)) so.level least.missing;
+  least = subst (λ (x : LevelState). (j : ℕ) → j < q.task → IsFalse (members.contains x.missing j)) so.level least.least;
+}
 
 -- ---- by name
 named-one : (U : List Task) (name : List ℕ) → AreDistinct same_name U → (i j : ℕ) → i < length U → j < length U → (task_at U i).name ≡ name → (task_at U j).name ≡ name → i ≡ j

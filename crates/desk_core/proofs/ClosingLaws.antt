@@ -1,20 +1,14 @@
 -- What a closed level leads to.
-use Rattle.std.proofs.Common.{◌≡◌, ◌↔◌, ◌+◌, ◌-◌, ◌⊎◌, inl, inr, Bool, true, false, not, List, [], ◌∷◌, ◌++◌, length, get_or, None, Result, Ok, Err, is_err, refl, sym, ◌∙◌, ap, arith, IsTrue, length-append}
+use Rattle.std.proofs.Common.{◌≡◌, ◌↔◌, ◌+◌, ◌-◌, ◌⊎◌, inl, inr, Bool, true, false, not, List, [], ◌∷◌, ◌++◌, length, get_or, None, refl, sym, ◌∙◌, ap, arith, IsTrue, length-append}
 use Rattle.std.proofs.lemmas.Bool.{both_ways}
 use Rattle.std.proofs.lemmas.List.{get_or_push}
 use Rattle.task_sheet.specs.Verdicts.{LevelData}
 use Rattle.assignment.specs.Questions.{QuestionData}
 use Rattle.assignment.specs.Levels.{LevelState, IsDecided, with_finding}
 use Rattle.assignment.specs.Climbs.{ClimbState, IsPlaced, IsEnded, IsUnfinished}
-use Rattle.assignment.specs.Climbing.{ClosesLevel}
-use Rattle.assignment.specs.declared.climb.ClimbFault.{ClimbFault}
 use Rattle.desk_core.specs.declared.told.Told.{Told}
 use Rattle.desk_core.specs.declared.told.Told.TheVariants.{Stranger, Twice, Taken, LevelDone, Tested}
 use Rattle.desk_core.specs.Closing.{IsNew, IsClosing, IsTakenAt}
-
-pub closed-ok : (old : ClimbState) (level : LevelState) (new : ClimbState) (result : Result (Unit {0}) ClimbFault) → is_err result ≡ false → ClosesLevel old level new result → IsPlaced old new ⊎ IsEnded old new
-closed-ok old level new (Ok done) is closed = closed.2
-closed-ok old level new (Err fault) is closed = absurd (both_ways true is refl)
 
 -- the climb goes on, so the level was one that placed its task
 pub closed-placed : (old new : ClimbState) → IsUnfinished new → IsPlaced old new ⊎ IsEnded old new → IsPlaced old new

@@ -11,3 +11,4 @@ pub mod ToldOne
 pub mod AskingLaws
 pub mod Determined
 pub mod LevelLaws
+pub mod AdvanceLaws

@@ -1,6 +1,13 @@
 -- What was judged is right for what the changes come to.
-use Rattle.std.proofs.Common.{◌≡◌, ◌∙◌, ℕ, List, None, Result, Ok, Err, Vec, Global, sym, ap, subst}
+use Rattle.std.proofs.Common.{◌≡◌, ◌∙◌, ℕ, ◌<◌, List, [], length, None, Result, Ok, Err, Vec, Global, IsTrue, refl, sym, ap, subst, arith}
+use Rattle.std.specs.FinSet.{contains}
+use Rattle.std.proofs.lemmas.Bool.{lt-ltb}
+use Rattle.std.proofs.lemmas.List.{length-map}
+use Rattle.task_sheet.specs.Sheet.{Task}
+use Rattle.task_sheet.specs.MembersWords.{all_below}
+use Rattle.task_sheet.specs.Choices.{level_at}
 use Rattle.task_sheet.specs.Verdicts as data_of
+use Rattle.task_sheet.proofs.MembersIndexes.{indexes_of-all_below}
 use Rattle.assignment.specs.Verdict.{set_of as verdict_set, verdict_of}
 use Rattle.assignment.specs.declared.verdict.Verdict.{Verdict}
 use Rattle.assignment.specs.declared.verdict.Verdict.TheVariants as verdict
@@ -18,6 +25,8 @@ use Rattle.desk_core.specs.Stages.{IsStage}
 use Rattle.desk_core.specs.Standings.{IsStandingOn, IsQuestionOn}
 use Rattle.desk_core.specs.declared.events.Standing.TheVariants as standing
 use Rattle.drafts.specs.Outcomes.{IsJudged, IsShared, IsAgain}
+use Rattle.drafts.specs.Changes.{HasTasks}
+use Rattle.desk_core.proofs.FindingLaws.{fresh-undecided}
 
 pub shared-judged : (tasks : List Owned) (v : Verdict) (j : Judged) → verdict_set v ≡ set_of tasks → data_of.IsVerdictOf (set_of tasks) (verdict_of v) → IsShared v j → IsJudged (Ok tasks) j
 shared-judged tasks (verdict.Admitted a) (judged.Best b) same is shared =
@@ -89,3 +98,14 @@ tested-standing (Ok tasks) j found names before told so same again = (subst (λ 
 pub tested-unasked : (outcome : Result (List Owned) Refusal) (found before : List Asked) (name : List ℕ) → IsTestedOn outcome found → found ≡ before → IsQuestionOn outcome before name None
 tested-unasked (Err refusal) found before name tested same = absurd tested
 tested-unasked (Ok tasks) found before name tested same = λ q asked. asked.present.undecided (subst (λ xs. IsTested (set_of tasks) xs) same tested asked.level)
+
+-- ---- a draft without findings asks for one where its changes come to some task
+untested : (U : List Task) → 0 < length U → ¬ IsTested U []
+unfolding level_at
+untested U some tested =
+    let member : IsTrue (contains (all_below (length U)) 0) = ap (λ X. X 0) (indexes_of-all_below (length U)) ∙ lt-ltb 0 (length U) some in
+    fresh-undecided (record { set = U; left = all_below (length U); missing = all_below (length U) }) refl 0 member (tested 0)
+
+pub fresh-untested : (outcome : Result (List Owned) Refusal) → HasTasks outcome → ¬ IsTestedOn outcome []
+fresh-untested (Err refusal) some tested = tested
+fresh-untested (Ok tasks) some tested = untested (set_of tasks) (omega (arith, some, length-map tasks (λ o. o.sheet))) tested

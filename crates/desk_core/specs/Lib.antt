@@ -12,3 +12,4 @@ pub mod CoreFields
 pub mod Asking
 pub mod Standings
 pub mod Said
+pub mod Advances

@@ -1,14 +1,15 @@
 //! The core: the book, and the drafts by number.
 
-ghost use Rattle.std.specs.Prelude.{◌≡◌, ◌<◌, ◌+◌, None, IfOk, IfErr, OnErr, IsSome, MatchOption, length, slice_index_or};
+ghost use Rattle.std.specs.Prelude.{◌≡◌, ◌<◌, ◌+◌, None, IfOk, IfErr, IfSome, OnErr, IsSome, MatchOption, length, slice_index_or};
 ghost use Rattle.desk_core.specs.declared.events.Event.TheVariants.{Open, Put, Remove, Found, Commit, Abandon};
 ghost use Rattle.desk_core.specs.World.{live_at, IsReply, happens, start, IsRun, after_all};
+ghost use Rattle.desk_core.specs.Advances.{IsAdvanced, IsFew};
 ghost use Rattle.desk_core.specs.Standings.{IsQuestionOf, IsShortOf, IsStanding};
 ghost use Rattle.drafts.specs.Machine.{empty_desk, IsLegal, replay, admissions};
 
 use crate::events::{Cause, Event, Reply, Standing};
 use crate::live::{
-    Live, abandon_in, commit_in, found_in, put_in, question_in, remove_in, standing_in,
+    Live, abandon_in, advance_in, commit_in, found_in, put_in, question_in, remove_in, standing_in,
 };
 use assignment::{AnswerFault, Finding, Question};
 use drafts::{Book, Team};
@@ -218,6 +219,19 @@ impl Core {
                 None => question.answer(alloc),
                 Some(live) => live.answer(alloc, question),
             },
+        }
+    }
+
+    /// Answers the question that a draft's standing asks, and brings it the finding, as an event does: the reply. None
+    /// where it asks none. The finding is known to answer the draft's own question, so no sets are compared.
+    pub fn advance(&mut self, alloc: Global, draft: usize) -> Result<Option<Reply>, AllocError>
+        ensures ok { IfOk result (IsAdvanced self.old draft self.new) }
+        ensures err { OnErr result (self.new ≡ self.old) }
+        ensures few { IfOk result (λ reply. IfSome reply (λ r. IsFew (live_at self.old.drafts draft))) }
+    {
+        match place_of(&self.drafts, draft) {
+            None => Ok(None),
+            Some(i) => advance_in(alloc, &mut self.drafts[i]),
         }
     }
 

@@ -1,10 +1,11 @@
 //! Drafts that haven't ended.
 
-ghost use Rattle.std.specs.Prelude.{◌≡◌, [], None, Some, Option, IfOk, IfErr, OnErr, ◌≤◌, length, vec_capacity};
+ghost use Rattle.std.specs.Prelude.{◌≡◌, [], None, Some, Option, IfOk, IfErr, IfSome, OnErr, ◌<◌, ◌≤◌, ◌^◌, List, Result, length, vec_capacity};
 ghost use Rattle.drafts.specs.Changes.{after_put, after_remove, on_base};
 ghost use Rattle.desk_core.specs.Findings.{asked_of, IsTold};
 ghost use Rattle.drafts.specs.Books.{Book};
 ghost use Rattle.drafts.specs.Machine.{Desk};
+ghost use Rattle.desk_core.specs.Advances.{IsAdvancedIn, IsAdvancedOn, IsFew};
 ghost use Rattle.desk_core.specs.Based.{IsBased};
 ghost use Rattle.desk_core.specs.Brought.{IsTelling, IsBrought};
 ghost use Rattle.desk_core.specs.declared.told.Told.{Told};
@@ -12,6 +13,9 @@ ghost use Rattle.desk_core.specs.World.{Live, opened, cause_of, edit_reply, edit
 ghost use Rattle.desk_core.specs.declared.events.Reply.TheVariants.{Done};
 ghost use Rattle.desk_core.specs.Standings.{IsQuestionOf, IsQuestionOn, IsShort, IsShortOf, IsStanding, IsStandingOn};
 ghost use Rattle.desk_core.specs.Stages.{IsReady, IsStage, found_of};
+ghost use Rattle.drafts.specs.declared.roster.Owned.{Owned};
+ghost use Rattle.drafts.specs.declared.change.Refusal.{Refusal};
+ghost use Rattle.desk_core.specs.declared.stage.Stage.TheVariants.{Trying};
 
 use crate::events::{Cause, Reply, Standing};
 use crate::stage::{Stage, begin, judged, question, standing};
@@ -140,6 +144,40 @@ fn bring_to(
     }
 }
 
+// Brings a trial the finding on its next question.
+fn advance(alloc: Global, trial: &mut Trial) -> Result<Option<Reply>, AllocError>
+    ensures ok { (outcome : Result (List Owned) Refusal) → IsStage outcome (Trying trial.old)
+        → IfOk result (IsAdvancedOn outcome trial.old.found trial.new.found) }
+    ensures same { trial.new.set ≡ trial.old.set }
+    ensures err { OnErr result (trial.new ≡ trial.old) }
+    ensures few { IfOk result (λ reply. IfSome reply (λ r. length trial.old.found < 2 ^ 63)) }
+{
+    let names = Vec::with_capacity(alloc, trial.set().len())?;
+    match trial.advance(alloc)? {
+        Some(told) => Ok(Some(reply_to(trial, told, names))),
+        None => Ok(None),
+    }
+}
+
+// Brings the test of a draft the finding on its next question.
+fn advance_to(alloc: Global, draft: &Draft, stage: &mut Stage) -> Result<Option<Reply>, AllocError>
+    requires { IsStage (on_base draft.now) stage.old }
+    ensures kept { IsStage (on_base draft.now) stage.new }
+    ensures ok { IfOk result (IsAdvancedOn (on_base draft.now) (found_of stage.old) (found_of stage.new)) }
+    ensures err { OnErr result (found_of stage.new ≡ found_of stage.old) }
+    ensures few { IfOk result (λ reply. IfSome reply (λ r. length (found_of stage.old) < 2 ^ 63)) }
+{
+    if !begin(alloc, draft, stage)? {
+        return Ok(None);
+    }
+    match stage {
+        Stage::Fresh => unreachable!(),
+        Stage::Trying { trial } => advance(alloc, trial),
+        Stage::Complete { .. } => Ok(None),
+        Stage::Tested { .. } => Ok(None),
+    }
+}
+
 impl Live {
     /// A draft without changes.
     pub fn new(alloc: Global, team: Team, base: Arc<NodeState>) -> Live
@@ -216,6 +254,16 @@ impl Live {
         ensures back { IfErr result (λ back. back ≡ finding) }
     {
         bring_to(alloc, &self.draft, &mut self.stage, finding)
+    }
+
+    /// Answers the question that the draft asks, and brings it the finding. None where it asks none.
+    pub fn advance(&mut self, alloc: Global) -> Result<Option<Reply>, AllocError>
+        ensures ok { IfOk result (IsAdvancedIn (Some self.old) (Some self.new)) }
+        ensures base { self.new.draft.base ≡ self.old.draft.base }
+        ensures err { OnErr result (self.new ≡ self.old) }
+        ensures few { IfOk result (λ reply. IfSome reply (λ r. length self.old.found < 2 ^ 63)) }
+    {
+        advance_to(alloc, &self.draft, &mut self.stage)
     }
 
     /// What was judged of the changes on the base, where the findings complete the verdict.
@@ -330,6 +378,19 @@ pub fn found_in(alloc: Global, slot: &mut Option<Live>, finding: Finding) -> Res
             let cause = Cause::NoSuchDraft;
             Ok(Reply::Refused { cause })
         }
+    }
+}
+
+/// Answers the question that a live draft asks, and brings it the finding. None where it asks none.
+pub fn advance_in(alloc: Global, slot: &mut Option<Live>) -> Result<Option<Reply>, AllocError>
+    ensures ok { IfOk result (IsAdvancedIn slot.old slot.new) }
+    ensures based { (desk : Desk) → IsBased desk slot.old → IsBased desk slot.new }
+    ensures err { OnErr result (slot.new ≡ slot.old) }
+    ensures few { IfOk result (λ reply. IfSome reply (λ r. IsFew slot.old)) }
+{
+    match slot {
+        Some(live) => live.advance(alloc),
+        None => Ok(None),
     }
 }
 

@@ -1,6 +1,6 @@
 //! How far the test of a draft has come.
 
-ghost use Rattle.std.specs.Prelude.{◌≡◌, IfOk, IfErr, OnErr, List, Result};
+ghost use Rattle.std.specs.Prelude.{◌≡◌, IfOk, IfErr, IsTrue, OnErr, List, Result};
 ghost use Rattle.drafts.specs.declared.roster.Owned.{Owned};
 ghost use Rattle.drafts.specs.declared.change.Refusal.{Refusal};
 ghost use Rattle.drafts.specs.Changes.{on_base};
@@ -8,6 +8,7 @@ ghost use Rattle.desk_core.specs.Stages.{found_of, IsStage, IsBegun, IsTrialOf, 
 ghost use Rattle.desk_core.specs.Standings.{IsQuestionOn, IsShort, IsStandingOn, IsTrying};
 ghost use Rattle.desk_core.specs.declared.stage.Stage.TheVariants.{Complete, Trying};
 ghost use Rattle.desk_core.specs.Findings.{IsTested};
+ghost use Rattle.desk_core.specs.World.{IsTestedOn};
 
 use crate::asked::Asked;
 use crate::events::Standing;
@@ -123,6 +124,17 @@ fn complete(alloc: Global, stage: &mut Stage, trial: Trial) -> Result<Option<Jud
     keep(alloc, stage, verdict, found, names)
 }
 
+// Whether a draft has no finding, and a task that asks for one. That its test isn't complete is known then, and it need
+// not begin.
+fn is_surely_untested(draft: &Draft, stage: &Stage) -> bool
+    ensures { IsTrue result → ¬ IsTestedOn (on_base draft.now) (found_of stage.now) }
+{
+    match stage {
+        Stage::Fresh => draft.has_put(),
+        _ => false,
+    }
+}
+
 /// What was judged of a draft's changes on its base, where the findings complete the verdict.
 pub fn judged(alloc: Global, draft: &Draft, stage: &mut Stage) -> Result<Option<Judged>, AllocError>
     requires { IsStage (on_base draft.now) stage.old }
@@ -130,7 +142,7 @@ pub fn judged(alloc: Global, draft: &Draft, stage: &mut Stage) -> Result<Option<
     ensures found { found_of stage.new ≡ found_of stage.old }
     ensures ok { IfOk result (λ judged. IsReady (on_base draft.now) (found_of stage.old) judged) }
 {
-    if !begin(alloc, draft, stage)? {
+    if is_surely_untested(draft, stage) || !begin(alloc, draft, stage)? {
         return Ok(None);
     }
     match mem::replace(stage, Stage::Fresh) {

@@ -7,13 +7,15 @@ ghost use Rattle.task_sheet.specs.Indexes.{indexes_of, listed_below, IsPart};
 ghost use Rattle.task_sheet.specs.Sheet.{task_at};
 ghost use Rattle.task_sheet.specs.Orders.{all_of};
 ghost use Rattle.task_sheet.specs.Verdicts.{LevelData, IsVerdictOf};
+ghost use Rattle.ceilings.specs.IsTableOf.{IsTableOf};
 ghost use Rattle.assignment.specs.Levels.{IsDecided};
 ghost use Rattle.assignment.specs.Climbs.{ClimbState, IsNext, IsUnfinished};
 ghost use Rattle.assignment.specs.Verdict.{set_of, verdict_of};
 ghost use Rattle.desk_core.specs.Progress.{present_of};
 ghost use Rattle.desk_core.specs.Findings.{asked_of, IsTold, found_after, IsTested};
 ghost use Rattle.desk_core.specs.World.{IsShown};
-ghost use Rattle.desk_core.specs.Closing.{IsClosing, IsTakenAt};
+ghost use Rattle.desk_core.specs.Closing.{IsClosing, IsNew, IsTakenAt};
+ghost use Rattle.desk_core.specs.Advances.{IsLeast, IsTried};
 
 use crate::asked::Asked;
 use crate::told::Told;
@@ -87,9 +89,7 @@ fn close_level(climb: &mut Climb, level: Level) -> Told
     requires decided { IsDecided level }
     ensures { IsClosing climb.old climb.new result }
 {
-    if climb.close(level).is_err() {
-        unreachable!();
-    }
+    climb.close_own(level);
     if !climb.is_unfinished() {
         return Told::Tested;
     }
@@ -112,6 +112,20 @@ fn take_at(climb: &mut Climb, mut level: Level, finding: Finding) -> (Told, Opti
         Err(TakeFault::Twice { finding: _ }) => (Told::Twice, Some(level)),
         Ok(()) if level.decided() => (close_level(climb, level), None),
         Ok(()) => (Told::Taken, Some(level)),
+    }
+}
+
+// Brings a finding that is known to be on a candidate without one: no sets are compared.
+fn accept_at(climb: &mut Climb, mut level: Level, finding: Finding) -> (Told, Option<Level>)
+    requires next { IsNext climb.old level }
+    requires new { IsNew level finding.question }
+    ensures { IsTakenAt climb.old level finding.question climb.new result.1 result.0 }
+{
+    level.accept(finding);
+    if level.decided() {
+        (close_level(climb, level), None)
+    } else {
+        (Told::Taken, Some(level))
     }
 }
 
@@ -159,6 +173,23 @@ fn least(members: Members, count: usize) -> Option<usize>
         }
     }
     None
+}
+
+// The finding on the missing candidate of least rank of a level that is not decided.
+fn find_least(alloc: Global, table: &LockTable, level: &Level) -> Result<Finding, AllocError>
+    requires table { IsTableOf level.now.set table.now }
+    requires undecided { ¬ IsDecided level.now }
+    ensures { IfOk result (λ finding. IsLeast level.now finding.question) }
+{
+    // The candidates are tasks of the set: the proof has it from them.
+    let _ = level.left();
+    match least(level.missing(), level.set().len()) {
+        Some(task) => match level.question(task)?.answer_by(alloc, table) {
+            Ok(finding) => Ok(finding),
+            Err(_) => Err(AllocError),
+        },
+        None => unreachable!(),
+    }
 }
 
 // The names of tasks, by rank, into a list with room for them.
@@ -325,5 +356,36 @@ impl Trial {
         self.level = kept;
         note(&mut self.found, asked, told);
         Ok(told)
+    }
+    /// Answers the question on the missing candidate of least rank at the present level by the table of the trial, and
+    /// takes the finding: no sets are compared. None where the verdict is complete. Want of memory leaves the trial as
+    /// it was.
+    pub(crate) fn advance(&mut self, alloc: Global) -> Result<Option<Told>, AllocError>
+        ensures ok { IfOk result (IsTried self.old self.new) }
+        ensures err { OnErr result (self.new ≡ self.old) }
+        ensures few { length self.old.found < 2 ^ 63 }
+    {
+        if !self.climb.is_unfinished() {
+            return Ok(None);
+        }
+        make_room(
+            alloc,
+            &self.set,
+            &self.climb,
+            &mut self.level,
+            &mut self.found,
+        )?;
+        let Some(level) = &self.level else {
+            unreachable!();
+        };
+        let finding = find_least(alloc, &self.table, level)?;
+        let Some(level) = self.level.take() else {
+            unreachable!();
+        };
+        let asked = asked_by(&finding);
+        let (told, kept) = accept_at(&mut self.climb, level, finding);
+        self.level = kept;
+        note(&mut self.found, asked, told);
+        Ok(Some(told))
     }
 }

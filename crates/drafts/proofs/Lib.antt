@@ -7,3 +7,5 @@ pub mod RosterLaws
 pub mod LogLaws
 pub mod ReachedLaws
 pub mod MapLaws
+pub mod HolderLaws
+pub mod PutLaws

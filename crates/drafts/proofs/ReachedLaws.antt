@@ -23,7 +23,7 @@ of_held P n (x ∷ ts) z all is = elim (cases_Bool (has_name n x)) [
 ]
 
 -- none of a name that none has
-none_held : (n : List ℕ) (x : Owned) (ts : List Owned) → has_name n x ≡ true → AllByRecursion (λ y. same_name x.sheet y ≡ false) (set_of ts) → held n ts ≡ None
+pub none_held : (n : List ℕ) (x : Owned) (ts : List Owned) → has_name n x ≡ true → AllByRecursion (λ y. same_name x.sheet y ≡ false) (set_of ts) → held n ts ≡ None
 none_held n x [] named apart = refl
 none_held n x (y ∷ ts) named apart =
     let e : x.sheet.name ≡ n = (bytes_eq-Decides x.sheet.name n).0 named in

@@ -158,7 +158,7 @@ few-tasks ts few = let test : nat_le (length ts) 32 ≡ true = grind (arith, nat
 
 -- ---- changes, one after the other
 
-drop-at : {X : Type 0} (xs : List X) (i : ℕ) (x : X) → slice_get xs i ≡ Some x → drop i xs ≡ x ∷ drop (suc i) xs
+pub drop-at : {X : Type 0} (xs : List X) (i : ℕ) (x : X) → slice_get xs i ≡ Some x → drop i xs ≡ x ∷ drop (suc i) xs
 drop-at [] i x at = cc
 drop-at (y ∷ xs) zero x at = let e : y ≡ x = cc in ap (λ z. z ∷ xs) e
 drop-at (y ∷ xs) (suc i) x at = drop-at xs i x at

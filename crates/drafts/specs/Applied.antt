@@ -65,6 +65,10 @@ is_team_at team teams i = option_map_or (λ t. t == team) (slice_get teams i) fa
 abbrev pub teams_of : List Owned → List ℕ
 teams_of tasks = map (λ o. o.team) tasks
 
+-- the team that holds a name after a team's changes: the one that held it, or else that team
+abbrev pub holder_after : ℕ → List Owned → List ℕ → ℕ
+holder_after team tasks name = option_map_or (λ o. o.team) (held name tasks) team
+
 -- at most 32 tasks stand on the node
 abbrev pub if_few : List Owned → Result (List Owned) Refusal
 if_few tasks = if nat_le (length tasks) 32 then Ok tasks else Err TooManyTasks

@@ -1,5 +1,5 @@
 -- What a draft shows, and what its edits make of its list of changes.
-use Rattle.std.specs.Prelude.{◌≡◌, ℕ, Bool, ◌&&◌, not, nat_le, List, length, Option, None, Some, is_some, Result, Ok, Err, if◌then◌else◌}
+use Rattle.std.specs.Prelude.{◌≡◌, ℕ, ◌<◌, Bool, true, false, ◌&&◌, ◌||◌, not, nat_le, List, [], ◌∷◌, length, Option, None, Some, is_some, Result, Ok, Err, if◌then◌else◌}
 use Rattle.task_sheet.specs.Sheet.{Task, same_bytes}
 use Rattle.std.specs.List.{AllByRecursion, IsDistinct}
 use Rattle.std.specs.Map.{keys_of, lookup, remove_entry}
@@ -31,6 +31,20 @@ IsNamed name Remove = Unit {0}
 -- each put is on its sheet's own name
 abbrev pub AreNamed : List (List ℕ × Change) → Type 0
 AreNamed changes = AllByRecursion (λ c. IsNamed c.0 c.1) changes
+
+abbrev pub is_put : Change → Bool
+is_put (Put sheet) = true
+is_put Remove = false
+
+-- one of the changes is a put
+abbrev pub has_put : List (List ℕ × Change) → Bool
+has_put [] = false
+has_put (c ∷ changes) = is_put c.1 || has_put changes
+
+-- what changes come to, where they apply, has a task
+abbrev pub HasTasks : Result (List Owned) Refusal → Type 0
+HasTasks (Err refusal) = Unit {0}
+HasTasks (Ok tasks) = 0 < length tasks
 
 -- what the changes come to on the state that they were made on
 abbrev pub on_base : Draft → Result (List Owned) Refusal

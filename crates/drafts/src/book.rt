@@ -7,7 +7,6 @@ ghost use Rattle.drafts.specs.Outcomes.{IsJudged, IsSaid, IsNextState, IsEntryOf
 ghost use Rattle.drafts.specs.Rulings.{ruling_of};
 ghost use Rattle.drafts.specs.Books.{empty_book, logged, IsNextEntry};
 
-use crate::applying::{Applied, apply};
 use crate::change::Change;
 use crate::draft::Draft;
 use crate::entry::{Decision, Entry};
@@ -170,16 +169,14 @@ impl Book {
             Judged::Refused { refusal: _ } => Ok(None),
             Judged::Stuck { obstruction: _ } => Ok(None),
             Judged::Best { assignment } => {
-                match apply(alloc, draft.team(), &self.state, draft.changes())? {
-                    Applied::Tasks { set: _, teams } => {
-                        let version = self.state.version() + 1;
-                        let next = NodeState::with(version, assignment.clone()?, teams);
-                        match Arc::new(alloc, next) {
-                            Ok(next) => Ok(Some(next)),
-                            Err(_) => Err(AllocError),
-                        }
-                    }
-                    Applied::Refused { refusal: _ } => unreachable!(),
+                let teams = self
+                    .state
+                    .teams_after(alloc, draft.team(), assignment.set())?;
+                let version = self.state.version() + 1;
+                let next = NodeState::with(version, assignment.clone()?, teams);
+                match Arc::new(alloc, next) {
+                    Ok(next) => Ok(Some(next)),
+                    Err(_) => Err(AllocError),
                 }
             }
         }

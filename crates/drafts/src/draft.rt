@@ -1,9 +1,9 @@
 //! Drafts: a base and a list of changes.
 
-ghost use Rattle.std.specs.Prelude.{◌≡◌, ◌+◌, ◌<◌, ◌≤◌, take, [], ◌∷◌, Ok, IfOk, IfErr, IfSome, OnOk, OnErr, length, option_map, slice_get, nat_eq, false};
+ghost use Rattle.std.specs.Prelude.{◌≡◌, ◌+◌, ◌<◌, ◌≤◌, take, [], ◌∷◌, Ok, IfOk, IfErr, IfSome, IsTrue, OnOk, OnErr, length, option_map, slice_get, nat_eq, false};
 ghost use Rattle.std.specs.Cmp.Lexicographic.{pointwise};
 ghost use Rattle.indexmap.specs.IndexMap.{IsUnique};
-ghost use Rattle.drafts.specs.Changes.{IsNamed, HaveDistinctNames, AreNamed, is_full, recorded, view, after_put, after_remove, on_base};
+ghost use Rattle.drafts.specs.Changes.{IsNamed, HaveDistinctNames, AreNamed, HasTasks, has_put, is_full, is_put, recorded, view, after_put, after_remove, on_base};
 ghost use Rattle.drafts.specs.EditFaults.{IsEditFault};
 ghost use Rattle.drafts.specs.Outcomes.{IsApplied};
 
@@ -70,6 +70,16 @@ fn is_full(changes: &IndexMap<Name, Change>, name: Name) -> bool
     ensures { result ≡ is_full name changes.now.entries }
 {
     changes.len() >= CHANGE_LIMIT && !changes.contains_key(&name)
+}
+
+// Whether a change puts a sheet.
+fn is_put(change: &Change) -> bool
+    ensures { result ≡ is_put change.now }
+{
+    match change {
+        Change::Put(_) => true,
+        Change::Remove => false,
+    }
 }
 
 // Puts a change in the place of the one on its name, or last. Where memory is wanting, the change is handed back.
@@ -218,6 +228,22 @@ impl Draft {
         ensures { option_map (λ p. (p.0.now, p.1.now)) result ≡ slice_get self.now.changes place }
     {
         self.changes.get_index(place)
+    }
+
+    /// Whether one of the changes is a put. What they come to has a task then, where they apply.
+    pub fn has_put(&self) -> bool
+        ensures same { result ≡ has_put self.now.changes }
+        ensures tasks { IsTrue result → HasTasks (on_base self.now) }
+    {
+        for place in 0..self.len() {
+            let Some((_, change)) = self.change_at(place) else {
+                unreachable!();
+            };
+            if is_put(change) {
+                return true;
+            }
+        }
+        false
     }
 
     /// The same changes on another state.

@@ -2,8 +2,9 @@
 
 ghost use Rattle.std.specs.Prelude.{◌≡◌, ◌==◌, ◌&&◌, ◌||◌, ℕ, ◌+◌, ◌<◌, ◌≤◌, length, IfOk, IfSome, OnOk, map, option_map};
 ghost use Rattle.std.specs.FinSet.{contains};
+ghost use Rattle.task_sheet.specs.TaskSet.{IsTaskSet};
 ghost use Rattle.task_sheet.specs.Verdicts.{IsBestOrder};
-ghost use Rattle.drafts.specs.Applied.{owned_of, set_of, held, is_foreign, is_there, is_team_at, teams_of};
+ghost use Rattle.drafts.specs.Applied.{owned_of, set_of, held, holder_after, is_foreign, is_there, is_team_at, teams_of};
 ghost use Rattle.drafts.specs.Rosters.{IsRoster};
 ghost use Rattle.drafts.specs.Changes.{sheet_held};
 ghost use Rattle.drafts.specs.Machine.{empty_desk};
@@ -152,6 +153,30 @@ impl NodeState {
     {
         let _ = self.set().len();
         places_of(&self.teams, team)
+    }
+
+    // The teams of the tasks of a set after a team's changes: a task keeps the team that holds its name, and a new one
+    // is the team's.
+    pub(crate) fn teams_after(
+        &self,
+        alloc: Global,
+        team: Team,
+        set: &TaskSet,
+    ) -> Result<Vec<Team>, AllocError>
+        ensures teams { IfOk result
+            (λ teams. teams.items ≡ map (λ s. holder_after team self.now.tasks s.name) set.now) }
+        ensures valid { IsTaskSet set.now }
+    {
+        let sheets = set.sheets();
+        let mut teams = Vec::with_capacity(alloc, sheets.len())?;
+        for sheet in sheets {
+            let holder = match self.team_of(sheet.name()) {
+                Some(holder) => holder,
+                None => team,
+            };
+            teams.push(holder)?;
+        }
+        Ok(teams)
     }
 
     // The tasks with their teams, copied.

@@ -15,13 +15,13 @@ use Rattle.desk_core.specs.declared.told.Told.TheVariants as told
 use Rattle.desk_core.specs.declared.events.Event.TheVariants as event
 use Rattle.desk_core.specs.declared.events.Reply.{Reply}
 use Rattle.desk_core.specs.declared.events.Reply.TheVariants as reply
-use Rattle.desk_core.specs.declared.events.Standing.TheVariants.{NoSuchDraft, Untestable, Asking, Tested}
-use Rattle.desk_core.specs.declared.events.Standing.{Standing}
-use Rattle.plays.specs.Testing.{IsOver}
+use Rattle.desk_core.specs.declared.events.Standing.TheVariants.{Asking}
+use Rattle.plays.specs.Plays.{IsBroughtAll}
 use Rattle.desk_core.specs.Findings.{asked_of, level_of, IsTold}
 use Rattle.desk_core.specs.Asking.{IsNextAsked}
 use Rattle.desk_core.specs.World.{World, Live, if_live, live_at, noted, with_finding, on_draft, IsReply, IsFoundReply, IsFoundAnswer, IsToldReply, IsTestedReply, happens}
-use Rattle.desk_core.specs.Standings.{IsStanding, IsStandingOn, IsShortOf}
+use Rattle.desk_core.specs.Advances.{IsAdvanced, IsFew}
+use Rattle.desk_core.specs.Standings.{IsStanding, IsStandingOn}
 use Rattle.desk_core.proofs.FindingLaws.{IsPresent-one}
 
 -- how many findings a draft was brought
@@ -77,21 +77,25 @@ slot-more w draft (Some l) q r is standing answer =
     rw is (ap (λ (s : Option Live). count_of s) there ∙ answered-more (on_base l.draft) l.found q r standing answer)
 
 -- the draft has one finding more
-pub asked-more : (w : World) (draft : ℕ) (f : FindingData) (r : Reply) → IsStanding (live_at w.drafts draft) (Asking f.question) → IsReply w (event.Found draft f) r
+asked-more : (w : World) (draft : ℕ) (f : FindingData) (r : Reply) → IsStanding (live_at w.drafts draft) (Asking f.question) → IsReply w (event.Found draft f) r
     → count_of (live_at (happens w (event.Found draft f) r).drafts draft) ≡ count_of (live_at w.drafts draft) + 1
 asked-more w draft f r standing answer = slot-more w draft (live_at w.drafts draft) f.question r refl standing answer
 
--- a draft that is asked has a list of findings that memory holds
-pub asked-short : (slot : Option Live) (q : QuestionData) → IsStanding slot (Asking q) → IsShortOf slot (Asking q) → count_of slot < 2 ^ 63
-asked-short None q standing short = absurd cc
-asked-short (Some l) q standing short = short
-
--- nothing is asked of a draft that stands otherwise
-pub over : (s : Standing) → ((q : QuestionData) → s ≡ Asking q → ⊥) → IsOver s
-over (Asking question) other = other question refl
-over (Tested infeasible) other = tt
-over NoSuchDraft other = tt
-over Untestable other = tt
-
-pub smaller : (old new : ℕ) → new ≡ old + 1 → old < 2 ^ 63 → 2 ^ 63 - new < 2 ^ 63 - old
+smaller : (old new : ℕ) → new ≡ old + 1 → old < 2 ^ 63 → 2 ^ 63 - new < 2 ^ 63 - old
 smaller old new one short = omega arith
+
+-- a draft that asks for a finding has a list of them that memory holds
+asked-few : (slot : Option Live) (q : QuestionData) → IsStanding slot (Asking q) → IsFew slot → count_of slot < 2 ^ 63
+asked-few None q standing few = absurd cc
+asked-few (Some l) q standing few = few
+
+-- it was brought one more
+pub brought-more : (w u v : World) (draft : ℕ) (r : Reply) → ((findings : List FindingData) × IsBroughtAll w draft findings u) → IsAdvanced u draft v (Some r) → (findings : List FindingData) × IsBroughtAll w draft findings v
+brought-more w u v draft r brought more = (more.0 ∷ brought.0, (u, r, brought.1, more.1, more.2, more.3))
+
+-- so less is left of what memory holds
+pub less-left : (u v : World) (draft : ℕ) (r : Reply) → IsAdvanced u draft v (Some r) → IsFew (live_at u.drafts draft) → 2 ^ 63 - count_of (live_at v.drafts draft) < 2 ^ 63 - count_of (live_at u.drafts draft)
+less-left u v draft r more few =
+    let slot = live_at u.drafts draft in
+    let one : count_of (live_at v.drafts draft) ≡ count_of slot + 1 = ap (λ (x : World). count_of (live_at x.drafts draft)) more.3 ∙ asked-more u draft more.0 r more.1 more.2 in
+    smaller (count_of slot) (count_of (live_at v.drafts draft)) one (asked-few slot more.0.question more.1 few)

@@ -6,7 +6,7 @@ ghost use Rattle.plays.specs.Plays.{first_cause, no_levels};
 ghost use Rattle.plays.specs.Testing.{IsTestedBy};
 
 use assignment::Finding;
-use desk_core::{Cause, Core, Event, Standing};
+use desk_core::{Cause, Core, Standing};
 use std::alloc::{AllocError, Global};
 use task_sheet::Name;
 
@@ -72,7 +72,7 @@ pub(crate) fn find(
     }
 }
 
-/// Brings a draft the finding on the missing candidate of least rank, until none is asked for.
+/// Brings a draft the finding that it asks for, until it asks for none, and says where it stands then.
 pub(crate) fn bring_all(
     alloc: Global,
     core: &mut Core,
@@ -81,15 +81,9 @@ pub(crate) fn bring_all(
     ensures { IfOk result (IsTestedBy core.old draft core.new) }
 {
     loop {
-        let question = match core.standing(alloc, draft)? {
-            Standing::Asking { question } => question,
-            over => return Ok(over),
-        };
-        let Ok(finding) = core.answer(alloc, draft, question) else {
-            return Err(AllocError);
-        };
-        let Ok(_reply) = core.step(alloc, Event::Found { draft, finding }) else {
-            return Err(AllocError);
-        };
+        match core.advance(alloc, draft)? {
+            Some(_reply) => {}
+            None => return core.standing(alloc, draft),
+        }
     }
 }

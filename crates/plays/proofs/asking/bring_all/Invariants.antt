@@ -5,8 +5,8 @@ use Rattle.plays.specs.Plays.{IsBroughtAll}
 use Rattle.plays.proofs.TestLaws.{count_of}
 use Rattle.plays.proofs.asking.bring_all.Given as goal
 
-abbrev pub invariant-loop-question : goal.invariant-loop-question
-invariant-loop-question l = (findings : List FindingData) × IsBroughtAll l.fn.core l.fn.draft findings l.core
+abbrev pub invariant-loop-reply : goal.invariant-loop-reply
+invariant-loop-reply l = (findings : List FindingData) × IsBroughtAll l.fn.core l.fn.draft findings l.core
 
-abbrev pub decreases-loop-question : goal.decreases-loop-question
-decreases-loop-question l = 2 ^ 63 - count_of (live_at l.core.drafts l.fn.draft)
+abbrev pub decreases-loop-reply : goal.decreases-loop-reply
+decreases-loop-reply l = 2 ^ 63 - count_of (live_at l.core.drafts l.fn.draft)

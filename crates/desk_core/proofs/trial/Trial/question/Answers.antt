@@ -1,4 +1,4 @@
-use Rattle.std.proofs.Common.{◌≡◌, ◌∙◌, ℕ, sym, ap, subst, List, Option, Some, None, position, IsTrue}
+use Rattle.std.proofs.Common.{◌≡◌, ◌∙◌, sym, ap, subst, List, Some, None, position, IsTrue}
 use Rattle.std.specs.FinSet.{contains, remove}
 use Rattle.std.proofs.lemmas.Bool.{both_ways}
 use Rattle.task_sheet.specs.Sheet.{Task, same_bytes}

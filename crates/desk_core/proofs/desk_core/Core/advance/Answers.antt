@@ -1,0 +1,24 @@
+use Rattle.std.proofs.Common.{◌≡◌, ◌<◌, List, Option, IfOk, None, get_or, set, length, ap, subst, arith}
+use Rattle.desk_core.specs.Advances.{IsAdvanced}
+use Rattle.desk_core.specs.World.{World, Live, live_at}
+use Rattle.desk_core.proofs.AdvanceLaws.{core-advanced}
+use Rattle.desk_core.proofs.BasedLaws.{AllBased-set, AllBased-read}
+use Rattle.desk_core.proofs.desk_core.Core.advance.Goals as goal
+
+pub invariant_of-self : goal.invariant_of-self
+invariant_of-self c =
+    let a = c.self.inside in
+    let lt : c.in-Some.i < length a.drafts.items = omega (arith, c.in-Some.ensures.1, ap length c.deref.ensures.value) in
+    let was = AllBased-read a.book.desk a.drafts.items c.in-Some.i c.index_mut.result.now c.self.invariant lt c.index_mut.ensures.value in
+    AllBased-set a.book.desk a.drafts.items c.in-Some.i c.advance_in.new.slot c.self.invariant (c.advance_in.ensures.based a.book.desk was)
+
+pub returns-in-Some-clause-ok : goal.returns-in-Some-clause-ok
+returns-in-Some-clause-ok c =
+    let a = c.self.inside in
+    let w : World = record { book = a.book; drafts = a.drafts.items } in
+    let i = c.in-Some.i in
+    let slot = c.index_mut.result.now in
+    let lt : i < length a.drafts.items = omega (arith, c.in-Some.ensures.1, ap length c.deref.ensures.value) in
+    let at : live_at a.drafts.items c.args.draft ≡ get_or a.drafts.items i None = subst (λ (xs : List (Option Live)). live_at xs c.args.draft ≡ get_or xs i None) c.deref.ensures.value c.in-Some.ensures.2 in
+    subst (λ (x : World). IfOk c.advance_in.result (IsAdvanced x c.args.draft (record { book = a.book; drafts = set a.drafts.items i c.advance_in.new.slot }))) c.self.view_is
+    (core-advanced w c.args.draft i slot c.advance_in.new.slot c.advance_in.result c.in-Some.ensures.0 lt at c.index_mut.ensures.value c.advance_in.ensures.ok)
