@@ -1,5 +1,5 @@
 -- From the passes of all teams to their parts of the log.
-use Rattle.std.proofs.Common.{◌≡◌, ◌∙◌, ℕ, ◌+◌, ◌-◌, ◌<◌, ◌≤◌, ◌==◌, if◌then◌else◌, zero, suc, List, [], ◌∷◌, Bool, true, false, ◌||◌, refl, sym, subst, inl, inr, arith}
+use Rattle.std.proofs.Common.{◌≡◌, ◌∙◌, ℕ, ◌+◌, ◌-◌, ◌<◌, ◌≤◌, ◌==◌, if◌then◌else◌, zero, suc, List, [], ◌∷◌, ◌++◌, map, Some, Bool, true, false, ◌||◌, refl, sym, subst, inl, inr, arith}
 use Rattle.std.specs.Prelude.{Result, Ok, Err, IfOk, IfErr}
 use Rattle.std.proofs.lemmas.Bool.{cases_order}
 use Rattle.std.proofs.lemmas.Bool.Decides.{Decides-eqb}
@@ -7,7 +7,7 @@ use Rattle.drafts.specs.Machine.{Entry}
 use Rattle.book_lock.specs.Passes.{Known, newcomer, newcomers, has_team, HaveReceipts}
 use Rattle.scripts.specs.declared.line.Line.{Line}
 use Rattle.rushes.specs.Hands.{IsRun, IsPart}
-use Rattle.rushes.specs.Starts.{Each, IsEnd}
+use Rattle.rushes.specs.Starts.{Each, IsEnd, first_fault}
 use Rattle.rushes.specs.declared.fault.RushFault.{RushFault}
 use Rattle.rushes.proofs.RunLaws.{run_team}
 
@@ -49,14 +49,29 @@ part_of lines first (suc n) (p ∷ ps) runs team low high entries have = elim (c
   | inr (inr more) ↦ absurd (omega arith)
 ]
 
--- what a team's start came to is what the lines made of the pass that it was started with
-pub finish_run : {H : Type 0} (lines : List Line) (started : Result H (Result Known RushFault)) (at : H → List Line) (from : H → Known) (result : Result Known RushFault) (start pass : Known)
-    → IfOk started (λ h. at h ≡ lines → IsEnd lines (from h) result) → IfErr started (λ ended. result ≡ ended)
-    → (IfOk started (λ h. (at h ≡ lines) × (from h ≡ start)) × IfErr started (λ ended. IsEnd lines start ended))
-    → result ≡ Ok pass → IsRun lines start pass
-finish_run lines (Ok h) at from result start pass joined over is same =
-    let end : IsEnd lines (from h) result = joined is.0.0 in
-    let here : IsEnd lines start result = subst (λ (s : Known). IsEnd lines s result) is.0.1 end in
-    subst (λ (r : Result Known RushFault). IsEnd lines start r) same here
-finish_run lines (Err ended) at from result start pass joined over is same =
-    subst (λ (r : Result Known RushFault). IsEnd lines start r) (sym over ∙ same) is.1
+-- what a team's start came to is an end of the pass that it was started with
+pub finish_end : {H : Type 0} (lines : List Line) (started : Result H (Result Known RushFault)) (at : H → List Line) (from : H → Known) (start : Known) (ended : Result Known RushFault)
+    → (IfOk started (λ h. (at h ≡ lines) × (from h ≡ start)) × IfErr started (λ over. IsEnd lines start over))
+    → (IfOk started (λ h. at h ≡ lines → IsEnd lines (from h) ended) × IfErr started (λ over. ended ≡ over))
+    → IsEnd lines start ended
+finish_end lines (Ok h) at from start ended is so =
+    let end : IsEnd lines (from h) ended = so.0 is.0.0 in
+    subst (λ (s : Known). IsEnd lines s ended) is.0.1 end
+finish_end lines (Err over) at from start ended is so =
+    subst (λ (r : Result Known RushFault). IsEnd lines start r) (sym so.1) is.1
+
+-- where all ends are passes, these are what the lines made
+pub all_run : (lines : List Line) (starts passes : List Known) → Each (λ start ended. IsEnd lines start ended) starts (map (λ pass. Ok pass) passes) → Each (λ start pass. IsRun lines start pass) starts passes
+all_run lines [] [] all = tt
+all_run lines (s ∷ starts) (p ∷ passes) all = (all.0, all_run lines starts passes all.1)
+all_run lines [] (p ∷ passes) all = absurd all
+all_run lines (s ∷ starts) [] all = absurd all
+
+behind : (passes : List Known) (fault : RushFault) (ends : List (Result Known RushFault)) → first_fault (map (λ pass. Ok pass) passes ++ Err fault ∷ ends) ≡ Some fault
+behind [] fault ends = refl
+behind (p ∷ passes) fault ends = behind passes fault ends
+
+-- where all ends before are passes, a fault is the first
+pub first_behind : (passes : List Known) (all rest left : List (Result Known RushFault)) (ended : Result Known RushFault) (fault : RushFault)
+    → map (λ pass. Ok pass) passes ++ rest ≡ all → rest ≡ ended ∷ left → ended ≡ Err fault → first_fault all ≡ Some fault
+first_behind passes all rest left ended fault whole next is = rw (← whole, next, is) (behind passes fault left)

@@ -99,7 +99,14 @@ IsPart lines team entries =
 abbrev pub book_of : Closing → Book
 book_of c = record { desk = c.state.value; log = map (λ e. e.value) c.log.items }
 
--- the log is legal, and the state its replay; each team's entries with their places are what its lines came to
+-- each entry is of a team from 1 to 8
+abbrev pub AreOfTeams : List Entry → Type 0
+AreOfTeams [] = Unit {0}
+AreOfTeams (e ∷ log) = (1 ≤ e.team) × (e.team ≤ 8) × AreOfTeams log
+
+-- the log is legal, and the state its replay; each entry is of one of the teams, and each team's entries with their
+-- places are what its lines came to
 pub record IsRushed (lines : List Line) (b : Book) : Type 0 where
   pub legal : IsLegalBook b
+  pub teams : AreOfTeams b.log
   pub parts : (team : ℕ) → 1 ≤ team → team ≤ 8 → IsPart lines team (places_of team 1 b.log)

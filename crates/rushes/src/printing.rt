@@ -1,6 +1,6 @@
 //! The lines of a log.
-ghost use Rattle.std.specs.Prelude.{◌≡◌, ◌++◌, OnOk, IfOk, string_bytes};
-ghost use Rattle.rushes.specs.Hands.{book_of};
+ghost use Rattle.std.specs.Prelude.{◌≡◌, ◌≤◌, ◌++◌, OnOk, IfOk, string_bytes};
+ghost use Rattle.rushes.specs.Hands.{AreOfTeams, book_of};
 ghost use Rattle.rushes.specs.Printed.{entry_line, IsBookLog};
 
 use book_lock::Closing;
@@ -15,7 +15,8 @@ fn push_entry(
     place: usize,
     entry: &Entry,
 ) -> Result<(), AllocError>
-    ensures { OnOk result (string_bytes text.new ≡ string_bytes text.old ++ entry_line place entry.now) }
+    ensures ok { OnOk result (string_bytes text.new ≡ string_bytes text.old ++ entry_line place entry.now) }
+    ensures team { (1 ≤ entry.now.team) × (entry.now.team ≤ 8) }
 {
     let team = entry.team().number();
     let ruling = ruling_text(alloc, entry.decision())?;
@@ -24,9 +25,11 @@ fn push_entry(
     text.push_str(&ruling)
 }
 
-/// The lines of a log, and then those of the state that it comes to.
+/// The lines of a log, and then those of the state that it comes to. Each entry tells its team's number, which is one
+/// from 1 to 8.
 pub(crate) fn log_text(alloc: Global, closing: &Closing) -> Result<String, AllocError>
-    ensures { IfOk result (λ text. IsBookLog (book_of closing.now) (string_bytes text)) }
+    ensures text { IfOk result (λ text. IsBookLog (book_of closing.now) (string_bytes text)) }
+    ensures teams { OnOk result (AreOfTeams (book_of closing.now).log) }
 {
     let mut text = String::new(alloc);
     let log = closing.log.as_slice();

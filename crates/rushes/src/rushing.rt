@@ -1,13 +1,12 @@
 //! The lines of all teams on one desk.
 ghost use Rattle.std.specs.Prelude.{◌≡◌, IfOk, string_bytes};
 ghost use Rattle.candidate_workers.specs.Faults.{IsBadCount};
-ghost use Rattle.rushes.specs.Hands.{book_of, IsRushed};
 ghost use Rattle.rushes.specs.Printed.{IsRushText};
 
 use crate::fault::RushFault;
 use crate::printing::log_text;
-use crate::teams::run_teams;
-use book_lock::{CloseCause, Closing, Desk};
+use crate::teams::{passes_of, run_teams};
+use book_lock::{CloseCause, Desk};
 use scripts::Line;
 use std::alloc::Global;
 use std::marker::Brand;
@@ -18,24 +17,29 @@ use std::thread::Threads;
 // How many teams a desk has.
 const TEAMS: u64 = 8;
 
-// Runs all lines on a new desk, and closes it.
+// Runs all lines on a new desk, closes it, and gives the lines of its log and of its book.
 fn rush_on<L: Ledger + Send + Sync, R: Threads + Wait + Sync>(
     rt: &R,
     alloc: Global,
     blank: Blank,
     lines: &[Line],
     workers: usize,
-) -> Result<Closing, RushFault>
+) -> Result<String, RushFault>
     requires blank { (blank.name ≡ L.name) × (blank.parts ≡ L.parts) × (L.parts ≡ 8) }
     requires workers { IsBadCount workers → ⊥ }
-    ensures { IfOk result (λ closing. IsRushed lines.now (book_of closing)) }
+    ensures { IfOk result (λ text. IsRushText lines.now (string_bytes text)) }
 {
     let Ok((desk, passes)) = Desk::<L>::new(alloc, blank, TEAMS) else {
         return Err(RushFault::OutOfMemory);
     };
-    let passes = run_teams(rt, alloc, &desk, passes, lines, workers)?;
+    let room = Vec::with_capacity(alloc, passes.len())?;
+    let ends = run_teams(rt, alloc, &desk, passes, lines, workers)?;
+    let passes = passes_of(ends, room)?;
     match desk.close(passes) {
-        Ok(closing) => Ok(closing),
+        Ok(closing) => {
+            let text = log_text(alloc, &closing)?;
+            Ok(text)
+        }
         Err(fault) => match fault.cause {
             CloseCause::ReceiptMismatch { team: _ } => Err(RushFault::ReceiptMismatch),
             CloseCause::MissingPass { team: _ } => unreachable!(),
@@ -55,7 +59,5 @@ pub fn rush_lines<R: Threads + Wait + Sync>(
     requires { IsBadCount workers → ⊥ }
     ensures { IfOk result (λ text. IsRushText lines.now (string_bytes text)) }
 {
-    let closing = rush_on::<Brand, R>(rt, alloc, Blank::new(8), lines, workers)?;
-    let text = log_text(alloc, &closing)?;
-    Ok(text)
+    rush_on::<Brand, R>(rt, alloc, Blank::new(8), lines, workers)
 }

@@ -1,23 +1,21 @@
 //! A thread for each team.
-ghost use Rattle.std.specs.Prelude.{◌≡◌, ◌≤◌, [], List, IfOk, IfErr, length, vec_capacity};
+ghost use Rattle.std.specs.Prelude.{◌≡◌, ◌≤◌, [], IfOk, IfErr, length, map, vec_capacity};
 ghost use Rattle.candidate_workers.specs.Faults.{IsBadCount};
-ghost use Rattle.book_lock.specs.Passes.{Known};
-ghost use Rattle.rushes.specs.Hands.{IsRun};
-ghost use Rattle.rushes.specs.Starts.{Each, IsEnd};
+ghost use Rattle.rushes.specs.Starts.{Each, IsEnd, first_fault};
 
 use crate::fault::RushFault;
 use crate::hand::run_lines;
 use book_lock::{Desk, Pass};
 use scripts::{Line, Row};
-use std::alloc::Global;
+use std::alloc::{AllocError, Global};
 use std::snapshot::Snapshot;
 use std::sync::Wait;
 use std::sync::ledger::Ledger;
 use std::thread;
 use std::thread::{Promise, PromisedHandle, Scope, Threads};
 
-// What a team's lines come to: its pass, or the fault that ended them.
-type Ended<L> = Result<Pass<L>, RushFault>;
+/// What a team's lines come to: its pass, or the fault that ended them.
+pub(crate) type Ended<L> = Result<Pass<L>, RushFault>;
 
 /// What a thread gives back is what the lines made of this pass.
 pub(crate) struct Kept<'a, L: Ledger> {
@@ -91,36 +89,24 @@ fn finish<'e, L: Ledger, R: Threads>(rt: &R, lines: &[Line], started: Started<'e
     }
 }
 
-// Joins all teams in their order. The fault is that of the least team that has one.
+// Joins all teams in their order, and gives what each came to.
 fn join_all<'e, L: Ledger, R: Threads>(
     rt: &R,
     lines: &[Line],
     all: Vec<Started<'e, L>>,
-    room: Vec<Pass<L>>,
-) -> Result<Vec<Pass<L>>, RushFault>
+    room: Vec<Ended<L>>,
+) -> Vec<Ended<L>>
     requires empty { room.items ≡ [] }
     requires room { length all.items ≤ vec_capacity room }
-    ensures { (starts : List Known)
-        → Each (λ started pass. IfOk started (λ h. (h.promise.lines.now ≡ lines.now) × (h.promise.pass.value ≡ pass))
-        × IfErr started (λ ended. IsEnd lines.now pass ended)) all.entry.items starts
-        → IfOk result (λ passes. Each (λ start pass. IsRun lines.now start pass) starts passes.items) }
+    ensures { Each (λ started ended. IfOk started (λ h. h.promise.lines.now ≡ lines.now
+        → IsEnd lines.now h.promise.pass.value ended) × IfErr started (λ over. ended ≡ over))
+        all.entry.items result.items }
 {
-    let mut passes = room;
-    let mut fault = None;
+    let mut ends = room;
     for started in all {
-        match finish(rt, lines, started) {
-            Ok(pass) => passes.push_reserved(pass),
-            Err(other) => {
-                if fault.is_none() {
-                    fault = Some(other);
-                }
-            }
-        }
+        ends.push_reserved(finish(rt, lines, started));
     }
-    match fault {
-        Some(fault) => Err(fault),
-        None => Ok(passes),
-    }
+    ends
 }
 
 // Starts all teams, and joins them.
@@ -132,20 +118,20 @@ fn run_all<'s, 'e: 's, L: Ledger + Send + Sync, R: Threads + Wait + Sync>(
     passes: Vec<Pass<L>>,
     lines: &'e [Line],
     workers: usize,
-) -> Result<Vec<Pass<L>>, RushFault>
+) -> Result<Vec<Ended<L>>, AllocError>
     requires { IsBadCount workers → ⊥ }
-    ensures { IfOk result (λ r. Each (λ start pass. IsRun lines.now start pass) passes.items r.items) }
+    ensures { IfOk result (λ ends. Each (λ start ended. IsEnd lines.now start ended) passes.items ends.items) }
 {
     let room = Vec::with_capacity(alloc, passes.len())?;
     let mut all = Vec::with_capacity(alloc, passes.len())?;
     for pass in passes {
         all.push_reserved(start(rt, alloc, scope, desk, pass, lines, workers));
     }
-    join_all(rt, lines, all, room)
+    Ok(join_all(rt, lines, all, room))
 }
 
-/// Runs the lines of each pass's team on a thread of its own, and joins all threads. The passes come back in their
-/// order.
+/// Runs the lines of each pass's team on a thread of its own, joins all threads, and gives what each team came to, in
+/// the order of the passes.
 pub(crate) fn run_teams<L: Ledger + Send + Sync, R: Threads + Wait + Sync>(
     rt: &R,
     alloc: Global,
@@ -153,16 +139,35 @@ pub(crate) fn run_teams<L: Ledger + Send + Sync, R: Threads + Wait + Sync>(
     passes: Vec<Pass<L>>,
     lines: &[Line],
     workers: usize,
-) -> Result<Vec<Pass<L>>, RushFault>
+) -> Result<Vec<Ended<L>>, AllocError>
     requires { IsBadCount workers → ⊥ }
-    ensures { IfOk result (λ r. Each (λ start pass. IsRun lines.now start pass) passes.items r.items) }
+    ensures { IfOk result (λ ends. Each (λ start ended. IsEnd lines.now start ended) passes.items ends.items) }
 {
     thread::scope(
         thread::scope_env(),
         rt,
-        |scope| -> Result<Vec<Pass<L>>, RushFault>
+        |scope| -> Result<Vec<Ended<L>>, AllocError>
             requires { IsBadCount workers → ⊥ }
-            ensures { IfOk result (λ r. Each (λ start pass. IsRun lines.entry.now start pass) passes.items r.items) }
+            ensures { IfOk result (λ ends. Each (λ start ended. IsEnd lines.entry.now start ended)
+                passes.items ends.items) }
         { run_all(rt, alloc, scope, desk, passes, lines, workers) },
     )
+}
+
+/// The passes of all teams in their order, which go into room that was made before; or the fault of the first team that
+/// has one.
+pub(crate) fn passes_of<L: Ledger>(
+    ends: Vec<Ended<L>>,
+    room: Vec<Pass<L>>,
+) -> Result<Vec<Pass<L>>, RushFault>
+    requires empty { room.items ≡ [] }
+    requires room { length ends.items ≤ vec_capacity room }
+    ensures passes { IfOk result (λ passes. ends.items ≡ map (λ pass. Ok pass) passes.items) }
+    ensures fault { IfErr result (λ fault. first_fault ends.items ≡ Some fault) }
+{
+    let mut passes = room;
+    for ended in ends {
+        passes.push_reserved(ended?);
+    }
+    Ok(passes)
 }
