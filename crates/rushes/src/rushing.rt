@@ -32,6 +32,7 @@ fn rush_on<L: Ledger + Send + Sync, R: Threads + Wait + Sync>(
     let Ok((desk, passes)) = Desk::<L>::new(alloc, blank, TEAMS) else {
         return Err(RushFault::OutOfMemory);
     };
+    // For the passes that come back; made before any thread starts.
     let room = Vec::with_capacity(alloc, passes.len())?;
     let ends = run_teams(rt, alloc, &desk, passes, lines, workers)?;
     let passes = passes_of(ends, room)?;

@@ -154,8 +154,8 @@ pub(crate) fn run_teams<L: Ledger + Send + Sync, R: Threads + Wait + Sync>(
     )
 }
 
-/// The passes of all teams in their order, which go into room that was made before; or the fault of the first team that
-/// has one.
+/// The passes of all teams in the order of their ends, put into room that was made before; or the fault of the first
+/// team that has one.
 pub(crate) fn passes_of<L: Ledger>(
     ends: Vec<Ended<L>>,
     room: Vec<Pass<L>>,
