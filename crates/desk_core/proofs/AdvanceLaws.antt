@@ -29,7 +29,8 @@ tested-silent (Err refusal) found tested q asking = absurd tested
 tested-silent (Ok tasks) found tested q asking = asking.1.present.undecided (tested asking.0)
 
 -- ---- of a trial
-noted-tested : (U : List Task) (found : List Asked) (a : Asked) (r : Reply) → IsTestedReply U r → found ++ a ∷ [] ≡ noted found a r
+-- a verdict that is complete notes the finding
+pub noted-tested : (U : List Task) (found : List Asked) (a : Asked) (r : Reply) → IsTestedReply U r → found ++ a ∷ [] ≡ noted found a r
 noted-tested U found a (reply.Tested infeasible) is = refl
 noted-tested U found a (reply.Opened draft version) is = absurd is
 noted-tested U found a reply.Done is = absurd is

@@ -1,5 +1,5 @@
 -- A finding that is asked for is taken.
-use Rattle.std.proofs.Common.{◌≡◌, ◌∙◌, ℕ, zero, suc, ◌+◌, ◌-◌, ◌<◌, ◌^◌, ◌==◌, inl, inr, List, [], ◌∷◌, ◌++◌, length, Option, None, Some, Result, Ok, Err, slice_get, refl, ap, subst, arith, length-append, IsFalse}
+use Rattle.std.proofs.Common.{◌≡◌, ◌∙◌, ℕ, zero, suc, ◌+◌, ◌-◌, ◌<◌, ◌^◌, ◌==◌, inl, inr, List, [], ◌∷◌, ◌++◌, length, Option, None, Some, Result, Ok, Err, slice_get, refl, sym, ap, subst, arith, length-append, IsFalse}
 use Rattle.std.specs.Prelude.{slice_set}
 use Rattle.std.specs.FinSet.{contains}
 use Rattle.std.proofs.lemmas.Bool.{both_ways, cases_Bool}
@@ -14,14 +14,14 @@ use Rattle.desk_core.specs.declared.told.Told.{Told}
 use Rattle.desk_core.specs.declared.told.Told.TheVariants as told
 use Rattle.desk_core.specs.declared.events.Event.TheVariants as event
 use Rattle.desk_core.specs.declared.events.Reply.{Reply}
-use Rattle.desk_core.specs.declared.events.Reply.TheVariants as reply
 use Rattle.desk_core.specs.declared.events.Standing.TheVariants.{Asking}
 use Rattle.plays.specs.Plays.{IsBroughtAll}
 use Rattle.desk_core.specs.Findings.{asked_of, level_of, IsTold}
 use Rattle.desk_core.specs.Asking.{IsNextAsked}
-use Rattle.desk_core.specs.World.{World, Live, if_live, live_at, noted, with_finding, on_draft, IsReply, IsFoundReply, IsFoundAnswer, IsToldReply, IsTestedReply, happens}
+use Rattle.desk_core.specs.World.{World, Live, if_live, live_at, noted, with_finding, on_draft, IsReply, IsFoundReply, IsFoundAnswer, IsToldReply, happens}
 use Rattle.desk_core.specs.Advances.{IsAdvanced, IsFew}
 use Rattle.desk_core.specs.Standings.{IsStanding, IsStandingOn}
+use Rattle.desk_core.proofs.AdvanceLaws.{noted-tested}
 use Rattle.desk_core.proofs.FindingLaws.{IsPresent-one}
 
 -- how many findings a draft was brought
@@ -45,16 +45,6 @@ live_at-set slots draft l m is = elim (cases_Bool (draft == 0)) [
 more : (found : List Asked) (a : Asked) → length (found ++ a ∷ []) ≡ length found + 1
 more found a = length-append found (a ∷ [])
 
-tested-more : (U : List Task) (found : List Asked) (a : Asked) (r : Reply) → IsTestedReply U r → length (noted found a r) ≡ length found + 1
-tested-more U found a (reply.Tested infeasible) is = more found a
-tested-more U found a (reply.Opened draft version) is = absurd is
-tested-more U found a reply.Done is = absurd is
-tested-more U found a reply.Taken is = absurd is
-tested-more U found a (reply.LevelDone level name response) is = absurd is
-tested-more U found a (reply.Stale version) is = absurd is
-tested-more U found a (reply.Decided place entry) is = absurd is
-tested-more U found a (reply.Refused why) is = absurd is
-
 told-more : (U : List Task) (found : List Asked) (q : QuestionData) (k : ℕ) (t : Told) (r : Reply) → IsNextAsked U found q k → IsTold U found q t → IsToldReply U t r → length (noted found (asked_of q) r) ≡ length found + 1
 told-more U found q k told.Stranger r asked is so = absurd (is k asked.present asked.asked)
 told-more U found q k told.Twice r asked is so =
@@ -62,7 +52,7 @@ told-more U found q k told.Twice r asked is so =
     absurd (both_ways (contains (level_of U found k).missing q.task) (subst (λ n. IsFalse (contains (level_of U found n).missing q.task)) same is.3) asked.missing)
 told-more U found q k told.Taken r asked is so = ap (λ (x : Reply). length (noted found (asked_of q) x)) so ∙ more found (asked_of q)
 told-more U found q k (told.LevelDone level task response) r asked is so = ap (λ (x : Reply). length (noted found (asked_of q) x)) so ∙ more found (asked_of q)
-told-more U found q k told.Tested r asked is so = tested-more U found (asked_of q) r so
+told-more U found q k told.Tested r asked is so = ap length (sym (noted-tested U found (asked_of q) r so)) ∙ more found (asked_of q)
 
 answered-more : (outcome : Result (List Owned) Refusal) (found : List Asked) (q : QuestionData) (r : Reply) → IsStandingOn outcome found (Asking q) → IsFoundAnswer outcome found q r → length (noted found (asked_of q) r) ≡ length found + 1
 answered-more (Err refusal) found q r standing answer = absurd cc
