@@ -29,19 +29,20 @@ pub record IsTriedOn (t : TrialData) (q : QuestionData) (told : Told) (u : Trial
   pub same : u.set ≡ t.set
   pub found : u.found ≡ found_after t.found (asked_of q) told
 
--- none is asked where the verdict is complete
+-- what a trial told of that finding; none is asked for where the verdict is complete
 abbrev pub IsTried : TrialData → TrialData → Option Told → Type 0
 IsTried t u None = IsTested t.set t.found × (u ≡ t)
 IsTried t u (Some told) = (f : FindingData) × IsTriedOn t f.question told u
 
--- of what changes come to, with findings on it
+-- what was replied to that finding, on what changes come to, with the findings before and after; none where none is
+-- asked for
 abbrev pub IsAdvancedOn : Result (List Owned) Refusal → List Asked → List Asked → Option Reply → Type 0
 IsAdvancedOn outcome found after None = ((q : QuestionData) → ¬ IsStandingOn outcome found (Asking q)) × (after ≡ found)
 IsAdvancedOn outcome found after (Some reply) =
     (f : FindingData) × IsStandingOn outcome found (Asking f.question)
     × IsFoundAnswer outcome found f.question reply × (after ≡ noted found (asked_of f.question) reply)
 
--- of a draft, if it is live
+-- and to that finding for a draft, if it is live, with the draft before and after
 abbrev pub IsAdvancedIn : Option Live → Option Live → Option Reply → Type 0
 IsAdvancedIn slot new None = ((q : QuestionData) → ¬ IsStanding slot (Asking q)) × (new ≡ slot)
 IsAdvancedIn slot new (Some reply) =

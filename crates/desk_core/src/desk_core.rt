@@ -223,7 +223,8 @@ impl Core {
     }
 
     /// Answers the question that a draft's standing asks, and brings it the finding, as an event does: the reply. None
-    /// where it asks none. The finding is known to answer the draft's own question, so no sets are compared.
+    /// where it asks none. The finding is known to answer the draft's own question, so no sets are compared. The error
+    /// is want of memory, which leaves the core as it was.
     pub fn advance(&mut self, alloc: Global, draft: usize) -> Result<Option<Reply>, AllocError>
         ensures ok { IfOk result (IsAdvanced self.old draft self.new) }
         ensures err { OnErr result (self.new ≡ self.old) }
