@@ -3,6 +3,7 @@ use Rattle.std.specs.Prelude.{◌≡◌, List, [], true, false, Result, Ok, Err}
 use Rattle.drafts.specs.Machine.{Desk, Entry, IsLegal, replay, empty_desk}
 use Rattle.drafts.specs.Books.{Book}
 use Rattle.drafts.specs.Changes.{Draft}
+use Rattle.book_lock.specs.LockedFields.{IsLegalBook}
 use Rattle.book_lock.specs.Own.{own_of, IsForeignName}
 use Rattle.book_lock.specs.Passes.{Known, is_up_to}
 use Rattle.book_lock.specs.declared.answer.OpenFault.{OpenFault}
@@ -30,3 +31,9 @@ pub record IsOpenedFor (p : Known) (d : Draft) : Type 0 where
   pub log : List Entry
   pub legal : IsLegal empty_desk log
   pub base : replay empty_desk log ≡ d.base
+
+-- a fault that some legal book answers to that pass
+pub record IsNotOpenedFor (p : Known) (fault : OpenFault) : Type 0 where
+  pub book : Book
+  pub legal : IsLegalBook book
+  pub is : Opens book p (Err fault)

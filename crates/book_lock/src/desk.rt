@@ -1,8 +1,8 @@
 //! The desk.
 
-ghost use Rattle.std.specs.Prelude.{◌≡◌, ◌≤◌, IfOk, map};
+ghost use Rattle.std.specs.Prelude.{◌≡◌, ◌≤◌, IfErr, IfOk, map};
 ghost use Rattle.book_lock.specs.Settles.{Answers, HoldsFor};
-ghost use Rattle.book_lock.specs.Opening.{IsOpenedFor};
+ghost use Rattle.book_lock.specs.Opening.{IsNotOpenedFor, IsOpenedFor};
 
 use crate::answer::{DeskFault, OpenFault, Outcome};
 use crate::locked::Locked;
@@ -33,7 +33,8 @@ impl<L: Ledger> Model for Desk<L> {
 impl<L: Ledger> Desk<L> {
     /// A draft on the present state. Refused in this order: `Foreign`, `Behind`.
     pub fn open(&self, rt: &impl Wait, alloc: Global, pass: &Pass<L>) -> Result<Draft, OpenFault>
-        ensures { IfOk result (λ draft. IsOpenedFor pass.now draft) }
+        ensures draft { IfOk result (λ draft. IsOpenedFor pass.now draft) }
+        ensures fault { IfErr result (λ fault. IsNotOpenedFor pass.now fault) }
     {
         let locked = self.locked.lock(rt);
         locked.open(alloc, pass)

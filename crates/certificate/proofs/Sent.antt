@@ -7,7 +7,7 @@ use Rattle.std.proofs.KnownBytes.{Appends-trans}
 use Rattle.std.proofs.lemmas.List.{take_more, append-nil, length-take-le}
 use Rattle.certificate.specs.Body.{Level}
 use Rattle.certificate.specs.Spelling.{chain_lines, level_line, level_lines}
-use Rattle.certificate.specs.Sending.{Sends}
+use Rattle.streams.specs.Sending.{Sends}
 
 lines_append : (k : ℕ) (xs : List Level) (l : Level) → level_lines k (xs ++ l ∷ []) ≡ level_lines k xs ++ (level_line (length xs + k) l ++ chain_lines (codes "fails") l.fails)
 lines_append k [] l = rw zero-add (ap (λ (y : List ℕ). level_line k l ++ y) (append-nil (chain_lines (codes "fails") l.fails)))

@@ -3,7 +3,5 @@ pub mod Spelling
 pub mod Words
 pub mod Lines
 pub mod BodyOf
-pub mod Sending
 pub mod Fields
 pub mod CertificateOf
-pub mod Watching

@@ -10,14 +10,13 @@ ghost use Rattle.certificate.specs.Lines.{Gives, certificate_in};
 
 use crate::body::{CertBody, certificate_in};
 use crate::fault::CertFault;
-use crate::held::Held;
 use crate::naming::body_of;
-use crate::watched::{Watched, WriteFailed};
 use crate::writing::put_body;
 use assignment::Verdict;
 use std::alloc::{AllocError, Global};
 use std::io::Write;
 use std::marker::Model;
+use streams::{Held, Watched, WriteFailed};
 
 /// Reasons for a verdict, which anybody can check against the set: `of` and `read` alone make them.
 #[derive(Drop)]

@@ -4,14 +4,13 @@ ghost use Rattle.std.specs.Fmt.{decimal};
 ghost use Rattle.certificate.specs.Body.{Chain, Level, Body};
 ghost use Rattle.certificate.specs.BodyOf.{body_of};
 ghost use Rattle.certificate.specs.Spelling.{numbers_text, chain_line, chain_lines, level_line, level_lines, count_line, spelling};
-ghost use Rattle.certificate.specs.Sending.{Sends};
+ghost use Rattle.streams.specs.Sending.{Sends};
 
 use crate::body::CertBody;
 use crate::digits::Digits;
-use crate::held::Held;
 use crate::value::{CertChain, CertLevel};
-use crate::watched::{Watched, WriteFailed};
 use std::io::Write;
+use streams::{Held, Watched, WriteFailed};
 use task_sheet::Name;
 
 // A number in decimal digits.

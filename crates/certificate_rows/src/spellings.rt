@@ -1,9 +1,10 @@
 //! The bytes of certificates.
 use assignment::assign;
-use certificate::{CertFault, Certificate, Watched, read};
+use certificate::{CertFault, Certificate, read};
 use example_sets::shared_set;
 use std::alloc::Global;
 use std::test::Fail;
+use streams::Watched;
 
 const THREE_TASKS: &str = "desk-certificate 1
 best 3

@@ -3,9 +3,9 @@
 
 ghost use Rattle.std.specs.Prelude.{None};
 
-use desk_cli::{
-    Input, NotOpened, Opens, Refusal, Status, Watched, read_words, refuse, refuse_words, run_call,
-};
+use command_line::{Input, read_words};
+use desk_cli::{Refusal, Status, refuse, refuse_words};
+use dispatch::{NotOpened, Opens, run_call};
 use either::{Either, Left, Right};
 use std::fs::File;
 use std::io::{self, ErrorKind, Stderr, Stdin, Stdout};
@@ -13,6 +13,7 @@ use std::process::ExitCode;
 use std::sync::Wait;
 use std::thread::Threads;
 use std::{env, fs};
+use streams::Watched;
 
 /// An input, opened.
 type Source = Either<File, Stdin>;

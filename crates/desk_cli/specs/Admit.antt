@@ -6,10 +6,10 @@ use Rattle.task_sheet.specs.Verdicts.{IsVerdictOf}
 use Rattle.assignment.specs.Verdict.{set_of, verdict_of}
 use Rattle.assignment.specs.declared.verdict.Verdict.{Verdict}
 use Rattle.assignment.specs.declared.verdict.Verdict.TheVariants.{Admitted, Infeasible}
-use Rattle.desk_cli.specs.Inputs.{IsReadFrom, IsTooLong}
+use Rattle.streams.specs.Inputs.{IsReadFrom, IsTooLong}
 use Rattle.desk_cli.specs.Lines.{verdict_lines}
 use Rattle.desk_cli.specs.Refusals.{refusal_line, status_of}
-use Rattle.desk_cli.specs.declared.input.InputFault.TheVariants as input
+use Rattle.streams.specs.declared.input.InputFault.TheVariants as input
 use Rattle.desk_cli.specs.declared.refusal.Refusal.{Refusal}
 use Rattle.desk_cli.specs.declared.refusal.Refusal.TheVariants as refusal
 use Rattle.desk_cli.specs.declared.status.Status.{Status}

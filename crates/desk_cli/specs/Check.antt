@@ -11,9 +11,9 @@ use Rattle.cert_checker.specs.Faults.{check_fault}
 use Rattle.cert_checker.specs.Answers.{kind_of, order_in}
 use Rattle.cert_checker.specs.declared.checking.Checked.{Checked}
 use Rattle.cert_checker.specs.declared.checking.Checked.TheVariants.{Best, NoOrder}
-use Rattle.desk_cli.specs.Inputs.{IsReadFrom, IsTooLong}
+use Rattle.streams.specs.Inputs.{IsReadFrom, IsTooLong}
 use Rattle.desk_cli.specs.Refusals.{refusal_line, status_of}
-use Rattle.desk_cli.specs.declared.input.InputFault.TheVariants as input
+use Rattle.streams.specs.declared.input.InputFault.TheVariants as input
 use Rattle.desk_cli.specs.declared.refusal.Refusal.{Refusal}
 use Rattle.desk_cli.specs.declared.refusal.Refusal.TheVariants as refusal
 use Rattle.desk_cli.specs.declared.status.Status.{Status}

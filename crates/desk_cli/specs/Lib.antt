@@ -1,11 +1,9 @@
 pub mod Admit
-pub mod App
-pub mod Calls
+pub mod WordsFaults
 pub mod Certify
 pub mod Headroom
 pub mod Settings
 pub mod Check
-pub mod Inputs
 pub mod Lines
 pub mod Refusals
 pub mod ReleasesText
@@ -13,6 +11,5 @@ pub mod Simulate
 pub mod Statuses
 pub mod TextFaults
 pub mod TraceLines
-pub mod Running
 pub mod Playing
 pub mod Rushing

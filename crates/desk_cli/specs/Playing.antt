@@ -6,9 +6,9 @@ use Rattle.desk_core.specs.World.{start}
 use Rattle.scripts.specs.declared.line.Line.{Line}
 use Rattle.scripts.specs.Script.{IsFault, script_in}
 use Rattle.plays.specs.Plays.{PlaysAll, PlaysSome}
-use Rattle.desk_cli.specs.Inputs.{IsReadFrom, IsTooLong}
+use Rattle.streams.specs.Inputs.{IsReadFrom, IsTooLong}
 use Rattle.desk_cli.specs.Refusals.{refusal_line, status_of}
-use Rattle.desk_cli.specs.declared.input.InputFault.TheVariants as input
+use Rattle.streams.specs.declared.input.InputFault.TheVariants as input
 use Rattle.desk_cli.specs.declared.refusal.Refusal.{Refusal}
 use Rattle.desk_cli.specs.declared.refusal.Refusal.TheVariants as refusal
 use Rattle.desk_cli.specs.declared.status.Status.{Status}

@@ -20,7 +20,7 @@ use Rattle.scripts.specs.declared.line.ScriptFault.{ScriptFault}
 use Rattle.scripts.specs.declared.line.ScriptFault.TheVariants as script
 use Rattle.rushes.specs.declared.fault.RushFault.{RushFault}
 use Rattle.rushes.specs.declared.fault.RushFault.TheVariants as rush
-use Rattle.desk_cli.specs.declared.input.InputFault.TheVariants as input
+use Rattle.streams.specs.declared.input.InputFault.TheVariants as input
 use Rattle.desk_cli.specs.declared.refusal.Refusal.{Refusal}
 use Rattle.desk_cli.specs.declared.refusal.Refusal.TheVariants as refusal
 use Rattle.desk_cli.specs.declared.status.Status.{Status}

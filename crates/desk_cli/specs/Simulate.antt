@@ -8,13 +8,13 @@ use Rattle.ceiling_kernel.specs.Tick.{node_in}
 use Rattle.ceiling_kernel.specs.Runs.{Runs}
 use Rattle.ceiling_kernel.specs.declared.trace.Release.{Release}
 use Rattle.ceiling_kernel.specs.declared.trace.Trace.{Trace}
-use Rattle.desk_cli.specs.Inputs.{IsReadFrom, IsTooLong}
+use Rattle.streams.specs.Inputs.{IsReadFrom, IsTooLong}
 use Rattle.desk_cli.specs.Lines.{infeasible_line}
 use Rattle.desk_cli.specs.Refusals.{refusal_line, status_of}
 use Rattle.desk_cli.specs.ReleasesText.{list_in}
 use Rattle.desk_cli.specs.TextFaults.{IsFault}
 use Rattle.desk_cli.specs.TraceLines.{trace_lines}
-use Rattle.desk_cli.specs.declared.input.InputFault.TheVariants as input
+use Rattle.streams.specs.declared.input.InputFault.TheVariants as input
 use Rattle.desk_cli.specs.declared.refusal.Refusal.{Refusal}
 use Rattle.desk_cli.specs.declared.refusal.Refusal.TheVariants as refusal
 use Rattle.desk_cli.specs.declared.simulation.Simulated.{Simulated}

@@ -2,18 +2,17 @@
 ghost use Rattle.std.specs.Prelude.{◌≡◌, ◌⊎◌, true, false, Err, Result};
 ghost use Rattle.std.specs.Io.KnownBytes.{Appends};
 ghost use Rattle.desk_cli.specs.Admit.{Admits, Says, lines_of, verdict_status};
-ghost use Rattle.desk_cli.specs.Inputs.{IsDisturbed, IsWithinTurns};
+ghost use Rattle.streams.specs.Inputs.{IsDisturbed, IsWithinTurns};
 
 use crate::answer::verdict_text;
-use crate::input::{InputFault, read_input};
 use crate::output::{print, refuse};
 use crate::refusal::Refusal;
 use crate::status::Status;
 use assignment::{Verdict, assign};
-use certificate::Watched;
 use std::alloc::Global;
 use std::io::{Read, Write};
 use std::sync::Arc;
+use streams::{InputFault, Watched, read_input};
 use task_sheet::read_set;
 
 // The verdict of the set that the reader has, or why there is none.

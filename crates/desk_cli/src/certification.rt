@@ -4,15 +4,16 @@ ghost use Rattle.std.specs.Io.KnownBytes.{Appends};
 ghost use Rattle.certificate.specs.Spelling.{spelling};
 ghost use Rattle.desk_cli.specs.Admit.{Says};
 ghost use Rattle.desk_cli.specs.Certify.{certificate_lines};
-ghost use Rattle.desk_cli.specs.Inputs.{IsDisturbed, IsWithinTurns};
+ghost use Rattle.streams.specs.Inputs.{IsDisturbed, IsWithinTurns};
 
 use crate::admission::{decide, status_of};
 use crate::output::refuse;
 use crate::refusal::Refusal;
 use crate::status::Status;
-use certificate::{Certificate, Watched};
+use certificate::Certificate;
 use std::alloc::Global;
 use std::io::{Read, Write};
+use streams::Watched;
 
 // Prints the certificate, and gives the status that belongs to it; where the writer fails, the status of that.
 fn print_certificate<W: Write + Drop>(

@@ -1,16 +1,16 @@
 //! `desk check`.
 ghost use Rattle.std.specs.Prelude.{◌≡◌, ◌⊎◌, ◌<◌, ℕ, List, length, Some, true, false, Err};
 ghost use Rattle.desk_cli.specs.Check.{Checks, ChecksBytes, SaysChecked, checked_line};
-ghost use Rattle.desk_cli.specs.Inputs.{IsDisturbed, IsWithinTurns};
+ghost use Rattle.streams.specs.Inputs.{IsDisturbed, IsWithinTurns};
 
-use crate::input::{InputFault, read_input};
 use crate::output::{print, refuse};
 use crate::refusal::Refusal;
 use crate::status::Status;
 use cert_checker::{Checked, check};
-use certificate::{Watched, read};
+use certificate::read;
 use std::alloc::Global;
 use std::io::{Read, Write};
+use streams::{InputFault, Watched, read_both};
 use task_sheet::read_set;
 
 // What a certificate's bytes show of a set's bytes.
@@ -40,8 +40,7 @@ fn checked<R: Read + Drop, S: Read + Drop>(
         → certificate.new ≡ certificate.old }
     ensures first_failed { set.old.has_failed ≡ false → set.new.has_failed ≡ true → certificate.new ≡ certificate.old }
 {
-    let bytes = read_input(alloc, set)?;
-    let text = read_input(alloc, certificate)?;
+    let (bytes, text) = read_both(alloc, set, certificate)?;
     check_bytes(alloc, &bytes, &text)
 }
 

@@ -6,7 +6,7 @@ ghost use Rattle.assignment.specs.Verdict.{set_of};
 ghost use Rattle.assignment.specs.declared.verdict.Verdict.{Verdict};
 ghost use Rattle.desk_cli.specs.declared.refusal.Refusal.{Refusal};
 ghost use Rattle.desk_cli.specs.Headroom.{Lists, SaysHeadroom, Tells, first_line, headroom_line};
-ghost use Rattle.desk_cli.specs.Inputs.{IsDisturbed, IsWithinTurns};
+ghost use Rattle.streams.specs.Inputs.{IsDisturbed, IsWithinTurns};
 
 use crate::admission::{decide, status_of};
 use crate::answer::infeasible_text;
@@ -15,10 +15,10 @@ use crate::refusal::Refusal;
 use crate::status::Status;
 use assignment::Verdict;
 use ceilings::LockTable;
-use certificate::{Watched, WriteFailed};
 use headroom::headroom;
 use std::alloc::{AllocError, Global};
 use std::io::{Read, Write};
+use streams::{Watched, WriteFailed};
 use task_sheet::{Sheet, TaskSet};
 
 // The first line of a verdict.

@@ -1,7 +1,7 @@
 //! `desk settings`.
 ghost use Rattle.std.specs.Prelude.{◌≡◌, ◌⊎◌, true, false, IfOk, string_bytes};
 ghost use Rattle.desk_cli.specs.Admit.{Says};
-ghost use Rattle.desk_cli.specs.Inputs.{IsDisturbed, IsWithinTurns};
+ghost use Rattle.streams.specs.Inputs.{IsDisturbed, IsWithinTurns};
 ghost use Rattle.desk_cli.specs.Settings.{settings_of};
 
 use crate::admission::{decide, status_of};
@@ -10,10 +10,10 @@ use crate::output::{print, refuse};
 use crate::refusal::Refusal;
 use crate::status::Status;
 use assignment::Verdict;
-use certificate::Watched;
 use settings::settings_text;
 use std::alloc::{AllocError, Global};
 use std::io::{Read, Write};
+use streams::Watched;
 
 // The lines of a verdict's settings.
 fn node_text(alloc: Global, verdict: &Verdict) -> Result<String, AllocError>

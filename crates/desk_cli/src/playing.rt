@@ -1,17 +1,16 @@
 //! `desk play`.
 ghost use Rattle.std.specs.Prelude.{◌≡◌, ◌⊎◌, true, false, Err};
-ghost use Rattle.desk_cli.specs.Inputs.{IsDisturbed, IsWithinTurns};
+ghost use Rattle.streams.specs.Inputs.{IsDisturbed, IsWithinTurns};
 ghost use Rattle.desk_cli.specs.Playing.{SaysPlayed, Scripts};
 
-use crate::input::{InputFault, read_input};
 use crate::output::refuse;
 use crate::refusal::Refusal;
 use crate::status::Status;
-use certificate::Watched;
 use plays::{PlayFault, play_lines};
 use scripts::{Line, read_script};
 use std::alloc::Global;
 use std::io::{Read, Write};
+use streams::{InputFault, Watched, read_input};
 
 // The lines of the script that the reader has, or why there are none.
 pub(crate) fn lines_of<R: Read + Drop>(

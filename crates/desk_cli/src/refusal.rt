@@ -4,7 +4,6 @@ ghost use Rattle.std.specs.Fmt.{DisplaysOnOk};
 ghost use Rattle.desk_cli.specs.declared.refusal.Refusal.TheVariants.{Certificate, Check, Input, OutOfMemory, Run, Rush, Script, Set, Text};
 ghost use Rattle.desk_cli.specs.Refusals.{cause_words, certificate_words, check_words, fault_words, lone_cause_words, refusal_line, run_words, rush_words, script_words, status_of, text_words, words_of};
 
-use crate::input::InputFault;
 use crate::releases::TextFault;
 use crate::status::Status;
 use ceiling_kernel::RunFault;
@@ -14,6 +13,7 @@ use rushes::RushFault;
 use scripts::ScriptFault;
 use std::alloc::{AllocError, AllocFailed};
 use std::fmt;
+use streams::InputFault;
 use task_sheet::{SetFault, SheetCause};
 
 /// Why a command was refused. Its `Display` is the line that the command prints.

@@ -1,19 +1,19 @@
 //! `desk rush`.
 ghost use Rattle.std.specs.Prelude.{◌≡◌, ◌⊎◌, true, false};
 ghost use Rattle.candidate_workers.specs.Faults.{IsBadCount};
-ghost use Rattle.desk_cli.specs.Inputs.{IsDisturbed, IsWithinTurns};
+ghost use Rattle.streams.specs.Inputs.{IsDisturbed, IsWithinTurns};
 ghost use Rattle.desk_cli.specs.Rushing.{SaysRushed};
 
 use crate::output::{print, refuse};
 use crate::playing::lines_of;
 use crate::refusal::Refusal;
 use crate::status::Status;
-use certificate::Watched;
 use rushes::rush_lines;
 use std::alloc::Global;
 use std::io::{Read, Write};
 use std::sync::Wait;
 use std::thread::Threads;
+use streams::Watched;
 
 /// `desk rush`: reads a script, runs the lines of each team on a thread of its own over one locked book, with so many
 /// workers for the test of a commit, and prints the log and then the book; or why the script was refused, and then

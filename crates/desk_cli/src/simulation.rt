@@ -1,10 +1,9 @@
 //! `desk simulate`.
 ghost use Rattle.std.specs.Prelude.{◌≡◌, ◌⊎◌, ◌<◌, ℕ, List, length, map, Some, true, false, Err, IfOk};
 ghost use Rattle.desk_cli.specs.Simulate.{RunsOrder, SaysSimulated, Simulates, SimulatesBytes};
-ghost use Rattle.desk_cli.specs.Inputs.{IsDisturbed, IsWithinTurns};
+ghost use Rattle.streams.specs.Inputs.{IsDisturbed, IsWithinTurns};
 
 use crate::answer::infeasible_text;
-use crate::input::{InputFault, read_input};
 use crate::output::{print, refuse};
 use crate::refusal::Refusal;
 use crate::releases::read_releases;
@@ -12,10 +11,10 @@ use crate::status::Status;
 use crate::tracing::trace_text;
 use assignment::{Assignment, Obstruction, Verdict, assign};
 use ceiling_kernel::{Kernel, KernelFault, Release, Trace};
-use certificate::Watched;
 use std::alloc::{AllocError, Global};
 use std::io::{Read, Write};
 use std::sync::Arc;
+use streams::{InputFault, Watched, read_both};
 use task_sheet::read_set;
 
 /// What a simulation answers.
@@ -89,8 +88,7 @@ fn simulated_of<R: Read + Drop, S: Read + Drop>(
         → releases.new ≡ releases.old }
     ensures first_failed { set.old.has_failed ≡ false → set.new.has_failed ≡ true → releases.new ≡ releases.old }
 {
-    let bytes = read_input(alloc, set)?;
-    let text = read_input(alloc, releases)?;
+    let (bytes, text) = read_both(alloc, set, releases)?;
     simulate_bytes(alloc, &bytes, &text)
 }
 

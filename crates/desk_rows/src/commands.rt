@@ -1,8 +1,9 @@
 //! What the commands print, and the statuses that they end with.
-use desk_cli::{Status, Watched, admit, certify, check_files, simulate};
+use desk_cli::{Status, admit, certify, check_files, simulate};
 use example_sets::{BLOCKED_OUT_REPAIRED, THREE_TASKS};
 use std::alloc::Global;
 use std::test::Fail;
+use streams::Watched;
 
 /// What `admit` prints of a text, and its status.
 pub fn admitted(alloc: Global, text: &[u8]) -> Result<(String, Status), Fail> {

@@ -1,9 +1,10 @@
 //! The lines of refusals that no typed words reach.
 use ceiling_kernel::RunFault;
-use desk_cli::{Refusal, RushFault, Status, Watched, refuse};
+use desk_cli::{Refusal, RushFault, Status, refuse};
 use example_sets::name;
 use std::alloc::Global;
 use std::test::Fail;
+use streams::Watched;
 
 // The line of a refusal, and its status.
 fn refused(alloc: Global, refusal: Refusal) -> Result<(String, Status), Fail> {

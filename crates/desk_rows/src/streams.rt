@@ -1,9 +1,10 @@
 //! Readers and writers that fail, are interrupted or take little at a time.
-use desk_cli::{Status, Watched, admit};
+use desk_cli::{Status, admit};
 use example_sets::THREE_TASKS;
 use std::alloc::Global;
 use std::io::{self, ErrorKind, Read, Write};
 use std::test::Fail;
+use streams::Watched;
 
 // Gives a text in reads of at most 50 bytes; the reads from `from` on, as many as `errors`, are errors of this kind.
 #[derive(Drop)]

@@ -1,5 +1,5 @@
 //! The calls that words name.
-use desk_cli::{Call, Input, read_words};
+use command_line::{Call, Input, read_words};
 use std::test::Fail;
 
 // Words, and the call that they name.

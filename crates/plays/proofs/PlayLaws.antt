@@ -2,7 +2,7 @@
 use Rattle.std.proofs.Common.{◌≡◌, ◌∙◌, ℕ, List, [], ◌∷◌, ◌++◌, length, Option, None, Some, Result, Ok, Err, append-nil, append_assoc, sym, refl, ap, subst, arith}
 use Rattle.std.specs.Prelude.{OnOk}
 use Rattle.std.specs.Io.KnownBytes.{Appends}
-use Rattle.certificate.specs.Sending.{Sends}
+use Rattle.streams.specs.Sending.{Sends}
 use Rattle.desk_core.specs.World.{World}
 use Rattle.scripts.specs.declared.line.Line.{Line}
 use Rattle.plays.specs.Plays.{IsPlayed, ArePlayed}

@@ -1,18 +1,18 @@
 //! Playing lines.
 ghost use Rattle.std.specs.Prelude.{◌≡◌, ◌≢◌, ℕ, List, Err, OnOk, IfOk, string_bytes, true};
 ghost use Rattle.std.specs.Io.KnownBytes.{Appends};
-ghost use Rattle.certificate.specs.Sending.{Sends};
+ghost use Rattle.streams.specs.Sending.{Sends};
 ghost use Rattle.desk_core.specs.World.{live_at, start};
 ghost use Rattle.plays.specs.Plays.{Answers, first_cause, IsFoundLine, IsPlayed, IsSaid, IsTestLine, no_levels, PlaysAll, PlaysSome};
 ghost use Rattle.plays.specs.Testing.{IsOver};
 
 use crate::asking::{bring_all, find, why_not};
 use crate::printing::{book_text, refused_text, reply_text, tested_text};
-use certificate::{Held, Watched};
 use desk_core::{Cause, Core, Event, Standing};
 use scripts::{Line, Row};
 use std::alloc::{AllocError, Global};
 use std::io::Write;
+use streams::{Held, Watched};
 use task_sheet::Name;
 
 /// Why lines were not played to their end.

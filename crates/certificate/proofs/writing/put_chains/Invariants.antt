@@ -1,6 +1,6 @@
 use Rattle.std.proofs.Common.{◌≡◌, take}
 use Rattle.certificate.specs.Spelling.{chain_lines}
-use Rattle.certificate.specs.Sending.{Sends}
+use Rattle.streams.specs.Sending.{Sends}
 use Rattle.certificate.proofs.writing.put_chains.Given as goal
 
 abbrev pub invariant-loop-chain : goal.invariant-loop-chain

@@ -1,6 +1,6 @@
 use Rattle.std.proofs.Common.{◌≡◌, take}
 use Rattle.certificate.specs.Spelling.{level_lines}
-use Rattle.certificate.specs.Sending.{Sends}
+use Rattle.streams.specs.Sending.{Sends}
 use Rattle.certificate.proofs.writing.put_levels.Given as goal
 
 abbrev pub invariant-loop-i : goal.invariant-loop-i

@@ -1,6 +1,6 @@
 use Rattle.std.proofs.Common.{◌≡◌, take}
 use Rattle.certificate.specs.Spelling.{numbers_text}
-use Rattle.certificate.specs.Sending.{Sends}
+use Rattle.streams.specs.Sending.{Sends}
 use Rattle.certificate.proofs.writing.put_numbers.Given as goal
 
 abbrev pub invariant-loop-number : goal.invariant-loop-number

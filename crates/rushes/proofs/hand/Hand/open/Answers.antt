@@ -12,5 +12,5 @@ invariant_of-self-then-number g c =
 pub invariant_of-self-in-Ok : goal.invariant_of-self-in-Ok
 invariant_of-self-in-Ok g c =
     let a = c.self.inside in
-    let own : IsOwn a.pass.team c.in_ok-of-in-Ok.field-0 = subst (λ (o : Option Draft). IsOwn a.pass.team o) (sym c.in_ok-of-in-Ok.ensures) c.in-Ok.ensures.team in
+    let own : IsOwn a.pass.team c.in_ok-of-in-Ok.field-0 = subst (λ (o : Option Draft). IsOwn a.pass.team o) (sym c.in_ok-of-in-Ok.ensures) c.in-Ok.ensures.draft.team in
     AllOwn-pushed a.pass.team a.drafts.items c.push-in-Ok.new.self.items c.in_ok-of-in-Ok.field-0 c.push-in-Ok.result c.push-in-Ok.ensures.items own c.self.invariant

@@ -1,0 +1,20 @@
+-- What was read of an input.
+use Rattle.std.specs.Prelude.{◌≡◌, ◌⊎◌, ℕ, ◌+◌, ◌<◌, ◌≤◌, true, List, length, Option, IfSome}
+use Rattle.streams.specs.Watching.{WatchedData}
+
+-- the bytes are all that a reader had, where it says what it has, and no more than an input may have
+pub record IsReadFrom (known : Option (List ℕ)) (bytes : List ℕ) : Type 0 where
+  pub whole : IfSome known (λ all. bytes ≡ all)
+  pub within : length bytes ≤ 16777216
+
+-- the reader had more than an input may have
+abbrev pub IsTooLong : Option (List ℕ) → Type 0
+IsTooLong known = IfSome known (λ all. 16777216 < length all)
+
+-- a read has failed or was interrupted
+abbrev pub IsDisturbed : {T : Type 0} → WatchedData T → Type 0
+IsDisturbed w = (w.has_failed ≡ true) ⊎ (w.was_interrupted ≡ true)
+
+-- an input is read in at most 33,554,432 reads
+abbrev pub IsWithinTurns : {T : Type 0} → WatchedData T → WatchedData T → Type 0
+IsWithinTurns old new = new.reads ≤ old.reads + 33554432

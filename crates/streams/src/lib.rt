@@ -1,0 +1,10 @@
+//! Readers and writers that keep what became of their calls, inputs that are read whole, and bytes that are held back.
+#![tactic(auto)]
+
+mod held;
+mod input;
+mod watched;
+
+pub use held::Held;
+pub use input::{InputFault, read_both, read_input};
+pub use watched::{ReadFault, Watched, WriteFailed};
