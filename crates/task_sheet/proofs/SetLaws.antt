@@ -6,9 +6,9 @@ use Rattle.std.specs.Ordering.{nat_cmp, is_lt, is_eq, ordering_then, ordering_re
 use Rattle.std.specs.Cmp.{IsTotalOrder, IsStrictWeakOrder, then_total, on_total, nat_cmp_total}
 use Rattle.std.specs.Cmp.Lexicographic.{slice_cmp, nat_list_cmp_total, nat_list_eq_equiv, texts_ties}
 use Rattle.std.proofs.lemmas.Bool.{false≢true, or_parts}
-use Rattle.std.proofs.lemmas.List.{drop_more, take_more}
+use Rattle.std.proofs.lemmas.List.{append-nil, drop_more, take_more}
 use Rattle.std.proofs.lemmas.List.Folds.{list_any-append}
-use Rattle.std.proofs.lemmas.List.Elements.{recursion_from_All, All-push, All-filter}
+use Rattle.std.proofs.lemmas.List.Elements.{recursion_from_All, All-push, All-filter, filter_more}
 use Rattle.std.proofs.lemmas.List.Sorted.{All-permutation, length_permutation, IsPermutation-sym, IsPermutation-trans, ranks_by, sorted_far}
 use Rattle.task_sheet.specs.Sheet.{Task, IsValidSheet, same_bytes}
 use Rattle.task_sheet.specs.TaskSet.{first_repeat, has_name, others_of, same_name, rank_cmp, AreDistinct, IsTaskSet, IsByRank}
@@ -195,3 +195,22 @@ set_less xs name set =
       distinct = distinct_less p xs set.distinct;
       few = omega (arith, set.few, shorter p xs);
     }
+
+-- ---- one more sheet of which the others are kept
+
+others_next : (xs : List Task) (i : ℕ) (d : Task) (name : List ℕ) (b : Bool) → i < length xs → d ≡ get_or xs i d → b ≡ not (same_bytes d.name name)
+    → others_of (take (i + 1) xs) name ≡ others_of (take i xs) name ++ cond b (d ∷ []) []
+others_next xs i d name b lt e is =
+    filter_more (λ x. not (same_bytes x.name name)) xs i d lt
+    ∙ ap (λ (x : Task). others_of (take i xs) name ++ cond (not (same_bytes x.name name)) (x ∷ []) []) (sym e)
+    ∙ ap (λ (y : Bool). others_of (take i xs) name ++ cond y (d ∷ []) []) (sym is)
+
+-- it has another name
+pub other_more : (xs : List Task) (i : ℕ) (d : Task) (name : List ℕ) → i < length xs → d ≡ get_or xs i d → true ≡ not (same_bytes d.name name)
+    → others_of (take (i + 1) xs) name ≡ others_of (take i xs) name ++ d ∷ []
+other_more xs i d name lt e is = others_next xs i d name true lt e is
+
+-- it has the name
+pub other_same : (xs : List Task) (i : ℕ) (d : Task) (name : List ℕ) → i < length xs → d ≡ get_or xs i d → false ≡ not (same_bytes d.name name)
+    → others_of (take (i + 1) xs) name ≡ others_of (take i xs) name
+other_same xs i d name lt e is = others_next xs i d name false lt e is ∙ append-nil (others_of (take i xs) name)

@@ -1,4 +1,5 @@
-use Rattle.std.proofs.Common.{rules, ◌≡◌, ◌+◌, Some, None, ◌++◌, if◌then◌else◌, is_some}
+use Rattle.std.proofs.Common.{rules, ◌≡◌, ◌∙◌, sym, ◌+◌, Some, None, ◌++◌, if◌then◌else◌, is_some}
+use Rattle.std.proofs.lemmas.Result.{err_from_is_err_and}
 use Rattle.std.specs.Option.{option_or, option_to_list}
 use Rattle.toml.specs.Data.{as_table}
 use Rattle.toml.specs.View.{view, items_view, table_view}
@@ -26,3 +27,10 @@ loop-i-preserved c = elim c.match-as_table.branch [
       let other : None ≡ as_table (view c.index-items-i.result) = search rules in
       absurd (never_other c.args.items.now c.loop-i.i c.index-items-i.result c.loop-i-test.true c.index-items-i.is c.loop-i.invariant.tables other)
 ]
+
+pub returns-in_err-section-clause-err : goal.returns-in_err-section-clause-err
+returns-in_err-section-clause-err c =
+    let p = err_from_is_err_and c.from_residual.result c.from_residual.ensures.1 in
+    rw (p.1, p.2) (λ other.
+    let rest = tables_more c.args.items.now c.loop-i.i c.index-items-i.result (table_view c.in-Some.table.now) c.loop-i-test.true c.index-items-i.is c.in-Some.ensures in
+    sym c.loop-i.invariant.read.fault ∙ rw (rest, c.in_err-section.ensures.err other))
