@@ -1,12 +1,12 @@
--- What was sent, level after level.
+-- What was sent: a line, a level after a level.
 use Rattle.std.proofs.Common.{◌≡◌, ℕ, suc, ◌+◌, ◌<◌, List, [], ◌∷◌, ◌++◌, length, take, get_or, sym, ap, ◌∙◌, subst, append_assoc, arith, zero-add, Option, Result, Ok, Err}
 use Rattle.std.specs.Prelude.{codes, OnOk}
 use Rattle.std.specs.Fmt.{decimal}
-use Rattle.std.specs.Io.KnownBytes.{append_known}
+use Rattle.std.specs.Io.KnownBytes.{Appends, append_known}
 use Rattle.std.proofs.KnownBytes.{Appends-trans}
 use Rattle.std.proofs.lemmas.List.{take_more, append-nil, length-take-le}
-use Rattle.certificate.specs.Body.{Level}
-use Rattle.certificate.specs.Spelling.{chain_lines, level_line, level_lines}
+use Rattle.certificate.specs.Body.{Chain, Level}
+use Rattle.certificate.specs.Spelling.{numbers_text, chain_line, chain_lines, level_line, level_lines}
 use Rattle.streams.specs.Sending.{Sends}
 
 lines_append : (k : ℕ) (xs : List Level) (l : Level) → level_lines k (xs ++ l ∷ []) ≡ level_lines k xs ++ (level_line (length xs + k) l ++ chain_lines (codes "fails") l.fails)
@@ -54,3 +54,18 @@ pieces word digits name time = simp append_assoc
 
 pub level_pieces : (k : ℕ) (l : Level) → (codes "level " ++ decimal k ++ 32 ∷ []) ++ (l.name ++ 32 ∷ decimal l.time ++ 10 ∷ []) ≡ level_line k l
 level_pieces k l = pieces (codes "level ") (decimal k) l.name (decimal l.time)
+
+-- a line of two pieces with a space between them, piece after piece
+pub line_sent : {T E : Type 0} (r : Result T E) (start word space rest end : Option (List ℕ)) (xs ys : List ℕ)
+    → Appends start word xs → Appends word space (32 ∷ []) → Appends space rest ys → OnOk r (Appends rest end (10 ∷ [])) → OnOk r (Appends start end (xs ++ 32 ∷ ys ++ 10 ∷ []))
+line_sent (Ok x) start word space rest end xs ys one two three four =
+    Appends-trans start rest end (xs ++ 32 ∷ ys) (10 ∷ []) (Appends-trans start word rest xs (32 ∷ ys) one (Appends-trans word space rest (32 ∷ []) ys two three)) four
+line_sent (Err x) start word space rest end xs ys one two three four = tt
+
+-- a chain's line
+pub chain_sent : {T E : Type 0} (r : Result T E) (start word space name rest end : Option (List ℕ)) (xs : List ℕ) (chain : Chain)
+    → Appends start word xs → Appends word space (32 ∷ []) → Appends space name chain.name → Appends name rest (numbers_text chain.numbers) → OnOk r (Appends rest end (10 ∷ []))
+    → OnOk r (Appends start end (chain_line xs chain))
+chain_sent r start word space name rest end xs chain one two three four five =
+    subst (λ (ys : List ℕ). OnOk r (Appends start end (ys ++ 10 ∷ []))) (sym (append_assoc xs (32 ∷ chain.name) (numbers_text chain.numbers)))
+    (line_sent r start word space rest end xs (chain.name ++ numbers_text chain.numbers) one two (Appends-trans space name rest chain.name (numbers_text chain.numbers) three four) five)
