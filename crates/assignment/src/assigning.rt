@@ -5,6 +5,7 @@ ghost use Rattle.task_sheet.specs.Indexes.{indexes_of, IsPart};
 ghost use Rattle.task_sheet.specs.Orders.{all_of};
 ghost use Rattle.task_sheet.specs.Verdicts.{IsVerdictOf};
 ghost use Rattle.ceilings.specs.IsTableOf.{IsTableOf};
+ghost use Rattle.assignment.specs.Climbs.{IsUnfinished};
 ghost use Rattle.assignment.specs.Levels.{LevelState, IsDecided, with_finding};
 ghost use Rattle.assignment.specs.Verdict.{set_of, verdict_of};
 
@@ -51,6 +52,31 @@ fn decide(alloc: Global, table: &LockTable, mut level: Level) -> Result<Level, A
     Ok(level)
 }
 
+// The climb at its end: level after level is decided and closed.
+fn climb_up(alloc: Global, table: &LockTable, mut climb: Climb) -> Result<Climb, AllocError>
+    requires { IsTableOf climb.set table.now }
+    ensures same { IfOk result (λ end. end.set ≡ climb.set) }
+    ensures finished { IfOk result (λ end. IsUnfinished end → ⊥) }
+{
+    while climb.is_unfinished() {
+        let level = decide(alloc, table, climb.start_level(alloc)?)?;
+        climb.close_own(level);
+    }
+    Ok(climb)
+}
+
+// The verdict at the end of a climb.
+fn end_of(climb: Climb) -> Verdict
+    requires { IsUnfinished climb → ⊥ }
+    ensures of_set { set_of result ≡ climb.set }
+    ensures verdict { IsVerdictOf climb.set (verdict_of result) }
+{
+    match climb.finish() {
+        Ok(verdict) => verdict,
+        Err(_) => unreachable!(),
+    }
+}
+
 /// The verdict of a set: its best order with what shows it best, or its greatest obstruction with what shows it stuck.
 /// The error is want of memory.
 pub fn assign(alloc: Global, set: Arc<TaskSet>) -> Result<Verdict, AllocError>
@@ -58,13 +84,6 @@ pub fn assign(alloc: Global, set: Arc<TaskSet>) -> Result<Verdict, AllocError>
     ensures verdict { IfOk result (λ verdict. IsVerdictOf set.value (verdict_of verdict)) }
 {
     let table = LockTable::new(alloc, &set)?;
-    let mut climb = Climb::start(alloc, set)?;
-    while climb.is_unfinished() {
-        let level = decide(alloc, &table, climb.start_level(alloc)?)?;
-        climb.close_own(level);
-    }
-    match climb.finish() {
-        Ok(verdict) => Ok(verdict),
-        Err(_) => unreachable!(),
-    }
+    let climb = climb_up(alloc, &table, Climb::start(alloc, set)?)?;
+    Ok(end_of(climb))
 }

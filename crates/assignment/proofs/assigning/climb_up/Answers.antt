@@ -1,5 +1,5 @@
 use Rattle.assignment.proofs.StepLaws.{steps-fewer}
-use Rattle.assignment.proofs.assigning.assign.Goals as goal
+use Rattle.assignment.proofs.assigning.climb_up.Goals as goal
 
 pub loop-alloc-smaller : goal.loop-alloc-smaller
 loop-alloc-smaller c =
