@@ -25,9 +25,15 @@ fn finished(alloc: Global, climb: Climb) -> Result<String, Fail> {
 // The tasks that are gone at a level, the findings that it has, and what comes of closing it.
 type Row = (&'static [usize], &'static [usize], &'static str);
 
+// The climb on a document's set.
+fn climb_at(alloc: Global, document: &str) -> Result<Climb, Fail> {
+    let set = shared_set(alloc, document)?;
+    Ok(Climb::start(alloc, set)?)
+}
+
 // The climb on a document's set, after closing these levels in turn.
 fn climbed(rt: &impl Abort, alloc: Global, document: &str, levels: &[Row]) -> Result<Climb, Fail> {
-    let mut climb = Climb::start(alloc, shared_set(alloc, document)?)?;
+    let mut climb = climb_at(alloc, document)?;
     for (gone, found, want) in levels {
         let level = level_of(rt, alloc, document, *gone, *found)?;
         assert!(rt; close(&mut climb, level) == *want);
@@ -66,20 +72,31 @@ const STUCK: [Row; 3] = [
     (&[LO], &[HI], "stranger"),
 ];
 
+// How many tasks are stuck in a climb.
+fn count_of_stuck(climb: &Climb) -> Option<usize> {
+    let members = climb.members()?;
+    Some(members.len())
+}
+
 #[test]
 fn climb_that_is_stuck(rt: HostRuntime) -> Result<(), Fail> {
     let climb = climbed(&rt, rt.alloc(), BLOCKED_OUT, &STUCK)?;
-    let members = climb.members().ok_or("none stuck")?;
-    assert_eq!(rt; members.len(), 1);
+    assert_eq!(rt; count_of_stuck(&climb), Some(1));
     let line = finished(rt.alloc(), climb)?;
     assert_eq!(rt; line.as_str(), "none hi,1,4500");
     Ok(())
 }
 
+// The climb on a document's set that comes back where it is finished at once.
+fn unfinished(alloc: Global, document: &str) -> Result<Climb, Fail> {
+    let climb = climb_at(alloc, document)?;
+    let refused = climb.finish().err().ok_or("finished")?;
+    Ok(refused.climb)
+}
+
 #[test]
 fn finished_at_once(rt: HostRuntime) -> Result<(), Fail> {
-    let climb = Climb::start(rt.alloc(), shared_set(rt.alloc(), THREE_TASKS)?)?;
-    let climb = climb.finish().err().ok_or("finished")?.climb;
+    let climb = unfinished(rt.alloc(), THREE_TASKS)?;
     assert_eq!(rt; climb.left().len(), 3);
     assert!(rt; climb.levels().is_empty());
     assert!(rt; climb.members().is_none());

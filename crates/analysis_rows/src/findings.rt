@@ -62,12 +62,26 @@ pub fn level_of(
     Ok(level)
 }
 
+// The finding on a candidate of the level of a document's set where some tasks are gone.
+fn finding_at(
+    rt: &impl Abort,
+    alloc: Global,
+    document: &str,
+    gone: &[usize],
+    task: usize,
+) -> Result<Finding, Fail> {
+    let level = level_of(rt, alloc, document, gone, &[])?;
+    finding_on(rt, alloc, &level, task)
+}
+
+// The tasks that are gone at a level of the three tasks, a candidate there, and whether it passes.
+const PASSING: [(&[usize], usize, bool); 3] = [(&[], C, true), (&[], A, false), (&[C], A, true)];
+
 #[test]
 fn findings_that_pass(rt: HostRuntime) -> Result<(), Fail> {
-    for (gone, task, want) in [(&[][..], C, true), (&[][..], A, false), (&[C][..], A, true)] {
-        let level = level_of(&rt, rt.alloc(), THREE_TASKS, gone, &[])?;
-        let finding = finding_on(&rt, rt.alloc(), &level, task)?;
-        assert_eq!(rt; finding.passes(), want);
+    for (gone, task, want) in &PASSING {
+        let finding = finding_at(&rt, rt.alloc(), THREE_TASKS, *gone, *task)?;
+        assert_eq!(rt; finding.passes(), *want);
     }
     Ok(())
 }
@@ -103,10 +117,13 @@ fn findings_in_any_order(rt: HostRuntime) -> Result<(), Fail> {
     Ok(())
 }
 
+// Findings at the first level of the three tasks that don't decide it.
+const TOO_FEW: [&[usize]; 4] = [&[], &[C], &[C, B], &[A, B]];
+
 #[test]
 fn too_few_findings(rt: HostRuntime) -> Result<(), Fail> {
-    for found in [&[][..], &[C][..], &[C, B][..], &[A, B][..]] {
-        let level = level_of(&rt, rt.alloc(), THREE_TASKS, &[], found)?;
+    for found in &TOO_FEW {
+        let level = level_of(&rt, rt.alloc(), THREE_TASKS, &[], *found)?;
         assert!(rt; !level.decided());
         assert!(rt; level.close().is_err());
     }
@@ -120,20 +137,13 @@ fn enough_findings_of_the_second_level(rt: HostRuntime) -> Result<(), Fail> {
     Ok(())
 }
 
-// Delivers to a level the finding on a candidate of another level, and says what came of it.
-fn deliver(
-    rt: &impl Abort,
-    alloc: Global,
-    level: &mut Level,
-    asked: &Level,
-    task: usize,
-) -> Result<&'static str, Fail> {
-    let finding = finding_on(rt, alloc, asked, task)?;
-    Ok(match level.take(finding) {
+// Delivers a finding to a level, and says what came of it.
+fn deliver(level: &mut Level, finding: Finding) -> &'static str {
+    match level.take(finding) {
         Ok(()) => "taken",
         Err(TakeFault::Twice { .. }) => "twice",
         Err(TakeFault::Stranger { .. }) => "stranger",
-    })
+    }
 }
 
 // A document, the tasks that are gone at its level, a candidate there, and what comes of the finding on it at the first
@@ -149,9 +159,9 @@ const DELIVERED: [(&str, &[usize], usize, &str); 5] = [
 #[test]
 fn doubles_and_strangers(rt: HostRuntime) -> Result<(), Fail> {
     let mut level = level_of(&rt, rt.alloc(), THREE_TASKS, &[], &[C, B])?;
-    for (document, gone, task, want) in DELIVERED {
-        let asked = level_of(&rt, rt.alloc(), document, gone, &[])?;
-        assert_eq!(rt; deliver(&rt, rt.alloc(), &mut level, &asked, task)?, want);
+    for (document, gone, task, want) in &DELIVERED {
+        let finding = finding_at(&rt, rt.alloc(), *document, *gone, *task)?;
+        assert_eq!(rt; deliver(&mut level, finding), *want);
     }
     assert!(rt; closes_to(level, C, 20000, &FAILURES));
     Ok(())

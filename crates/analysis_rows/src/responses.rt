@@ -1,4 +1,7 @@
 //! Ceilings, blocking, demands, and how many numbers lead to a response.
+ghost use Rattle.std.specs.Prelude.{◌<◌, length};
+ghost use Rattle.ceilings.specs.IsTableOf.{IsTableOf};
+
 use blocking::blocking;
 use ceilings::LockTable;
 use example_sets::{name, set_of};
@@ -6,7 +9,7 @@ use response_time::{Answer, demand, passes, respond};
 use std::alloc::Global;
 use std::process::Abort;
 use std::test::Fail;
-use task_sheet::Members;
+use task_sheet::{Members, Name, TaskSet};
 
 // The tasks with these indexes.
 fn members_of(rt: &impl Abort, indexes: &[usize]) -> Members {
@@ -18,7 +21,25 @@ fn members_of(rt: &impl Abort, indexes: &[usize]) -> Members {
     members
 }
 
-// Whether a task of a document passes with these above it, and its evaluations.
+// Whether a task of a set passes with these above it, and its evaluations.
+fn response_in(
+    rt: &impl Abort,
+    alloc: Global,
+    set: &TaskSet,
+    table: &LockTable,
+    task: usize,
+    above: Members,
+) -> Result<(bool, usize), Fail>
+    requires table { IsTableOf set.now table.now }
+    requires task { task < length set.now }
+{
+    let response = respond(alloc, set, table, task, above)?;
+    let does_pass = matches!(&response.answer, Answer::Pass { .. });
+    assert!(rt; passes(set, table, task, above) == does_pass);
+    Ok((does_pass, response.evaluations))
+}
+
+// The same of a task of a document.
 fn response_of(
     rt: &impl Abort,
     alloc: Global,
@@ -28,12 +49,8 @@ fn response_of(
 ) -> Result<(bool, usize), Fail> {
     let set = set_of(alloc, document)?;
     let table = LockTable::new(alloc, &set)?;
-    let above = members_of(rt, above);
     assert!(rt; task < set.len());
-    let response = respond(alloc, &set, &table, task, above)?;
-    let does_pass = matches!(&response.answer, Answer::Pass { .. });
-    assert!(rt; passes(&set, &table, task, above) == does_pass);
-    Ok((does_pass, response.evaluations))
+    response_in(rt, alloc, &set, &table, task, members_of(rt, above))
 }
 
 // An example, a task of it, the tasks above it, whether it passes, and its evaluations.
@@ -54,33 +71,53 @@ const ROWS: [Row; 10] = [
 
 #[test]
 fn evaluations_of_the_examples(rt: HostRuntime) -> Result<(), Fail> {
-    for (document, task, above, does_pass, evaluations) in ROWS {
-        let found = response_of(&rt, rt.alloc(), document, task, above)?;
-        assert_eq!(rt; found, (does_pass, evaluations));
+    for (document, task, above, does_pass, evaluations) in &ROWS {
+        let found = response_of(&rt, rt.alloc(), *document, *task, *above)?;
+        assert_eq!(rt; found, (*does_pass, *evaluations));
     }
     Ok(())
 }
+
+// A lock's ceiling where the tasks stand by their indexes, its users and its index.
+type LockFacts = (Option<u32>, usize, Option<usize>);
+
+// What the table of the shared lock says of a lock.
+fn facts_of(alloc: Global, lock: Name) -> Result<LockFacts, Fail> {
+    let set = set_of(alloc, example_sets::SHARED_LOCK)?;
+    let table = LockTable::new(alloc, &set)?;
+    let ceiling = table.ceiling(lock, &[0, 1, 2]);
+    Ok((ceiling, table.users(lock).len(), table.index_of(lock)))
+}
+
+const LOCKS: [(&str, LockFacts); 2] = [("m", (Some(3), 2, Some(0))), ("z", (None, 0, None))];
 
 #[test]
 fn ceilings_of_the_shared_lock(rt: HostRuntime) -> Result<(), Fail> {
-    let set = set_of(rt.alloc(), example_sets::SHARED_LOCK)?;
-    let table = LockTable::new(rt.alloc(), &set)?;
-    for (lock, ceiling, users, index) in [("m", Some(3), 2, Some(0)), ("z", None, 0, None)] {
-        let lock = name(lock)?;
-        assert_eq!(rt; table.ceiling(lock, &[0, 1, 2]), ceiling);
-        assert_eq!(rt; table.users(lock).len(), users);
-        assert_eq!(rt; table.index_of(lock), index);
+    for (lock, want) in &LOCKS {
+        let facts = facts_of(rt.alloc(), name(*lock)?)?;
+        assert_eq!(rt; facts, *want);
     }
     Ok(())
 }
 
+// What blocks a task of the shared lock, which has three, with these above it.
+fn blocking_in(rt: &impl Abort, alloc: Global, task: usize, above: &[usize]) -> Result<u64, Fail> {
+    let set = set_of(alloc, example_sets::SHARED_LOCK)?;
+    let table = LockTable::new(alloc, &set)?;
+    assert!(rt; set.len() == 3);
+    assert!(rt; task < 3);
+    Ok(blocking(&set, &table, task, members_of(rt, above)))
+}
+
+// A task of the shared lock, the tasks above it, and what blocks it.
+const BLOCKINGS: [(usize, &[usize], u64); 2] = [(1, &[2], 4000), (0, &[1, 2], 0)];
+
 #[test]
 fn blocking_of_the_shared_lock(rt: HostRuntime) -> Result<(), Fail> {
-    let set = set_of(rt.alloc(), example_sets::SHARED_LOCK)?;
-    let table = LockTable::new(rt.alloc(), &set)?;
-    assert!(rt; set.len() == 3);
-    assert_eq!(rt; blocking(&set, &table, 1, members_of(&rt, &[2])), 4000);
-    assert_eq!(rt; blocking(&set, &table, 0, members_of(&rt, &[1, 2])), 0);
+    for (task, above, want) in &BLOCKINGS {
+        let found = blocking_in(&rt, rt.alloc(), *task, *above)?;
+        assert_eq!(rt; found, *want);
+    }
     Ok(())
 }
 
@@ -114,9 +151,9 @@ const DEMANDS: [(&str, &[usize], u64, u64); 7] = [
 
 #[test]
 fn demands_of_the_examples(rt: HostRuntime) -> Result<(), Fail> {
-    for (document, above, time, want) in DEMANDS {
-        let found = demand_in(&rt, rt.alloc(), document, above, time)?;
-        assert_eq!(rt; found, want);
+    for (document, above, time, want) in &DEMANDS {
+        let found = demand_in(&rt, rt.alloc(), *document, *above, *time)?;
+        assert_eq!(rt; found, *want);
     }
     Ok(())
 }

@@ -103,11 +103,16 @@ const SECTIONS: [(&[SectionRow], Option<SheetCause>); 10] = [
     ),
 ];
 
+// Why the sheet (10000, 10000, 5000) with these sections is none.
+fn fault_with(alloc: Global, list: &[SectionRow]) -> Result<Option<SheetCause>, Fail> {
+    let sections = sections_of(alloc, list)?;
+    fault_of(0, 10000, 10000, 5000, sections)
+}
+
 #[test]
 fn limits_of_sections(rt: HostRuntime) -> Result<(), Fail> {
-    for (list, want) in SECTIONS {
-        let sections = sections_of(rt.alloc(), list)?;
-        assert_eq!(rt; fault_of(0, 10000, 10000, 5000, sections)?, want);
+    for (list, want) in &SECTIONS {
+        assert_eq!(rt; fault_with(rt.alloc(), *list)?, *want);
     }
     Ok(())
 }
@@ -174,19 +179,40 @@ fn hi_of(alloc: Global, set: &TaskSet) -> Result<Sheet, Fail> {
     Ok(hi.copy(alloc)?)
 }
 
-// The shared lock without hi.
-fn without_hi(alloc: Global) -> Result<TaskSet, Fail> {
+/// The shared lock without hi.
+pub fn without_hi(alloc: Global) -> Result<TaskSet, Fail> {
     let set = set_of(alloc, example_sets::SHARED_LOCK)?;
     Ok(set.without(alloc, name("hi")?)?)
+}
+
+// Why hi can't be taken from a set; none where it can be.
+fn kept_hi(alloc: Global, set: &TaskSet) -> Result<Option<WithoutFault>, Fail> {
+    let rest = set.without(alloc, name("hi")?);
+    Ok(rest.err())
 }
 
 #[test]
 fn shared_lock_without_hi(rt: HostRuntime) -> Result<(), Fail> {
     let rest = without_hi(rt.alloc())?;
     assert_eq!(rt; rest.len(), 2);
-    let twice = rest.without(rt.alloc(), name("hi")?).err();
+    let twice = kept_hi(rt.alloc(), &rest)?;
     assert_eq!(rt; twice, Some(WithoutFault::NoSuchTask));
     Ok(())
+}
+
+// Why the sheet of hi, of a set, can't be added to another set; none where it can be.
+fn refused_hi(alloc: Global, to: &TaskSet, set: &TaskSet) -> Result<Option<WithCause>, Fail> {
+    let hi = hi_of(alloc, set)?;
+    Ok(match to.with(alloc, hi) {
+        Ok(_) => None,
+        Err(fault) => Some(fault.cause),
+    })
+}
+
+// A set with the sheet of hi, of another set.
+fn with_hi(alloc: Global, rest: &TaskSet, set: &TaskSet) -> Result<TaskSet, Fail> {
+    let hi = hi_of(alloc, set)?;
+    Ok(rest.with(alloc, hi).ok().ok_or("refused")?)
 }
 
 #[test]
@@ -194,8 +220,7 @@ fn shared_lock_with_hi_again(rt: HostRuntime) -> Result<(), Fail> {
     let set = set_of(rt.alloc(), example_sets::SHARED_LOCK)?;
     let rest = without_hi(rt.alloc())?;
     assert!(rt; !rest.is_same(&set));
-    let again = rest.with(rt.alloc(), hi_of(rt.alloc(), &set)?).ok();
-    let again = again.ok_or("refused")?;
+    let again = with_hi(rt.alloc(), &rest, &set)?;
     assert!(rt; again.is_same(&set));
     Ok(())
 }
@@ -205,8 +230,7 @@ fn shared_lock_with_hi_twice(rt: HostRuntime) -> Result<(), Fail> {
     let set = set_of(rt.alloc(), example_sets::SHARED_LOCK)?;
     let copy = set.copy(rt.alloc())?;
     assert!(rt; copy.is_same(&set));
-    let twice = copy.with(rt.alloc(), hi_of(rt.alloc(), &set)?).err();
-    let cause = twice.map(|fault| fault.cause);
+    let cause = refused_hi(rt.alloc(), &copy, &set)?;
     assert_eq!(rt; cause, Some(WithCause::SameName));
     Ok(())
 }

@@ -1,7 +1,8 @@
 //! Verdicts, whole: each level with its response and the chains of those of smaller rank, or each member with its
 //! chain.
+use crate::sheets::without_hi;
 use assignment::{Failure, LevelRecord, Verdict, assign};
-use example_sets::{name, set_of, shared_set};
+use example_sets::shared_set;
 use std::alloc::{AllocError, Global};
 use std::sync::Arc;
 use std::test::Fail;
@@ -61,6 +62,18 @@ pub fn line_of(alloc: Global, verdict: &Verdict) -> Result<String, AllocError> {
     Ok(text)
 }
 
+// The verdict on a set.
+fn verdict_on(alloc: Global, set: Arc<TaskSet>) -> Result<String, Fail> {
+    let verdict = assign(alloc, set)?;
+    Ok(line_of(alloc, &verdict)?)
+}
+
+// The verdict on the set of a document.
+fn verdict_at(alloc: Global, document: &str) -> Result<String, Fail> {
+    let set = shared_set(alloc, document)?;
+    verdict_on(alloc, set)
+}
+
 // A document and its verdict.
 const VERDICTS: [(&str, &str); 11] = [
     ("", ""),
@@ -90,20 +103,17 @@ const VERDICTS: [(&str, &str); 11] = [
 
 #[test]
 fn verdicts_of_the_examples(rt: HostRuntime) -> Result<(), Fail> {
-    for (document, want) in VERDICTS {
-        let verdict = assign(rt.alloc(), shared_set(rt.alloc(), document)?)?;
-        let line = line_of(rt.alloc(), &verdict)?;
-        assert_eq!(rt; line.as_str(), want, "at {document}");
+    for (document, want) in &VERDICTS {
+        let line = verdict_at(rt.alloc(), *document)?;
+        assert_eq!(rt; line.as_str(), *want, "at {document}");
     }
     Ok(())
 }
 
 #[test]
 fn verdict_of_the_shared_lock_without_hi(rt: HostRuntime) -> Result<(), Fail> {
-    let set = set_of(rt.alloc(), example_sets::SHARED_LOCK)?;
-    let rest = set.without(rt.alloc(), name("hi")?)?;
-    let verdict = assign(rt.alloc(), Arc::new(rt.alloc(), rest)?)?;
-    let line = line_of(rt.alloc(), &verdict)?;
+    let rest = Arc::new(rt.alloc(), without_hi(rt.alloc())?)?;
+    let line = verdict_on(rt.alloc(), rest)?;
     assert_eq!(rt; line.as_str(), "lo 24000;mid 2000;");
     Ok(())
 }
