@@ -5,8 +5,8 @@
 #[cfg(test)]
 mod commands;
 #[cfg(test)]
-mod refusals;
+mod faulty;
 #[cfg(test)]
-mod streams;
+mod refusals;
 #[cfg(test)]
 mod words;
