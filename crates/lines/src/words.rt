@@ -1,5 +1,5 @@
 //! The words of a line.
-ghost use Rattle.std.specs.Prelude.{◌≡◌, ◌∷◌, [], MatchOption};
+ghost use Rattle.std.specs.Prelude.{◌≡◌, ℕ, List, ◌∷◌, [], MatchOption};
 ghost use Rattle.lines.specs.Words.{words};
 
 use crate::cutting::cut;
@@ -27,6 +27,18 @@ impl<'a> Words<'a> {
         ensures { result ≡ words line.entry.now }
     {
         Words { rest: Some(line) }
+    }
+
+    /// The next word, which stays; `None` behind the last one.
+    pub fn peek(&self) -> Option<&'a [u8]>
+        ensures { MatchOption result (self.now ≡ [])
+            (λ word. (rest : List (List ℕ)) × (self.now ≡ word.now ∷ rest)) }
+    {
+        let rest = self.rest?;
+        match cut(rest, b' ') {
+            Some((word, _after)) => Some(word),
+            None => Some(rest),
+        }
     }
 
     /// The next word; `None` behind the last one.

@@ -2,7 +2,7 @@
 use Rattle.std.proofs.Common.{◌≡◌, ℕ, zero, suc, ◌+◌, ◌*◌, ◌<◌, ◌≤◌, ◌⊎◌, Bool, cond, true, inl, inr, List, [], ◌∷◌, ◌++◌, length, take, get_or, add-one, refl, sym, ◌∙◌, ap, arith, max, false}
 use Rattle.std.proofs.lemmas.List.{take_more}
 use Rattle.std.specs.List.{AllByRecursion, Contains}
-use Rattle.std.proofs.lemmas.Bool.{cases_Bool, cases_eq, cases_lt, or_left, or_right, or_cases}
+use Rattle.std.proofs.lemmas.Bool.{both_ways, cases_Bool, cases_eq, cases_lt, or_left, or_right, or_cases}
 use Rattle.std.proofs.lemmas.Bool.Decides.{nat_tests}
 use Rattle.std.specs.Ordering.{ord_max, nat_cmp}
 use Rattle.task_sheet.specs.Indexes.{sum_below, greatest_below, some_below}
@@ -167,3 +167,23 @@ some_below-none (suc n) p none = rw (some_below-none n p (λ k lt. none k (omega
 pub some_below-mono : (n : ℕ) (p q : ℕ → Bool) → ((k : ℕ) → p k ≡ true → q k ≡ true) → some_below n p ≡ true → some_below n q ≡ true
 some_below-mono n p q more h =
     let at = some_below-witness n p h in some_below-at n q at.0 at.1 (more at.0 at.2)
+
+-- the least of the numbers below n that pass
+pub least_below_at : (n : ℕ) (p : ℕ → Bool) → some_below n p ≡ true → (k : ℕ) × (k < n) × (p k ≡ true) × ((j : ℕ) → j < k → p j ≡ false)
+least_below_at zero p h = cc
+least_below_at (suc n) p h =
+    elim (cases_Bool (some_below n p)) [
+      | inl before ↦ let at = least_below_at n p before in (at.0, omega (arith, at.1), at.2, at.3)
+      | inr none ↦ (
+        n,
+        omega arith,
+        elim (or_cases (some_below n p) (p n) h) [
+          | inl before ↦ absurd (both_ways _ none before)
+          | inr here ↦ here
+        ],
+        λ j lt. elim (cases_Bool (p j)) [
+          | inl so ↦ absurd (both_ways _ none (some_below-at n p j lt so))
+          | inr out ↦ out
+        ],
+      )
+    ]

@@ -7,7 +7,7 @@ use Rattle.task_sheet.specs.Sheet.{Task}
 use Rattle.task_sheet.specs.Indexes.{Indexes, indexes_of, IsPart, without_index}
 use Rattle.task_sheet.specs.Orders.{all_of, Stands}
 use Rattle.task_sheet.specs.Levels.{IsChosen, NoneStands}
-use Rattle.task_sheet.proofs.PassingLaws.{does_pass-iff}
+use Rattle.task_sheet.proofs.PassingLaws.{does_stand-iff}
 use Rattle.task_sheet.proofs.IndexLaws.{without-parts}
 use Rattle.task_sheet.proofs.MembersIndexes.{indexes_of-all_below, indexes_of-remove}
 use Rattle.task_sheet.specs.Choices.{does_stand, least_below, chosen_of, without_chosen, level_at}
@@ -29,14 +29,14 @@ least_below-is (suc n) p i lt is first =
 -- ---- the candidate that is chosen
 fits-not : (U : List Task) (L : Indexes) (j : ℕ) → (L j ≡ true → ¬ Stands U j (without_index L j)) → (L j && does_stand U j (without_index L j)) ≡ false
 fits-not U L j never = elim (cases_Bool (L j && does_stand U j (without_index L j))) [
-  | inl so ↦ let both = and_parts (L j) _ so in absurd (never both.0 ((does_pass-iff U j (without_index L j)).0 both.1))
+  | inl so ↦ let both = and_parts (L j) _ so in absurd (never both.0 ((does_stand-iff U j (without_index L j)).0 both.1))
   | inr so ↦ so
 ]
 
 pub chosen_of-is : (U : List Task) (L : Indexes) (i : ℕ) → IsPart L (all_of U) → IsChosen U L i → chosen_of U L ≡ Some i
 unfolding chosen_of
 chosen_of-is U L i part chosen =
-    least_below-is (length U) (λ j. L j && does_stand U j (without_index L j)) i (ltb-true i (length U) (part i chosen.member)) (and_from (L i) _ chosen.member ((does_pass-iff U i (without_index L i)).1 chosen.stands)) (λ j lt. fits-not U L j (chosen.first j lt))
+    least_below-is (length U) (λ j. L j && does_stand U j (without_index L j)) i (ltb-true i (length U) (part i chosen.member)) (and_from (L i) _ chosen.member ((does_stand-iff U i (without_index L i)).1 chosen.stands)) (λ j lt. fits-not U L j (chosen.first j lt))
 
 pub chosen_of-none : (U : List Task) (L : Indexes) → NoneStands U L → chosen_of U L ≡ None
 unfolding chosen_of

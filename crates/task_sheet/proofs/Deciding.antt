@@ -2,16 +2,14 @@
 use Rattle.std.proofs.Common.{◌≡◌, ℕ, zero, suc, ◌<◌, ◌≤◌, ◌⊎◌, inl, inr, Bool, true, false, cond, List, [], ◌∷◌, ◌++◌, length, refl, ◌∙◌, ap, subst, arith}
 use Rattle.std.proofs.lemmas.Bool.{cases_Bool, cases_eq, both_ways, cond-true, ltb-true}
 use Rattle.std.proofs.lemmas.List.{map-append}
-use Rattle.task_sheet.specs.Sheet.{Task, AllTasks, task_at}
+use Rattle.task_sheet.specs.Sheet.{Task, AllTasks}
 use Rattle.task_sheet.specs.Indexes.{Indexes, IsPart, without_index, listed_below}
-use Rattle.task_sheet.specs.Demand.{demand_of, limit_of}
 use Rattle.task_sheet.specs.Orders.{all_of, Stands, IsFeasible, IsBest}
 use Rattle.task_sheet.specs.Levels.{IsObstruction, IsGreatestObstruction, IsChosen, left_after, AllChosen}
 use Rattle.task_sheet.specs.Verdicts.{FailureData, LevelData, VerdictData, Admitted, Infeasible, tasks_of, order_of, AllFailures, IsLevel, AllLevels, IsVerdictOf}
 use Rattle.task_sheet.proofs.Below.{find_below, sum_below-le-term}
 use Rattle.task_sheet.proofs.IndexLaws.{without-parts, count_below, without-fewer}
-use Rattle.task_sheet.proofs.ResponseLaws.{find_full_chain}
-use Rattle.task_sheet.proofs.PassingLaws.{Passes-iff_response, decide_stands}
+use Rattle.task_sheet.proofs.PassingLaws.{Passes-iff_response, decide_stands, find_reason}
 use Rattle.task_sheet.proofs.ObstructionLaws.{IsObstruction-fails}
 use Rattle.task_sheet.proofs.VerdictLaws.{AllFailures-push, IsVerdictOf-admitted, IsVerdictOf-infeasible}
 
@@ -40,15 +38,15 @@ find_chosen U L (suc n) =
       ]
     ]
 
--- ---- the chains of those that fail
+-- ---- the reasons of those that fail
 abbrev Fails : List Task → Indexes → List ℕ → Type 0
 Fails U L tasks = (fails : List FailureData) × (tasks_of fails ≡ tasks) × AllFailures U L fails
 
 one_more : (U : List Task) (L : Indexes) (tasks : List ℕ) (j : ℕ) → Fails U L tasks → ¬ Stands U j (without_index L j) → Fails U L (tasks ++ j ∷ [])
 one_more U L tasks j before fails =
-    let chain = find_full_chain (demand_of U j (without_index L j)) (limit_of (task_at U j)) fails in
-    let f : FailureData = record { task = j; chain = chain.0 } in
-    (before.0 ++ f ∷ [], map-append (λ (f : FailureData). f.task) before.0 (f ∷ []) ∙ ap (λ ns. ns ++ j ∷ []) before.1, AllFailures-push U L before.0 f before.2 chain.1)
+    let reason = find_reason U j (without_index L j) fails in
+    let f : FailureData = record { task = j; reason = reason.0 } in
+    (before.0 ++ f ∷ [], map-append (λ (f : FailureData). f.task) before.0 (f ∷ []) ∙ ap (λ ns. ns ++ j ∷ []) before.1, AllFailures-push U L before.0 f before.2 reason.1)
 
 fails_below : (U : List Task) (L : Indexes) (n : ℕ) → NoneBelow U L n → Fails U L (listed_below n L)
 unfolding NoneBelow
@@ -75,7 +73,7 @@ module _ (U : List Task) (valid : AllTasks U) where
   unfolding NoneBelow
   fill_level L i lt chosen =
       let H = without_index L i in
-      let found = (Passes-iff_response U valid i H lt).0 chosen.stands in
+      let found = (Passes-iff_response U valid i H lt).0 chosen.stands.0 in
       let fails = fails_below U L i chosen.first in
       (found.0, fails.0, record { response = found.1; lesser = fails.1; fails = fails.2 })
 

@@ -24,11 +24,11 @@ module _ (U : List Task) (set : IsTaskSet U) where
   blocking-fits i H = greatest_below-le (length U) _ 10000000 (λ k lt.
       cond-le (with_index H i k) 0 (longest_reached U (with_index H i) (task_at U k)) 10000000 (omega arith) (longest_reached-fits (with_index H i) k lt))
 
-  pub interference_sum-fits : (H : Indexes) (t : ℕ) → t ≤ 10000000 → sum_below (length U) (term U t H) ≤ 640000000
+  pub interference_sum-fits : (H : Indexes) (t : ℕ) → t ≤ 10000000 → sum_below (length U) (term U t H) ≤ 960000000
   interference_sum-fits H t le =
-      let each = sum_below-fits (length U) 20000000 (term U t H) (λ h lt. cond-le (H h) (interference_of (task_at U h) t) 0 20000000 (interference-fits (task_at U h) t (valid_at U h set lt) le) (omega arith)) in
+      let each = sum_below-fits (length U) 30000000 (term U t H) (λ h lt. cond-le (H h) (interference_of (task_at U h) t) 0 30000000 (interference-fits (task_at U h) t (valid_at U h set lt) le) (omega arith)) in
       omega (arith, each, set.few)
 
-  pub demand-fits : (i : ℕ) (H : Indexes) (t : ℕ) → i < length U → t ≤ 10000000 → demand_of U i H t ≤ 660000000
+  pub demand-fits : (i : ℕ) (H : Indexes) (t : ℕ) → i < length U → t ≤ 10000000 → demand_of U i H t ≤ 980000000
   unfolding demand_of
   demand-fits i H t lt le = omega (arith, cost-fits i lt, blocking-fits i H, interference_sum-fits H t le)

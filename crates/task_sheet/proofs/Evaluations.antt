@@ -5,7 +5,7 @@ use Rattle.task_sheet.specs.Sheet.{Task, AllTasks, no_task, task_at}
 use Rattle.task_sheet.specs.Indexes.{Indexes, sum_below}
 use Rattle.task_sheet.specs.Demand.{demand_of, releases_within, evaluation_bound}
 use Rattle.task_sheet.proofs.Below.{sum_below-le}
-use Rattle.task_sheet.proofs.Releases.{releases-mono, releases-some}
+use Rattle.task_sheet.proofs.Releases.{releases-mono}
 use Rattle.task_sheet.proofs.Exchange.{term}
 use Rattle.task_sheet.proofs.Trails.{IsClimb, AllWithinLimit}
 
@@ -24,9 +24,9 @@ sum_below-rises (suc n) f g p q each =
       ]
     ]
 
--- how often a task of H is released after the first time
+-- how often a task of H is released after the first tick
 abbrev later : List Task → ℕ → Indexes → ℕ → ℕ
-later U t H h = cond (H h) (releases_within (task_at U h) t - 1) 0
+later U t H h = cond (H h) (releases_within (task_at U h) t - releases_within (task_at U h) 1) 0
 
 module _ (U : List Task) (valid : AllTasks U) (i : ℕ) (H : Indexes) where
   later-mono : (t s : ℕ) → t ≤ s → sum_below (length U) (later U t H) ≤ sum_below (length U) (later U s H)
@@ -44,8 +44,8 @@ module _ (U : List Task) (valid : AllTasks U) (i : ℕ) (H : Indexes) where
       let task = valid h no_task lt in
       elim (cases_Bool (H h)) [
         | inl above ↦ rw above (elim (cases_eq (releases_within x t) (releases_within x s)) [
-          | inl e ↦ inr (ap (λ n. n - 1) e, ap (λ n. n * x.cost) e)
-          | inr ne ↦ inl (omega (arith, releases-mono x t s task le, releases-some x t task pos))
+          | inl e ↦ inr (ap (λ n. n - releases_within x 1) e, ap (λ n. n * x.cost) e)
+          | inr ne ↦ inl (omega (arith, releases-mono x t s task le, releases-mono x 1 t task pos))
         ])
         | inr below ↦ rw below (inr (refl, refl))
       ]) in

@@ -6,9 +6,9 @@ use Rattle.task_sheet.specs.Indexes.{Indexes, without_index, among, listed_below
 use Rattle.task_sheet.specs.Orders.{all_of, Stands, IsOrderOf, IsBest, IsFeasible}
 use Rattle.task_sheet.specs.Levels.{IsChosen, AllChosen}
 use Rattle.task_sheet.specs.Verdicts.{FailureData, LevelData, tasks_of, order_of, AllFailures}
-use Rattle.task_sheet.specs.Ready.{AllRefuted, AllReady, IsReadyOrder, IsReadySet}
+use Rattle.task_sheet.specs.Ready.{time_of, AllRefuted, AllReady, IsReadyOrder, IsReadySet}
 use Rattle.task_sheet.proofs.IndexLaws.{listed-has, IsOrderOf-head, IsOrderOf-rest}
-use Rattle.task_sheet.proofs.PassingLaws.{IsChain-refutes}
+use Rattle.task_sheet.proofs.PassingLaws.{Refutes-fails, Refutes-from_reason}
 use Rattle.task_sheet.proofs.LevelLaws.{AllChosen-best, left_after-order}
 use Rattle.task_sheet.proofs.ObstructionLaws.{IsObstruction-fails}
 
@@ -20,7 +20,7 @@ module _ (U : List Task) (valid : AllTasks U) where
       elim (or_cases (f.task == j) (among (tasks_of fails) j) is) [
         | inl here ↦
             let same = eqb-true f.task j here in
-            IsChain-refutes U valid f.task (without_index L f.task) f.chain refuted.0 (subst (λ i. Stands U i (without_index L i)) (sym same) stands)
+            Refutes-fails U valid f.task (without_index L f.task) f.reason refuted.0 (subst (λ i. Stands U i (without_index L i)) (sym same) stands)
         | inr later ↦ AllRefuted-fails L fails j refuted.1 later stands
       ]
 
@@ -36,7 +36,7 @@ module _ (U : List Task) (valid : AllTasks U) where
   AllReady-chosen : (L : Indexes) (levels : List LevelData) → IsOrderOf L (order_of levels) → AllReady U L levels → AllChosen U L (order_of levels)
   AllReady-chosen L [] each ready = tt
   AllReady-chosen L (l ∷ levels) each ready = (
-    IsChosen-from_refuted L l.task l.fails (IsOrderOf-head L l.task (order_of levels) each) (l.response, ready.0.positive, ready.0.within, ready.0.covers) ready.0.lesser ready.0.refuted,
+    IsChosen-from_refuted L l.task l.fails (IsOrderOf-head L l.task (order_of levels) each) ((time_of U l, ready.0.positive, ready.0.within, ready.0.covers), ready.0.unbound) ready.0.lesser ready.0.refuted,
     AllReady-chosen (without_index L l.task) levels (IsOrderOf-rest L l.task (order_of levels) each) ready.1,
   )
 
@@ -56,4 +56,4 @@ module _ (U : List Task) (valid : AllTasks U) where
 
 pub AllRefuted-from_failures : (U : List Task) (L : Indexes) (fails : List FailureData) → AllFailures U L fails → AllRefuted U L fails
 AllRefuted-from_failures U L [] h = tt
-AllRefuted-from_failures U L (f ∷ fails) h = (h.0.chain, AllRefuted-from_failures U L fails h.1)
+AllRefuted-from_failures U L (f ∷ fails) h = (Refutes-from_reason U f.task (without_index L f.task) f.reason h.0, AllRefuted-from_failures U L fails h.1)

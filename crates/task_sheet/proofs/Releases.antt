@@ -1,5 +1,5 @@
 -- How many jobs of a task fall into a window, and what they execute.
-use Rattle.std.proofs.Common.{◌≡◌, ℕ, ◌*◌, ◌/◌, ◌<◌, ◌≤◌, inl, inr, ap, arith}
+use Rattle.std.proofs.Common.{◌≡◌, ℕ, ◌+◌, ◌*◌, ◌/◌, ◌<◌, ◌≤◌, inl, inr, ap, arith}
 use Rattle.std.specs.Int.{div_ceil}
 use Rattle.std.proofs.lemmas.Grind.{common_steps, div_ceil_times}
 use Rattle.std.proofs.lemmas.Bool.{cases_eq}
@@ -13,10 +13,14 @@ le-div_ceil-mul t p pos = grind (arith, common_steps)
 div_ceil-le : (t p m : ℕ) → 0 < p → t ≤ m * p → div_ceil t p ≤ m
 div_ceil-le t p m pos le = grind (arith, common_steps)
 
-div_ceil-mono : (t s p : ℕ) → 0 < p → t ≤ s → div_ceil t p ≤ div_ceil s p
-div_ceil-mono t s p pos le =
-    let far = le-div_ceil-mul s p pos in
-    div_ceil-le t p (div_ceil s p) pos (omega arith)
+pub div_ceil-mono : (t s p : ℕ) → t ≤ s → div_ceil t p ≤ div_ceil s p
+div_ceil-mono t s p le = elim (cases_eq p 0) [
+  | inl e ↦ rw e (omega arith)
+  | inr ne ↦
+      let pos : 0 < p = omega arith in
+      let far = le-div_ceil-mul s p pos in
+      div_ceil-le t p (div_ceil s p) pos (omega arith)
+]
 
 one-le-div_ceil : (t p : ℕ) → 1 ≤ t → 0 < p → 1 ≤ div_ceil t p
 one-le-div_ceil t p pos some =
@@ -27,11 +31,11 @@ one-le-div_ceil t p pos some =
 
 -- ---- the releases
 pub releases-mono : (x : Task) (t s : ℕ) → IsTask x → t ≤ s → releases_within x t ≤ releases_within x s
-releases-mono x t s valid le = div_ceil-mono t s x.period valid.period le
+releases-mono x t s valid le = div_ceil-mono (t + x.jitter) (s + x.jitter) x.period (omega arith)
 
 -- a window of positive length has a release
 pub releases-some : (x : Task) (t : ℕ) → IsTask x → 1 ≤ t → 1 ≤ releases_within x t
-releases-some x t valid pos = one-le-div_ceil t x.period pos valid.period
+releases-some x t valid pos = one-le-div_ceil (t + x.jitter) x.period (omega arith) valid.period
 
 -- ---- what they execute
 pub interference-mono : (x : Task) (t s : ℕ) → IsTask x → t ≤ s → interference_of x t ≤ interference_of x s
@@ -43,8 +47,9 @@ cost-le-interference x t valid pos =
     let more : 1 * x.cost ≤ releases_within x t * x.cost = grind arith in
     omega arith
 
--- within the longest period, under twice that
-pub interference-fits : (x : Task) (t : ℕ) → IsValidSheet x → t ≤ 10000000 → interference_of x t ≤ 20000000
+-- within the longest period, under three times that
+pub interference-fits : (x : Task) (t : ℕ) → IsValidSheet x → t ≤ 10000000 → interference_of x t ≤ 30000000
 interference-fits x t valid le =
     let some : 0 < x.period = omega (arith, valid.period_from) in
-    omega (arith, (div_ceil_times t x.period some).1, mul-le-mul_left (div_ceil t x.period) valid.cost_to, valid.period_to)
+    let jobs = div_ceil (t + x.jitter) x.period in
+    omega (arith, (div_ceil_times (t + x.jitter) x.period some).1, mul-le-mul_left jobs valid.cost_to, valid.period_to, valid.jitter, valid.deadline_to)

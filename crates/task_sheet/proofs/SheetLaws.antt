@@ -3,9 +3,10 @@ use Rattle.std.proofs.Common.{◌≡◌, refl, [], ◌∷◌, Some, None, ℕ, �
 use Rattle.std.proofs.lemmas.List.{drop_more, take_all, length-drop}
 use Rattle.std.specs.List.{list_any}
 use Rattle.std.proofs.lemmas.Bool.Decides.{nat_tests}
-use Rattle.task_sheet.specs.Sheet.{CriticalSection, Task, IsSection, AreSections, IsValidSheet, repeats, same_bytes}
-use Rattle.task_sheet.specs.SheetFault.{section_fault, sections_fault, numbers_fault, list_fault, sheet_fault}
+use Rattle.task_sheet.specs.Sheet.{CriticalSection, Task, IsSection, AreSections, AreOutranked, IsValidSheet, repeats, same_bytes}
+use Rattle.task_sheet.specs.SheetFault.{section_fault, sections_fault, numbers_fault, list_fault, sheet_fault, outranks_fault}
 use Rattle.task_sheet.specs.declared.sheet.SheetCause.{SheetCause}
+use Rattle.task_sheet.specs.declared.sheet.OutranksCause.{OutranksCause}
 
 -- one more name of a list, and whether one of the rest equals it
 
@@ -53,3 +54,13 @@ sheet_valid s h = rw (numbers_valid s h, list_valid s h)
 
 pub never_valid : (s : Task) (c : SheetCause) → sheet_fault s ≡ Some c → IsValidSheet s → ⊥
 never_valid s c h valid = let none = sheet_valid s valid in cc
+
+outranks_valid : (own : List ℕ) (names : List (List ℕ)) → AreOutranked own names → outranks_fault own names ≡ None
+outranks_valid own names h =
+    let few = h.few in
+    let distinct = h.distinct in
+    let others = h.others in
+    grind (arith, nat_tests)
+
+pub never_outranked : (own : List ℕ) (names : List (List ℕ)) (c : OutranksCause) → outranks_fault own names ≡ Some c → AreOutranked own names → ⊥
+never_outranked own names c h valid = let none = outranks_valid own names valid in cc

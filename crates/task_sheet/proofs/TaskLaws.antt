@@ -13,7 +13,7 @@ sections-end from cost (s ∷ ss) h = (h.0.within, sections-end (s.at + s.len) c
 pub IsTask-from_valid : (x : Task) → IsValidSheet x → IsTask x
 IsTask-from_valid x valid = record {
   period = omega (arith, valid.period_from);
-  deadline = valid.deadline_from;
+  jitter = valid.jitter;
   cost = valid.cost_from;
   within = All-from_recursion (λ (s : CriticalSection). s.at + s.len ≤ x.cost) x.sections (sections-end 0 x.cost x.sections valid.sections);
 }

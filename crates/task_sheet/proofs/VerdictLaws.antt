@@ -3,15 +3,13 @@ use Rattle.std.proofs.Common.{◌≡◌, ℕ, ◌<◌, true, false, List, [], �
 use Rattle.std.proofs.lemmas.Bool.{ltb-true}
 use Rattle.task_sheet.specs.Sheet.{Task, AllTasks}
 use Rattle.task_sheet.specs.Indexes.{Indexes, IsPart, without_index, among, listed_below}
-use Rattle.task_sheet.specs.Responses.{IsResponse}
-use Rattle.task_sheet.specs.Demand.{demand_of}
+use Rattle.task_sheet.specs.Demand.{IsResponseOf}
 use Rattle.task_sheet.specs.Orders.{all_of, Stands, IsFeasible, IsOrderOf, AllStand}
 use Rattle.task_sheet.specs.Levels.{AllChosen, left_after, NoneStands, IsGreatestObstruction}
 use Rattle.task_sheet.specs.Verdicts.{FailureData, LevelData, VerdictData, Admitted, Infeasible, tasks_of, order_of, IsFailure, AllFailures, IsLevel, AllLevels, IsBestOrder, IsStuck, IsVerdictOf}
 use Rattle.task_sheet.specs.Ready.{AllReady, IsReadyOrder, IsReadySet}
 use Rattle.task_sheet.proofs.IndexLaws.{same_parts, without-parts, listed-order, listed-among, IsOrderOf-among, IsOrderOf-head, IsOrderOf-rest}
-use Rattle.task_sheet.proofs.ResponseLaws.{IsResponse-one, IsFullChain-one}
-use Rattle.task_sheet.proofs.PassingLaws.{Passes-iff_response}
+use Rattle.task_sheet.proofs.PassingLaws.{IsResponseOf-one, Passes-iff_response, IsReason-one}
 use Rattle.task_sheet.proofs.LevelLaws.{left_after-part, IsBest-one, AllChosen-best}
 use Rattle.task_sheet.proofs.ObstructionLaws.{AllChosen-obstruction, IsObstruction-fails}
 use Rattle.task_sheet.proofs.ReadyLaws.{AllRefuted-fails, AllRefuted-from_failures}
@@ -24,8 +22,8 @@ pub IsStuck-infeasible : (U : List Task) → AllTasks U → (members : List Fail
 IsStuck-infeasible U valid members h = IsObstruction-fails U valid (among (tasks_of members)) h.greatest.obstruction
 
 -- ---- two verdicts are one
-same_failure : (f g : FailureData) → f.task ≡ g.task → f.chain ≡ g.chain → f ≡ g
-same_failure f g task chain = λ i. let h : FailureData = record { task = task i; chain = chain i } in h
+same_failure : (f g : FailureData) → f.task ≡ g.task → f.reason ≡ g.reason → f ≡ g
+same_failure f g task reason = λ i. let h : FailureData = record { task = task i; reason = reason i } in h
 
 same_level : (l m : LevelData) → l.task ≡ m.task → l.response ≡ m.response → l.fails ≡ m.fails → l ≡ m
 same_level l m task response fails = λ i. let h : LevelData = record { task = task i; response = response i; fails = fails i } in h
@@ -40,8 +38,8 @@ AllFailures-one U L [] (g ∷ gs) same h h' = cc
 AllFailures-one U L (f ∷ fs) [] same h h' = cc
 AllFailures-one U L (f ∷ fs) (g ∷ gs) same h h' =
     let heads = same_cons same in
-    let chain = subst (λ i. IsFailure U L (record { task = i; chain = g.chain })) (sym heads.0) h'.0 in
-    let first = same_failure f g heads.0 (IsFullChain-one _ _ f.chain g.chain h.0 chain) in
+    let reason = subst (λ i. IsFailure U L (record { task = i; reason = g.reason })) (sym heads.0) h'.0 in
+    let first = same_failure f g heads.0 (IsReason-one U f.task (without_index L f.task) f.reason g.reason h.0 reason) in
     let rest = AllFailures-one U L fs gs heads.1 h.1 h'.1 in
     λ i. first i ∷ rest i
 
@@ -52,9 +50,9 @@ AllLevels-one U L [] (m ∷ ms) same h h' = cc
 AllLevels-one U L (l ∷ ls) [] same h h' = cc
 AllLevels-one U L (l ∷ ls) (m ∷ ms) same h h' =
     let heads = same_cons same in
-    let response = subst (λ i. IsResponse (demand_of U i (without_index L i)) m.response) (sym heads.0) h'.0.response in
+    let response = subst (λ i. IsResponseOf U i (without_index L i) m.response) (sym heads.0) h'.0.response in
     let fails = AllFailures-one U L l.fails m.fails (h.0.lesser ∙ ap (λ i. listed_below i L) heads.0 ∙ sym h'.0.lesser) h.0.fails h'.0.fails in
-    let first = same_level l m heads.0 (IsResponse-one _ l.response m.response h.0.response response) fails in
+    let first = same_level l m heads.0 (IsResponseOf-one U l.task (without_index L l.task) l.response m.response h.0.response response) fails in
     let rest = AllLevels-one U (without_index L l.task) ls ms heads.1 h.1 (subst (λ i. AllLevels U (without_index L i) ms) (sym heads.0) h'.1) in
     λ i. first i ∷ rest i
 
@@ -82,12 +80,13 @@ AllLevels-ready U valid L (l ∷ levels) part each stand h =
     let rest = IsOrderOf-rest L l.task (order_of levels) each in
     let in_set : l.task < length U = ltb-true _ _ (part l.task member) in
     let stands = subst (λ X. Stands U l.task X) (IsOrderOf-among H (order_of levels) rest) stand.0 in
-    let found = (Passes-iff_response U valid l.task H in_set).0 stands in
-    let same = IsResponse-one (demand_of U l.task H) l.response found.0 h.0.response found.1 in (
+    let found = (Passes-iff_response U valid l.task H in_set).0 stands.0 in
+    let same = IsResponseOf-one U l.task H l.response found.0 h.0.response found.1 in (
       record {
         positive = h.0.response.positive;
         within = omega (arith, same, found.2);
         covers = omega (arith, h.0.response.fixed);
+        unbound = stands.1;
         lesser = h.0.lesser;
         refuted = AllRefuted-from_failures U L l.fails h.0.fails;
       },

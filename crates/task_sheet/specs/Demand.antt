@@ -4,20 +4,24 @@ use Rattle.std.specs.Int.{div_ceil}
 use Rattle.task_sheet.specs.Sheet.{Task, CriticalSection, task_at}
 use Rattle.task_sheet.specs.Indexes.{Indexes, with_index, sum_below, greatest_below, some_below}
 use Rattle.task_sheet.specs.Locks.{reaches}
-use Rattle.task_sheet.specs.Responses.{Covers}
+use Rattle.task_sheet.specs.Responses.{Covers, IsResponse}
 
 -- ---- the words that say what a task releases and how long it may take
--- how many jobs of this period are released within a window of this length
-abbrev pub jobs_within : (period time : ℕ) → ℕ
-jobs_within period time = div_ceil time period
+-- how many jobs of this period and jitter are released at most within a window of this length
+abbrev pub jobs_within : (period jitter time : ℕ) → ℕ
+jobs_within period jitter time = div_ceil (time + jitter) period
 
--- how many jobs of a task are released within the window
+-- how many jobs of a task are released at most within the window
 abbrev pub releases_within : Task → ℕ → ℕ
-releases_within t time = jobs_within t.period time
+releases_within t time = jobs_within t.period t.jitter time
 
--- the longest time that serves a task: its deadline
+-- what a task's jitter leaves of a time from the arrival: a time from the latest release
+abbrev pub past_jitter : Task → ℕ → ℕ
+past_jitter t time = time - t.jitter
+
+-- the longest time that serves a task: what its jitter leaves of the deadline
 abbrev pub limit_of : Task → ℕ
-limit_of t = t.deadline
+limit_of t = past_jitter t t.deadline
 
 -- ---- blocking (Sha, Rajkumar, Lehoczky 1990)
 -- the greatest value of the elements, and 0 of none
@@ -56,6 +60,11 @@ unfoldable pub demand_of : List Task → ℕ → Indexes → ℕ → ℕ
 demand_of U i H time =
     (task_at U i).cost + blocking_of U i H + interference_within U H time
 
+-- the response of task i with the tasks H above it, from the arrival: past its jitter, the least time that is its own
+-- demand
+abbrev pub IsResponseOf : List Task → ℕ → Indexes → ℕ → Type 0
+IsResponseOf U i H r = IsResponse (demand_of U i H) (past_jitter (task_at U i) r)
+
 -- task i passes with the tasks H above it: some time from 1 to its limit covers its demand
 abbrev pub Passes : List Task → ℕ → Indexes → Type 0
 Passes U i H = Covers (demand_of U i H) (limit_of (task_at U i))
@@ -64,6 +73,10 @@ Passes U i H = Covers (demand_of U i H) (limit_of (task_at U i))
 unfoldable pub does_pass : List Task → ℕ → Indexes → Bool
 does_pass U i H = some_below (limit_of (task_at U i) + 1) (λ t. nat_le 1 t && nat_le (demand_of U i H t) t)
 
--- two more than how often the tasks of H are released within the limit after their first releases
+-- two more than how often the tasks of H are released at most within the limit, beyond the releases within the first
+-- tick
 abbrev pub evaluation_bound : List Task → Indexes → ℕ → ℕ
-evaluation_bound U H limit = 2 + sum_below (length U) (λ h. if H h then releases_within (task_at U h) limit - 1 else 0)
+evaluation_bound U H limit =
+    2
+    + sum_below (length U) (λ h.
+    if H h then releases_within (task_at U h) limit - releases_within (task_at U h) 1 else 0)

@@ -1,16 +1,25 @@
 -- Orders of a set's tasks, lowest first (Audsley 1991).
-use Rattle.std.specs.Prelude.{◌≡◌, ℕ, ◌<◌, ◌⊎◌, ◌==◌, List, [], ◌∷◌, length, count_by, if◌then◌else◌}
-use Rattle.task_sheet.specs.Sheet.{Task}
-use Rattle.task_sheet.specs.Indexes.{Indexes, below, among}
+use Rattle.std.specs.Prelude.{◌≡◌, ℕ, ◌<◌, ◌⊎◌, ◌==◌, Bool, ◌&&◌, List, [], ◌∷◌, length, count_by, IsFalse, if◌then◌else◌}
+use Rattle.std.specs.List.{list_any}
+use Rattle.task_sheet.specs.Sheet.{Task, same_bytes, task_at}
+use Rattle.task_sheet.specs.Indexes.{Indexes, below, among, some_below}
 use Rattle.task_sheet.specs.Demand.{Passes}
 
 -- all tasks of a set
 abbrev pub all_of : List Task → Indexes
 all_of U = below (length U)
 
--- task i may stand below the tasks H
+-- task i names task k as one above which it must stand
+abbrev pub must_outrank : List Task → ℕ → ℕ → Bool
+must_outrank U i k = list_any (λ name. same_bytes name (task_at U k).name) (task_at U i).outranks
+
+-- task i is bound in H: it must stand above a task of H
+unfoldable pub is_bound : List Task → ℕ → Indexes → Bool
+is_bound U i H = some_below (length U) (λ k. H k && must_outrank U i k)
+
+-- task i may stand below the tasks H: it passes with them above it, and need not stand above any of them
 abbrev pub Stands : List Task → ℕ → Indexes → Type 0
-Stands U i H = Passes U i H
+Stands U i H = Passes U i H × IsFalse (is_bound U i H)
 
 -- the list names each index of L once, and no other
 abbrev pub IsOrderOf : Indexes → List ℕ → Type 0

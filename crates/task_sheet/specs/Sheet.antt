@@ -18,11 +18,30 @@ pub record Task : Type 0 where
   pub deadline : ℕ
   pub cost : ℕ
   pub sections : List CriticalSection
+  pub jitter : ℕ
+  pub outranks : List (List ℕ)
 
--- the task of these values
+-- the task of these values, without jitter, which names no task above which it must stand
 abbrev pub task_of : (name : List ℕ) (weight period deadline cost : ℕ) (sections : List CriticalSection) → Task
 task_of name weight period deadline cost sections =
-    record { name = name; weight = weight; period = period; deadline = deadline; cost = cost; sections = sections }
+    record {
+      name = name;
+      weight = weight;
+      period = period;
+      deadline = deadline;
+      cost = cost;
+      sections = sections;
+      jitter = 0;
+      outranks = [];
+    }
+
+-- the same task with this jitter
+abbrev pub with_jitter : Task → ℕ → Task
+with_jitter s jitter = record s { jitter = jitter }
+
+-- the same task with these names of tasks above which it must stand
+abbrev pub outranking : Task → List (List ℕ) → Task
+outranking s names = record s { outranks = names }
 
 -- the bytes are the same, as a test
 abbrev pub same_bytes : List ℕ → List ℕ → Bool
@@ -48,6 +67,13 @@ abbrev pub AreSections : ℕ → ℕ → List CriticalSection → Type 0
 AreSections from cost [] = Unit {0}
 AreSections from cost (x ∷ xs) = IsSection from cost x × AreSections (x.at + x.len) cost xs
 
+-- at most 8 distinct names of tasks above which a task must stand, none of them its own
+pub record AreOutranked (own : List ℕ) (names : List (List ℕ)) : Type 0 where
+  pub named : All IsName names
+  pub few : length names ≤ 8
+  pub distinct : repeats names ≡ false
+  pub others : list_any (λ n. same_bytes n own) names ≡ false
+
 -- a valid sheet: its names are names, and its numbers and sections are within the limits
 pub record IsValidSheet (s : Task) : Type 0 where
   pub named : IsName s.name
@@ -60,6 +86,8 @@ pub record IsValidSheet (s : Task) : Type 0 where
   pub cost_to : s.cost ≤ s.period
   pub few : length s.sections ≤ 8
   pub sections : AreSections 0 s.cost s.sections
+  pub jitter : s.jitter < s.deadline
+  pub outranked : AreOutranked s.name s.outranks
 
 -- the two sections say the same
 abbrev pub same_section : CriticalSection → CriticalSection → Bool
@@ -68,7 +96,7 @@ same_section x y = pointwise same_bytes x.locks y.locks && (nat_eq x.at y.at && 
 -- what the laws of the analysis need of a task
 pub record IsTask (t : Task) : Type 0 where
   pub period : 0 < t.period
-  pub deadline : 0 < t.deadline
+  pub jitter : t.jitter < t.deadline
   pub cost : 0 < t.cost
   pub within : All (λ s. s.at + s.len ≤ t.cost) t.sections
 
@@ -78,7 +106,7 @@ AllTasks U = All IsTask U
 
 -- stands past the end of a set
 abbrev pub no_task : Task
-no_task = record { name = []; weight = 0; period = 1; deadline = 0; cost = 0; sections = [] }
+no_task = task_of [] 0 1 0 0 []
 
 -- the task at an index, which is its rank
 abbrev pub task_at : List Task → ℕ → Task
@@ -92,4 +120,6 @@ same_sheet x y =
     && (nat_eq x.period y.period
     && (nat_eq x.deadline y.deadline
     && (nat_eq x.cost y.cost
-    && pointwise same_section x.sections y.sections))))
+    && (nat_eq x.jitter y.jitter
+    && (pointwise same_section x.sections y.sections
+    && pointwise same_bytes x.outranks y.outranks))))))

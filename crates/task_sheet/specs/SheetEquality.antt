@@ -15,7 +15,9 @@ section_equiv = and_equiv (on_equiv (λ s. s.locks) (lists_equiv nat_list_eq_equ
 sheet_equiv : IsEquivalence same_sheet
 sheet_equiv = and_equiv (on_equiv (λ s. s.name) nat_list_eq_equiv) (and_equiv (on_equiv (λ s. s.weight) nat_eq_equiv)
     (and_equiv (on_equiv (λ s. s.period) nat_eq_equiv) (and_equiv (on_equiv (λ s. s.deadline) nat_eq_equiv)
-    (and_equiv (on_equiv (λ s. s.cost) nat_eq_equiv) (on_equiv (λ s. s.sections) (lists_equiv section_equiv))))))
+    (and_equiv (on_equiv (λ s. s.cost) nat_eq_equiv) (and_equiv (on_equiv (λ s. s.jitter) nat_eq_equiv)
+    (and_equiv (on_equiv (λ s. s.sections) (lists_equiv section_equiv))
+    (on_equiv (λ s. s.outranks) (lists_equiv nat_list_eq_equiv))))))))
 
 pub same_section_laws : IsPartialEquivalence same_section
 same_section_laws = partial_equiv_from_equiv section_equiv
@@ -44,13 +46,17 @@ same_sheet-Decides x y = decides same_sheet sheet_equiv x y (λ h.
     let c = and_parts _ _ b.1 in
     let d = and_parts _ _ c.1 in
     let e = and_parts _ _ d.1 in
+    let f = and_parts _ _ e.1 in
+    let g = and_parts _ _ f.1 in
     let name : x.name ≡ y.name = (bytes_eq-Decides x.name y.name).0 a.0 in
     let weight : x.weight ≡ y.weight = (Decides-eqb x.weight y.weight).0 b.0 in
     let period : x.period ≡ y.period = (Decides-eqb x.period y.period).0 c.0 in
     let deadline : x.deadline ≡ y.deadline = (Decides-eqb x.deadline y.deadline).0 d.0 in
     let cost : x.cost ≡ y.cost = (Decides-eqb x.cost y.cost).0 e.0 in
     let sections : x.sections ≡ y.sections =
-    (slice_eq-Decides same_section-Decides x.sections y.sections _ refl).0 e.1 in
+    (slice_eq-Decides same_section-Decides x.sections y.sections _ refl).0 g.0 in
+    let jitter : x.jitter ≡ y.jitter = (Decides-eqb x.jitter y.jitter).0 f.0 in
+    let outranks : x.outranks ≡ y.outranks = (slice_eq-Decides bytes_eq-Decides x.outranks y.outranks _ refl).0 g.1 in
     λ i. record {
       name = name i;
       weight = weight i;
@@ -58,4 +64,6 @@ same_sheet-Decides x y = decides same_sheet sheet_equiv x y (λ h.
       deadline = deadline i;
       cost = cost i;
       sections = sections i;
+      jitter = jitter i;
+      outranks = outranks i;
     })

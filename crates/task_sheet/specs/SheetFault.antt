@@ -1,9 +1,12 @@
 -- Why values are no sheet: the first reason, in the order of the tests.
 use Rattle.std.specs.Prelude.{ℕ, ◌+◌, ◌||◌, nat_lt, ◌==◌, List, [], ◌∷◌, length, Option, Some, None, if◌then◌else◌}
 use Rattle.std.specs.Option.{option_or}
-use Rattle.task_sheet.specs.Sheet.{CriticalSection, Task, repeats}
+use Rattle.std.specs.List.{list_any}
+use Rattle.task_sheet.specs.Sheet.{CriticalSection, Task, repeats, same_bytes}
 use Rattle.task_sheet.specs.declared.sheet.SheetCause.{SheetCause}
 use Rattle.task_sheet.specs.declared.sheet.SheetCause.TheVariants as cause
+use Rattle.task_sheet.specs.declared.sheet.OutranksCause.{OutranksCause}
+use Rattle.task_sheet.specs.declared.sheet.OutranksCause.TheVariants as outranks
 
 -- the first fault of the section at a place, which may begin at `from`
 abbrev pub section_fault : (place from cost : ℕ) → CriticalSection → Option SheetCause
@@ -40,3 +43,11 @@ list_fault cost xs = if nat_lt 8 (length xs) then Some cause.TooManySections els
 -- the first reason why the values are no sheet
 abbrev pub sheet_fault : Task → Option SheetCause
 sheet_fault s = option_or (numbers_fault s.weight s.period s.deadline s.cost) (list_fault s.cost s.sections)
+
+-- the first reason why the task of a name can't be one that must stand above the tasks of these names
+abbrev pub outranks_fault : (own : List ℕ) → List (List ℕ) → Option OutranksCause
+outranks_fault own names =
+    if nat_lt 8 (length names) then Some outranks.TooManyOutranks
+    else if repeats names then Some outranks.OutranksTwice
+    else if list_any (λ n. same_bytes n own) names then Some outranks.OutranksSelf
+    else None

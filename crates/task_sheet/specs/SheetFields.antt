@@ -11,6 +11,8 @@ sheet_of a = record {
   deadline = a.deadline;
   cost = a.cost;
   sections = a.sections.items;
+  jitter = a.jitter;
+  outranks = a.outranks.items;
 }
 
 -- it is a valid sheet

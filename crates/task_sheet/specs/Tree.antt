@@ -17,6 +17,8 @@ word_of key.Period = codes "period"
 word_of key.Deadline = codes "deadline"
 word_of key.Cost = codes "cost"
 word_of key.Section = codes "section"
+word_of key.Jitter = codes "jitter"
+word_of key.Outranks = codes "outranks"
 word_of key.Locks = codes "locks"
 word_of key.At = codes "at"
 word_of key.Len = codes "len"
@@ -27,7 +29,7 @@ root_keys = key.Task ∷ []
 
 -- the keys of a task's table
 abbrev pub task_keys : List Key
-task_keys = key.Name ∷ key.Weight ∷ key.Period ∷ key.Deadline ∷ key.Cost ∷ key.Section ∷ []
+task_keys = key.Name ∷ key.Weight ∷ key.Period ∷ key.Deadline ∷ key.Cost ∷ key.Section ∷ key.Jitter ∷ key.Outranks ∷ []
 
 -- those that it needs
 abbrev pub needed_keys : List Key
@@ -96,6 +98,11 @@ strings_of _ = None
 abbrev pub strings_at : Key → Members → Option (List (List ℕ))
 strings_at k ms = option_and_then strings_of (value_at k ms)
 
+-- an array of strings, which may be absent, and is empty then
+abbrev pub strings_or_none : Option Data → Option (List (List ℕ))
+strings_or_none None = Some []
+strings_or_none (Some d) = strings_of d
+
 -- all of the items are tables
 abbrev pub all_tables : Items → Bool
 all_tables no_items = true
@@ -137,6 +144,8 @@ sheet_at ms = record {
   deadline = unwrap_or (number_at key.Deadline ms) 0;
   cost = unwrap_or (number_at key.Cost ms) 0;
   sections = map section_at (unwrap_or (tables_at key.Section ms) []);
+  jitter = unwrap_or (number_or_zero (value_at key.Jitter ms)) 0;
+  outranks = unwrap_or (strings_or_none (value_at key.Outranks ms)) [];
 }
 
 -- the sheets of a document, in its order
@@ -144,10 +153,12 @@ abbrev pub tree_sheets : Members → List Task
 tree_sheets ms = map sheet_at (unwrap_or (tables_at key.Task ms) [])
 
 -- a task's own values, each of the right kind
-pub record AreFields (ms : Members) (text : List ℕ) (w p d c : ℕ) (tables : List Members) : Type 0 where
+pub record AreFields (ms : Members) (text : List ℕ) (w p d c : ℕ) (tables : List Members) (j : ℕ) (names : List (List ℕ)) : Type 0 where
   pub name : text_at key.Name ms ≡ Some text
   pub weight : number_or_zero (value_at key.Weight ms) ≡ Some w
   pub period : number_at key.Period ms ≡ Some p
   pub deadline : number_at key.Deadline ms ≡ Some d
   pub cost : number_at key.Cost ms ≡ Some c
   pub sections : tables_at key.Section ms ≡ Some tables
+  pub jitter : number_or_zero (value_at key.Jitter ms) ≡ Some j
+  pub outranks : strings_or_none (value_at key.Outranks ms) ≡ Some names

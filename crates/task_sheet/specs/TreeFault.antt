@@ -1,13 +1,13 @@
 -- Why a document's tree is no task set: the first reason, in the order of the tests.
-use Rattle.std.specs.Prelude.{ℕ, ◌+◌, Bool, List, [], ◌∷◌, Option, Some, None, is_some, unwrap_or, option_map, if◌then◌else◌}
+use Rattle.std.specs.Prelude.{ℕ, ◌+◌, nat_lt, Bool, List, [], ◌∷◌, Option, Some, None, is_some, unwrap_or, option_map, if◌then◌else◌}
 use Rattle.std.specs.Option.{option_or}
 use Rattle.std.specs.List.{list_all}
 use Rattle.toml.specs.Data.{Members}
 use Rattle.task_sheet.specs.Name.{is_name}
 use Rattle.task_sheet.specs.Sheet.{CriticalSection, Task}
-use Rattle.task_sheet.specs.SheetFault.{sheet_fault}
+use Rattle.task_sheet.specs.SheetFault.{sheet_fault, outranks_fault}
 use Rattle.task_sheet.specs.SheetsFault.{sheets_fault}
-use Rattle.task_sheet.specs.Tree.{root_keys, task_keys, needed_keys, section_keys, only_keys, first_missing, value_at, number_at, number_or_zero, text_at, strings_at, tables_at, sheet_at, tree_sheets}
+use Rattle.task_sheet.specs.Tree.{root_keys, task_keys, needed_keys, section_keys, only_keys, first_missing, value_at, number_at, number_or_zero, text_at, strings_at, strings_or_none, tables_at, sheet_at, tree_sheets}
 use Rattle.task_sheet.specs.declared.set.SetCause.{SetCause}
 use Rattle.task_sheet.specs.declared.set.SetCause.TheVariants as cause
 use Rattle.task_sheet.specs.declared.keys.Key.{Key}
@@ -50,9 +50,12 @@ abbrev pub bad_section : ℕ → List CriticalSection → Option ℕ
 bad_section place [] = None
 bad_section place (x ∷ xs) = if list_all is_name x.locks then bad_section (place + 1) xs else Some place
 
--- where the first name is no name: 0 for the task's own, else the section's place
+-- where the first name is no name: 0 for the task's own, the section's place for a lock's, and 0 for that of a task
+-- that it must outrank
 abbrev pub bad_name : Task → Option ℕ
-bad_name s = if is_name s.name then bad_section 1 s.sections else Some 0
+bad_name s =
+    if is_name s.name then option_or (bad_section 1 s.sections) (if list_all is_name s.outranks then None else Some 0)
+    else Some 0
 
 -- the kinds of a task's own values
 abbrev pub kinds_fault : ℕ → Members → Option SetFault
@@ -63,9 +66,12 @@ kinds_fault task ms = first (
     ∷ unless (is_some (number_at key.Deadline ms)) (fault.WrongKind task 0 key.Deadline)
     ∷ unless (is_some (number_at key.Cost ms)) (fault.WrongKind task 0 key.Cost)
     ∷ unless (is_some (tables_at key.Section ms)) (fault.WrongKind task 0 key.Section)
+    ∷ unless (is_some (number_or_zero (value_at key.Jitter ms))) (fault.WrongKind task 0 key.Jitter)
+    ∷ unless (is_some (strings_or_none (value_at key.Outranks ms))) (fault.WrongKind task 0 key.Outranks)
     ∷ [])
 
--- a task's keys, the kinds of its values, its sections, its names, and then what `Sheet::new` refuses
+-- a task's keys, the kinds of its values, its sections, its names, and then what `Sheet::new`, `Sheet::jittered` and
+-- `Sheet::outranking` refuse
 abbrev pub task_fault : ℕ → Members → Option SetFault
 task_fault task ms = first (
     keys_fault task 0 task_keys needed_keys ms
@@ -73,6 +79,8 @@ task_fault task ms = first (
     ∷ section_tables_fault task 1 (unwrap_or (tables_at key.Section ms) [])
     ∷ option_map (fault.BadName task) (bad_name (sheet_at ms))
     ∷ option_map (fault.Sheet task) (sheet_fault (sheet_at ms))
+    ∷ unless (nat_lt (sheet_at ms).jitter (sheet_at ms).deadline) (fault.BadJitter task)
+    ∷ option_map (fault.Outranks task) (outranks_fault (sheet_at ms).name (sheet_at ms).outranks)
     ∷ [])
 
 -- the first fault of tasks, of which the first stands at a place

@@ -22,6 +22,10 @@ pub enum Key {
     Cost,
     /// `section` of a task: an array of tables, none where it is absent.
     Section,
+    /// `jitter` of a task: a number of microseconds, 0 where it is absent.
+    Jitter,
+    /// `outranks` of a task: an array of strings, none where it is absent.
+    Outranks,
     /// `locks` of a section: an array of strings.
     Locks,
     /// `at` of a section: a number of microseconds.
@@ -43,6 +47,8 @@ impl Key {
             Key::Deadline => "deadline",
             Key::Cost => "cost",
             Key::Section => "section",
+            Key::Jitter => "jitter",
+            Key::Outranks => "outranks",
             Key::Locks => "locks",
             Key::At => "at",
             Key::Len => "len",
@@ -52,13 +58,15 @@ impl Key {
 
 pub(crate) const ROOT_KEYS: [Key; 1] = [Key::Task];
 
-pub(crate) const TASK_KEYS: [Key; 6] = [
+pub(crate) const TASK_KEYS: [Key; 8] = [
     Key::Name,
     Key::Weight,
     Key::Period,
     Key::Deadline,
     Key::Cost,
     Key::Section,
+    Key::Jitter,
+    Key::Outranks,
 ];
 
 pub(crate) const NEEDED_KEYS: [Key; 4] = [Key::Name, Key::Period, Key::Deadline, Key::Cost];

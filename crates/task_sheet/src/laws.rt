@@ -1,16 +1,18 @@
 //! Laws of the analysis. Each is the clause of a function that does nothing, and its names are defined in `specs/`.
 
 ghost use Rattle.std.specs.Prelude.{◌≡◌, ◌≤◌, ◌<◌, ◌+◌, ◌↔◌, ◌⊎◌, ℕ, List, length, Some, None, IsTrue, IsFalse};
+ghost use Rattle.std.specs.Int.{div_ceil};
 ghost use Rattle.task_sheet.specs.Sheet.{Task, CriticalSection, AllTasks, task_at};
 ghost use Rattle.std.specs.List.Sorted.{IsPermutation};
 ghost use Rattle.task_sheet.specs.TaskSet.{IsTaskSet, IsByRank};
 ghost use Rattle.task_sheet.specs.Indexes.{Indexes, IsPart, with_index, either_of, listed_below};
 ghost use Rattle.task_sheet.specs.Locks.{uses, ceiling_of, IsHighestUser};
 ghost use Rattle.task_sheet.specs.Responses.{IsResponse, IsChain, IsFullChain};
-ghost use Rattle.task_sheet.specs.Demand.{limit_of, blocking_of, Blocks, demand_of, Passes, does_pass};
-ghost use Rattle.task_sheet.specs.Orders.{all_of, IsOrder, IsFeasible, IsBest};
+ghost use Rattle.task_sheet.specs.Demand.{releases_within, limit_of, blocking_of, Blocks, demand_of, IsResponseOf, Passes, does_pass};
+ghost use Rattle.task_sheet.specs.Orders.{all_of, is_bound, Stands, IsOrder, IsFeasible, IsBest};
 ghost use Rattle.task_sheet.specs.Levels.{NoneStands, IsObstruction, IsGreatestObstruction, left_after, AllChosen};
-ghost use Rattle.task_sheet.specs.Verdicts.{FailureData, LevelData, VerdictData, Admitted, Infeasible, tasks_of, order_of, AllFailures, AllLevels, IsVerdictOf};
+ghost use Rattle.task_sheet.specs.Choices.{does_stand};
+ghost use Rattle.task_sheet.specs.Verdicts.{ReasonData, IsReason, FailureData, LevelData, VerdictData, Admitted, Infeasible, tasks_of, order_of, AllFailures, AllLevels, IsVerdictOf};
 ghost use Rattle.task_sheet.specs.Ready.{IsReadyOrder, IsReadySet};
 
 /// A valid set meets the premise of the laws.
@@ -59,11 +61,24 @@ pub fn demand_fits()
         → demand_of U i H t < 1000000000 }
 {}
 
-/// A task passes exactly where it has a response within its limit (Audsley et al. 1993).
+/// A task passes exactly where it has a response within its deadline: the least positive time that is its own demand,
+/// plus its jitter (Audsley et al. 1993).
 pub fn response_is_least()
-    ensures { (U : List Task) (i : ℕ) (H : Indexes) → AllTasks U → i < length U
+    ensures passes { (U : List Task) (i : ℕ) (H : Indexes) → AllTasks U → i < length U
         → Passes U i H
-        ↔ ((r : ℕ) × IsResponse (demand_of U i H) r × (r ≤ limit_of (task_at U i))) }
+        ↔ ((r : ℕ) × IsResponseOf U i H r × (r ≤ (task_at U i).deadline)) }
+    ensures jitter { (U : List Task) (i : ℕ) (H : Indexes) (r : ℕ)
+        → IsResponseOf U i H r
+        ↔ ((t : ℕ) × IsResponse (demand_of U i H) t × (r ≡ t + (task_at U i).jitter)) }
+{}
+
+/// Without jitter the words of the analysis are the plain ones: a task is released once a period at most, its limit is
+/// its deadline, and its response is the least positive time that is its own demand (Joseph, Pandya 1986).
+pub fn no_jitter_is_plain()
+    ensures releases { (t : Task) (time : ℕ) → t.jitter ≡ 0 → releases_within t time ≡ div_ceil time t.period }
+    ensures limit { (t : Task) → t.jitter ≡ 0 → limit_of t ≡ t.deadline }
+    ensures response { (U : List Task) (i : ℕ) (H : Indexes) (r : ℕ) → (task_at U i).jitter ≡ 0
+        → IsResponseOf U i H r ↔ IsResponse (demand_of U i H) r }
 {}
 
 /// The test says whether a task passes.
@@ -89,6 +104,26 @@ pub fn full_chain_shows()
 pub fn full_chain_is_one()
     ensures { (W : ℕ → ℕ) (limit : ℕ) (first second : List ℕ) → IsFullChain W limit first → IsFullChain W limit second
         → first ≡ second }
+{}
+
+/// A task that is unbound in some tasks is unbound in each part of them; so it may stand below fewer.
+pub fn fewer_bind_less()
+    ensures unbound { (U : List Task) (i : ℕ) (H G : Indexes) → IsPart H G → IsFalse (is_bound U i G)
+        → IsFalse (is_bound U i H) }
+    ensures stands { (U : List Task) (i : ℕ) (H G : Indexes) → AllTasks U → IsPart H G → Stands U i G → Stands U i H }
+{}
+
+/// The test says whether a task may stand.
+pub fn standing_is_decided()
+    ensures { (U : List Task) (i : ℕ) (H : Indexes) → IsTrue (does_stand U i H) ↔ Stands U i H }
+{}
+
+/// A task may not stand exactly where it has a reason, and it has one reason at most.
+pub fn reason_shows()
+    ensures exactly { (U : List Task) (i : ℕ) (H : Indexes) → AllTasks U
+        → (¬ Stands U i H) ↔ ((reason : ReasonData) × IsReason U i H reason) }
+    ensures one { (U : List Task) (i : ℕ) (H : Indexes) (first second : ReasonData)
+        → IsReason U i H first → IsReason U i H second → first ≡ second }
 {}
 
 /// Where there is an obstruction, no order passes.

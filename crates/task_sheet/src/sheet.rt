@@ -2,8 +2,9 @@
 ghost use Rattle.std.specs.Prelude.{◌≡◌, ◌↔◌, ℕ, ◌+◌, ◌<◌, ◌≤◌, length, All, IsTrue, Some, None, IfNone, IfOk, IfErr, OnOk, OnErr};
 ghost use Rattle.std.specs.Bool.{OnFalse};
 ghost use Rattle.task_sheet.specs.Name.{IsName};
-ghost use Rattle.task_sheet.specs.Sheet.{CriticalSection, Task, IsSection, AreSections, IsValidSheet, task_of, repeats, same_section, same_sheet};
-ghost use Rattle.task_sheet.specs.SheetFault.{section_fault, list_fault, numbers_fault, sheet_fault};
+ghost use Rattle.task_sheet.specs.Sheet.{CriticalSection, Task, IsSection, AreSections, AreOutranked, IsValidSheet, task_of, with_jitter, outranking, repeats, same_section, same_sheet};
+ghost use Rattle.task_sheet.specs.Demand.{limit_of};
+ghost use Rattle.task_sheet.specs.SheetFault.{section_fault, list_fault, numbers_fault, sheet_fault, outranks_fault};
 
 use crate::name::Name;
 use std::alloc::{AllocError, Global};
@@ -24,6 +25,9 @@ const SECTION_LIMIT: usize = 8;
 
 // The most locks of a section.
 const LOCK_LIMIT: usize = 4;
+
+// The most tasks above which a task must stand.
+const OUTRANKS_LIMIT: usize = 8;
 
 /// Why values are no sheet. A section is named by its place, from 1.
 #[derive(Clone, Copy, Debug, PartialEq, Eq, Error)]
@@ -79,6 +83,40 @@ pub struct SheetFault {
     pub sections: Vec<Section>,
 }
 
+/// The jitter isn't below the deadline. The sheet is handed back.
+#[derive(Debug, Drop, Error)]
+#[error("the jitter is not below the deadline")]
+pub struct BadJitter {
+    /// The sheet as it was given.
+    pub sheet: Sheet,
+}
+
+/// Why a task can't be one that must stand above the tasks of these names.
+#[derive(Clone, Copy, Debug, PartialEq, Eq, Error)]
+pub enum OutranksCause {
+    /// There are more than 8 names.
+    #[error("it must stand above more than 8 tasks")]
+    TooManyOutranks,
+    /// A name stands twice.
+    #[error("it must stand above a task twice")]
+    OutranksTwice,
+    /// A name is the task's own.
+    #[error("it must stand above itself")]
+    OutranksSelf,
+}
+
+/// The task can't be one that must stand above the tasks of these names. The sheet and the names are handed back.
+#[derive(Debug, Drop, Error)]
+#[error("{cause}")]
+pub struct OutranksFault {
+    /// The first reason, in the order that `Sheet::outranking` gives.
+    pub cause: OutranksCause,
+    /// The sheet as it was.
+    pub sheet: Sheet,
+    /// The names as they were given.
+    pub outranks: Vec<Name>,
+}
+
 /// A critical section: a job takes the locks when it has executed `at` microseconds and executes on, and gives them
 /// back when it has executed `at + len`. A nested section is written as one section that holds all its locks for its
 /// whole length (Sha, Rajkumar, Lehoczky 1990; `PTHREAD_PRIO_PROTECT` of POSIX.1-2017).
@@ -124,6 +162,8 @@ pub struct Sheet {
     deadline: u64,
     cost: u64,
     sections: Vec<Section>,
+    jitter: u64,
+    outranks: Vec<Name>,
 }
 
 impl Model for Sheet {
@@ -207,6 +247,23 @@ fn list_fault(sections: &[Section], cost: u64) -> Option<SheetCause>
     None
 }
 
+// The first reason why the task of a name can't be one that must stand above the tasks of these names.
+fn outranks_fault(own: &Name, names: &[Name]) -> Option<OutranksCause>
+    ensures fault { result ≡ outranks_fault own.now names.now }
+    ensures valid { IfNone result (AreOutranked own.now names.now) }
+{
+    if names.len() > OUTRANKS_LIMIT {
+        return Some(OutranksCause::TooManyOutranks);
+    }
+    if has_repeat(names) {
+        return Some(OutranksCause::OutranksTwice);
+    }
+    if own.is_among(names) {
+        return Some(OutranksCause::OutranksSelf);
+    }
+    None
+}
+
 // The first fault of the numbers.
 fn numbers_fault(weight: u64, period: u64, deadline: u64, cost: u64) -> Option<SheetCause>
     ensures { result ≡ numbers_fault weight period deadline cost }
@@ -257,6 +314,7 @@ impl Sheet {
         if let Some(cause) = list_fault(&sections, cost) {
             return Err(SheetFault { cause, sections });
         }
+        let outranks = Vec::new(*sections.allocator());
         Ok(Sheet {
             name,
             weight,
@@ -264,7 +322,44 @@ impl Sheet {
             deadline,
             cost,
             sections,
+            jitter: 0,
+            outranks,
         })
+    }
+
+    /// The same sheet with this release jitter, in microseconds: a job becomes ready up to that long after its
+    /// arrival (Audsley et al. 1993). Refused where it isn't below the deadline.
+    pub fn jittered(self, jitter: u64) -> Result<Sheet, BadJitter>
+        ensures ok { IfOk result (λ s. (s ≡ with_jitter self jitter) × (jitter < self.deadline)) }
+        ensures err { IfErr result (λ e. (e.sheet ≡ self) × (self.deadline ≤ jitter)) }
+    {
+        if jitter >= self.deadline {
+            return Err(BadJitter { sheet: self });
+        }
+        let mut sheet = self;
+        sheet.jitter = jitter;
+        Ok(sheet)
+    }
+
+    /// The sheet of a task that must stand above the tasks of these names, which take the place of those that it had. A
+    /// name that no task of a set has binds nothing there. Refused in this order: `TooManyOutranks`, `OutranksTwice`,
+    /// `OutranksSelf`.
+    pub fn outranking(mut self, names: Vec<Name>) -> Result<Sheet, OutranksFault>
+        ensures ok { IfOk result (λ s. s ≡ outranking self names.items) }
+        ensures none { OnOk result (outranks_fault self.name names.items ≡ None) }
+        ensures err { IfErr result (λ e. outranks_fault self.name names.items ≡ Some e.cause) }
+        ensures refused { OnErr result (¬ IsValidSheet (outranking self names.items)) }
+        ensures back { IfErr result (λ e. (e.sheet ≡ self) × (e.outranks.items ≡ names.items)) }
+    {
+        if let Some(cause) = outranks_fault(&self.name, &names) {
+            return Err(OutranksFault {
+                cause,
+                sheet: self,
+                outranks: names,
+            });
+        }
+        self.outranks = names;
+        Ok(self)
     }
 
     /// The task's name.
@@ -283,14 +378,14 @@ impl Sheet {
         self.weight
     }
 
-    /// The least time between two releases, in microseconds: from 1,000 to 10,000,000.
+    /// The least time between two arrivals, in microseconds: from 1,000 to 10,000,000.
     pub fn period(&self) -> u64
         ensures { result ≡ self.now.period }
     {
         self.period
     }
 
-    /// How long after its release a job has to be done, in microseconds: at most the period.
+    /// How long after its arrival a job has to be done, in microseconds: at most the period.
     pub fn deadline(&self) -> u64
         ensures { result ≡ self.now.deadline }
     {
@@ -312,11 +407,34 @@ impl Sheet {
         &self.sections
     }
 
+    /// How long after its arrival a job becomes ready at most, in microseconds: below the deadline.
+    pub fn jitter(&self) -> u64
+        ensures { result ≡ self.now.jitter }
+    {
+        self.jitter
+    }
+
+    /// What the jitter leaves of the deadline, in microseconds: the longest time from a release that serves a job.
+    pub fn limit(&self) -> u64
+        ensures same { result ≡ limit_of self.now }
+        ensures some { 0 < result }
+    {
+        self.deadline - self.jitter
+    }
+
+    /// The names of the tasks above which the task must stand: at most 8, distinct, and none its own.
+    pub fn outranks(&self) -> &[Name]
+        ensures { result.now ≡ self.now.outranks }
+    {
+        &self.outranks
+    }
+
     /// A sheet that says the same.
     pub fn copy(&self, alloc: Global) -> Result<Sheet, AllocError>
         ensures { IfOk result (λ s. s ≡ self.now) }
     {
         let sections = copy_sections(alloc, &self.sections)?;
+        let outranks = Vec::from_slice(alloc, &self.outranks)?;
         Ok(Sheet {
             name: self.name,
             weight: self.weight,
@@ -324,6 +442,8 @@ impl Sheet {
             deadline: self.deadline,
             cost: self.cost,
             sections,
+            jitter: self.jitter,
+            outranks,
         })
     }
 }
@@ -363,6 +483,8 @@ impl PartialEq for Sheet {
             && self.period == other.period
             && self.deadline == other.deadline
             && self.cost == other.cost
+            && self.jitter == other.jitter
             && self.sections.as_slice() == other.sections.as_slice()
+            && self.outranks.as_slice() == other.outranks.as_slice()
     }
 }

@@ -1,7 +1,7 @@
 //! The values at a table's keys, where they are of the right kind.
 ghost use Rattle.std.specs.Prelude.{◌≡◌, None, Some, true, MatchOption, option_map};
 ghost use Rattle.toml.specs.View.{view, table_view, items_view};
-ghost use Rattle.task_sheet.specs.Tree.{value_at, number_of, number_at, number_or_zero, text_at, all_strings, strings_in, strings_at, all_tables, tables_in, tables_at};
+ghost use Rattle.task_sheet.specs.Tree.{value_at, number_of, number_at, number_or_zero, text_at, all_strings, strings_in, strings_of, strings_at, strings_or_none, all_tables, tables_in, tables_at};
 
 use crate::keys::{Key, value_at};
 use toml::{Table, Value};
@@ -70,15 +70,35 @@ fn are_tables(items: &[Value]) -> bool
     true
 }
 
+// An array of strings.
+fn strings_of<'a>(value: &'a Value) -> Option<&'a [Value]>
+    ensures { MatchOption result (strings_of (view value.now) ≡ None)
+        (λ s. (all_strings (items_view s.now) ≡ true)
+        × (strings_of (view value.now) ≡ Some (strings_in (items_view s.now)))) }
+{
+    match value.as_array() {
+        Some(items) if are_strings(items) => Some(items),
+        _ => None,
+    }
+}
+
 // The array of strings at a key.
 pub(crate) fn strings_at<'a>(key: Key, table: &'a Table) -> Option<&'a [Value]>
     ensures { MatchOption result (strings_at key (table_view table.now) ≡ None)
         (λ s. (all_strings (items_view s.now) ≡ true)
         × (strings_at key (table_view table.now) ≡ Some (strings_in (items_view s.now)))) }
 {
-    match value_at(key, table)?.as_array() {
-        Some(items) if are_strings(items) => Some(items),
-        _ => None,
+    strings_of(value_at(key, table)?)
+}
+
+// The array of strings at a key, which is empty where it is absent.
+pub(crate) fn strings_or_none<'a>(key: Key, table: &'a Table) -> Option<&'a [Value]>
+    ensures { MatchOption result (strings_or_none (value_at key (table_view table.now)) ≡ None)
+        (λ s. strings_or_none (value_at key (table_view table.now)) ≡ Some (strings_in (items_view s.now))) }
+{
+    match value_at(key, table) {
+        Some(value) => strings_of(value),
+        None => Some(&[]),
     }
 }
 

@@ -2,8 +2,8 @@ use Rattle.std.proofs.Common.{◌+◌, ◌∙◌, drop, sym, refl, append_assoc}
 use Rattle.toml.specs.View.{items_view}
 use Rattle.task_sheet.specs.Tree.{strings_in}
 use Rattle.task_sheet.proofs.TreeLaws.{strings_more, strings_same, named_more, named_fails}
-use Rattle.task_sheet.proofs.read.read_locks.Goals as goal
-use Rattle.task_sheet.proofs.read.read_locks.Goals.{in-Some+in-Ok+in_ok-push-in-Ok, in_default}
+use Rattle.task_sheet.proofs.read.read_names.Goals as goal
+use Rattle.task_sheet.proofs.read.read_names.Goals.{in-Some+in-Ok+in_ok-push-in-Ok, in_default}
 
 pub loop-item-preserved : goal.loop-item-preserved
 loop-item-preserved c = elim c.match-as_str.branch [
@@ -14,13 +14,13 @@ loop-item-preserved c = elim c.match-as_str.branch [
       let rest = strings_more c.args.items.now c.loop-item.item-index c.item-item.result text c.loop-item-test.true c.item-item.is w.in-Some.ensures in
       record {
         named = sym (named_more text left named) ∙ (rw rest at c.loop-item.invariant.named);
-        read = rw (w.locks-is, w.in_ok-push-in-Ok.ensures.items, w.in-Ok.ensures.same, w.as_bytes.ensures.value, append_assoc) (rw rest at c.loop-item.invariant.read);
+        read = rw (w.names-is, w.in_ok-push-in-Ok.ensures.items, w.in-Ok.ensures.same, w.as_bytes.ensures.value, append_assoc) (rw rest at c.loop-item.invariant.read);
       }
   | in_default w ↦
       let rest = strings_same c.args.items.now c.loop-item.item-index c.item-item.result c.loop-item-test.true c.item-item.is w.in_default.ensures in
       record {
         named = rw rest at c.loop-item.invariant.named;
-        read = rw w.locks-is (rw rest at c.loop-item.invariant.read);
+        read = rw w.names-is (rw rest at c.loop-item.invariant.read);
       }
 ]
 
