@@ -3,3 +3,4 @@ pub mod WholeTable
 pub mod Highest
 pub mod Reached
 pub mod HoldLaws
+pub mod OutrankedLaws

@@ -17,10 +17,11 @@ pub record TaskHoldsData : Type 0 where
   pub task : ℕ
   pub holds : List HoldData
 
--- the users of each lock, and the holds of each task
+-- the users of each lock, the holds of each task, and the tasks above which each task must stand
 pub record TableData : Type 0 where
   pub users : Table
   pub holds : List TaskHoldsData
+  pub outranked : List (set.FinSet nat_cmp)
 
 -- some member uses the lock
 abbrev pub is_reached : set.FinSet nat_cmp → HoldData → Bool

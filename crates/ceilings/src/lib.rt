@@ -6,25 +6,29 @@ ghost use Rattle.std.specs.Prelude.{◌≡◌, ◌<◌, ◌≤◌, ℕ, List, le
 ghost use Rattle.task_sheet.specs.Sheet.{Task, same_bytes, task_at};
 ghost use Rattle.task_sheet.specs.Indexes.{indexes_of};
 ghost use Rattle.task_sheet.specs.Locks.{uses, reaches, ceiling_of};
+ghost use Rattle.task_sheet.specs.Orders.{must_outrank};
 ghost use Rattle.ceilings.specs.Table.{locks_in, users_in, some_uses};
 ghost use Rattle.ceilings.specs.Holds.{longest_outside};
 ghost use Rattle.ceilings.specs.IsTableOf.{IsTableOf, locks_of};
 
 mod holds;
+mod outranked;
 mod users;
 
 use crate::holds::{TaskHolds, holds_of, longest_held};
+use crate::outranked::outranked_of;
 use crate::users::LockUsers;
 use std::alloc::{AllocError, Global};
 use std::marker::Model;
-use task_sheet::{Members, Name, Section, TaskSet};
+use task_sheet::{Members, Name, Section, TASK_LIMIT, TaskSet};
 
-/// Each lock of a set, in the order of first sight, with the tasks that use it; and what the sections of each task
-/// hold. It is made once a set, and lent to each question.
+/// What the names of a set come to: each lock, in the order of first sight, with the tasks that use it; what the sections
+/// of each task hold; and the tasks above which each task must stand. It is made once a set, and lent to each question.
 #[derive(Drop)]
 pub struct LockTable {
     users: LockUsers,
     holds: Vec<TaskHolds>,
+    outranked: [Members; TASK_LIMIT],
 }
 
 impl Model for LockTable {
@@ -36,7 +40,7 @@ impl Model for LockTable {
 
     ghost coded = { Prim.hlevel (codes, members.the_row.coded) };
 
-    ghost view = { λ t. record { users = t.users; holds = t.holds.items } };
+    ghost view = { λ t. record { users = t.users; holds = t.holds.items; outranked = t.outranked } };
 }
 
 impl LockTable {
@@ -46,7 +50,12 @@ impl LockTable {
     {
         let users = LockUsers::new(alloc, set)?;
         let holds = holds_of(alloc, set, &users)?;
-        Ok(LockTable { users, holds })
+        let outranked = outranked_of(set);
+        Ok(LockTable {
+            users,
+            holds,
+            outranked,
+        })
     }
 
     /// The tasks that use a lock: none for a lock that nobody names.
@@ -95,6 +104,15 @@ impl LockTable {
         ensures { (U : List Task) → IsTableOf U self.now → result ≡ longest_outside U (indexes_of members) }
     {
         longest_held(&self.holds, members)
+    }
+
+    /// The tasks of the set above which the task at an index must stand.
+    pub fn outranked(&self, task: usize) -> Members
+        requires { task < 32 }
+        ensures { (U : List Task) → IsTableOf U self.now → task < length U → (k : ℕ) → k < length U
+            → indexes_of result k ≡ must_outrank U task k }
+    {
+        self.outranked[task]
     }
 
     /// The ceiling of a lock where the tasks stand in this order, lowest first: the level, from 1, of its highest user;

@@ -9,11 +9,11 @@ use Rattle.std.specs.Int.{div_ceil}
 use Rattle.response_time.specs.Workload.{ShareData, share_within}
 
 -- what a share takes of each window at least, in parts of the whole
-pub parts-le : (cost period time whole : ℕ) → 0 < period → time * (cost * whole / period) ≤ whole * (div_ceil time period * cost)
-parts-le cost period time whole pos =
-    let n = div_ceil time period in
+pub parts-le : (cost period jitter time whole : ℕ) → 0 < period → time * (cost * whole / period) ≤ whole * (div_ceil (time + jitter) period * cost)
+parts-le cost period jitter time whole pos =
+    let n = div_ceil (time + jitter) period in
     let q = cost * whole / period in
-    let up : time ≤ n * period = (div_ceil_times time period pos).0 in
+    let up : time ≤ n * period = omega (arith, (div_ceil_times (time + jitter) period pos).0) in
     let down : q * period ≤ cost * whole = div-mul-le_self (cost * whole) period in
     let one : time * q ≤ n * period * q = mul-le-mul_right q up in
     let two : n * (q * period) ≤ n * (cost * whole) = mul-le-mul_left n down in
@@ -32,7 +32,8 @@ positive_count n period time up some = elim (cases_lt 0 n) [
 
 pub once-le : (s : ShareData) (time : ℕ) → 0 < s.period → 1 ≤ time → s.cost ≤ share_within time s
 once-le s time pos some =
-    let one = positive_count (div_ceil time s.period) s.period time (div_ceil_times time s.period pos).0 some in
+    let up : time ≤ div_ceil (time + s.jitter) s.period * s.period = omega (arith, (div_ceil_times (time + s.jitter) s.period pos).0) in
+    let one = positive_count (div_ceil (time + s.jitter) s.period) s.period time up some in
     omega (arith, mul-le-mul_right s.cost one)
 
 -- one share more

@@ -1,2 +1,3 @@
 pub mod Shares
 pub mod LeastWindows
+pub mod FirstCovers

@@ -7,15 +7,17 @@ use Rattle.std.proofs.lemmas.List.Edits.{map_over_more}
 use Rattle.std.proofs.lemmas.List.Elements.{All-map}
 use Rattle.std.proofs.lemmas.List.Sums.{sum_by-cons, sum_by_push}
 use Rattle.std.proofs.lemmas.Grind.{div_ceil_times}
-use Rattle.std.proofs.Math.Nat.{mul-le-mul_left, mul-le-mul_right, zero-div}
+use Rattle.std.proofs.Math.Nat.{mul-le-mul_left, mul-le-mul_right}
 use Rattle.std.specs.Int.{div_ceil}
 use Rattle.std.specs.List.{All}
-use Rattle.task_sheet.specs.Demand.{jobs_within}
-use Rattle.response_time.specs.Workload.{ShareData, WorkloadData, IsCountedTo, IsCarried, share_within, further_work, counted_to}
+use Rattle.response_time.specs.Workload.{ShareData, WorkloadData, IsShare, IsCountedTo, IsCarried, share_within, further_work, counted_to}
 
--- within the longest period, at most twice that
-pub share-fits : (s : ShareData) (time : ℕ) → 0 < s.period → s.cost ≤ s.period → s.period ≤ 10000000 → time ≤ 10000000 → share_within time s ≤ 20000000
-share-fits s time some within short le = omega (arith, (div_ceil_times time s.period some).1, mul-le-mul_left (div_ceil time s.period) within, short)
+-- within twice the longest period, at most three times that
+pub jobs-fit : (period cost time : ℕ) → 0 < period → cost ≤ period → period ≤ 10000000 → time ≤ 20000000 → div_ceil time period * cost ≤ 30000000
+jobs-fit period cost time some within short le = omega (arith, (div_ceil_times time period some).1, mul-le-mul_left (div_ceil time period) within, short)
+
+pub share-fits : (s : ShareData) (time : ℕ) → 0 < s.period → s.cost ≤ s.period → s.period ≤ 10000000 → s.jitter ≤ s.period → time ≤ 10000000 → share_within time s ≤ 30000000
+share-fits s time some within short late le = jobs-fit s.period s.cost (time + s.jitter) some within short (omega arith)
 
 -- one share more
 pub share_added : (time : ℕ) (shares : List ShareData) (i : ℕ) (s : ShareData) → i < length shares
@@ -39,12 +41,8 @@ none_left k p lt = elim (cases_lt 0 k) [
   | inr none ↦ let all : k * p ≤ 0 * p = mul-le-mul_right p none in omega arith
 ]
 
--- in a window of no length no job is released
-pub no_jobs : (p : ℕ) → 0 < p → jobs_within p 0 ≡ 0
-no_jobs p pos = rw (zero-div p) (omega arith)
-
 -- the jobs within the first window, and those that are released after it
-further : (p before time : ℕ) → 0 < p → before ≤ time → jobs_within p before + jobs_within p (time - jobs_within p before * p) ≡ jobs_within p time
+further : (p before time : ℕ) → 0 < p → before ≤ time → div_ceil before p + div_ceil (time - div_ceil before p * p) p ≡ div_ceil time p
 further p before time pos le =
     let n = div_ceil before p in
     let k = div_ceil (time - n * p) p in
@@ -62,12 +60,13 @@ module _ (before time : ℕ) (le : before ≤ time) where
   IsCountedTo-further s h = record {
     some = h.some;
     short = h.short;
+    late = h.late;
     within = h.within;
-    all = rw (h.all, ← further s.period before time h.some le) (omega arith);
+    all = rw (h.all, ← further s.period (before + s.jitter) (time + s.jitter) h.some (omega arith)) (omega arith);
   }
 
   pub share_within-further : (s : ShareData) → IsCountedTo before s → share_within before s + further_work time s ≡ share_within time s
-  share_within-further s h = rw (h.all, ← further s.period before time h.some le) (omega arith)
+  share_within-further s h = rw (h.all, ← further s.period (before + s.jitter) (time + s.jitter) h.some (omega arith)) (omega arith)
 
   pub sum-further : (shares : List ShareData) → All (IsCountedTo before) shares
       → sum_by (share_within before) shares + sum_by (further_work time) shares ≡ sum_by (share_within time) shares
@@ -83,21 +82,30 @@ sum-counted t time [] = refl
 sum-counted t time (s ∷ shares) =
     rw (sum_by-cons (share_within t) (counted_to time s) (map (counted_to time) shares), sum_by-cons (share_within t) s shares) (ap (λ n. share_within t s + n) (sum-counted t time shares))
 
-pub sum-fits : (before time : ℕ) (shares : List ShareData) → time ≤ 10000000 → All (IsCountedTo before) shares → sum_by (share_within time) shares ≤ length shares * 20000000
+pub sum-fits : (before time : ℕ) (shares : List ShareData) → time ≤ 10000000 → All (IsCountedTo before) shares → sum_by (share_within time) shares ≤ length shares * 30000000
 sum-fits before time [] le h = omega arith
 sum-fits before time (s ∷ shares) le h =
     let first = h 0 s (omega arith) in
-    let here = share-fits s time first.some first.within first.short le in
+    let here = share-fits s time first.some first.within first.short first.late le in
     let rest = sum-fits before time shares le (λ k d lt. h (suc k) d (omega arith)) in
     rw (sum_by-cons (share_within time) s shares) (omega arith)
 
--- before any job is released the shares take nothing
-pub sum-none : (shares : List ShareData) → All (IsCountedTo 0) shares → sum_by (share_within 0) shares ≡ 0
-sum-none [] h = refl
-sum-none (s ∷ shares) h =
-    let none = no_jobs s.period (h 0 s (omega arith)).some in
-    let rest = sum-none shares (λ k d lt. h (suc k) d (omega arith)) in
-    rw (sum_by-cons (share_within 0) s shares, none) (omega arith)
+-- where no job is counted yet, the first window's are
+pub IsCountedTo-first : (s : ShareData) (time : ℕ) → IsShare s → s.end ≡ 0 → IsCountedTo time (counted_to time s)
+IsCountedTo-first s time h none =
+    let whole : time + s.jitter - s.end ≡ time + s.jitter = omega (arith, none) in
+    record {
+      some = h.some;
+      short = h.short;
+      late = h.late;
+      within = h.within;
+      all = rw (whole, none) (omega arith);
+    }
+
+pub share_within-first : (s : ShareData) (time : ℕ) → s.end ≡ 0 → further_work time s ≡ share_within time s
+share_within-first s time none =
+    let whole : time + s.jitter - s.end ≡ time + s.jitter = omega (arith, none) in
+    rw whole refl
 
 pub IsCarried-further : (w v : WorkloadData) → IsCarried w → w.time ≤ v.time → v.always ≡ w.always → v.shares ≡ map (counted_to v.time) w.shares
     → v.total ≡ w.total + sum_by (further_work v.time) w.shares → IsCarried v

@@ -1,10 +1,13 @@
 -- The demand of a task in a window, from its parts, and how it is carried from a window to a longer one.
 use Rattle.std.specs.Prelude.{◌≡◌, ℕ, ◌+◌, ◌-◌, ◌*◌, ◌<◌, ◌≤◌, List, All, sum_by}
+use Rattle.std.specs.Int.{div_ceil}
 use Rattle.task_sheet.specs.Demand.{jobs_within}
 
--- how often a task above comes, what it takes each time, and the end of the last window whose jobs are counted
+-- how often a task above comes, how late at most, what it takes each time, and the end of the last period whose job is
+-- counted
 pub record ShareData : Type 0 where
   pub period : ℕ
+  pub jitter : ℕ
   pub cost : ℕ
   pub end : ℕ
 
@@ -12,8 +15,9 @@ pub record ShareData : Type 0 where
 pub record IsShare (s : ShareData) : Type 0 where
   pub some : 0 < s.period
   pub short : s.period ≤ 10000000
+  pub late : s.jitter ≤ s.period
   pub within : s.cost ≤ s.period
-  pub reach : s.end ≤ 20000000
+  pub reach : s.end ≤ 30000000
 
 -- what is executed once, the cost and the blocking, the shares of the tasks above, and the demand in the last window
 pub record WorkloadData : Type 0 where
@@ -24,7 +28,7 @@ pub record WorkloadData : Type 0 where
 
 -- what a share takes within a window
 abbrev pub share_within : ℕ → ShareData → ℕ
-share_within time s = jobs_within s.period time * s.cost
+share_within time s = jobs_within s.period s.jitter time * s.cost
 
 -- the demand in a window: what is executed once, and what the shares take
 abbrev pub work_within : ℕ → WorkloadData → ℕ
@@ -33,7 +37,7 @@ work_within time w = w.always + sum_by (share_within time) w.shares
 -- ---- from a window to a longer one
 -- how many jobs of a share are released within the window after those that are counted
 abbrev pub further_jobs : ℕ → ShareData → ℕ
-further_jobs time s = jobs_within s.period (time - s.end)
+further_jobs time s = div_ceil (time + s.jitter - s.end) s.period
 
 -- what they take
 abbrev pub further_work : ℕ → ShareData → ℕ
@@ -41,14 +45,20 @@ further_work time s = further_jobs time s * s.cost
 
 -- the share with these jobs counted
 abbrev pub counted_to : ℕ → ShareData → ShareData
-counted_to time s = record { period = s.period; cost = s.cost; end = s.end + further_jobs time s * s.period }
+counted_to time s = record {
+  period = s.period;
+  jitter = s.jitter;
+  cost = s.cost;
+  end = s.end + further_jobs time s * s.period;
+}
 
 -- the jobs within the window are counted, and no other; the share is within the limits of a sheet
 pub record IsCountedTo (time : ℕ) (s : ShareData) : Type 0 where
   pub some : 0 < s.period
   pub short : s.period ≤ 10000000
+  pub late : s.jitter ≤ s.period
   pub within : s.cost ≤ s.period
-  pub all : s.end ≡ jobs_within s.period time * s.period
+  pub all : s.end ≡ jobs_within s.period s.jitter time * s.period
 
 -- the demand is that of the last window
 pub record IsCarried (w : WorkloadData) : Type 0 where

@@ -2,15 +2,16 @@
 //! microseconds.
 #![tactic(auto)]
 
-ghost use Rattle.std.specs.Prelude.{◌≡◌, ◌≤◌, ◌<◌, ◌↔◌, ℕ, List, length, IsTrue, IfOk};
+ghost use Rattle.std.specs.Prelude.{◌≡◌, ◌≤◌, ◌<◌, ◌↔◌, ℕ, List, length, IsTrue, IfOk, IfSome, IfNone};
 ghost use Rattle.task_sheet.specs.Sheet.{task_at};
 ghost use Rattle.task_sheet.specs.TaskSet.{IsTaskSet};
 ghost use Rattle.task_sheet.specs.Indexes.{indexes_of};
 ghost use Rattle.task_sheet.specs.Responses.{IsTrail};
-ghost use Rattle.task_sheet.specs.Demand.{demand_of, limit_of, Passes, evaluation_bound};
+ghost use Rattle.task_sheet.specs.Demand.{demand_of, limit_of, IsResponseOf, Passes, evaluation_bound};
 ghost use Rattle.ceilings.specs.IsTableOf.{IsTableOf};
 ghost use Rattle.response_time.specs.Answers.{IsAnswer};
 
+pub mod laws;
 mod workload;
 
 use crate::workload::Workload;
@@ -21,20 +22,21 @@ use task_sheet::{Members, TaskSet};
 /// Whether a task passes.
 #[derive(Drop)]
 pub enum Answer {
-    /// It does, with this response in microseconds: the least positive time that is its own demand.
+    /// It does, with this response in microseconds: its jitter, and the least positive time that is its own demand.
     Pass { response: u64 },
-    /// It does not: 1, then each demand of the number before it, up to the first that is past the deadline.
+    /// It does not: 1, then each demand of the number before it, up to the first that is past what the jitter leaves of
+    /// the deadline.
     Fail { chain: Vec<u64> },
 }
 
-/// An answer, and how many different times up to the deadline led to it.
+/// An answer, and how many different times within the limit led to it.
 #[derive(Drop)]
 pub struct Response {
     pub answer: Answer,
     pub evaluations: usize,
 }
 
-// The longest window that serves a task: its deadline, in microseconds.
+// The longest window that serves a task, in microseconds: what its jitter leaves of its deadline.
 fn limit_of(set: &TaskSet, task: usize) -> u64
     requires { task < length set.now }
     ensures is { result ≡ limit_of (task_at set.now task) }
@@ -42,7 +44,16 @@ fn limit_of(set: &TaskSet, task: usize) -> u64
     ensures short { result ≤ 10000000 }
     ensures kept { IsTaskSet set.now }
 {
-    set.sheets()[task].deadline()
+    set.sheets()[task].limit()
+}
+
+// How long after its arrival a job of the task is released at most, in microseconds.
+fn jitter_of(set: &TaskSet, task: usize) -> u64
+    requires { task < length set.now }
+    ensures is { result ≡ (task_at set.now task).jitter }
+    ensures short { result ≤ 10000000 }
+{
+    set.sheets()[task].jitter()
 }
 
 /// The demand of a task in a window of `time` microseconds, with these above it: its cost, its blocking, and the cost
@@ -56,24 +67,45 @@ pub fn demand(set: &TaskSet, table: &LockTable, task: usize, above: Members, tim
     Workload::new(set, table, task, above).advance(time)
 }
 
-/// Whether a task passes with these above it: some window within its deadline covers its demand (Audsley et al. 1993).
+/// The response of a task with these above it, in microseconds from the arrival; none where it does not pass
+/// (Audsley et al. 1993). It is that of `respond`, with no chain: the iteration starts at a window below which none
+/// covers the demand, in place of 1.
+/// The table is that of the set.
+pub fn response_in_time(
+    set: &TaskSet,
+    table: &LockTable,
+    task: usize,
+    above: Members,
+) -> Option<u64>
+    requires table { IsTableOf set.now table.now }
+    requires task { task < length set.now }
+    ensures some { IfSome result (λ response. IsResponseOf set.now task (indexes_of above) response
+        × (response ≤ (task_at set.now task).deadline)) }
+    ensures passes { IfSome result (λ _. Passes set.now task (indexes_of above)) }
+    ensures none { IfNone result (¬ Passes set.now task (indexes_of above)) }
+{
+    let mut work = Workload::new(set, table, task, above);
+    let limit = limit_of(set, task);
+    let mut window = work.first_window(limit);
+    while window <= limit {
+        let next = work.advance(window);
+        if next <= window {
+            return Some(window + jitter_of(set, task));
+        }
+        window = next;
+    }
+    None
+}
+
+/// Whether a task passes with these above it: some window within what its jitter leaves of its deadline covers its
+/// demand (Audsley et al. 1993).
 /// The table is that of the set.
 pub fn passes(set: &TaskSet, table: &LockTable, task: usize, above: Members) -> bool
     requires table { IsTableOf set.now table.now }
     requires task { task < length set.now }
     ensures { IsTrue result ↔ Passes set.now task (indexes_of above) }
 {
-    let mut work = Workload::new(set, table, task, above);
-    let limit = limit_of(set, task);
-    let mut window = 1;
-    while window <= limit {
-        let next = work.advance(window);
-        if next <= window {
-            return true;
-        }
-        window = next.max(work.least_window(window));
-    }
-    false
+    response_in_time(set, table, task, above).is_some()
 }
 
 /// The response of a task with these above it, or the chain that shows that it has none in time (Audsley et al. 1993).
@@ -88,7 +120,7 @@ pub fn respond(
     requires table { IsTableOf set.now table.now }
     requires task { task < length set.now }
     ensures answer { IfOk result (λ r.
-        IsAnswer (demand_of set.now task (indexes_of above)) (limit_of (task_at set.now task)) r.answer) }
+        IsAnswer set.now task (indexes_of above) r.answer) }
     ensures evaluations { IfOk result (λ r. (trail : List ℕ)
         × IsTrail (demand_of set.now task (indexes_of above)) (limit_of (task_at set.now task)) trail
         × (r.evaluations ≡ length trail)) }
@@ -103,8 +135,9 @@ pub fn respond(
         numbers.push(time)?;
         let next = work.advance(time);
         if next == time {
+            let response = time + jitter_of(set, task);
             return Ok(Response {
-                answer: Answer::Pass { response: time },
+                answer: Answer::Pass { response },
                 evaluations: numbers.len(),
             });
         }

@@ -11,11 +11,12 @@ use ceilings::LockTable;
 use std::marker::Model;
 use task_sheet::{Members, Sheet, TASK_LIMIT, TaskSet};
 
-// How often a task above comes, what it takes each time, and the end of the last window whose jobs are counted, in
-// microseconds.
+// How often a task above comes, how late at most, what it takes each time, and the end of the last period whose job is
+// counted, in microseconds.
 #[derive(Clone, Copy)]
 struct Share {
     period: u64,
+    jitter: u64,
     cost: u64,
     end: u64,
 }
@@ -25,11 +26,11 @@ impl Model for Share {
 
     ghost Value = { ShareData };
 
-    ghost view = { λ s. record { period = s.period; cost = s.cost; end = s.end } };
+    ghost view = { λ s. record { period = s.period; jitter = s.jitter; cost = s.cost; end = s.end } };
 
-    ghost invariant = { λ s. IsShare record { period = s.period; cost = s.cost; end = s.end } };
+    ghost invariant = { λ s. IsShare record { period = s.period; jitter = s.jitter; cost = s.cost; end = s.end } };
 
-    ghost inverse = { λ d. record { period = d.period; cost = d.cost; end = d.end } };
+    ghost inverse = { λ d. record { period = d.period; jitter = d.jitter; cost = d.cost; end = d.end } };
 }
 
 impl Share {
@@ -40,22 +41,28 @@ impl Share {
     {
         Share {
             period: 1,
+            jitter: 0,
             cost: 0,
             end: 0,
         }
     }
 
-    // The share of a task above, no job counted.
-    fn of(sheet: &Sheet) -> Share
+    // The share of a task above, the jobs within a window of no length counted, and what these take.
+    fn of(sheet: &Sheet) -> (Share, u64)
         requires { IsValidSheet sheet.now }
-        ensures is { (time : ℕ) → share_within time result ≡ interference_of sheet.now time }
-        ensures start { IsCountedTo 0 result }
+        ensures is { (time : ℕ) → share_within time result.0 ≡ interference_of sheet.now time }
+        ensures start { IsCountedTo 0 result.0 }
+        ensures work { result.1 ≡ share_within 0 result.0 }
+        ensures fits { result.1 ≤ 30000000 }
     {
-        Share {
+        let mut share = Share {
             period: sheet.period(),
+            jitter: sheet.jitter(),
             cost: sheet.cost(),
             end: 0,
-        }
+        };
+        let work = share.count_to(0);
+        (share, work)
     }
 
     // Counts the jobs within a window: what those take that were not counted. Most often there are none, or one.
@@ -64,16 +71,17 @@ impl Share {
         requires { time ≤ 10000000 }
         ensures counted { self.new ≡ counted_to time self.old }
         ensures work { result ≡ further_work time self.old }
-        ensures fits { result ≤ 20000000 }
+        ensures fits { result ≤ 30000000 }
     {
-        if time <= self.end {
+        let reach = time + self.jitter;
+        if reach <= self.end {
             return 0;
         }
-        if time <= self.end + self.period {
+        if reach <= self.end + self.period {
             self.end += self.period;
             return self.cost;
         }
-        let jobs = (time - self.end).div_ceil(self.period);
+        let jobs = (reach - self.end).div_ceil(self.period);
         self.end += jobs * self.period;
         jobs * self.cost
     }
@@ -97,7 +105,7 @@ fn count_all(shares: &mut [Share], time: u64) -> u64
     requires time { time ≤ 10000000 }
     ensures counted { shares.new ≡ map (counted_to time) shares.old }
     ensures work { result ≡ sum_by (further_work time) shares.old }
-    ensures fits { result ≤ 640000000 }
+    ensures fits { result ≤ 960000000 }
 {
     let mut work = 0;
     for share in shares.iter_mut() {
@@ -140,10 +148,13 @@ impl Workload {
         let sheets = set.sheets();
         let mut shares = [Share::none(); TASK_LIMIT];
         let mut count = 0;
+        let mut start = 0;
         for (index, sheet) in sheets.iter().enumerate() {
             if above.has(index) {
-                shares[count] = Share::of(sheet);
+                let (share, work) = Share::of(sheet);
+                shares[count] = share;
                 count += 1;
+                start += work;
             }
         }
         let always = sheets[task].cost() + blocking(set, table, task, above);
@@ -152,7 +163,7 @@ impl Workload {
             shares,
             count,
             time: 0,
-            total: always,
+            total: always + start,
         }
     }
 
@@ -200,5 +211,23 @@ impl Workload {
             return 1;
         }
         (once * WHOLE).div_ceil(WHOLE - parts)
+    }
+
+    /// A window below which none covers the demand: the first that its own least window is not past, or one past the
+    /// limit.
+    pub(crate) fn first_window(&self, limit: u64) -> u64
+        requires { limit ≤ 10000000 }
+        ensures positive { 1 ≤ result }
+        ensures least { (time : ℕ) → 1 ≤ time → work_within time self.now ≤ time → result ≤ time }
+    {
+        let mut window = 1;
+        while window <= limit {
+            let next = self.least_window(window);
+            if next <= window {
+                return window;
+            }
+            window = next;
+        }
+        window
     }
 }

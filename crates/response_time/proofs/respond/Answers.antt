@@ -1,10 +1,11 @@
-use Rattle.std.proofs.Common.{◌≡◌, ◌<◌, [], ◌∷◌, ◌++◌, length, sym, ◌∙◌, ap, subst, arith}
+use Rattle.std.proofs.Common.{◌≡◌, ◌+◌, ◌<◌, ◌≤◌, [], ◌∷◌, ◌++◌, length, sym, ◌∙◌, ap, subst, arith}
 use Rattle.task_sheet.specs.Sheet.{task_at}
 use Rattle.task_sheet.specs.Indexes.{indexes_of}
-use Rattle.task_sheet.specs.Demand.{demand_of, limit_of}
+use Rattle.task_sheet.specs.Demand.{demand_of, limit_of, IsResponseOf}
 use Rattle.task_sheet.specs.Responses.{IsFullChain}
 use Rattle.task_sheet.proofs.TaskLaws.{AllTasks-from_set}
 use Rattle.task_sheet.proofs.DemandLaws.{demand-mono, demand_does_not_fall}
+use Rattle.task_sheet.proofs.PassingLaws.{IsResponseOf-from}
 use Rattle.task_sheet.proofs.Trails.{IsClimb, AllWithinLimit, within_push}
 use Rattle.task_sheet.proofs.Evaluations.{climb-short}
 use Rattle.task_sheet.proofs.Runs.{next_is_no_less, run_next, run_passes, run_fails}
@@ -117,11 +118,13 @@ returns-then-next-time-clause-answer c =
     let H = indexes_of c.args.above in
     let steady = demand_does_not_fall U (AllTasks-from_set U c.limit_of-limit.ensures.kept) i H c.requires.task in
     let inv = c.loop-time.invariant in
-    let fixed : demand_of U i H c.loop-time.time ≡ c.loop-time.time = sym (c.advance-next.ensures.is ∙ c.loop-time.invariant.demand c.loop-time.time) ∙ c.if-next-time.true in (
-      record {
-        positive = omega (arith, steady.positive c.loop-time.time, fixed);
+    let late : c.loop-time.time + c.jitter_of.result ≡ c.loop-time.time + (task_at U i).jitter = omega (arith, c.jitter_of.ensures.is) in
+    let fixed : demand_of U i H c.loop-time.time ≡ c.loop-time.time = sym (c.advance-next.ensures.is ∙ c.loop-time.invariant.demand c.loop-time.time) ∙ c.if-next-time.true in
+    let positive : 1 ≤ c.loop-time.time = omega (arith, steady.positive c.loop-time.time, fixed) in (
+      subst (λ r. IsResponseOf U i H r) (sym late) (IsResponseOf-from U i H c.loop-time.time record {
+        positive = positive;
         fixed = fixed;
         least = λ s pos e. inv.first s pos (omega (arith, e));
-      },
-      omega (arith, c.limit_of-limit.ensures.is, c.loop-time-test.true),
+      }),
+      omega (arith, late, c.limit_of-limit.ensures.is, c.loop-time-test.true, positive),
     )

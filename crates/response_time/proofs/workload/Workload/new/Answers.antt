@@ -10,7 +10,7 @@ use Rattle.task_sheet.proofs.Below.{sum_step}
 use Rattle.task_sheet.proofs.DemandFits.{cost-fits}
 use Rattle.task_sheet.proofs.TaskLaws.{task_read}
 use Rattle.response_time.specs.Workload.{IsCountedTo, share_within}
-use Rattle.response_time.proofs.Shares.{share_added, sum-none}
+use Rattle.response_time.proofs.Shares.{share_added}
 use Rattle.response_time.proofs.workload.Workload.new.Goals as goal
 use Rattle.response_time.proofs.workload.Workload.new.Goals.{then-has, else-has}
 
@@ -24,20 +24,24 @@ loop-index-preserved c =
     let room : c.loop-index.count < length c.loop-index.shares = omega (arith, c.loop-index.invariant.few, c.loop-index.invariant.whole) in
     elim c.if-has.branch [
       | then-has w ↦ record {
-        whole = rw w.shares-is (length-set c.loop-index.shares c.loop-index.count w.of.result ∙ c.loop-index.invariant.whole);
-        counted = rw w.shares-is (All-set (IsCountedTo 0) c.loop-index.shares c.loop-index.count w.of.result w.of.ensures.start c.loop-index.invariant.counted);
+        whole = rw w.shares-is (length-set c.loop-index.shares c.loop-index.count w.of-share.result.0 ∙ c.loop-index.invariant.whole);
+        counted = rw w.shares-is (All-set (IsCountedTo 0) c.loop-index.shares c.loop-index.count w.of-share.result.0 w.of-share.ensures.start c.loop-index.invariant.counted);
         few = omega (arith, c.loop-index.invariant.few, w.count-is);
+        start = rw (w.start-is, w.count-is, w.shares-is) (omega (arith, c.loop-index.invariant.start, w.of-share.ensures.work, share_added 0 c.loop-index.shares c.loop-index.count w.of-share.result.0 room));
+        fits = omega (arith, c.loop-index.invariant.fits, w.start-is, w.of-share.ensures.fits);
         sum = λ time.
             let f : ℕ → ℕ = λ h. cond (H h) (interference_of (task_at U h) time) 0 in
             let here : f n ≡ interference_of (task_at U n) time = cond-true {A = ℕ} (H n) (interference_of (task_at U n) time) 0 (sym c.has.ensures ∙ w.if-has.true) in
             let total = sum_by (share_within time) (take c.loop-index.count c.loop-index.shares) in
-            let more = share_added time c.loop-index.shares c.loop-index.count w.of.result room ∙ ap (λ m. total + m) (w.of.ensures.is time ∙ ap (λ t. interference_of t time) is) in
+            let more = share_added time c.loop-index.shares c.loop-index.count w.of-share.result.0 room ∙ ap (λ m. total + m) (w.of-share.ensures.is time ∙ ap (λ t. interference_of t time) is) in
             sum_step n f total (interference_of (task_at U n) time) (sum_by (share_within time) (take c.if-has.count c.if-has.shares)) (c.loop-index.invariant.sum time) here (rw (w.count-is, w.shares-is) more);
       }
       | else-has w ↦ record {
         whole = rw w.shares-is c.loop-index.invariant.whole;
         counted = rw w.shares-is c.loop-index.invariant.counted;
         few = omega (arith, c.loop-index.invariant.few, w.count-is);
+        start = rw (w.start-is, w.count-is, w.shares-is) c.loop-index.invariant.start;
+        fits = omega (arith, c.loop-index.invariant.fits, w.start-is);
         sum = λ time.
             let f : ℕ → ℕ = λ h. cond (H h) (interference_of (task_at U h) time) 0 in
             let here : f n ≡ 0 = cond-false {A = ℕ} (H n) (interference_of (task_at U n) time) 0 (sym c.has.ensures ∙ w.if-has.false) in
@@ -64,7 +68,7 @@ invariant_of-result c =
       omega arith,
       record {
         counted = All-take (IsCountedTo 0) c.loop-index.count c.loop-index.shares c.loop-index.invariant.counted;
-        total = omega (arith, sum-none (take c.loop-index.count c.loop-index.shares) (All-take (IsCountedTo 0) c.loop-index.count c.loop-index.shares c.loop-index.invariant.counted));
+        total = omega (arith, c.loop-index.invariant.start);
       },
     )
 

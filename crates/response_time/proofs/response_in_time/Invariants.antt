@@ -2,7 +2,7 @@ use Rattle.std.proofs.Common.{◌≡◌, ◌+◌, ◌-◌, ◌≤◌, ℕ}
 use Rattle.task_sheet.specs.Indexes.{indexes_of}
 use Rattle.task_sheet.specs.Demand.{demand_of}
 use Rattle.response_time.specs.Workload.{work_within}
-use Rattle.response_time.proofs.passes.Given as goal
+use Rattle.response_time.proofs.response_in_time.Given as goal
 
 -- no time that covers its demand is below
 abbrev pub invariant-loop-window : goal.invariant-loop-window

@@ -1,0 +1,49 @@
+use Rattle.std.proofs.Common.{◌≡◌, ◌+◌, ◌∙◌, sym, subst, arith}
+use Rattle.task_sheet.specs.Sheet.{task_at}
+use Rattle.task_sheet.specs.Indexes.{indexes_of}
+use Rattle.task_sheet.specs.Demand.{demand_of, IsResponseOf}
+use Rattle.task_sheet.proofs.TaskLaws.{AllTasks-from_set}
+use Rattle.task_sheet.proofs.DemandLaws.{demand-mono, demand_does_not_fall}
+use Rattle.task_sheet.proofs.PassingLaws.{IsResponseOf-from}
+use Rattle.response_time.proofs.FirstCovers.{first_cover_is_response}
+use Rattle.response_time.proofs.response_in_time.Goals as goal
+
+pub returns-then-next-window : goal.returns-then-next-window
+returns-then-next-window c =
+    let U = c.args.set.now in
+    let i = c.args.task in
+    let H = indexes_of c.args.above in
+    let steady = demand_does_not_fall U (AllTasks-from_set U c.limit_of-limit.ensures.kept) i H c.requires.task in
+    let inv = c.loop-window.invariant in
+    let t = c.loop-window.window in
+    let next = c.advance-next.ensures.is ∙ inv.demand t in
+    let late : t + c.jitter_of.result ≡ t + (task_at U i).jitter = omega (arith, c.jitter_of.ensures.is) in
+    let is = first_cover_is_response (demand_of U i H) steady t inv.positive (omega (arith, next, c.if-next-window.true)) inv.first in
+    record {
+      some = (
+        subst (λ r. IsResponseOf U i H r) (sym late) (IsResponseOf-from U i H t is),
+        omega (arith, late, c.limit_of-limit.ensures.is, c.loop-window-test.true, inv.positive),
+      );
+      passes = (t, inv.positive, omega (arith, c.limit_of-limit.ensures.is, c.loop-window-test.true), omega (arith, next, c.if-next-window.true));
+      none = tt;
+    }
+
+pub returns : goal.returns
+returns c = record {
+  some = tt;
+  passes = tt;
+  none = λ found. omega (arith, c.loop-window.invariant.first found.0 found.1 found.3, found.2, c.limit_of-limit.ensures.is, c.loop-window-test.false);
+}
+
+pub loop-window-preserved : goal.loop-window-preserved
+loop-window-preserved c =
+    let inv = c.loop-window.invariant in
+    let next = c.advance-next.ensures.is ∙ inv.demand c.loop-window.window in
+    record {
+      demand = λ t. c.advance-next.ensures.same t ∙ inv.demand t;
+      carried = omega (arith, c.if-next-window.false, c.advance-next.ensures.time);
+      positive = omega (arith, inv.positive, c.if-next-window.false);
+      first = λ s pos covers.
+          let reached = demand-mono c.args.set.now (AllTasks-from_set c.args.set.now c.limit_of-limit.ensures.kept) c.args.task (indexes_of c.args.above) c.loop-window.window s (inv.first s pos covers) in
+          omega (arith, next, reached, covers);
+    }
