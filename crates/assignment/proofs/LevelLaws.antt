@@ -8,7 +8,7 @@ use Rattle.task_sheet.specs.Sheet.{Task}
 use Rattle.task_sheet.specs.TaskSet.{IsTaskSet}
 use Rattle.task_sheet.specs.Indexes.{Indexes, indexes_of, without_index}
 use Rattle.task_sheet.specs.Orders.{Stands}
-use Rattle.response_time.specs.declared.Answer.{Answer}
+use Rattle.assignment.specs.declared.outcome.Outcome.{Outcome}
 use Rattle.assignment.specs.Levels.{LevelState, IsDecided, IsRightAt, AreRight, AreMissing, lets_stand}
 use Rattle.assignment.proofs.AnswerLaws.{lets_stand-iff}
 
@@ -46,8 +46,8 @@ NoneBelow-fail l k none found stuck = record {
 }
 
 -- ---- a candidate whose answer is known
-pub known-found : (left missing : FinSet nat_cmp) (answers : List (Option Answer)) (k : ℕ) (answer : Answer) → AreMissing left missing answers → get_or answers k None ≡ Some answer → IsFalse (contains missing k)
-known-found left missing answers k answer are known = are k ∙ ap (λ (o : Option Answer). contains left k && not (is_some o)) known ∙ and-false _
+pub known-found : (left missing : FinSet nat_cmp) (answers : List (Option Outcome)) (k : ℕ) (answer : Outcome) → AreMissing left missing answers → get_or answers k None ≡ Some answer → IsFalse (contains missing k)
+known-found left missing answers k answer are known = are k ∙ ap (λ (o : Option Outcome). contains left k && not (is_some o)) known ∙ and-false _
 
-pub known-stands : (U : List Task) (L : Indexes) (answers : List (Option Answer)) (k : ℕ) (answer : Answer) → IsTaskSet U → AreRight U L answers → get_or answers k None ≡ Some answer → IsTrue (lets_stand answer) ↔ Stands U k (without_index L k)
+pub known-stands : (U : List Task) (L : Indexes) (answers : List (Option Outcome)) (k : ℕ) (answer : Outcome) → IsTaskSet U → AreRight U L answers → get_or answers k None ≡ Some answer → IsTrue (lets_stand answer) ↔ Stands U k (without_index L k)
 known-stands U L answers k answer valid are known = lets_stand-iff U k (without_index L k) answer valid (subst (λ o. IsRightAt U L k o) known (are.right k))

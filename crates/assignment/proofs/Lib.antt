@@ -1,4 +1,5 @@
 pub mod AnswerLaws
+pub mod OutcomeLaws
 pub mod LevelLaws
 pub mod TakeLaws
 pub mod GatherLaws
@@ -7,3 +8,5 @@ pub mod AskLaws
 pub mod StepLaws
 pub mod CandidateLaws
 pub mod FeasibilityLaws
+pub mod PlacingLaws
+pub mod VerdictPlacings

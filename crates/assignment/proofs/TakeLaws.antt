@@ -5,25 +5,24 @@ use Rattle.std.specs.FinSet as members
 use Rattle.std.proofs.lemmas.Bool.{cases_eq, ne_eqb, eq-eqb}
 use Rattle.std.proofs.lemmas.List.{length-set, get_or-set_same, get_or-set_other}
 use Rattle.std.proofs.Math.Bool.{and-false, and-true}
-use Rattle.task_sheet.specs.Sheet.{Task, task_at}
+use Rattle.task_sheet.specs.Sheet.{Task}
 use Rattle.task_sheet.specs.Indexes.{Indexes, indexes_of, without_index}
-use Rattle.task_sheet.specs.Demand.{demand_of, limit_of}
 use Rattle.task_sheet.proofs.MembersIndexes.{indexes_of-remove, same_members}
 use Rattle.task_sheet.proofs.IndexLaws.{without-gone, without-kept}
 use Rattle.std.proofs.Math.Path.{fun_ext}
-use Rattle.response_time.specs.Answers.{IsAnswer}
-use Rattle.response_time.specs.declared.Answer.{Answer}
+use Rattle.assignment.specs.Outcomes.{IsOutcome}
+use Rattle.assignment.specs.declared.outcome.Outcome.{Outcome}
 use Rattle.assignment.specs.Questions.{QuestionData, IsRight}
 use Rattle.assignment.specs.Levels.{LevelState, IsAsked, IsRightAt, AreRight, AreMissing, with_finding}
 
 -- the answer to the question on a candidate is right for it
-pub IsRightAt-asked : (l : LevelState) (q : QuestionData) (answer : Answer) → IsAsked l q → IsRight q answer → IsRightAt l.set (indexes_of l.left) q.task (Some answer)
+pub IsRightAt-asked : (l : LevelState) (q : QuestionData) (answer : Outcome) → IsAsked l q → IsRight q answer → IsRightAt l.set (indexes_of l.left) q.task (Some answer)
 IsRightAt-asked l q answer asked right =
     let above : indexes_of q.above ≡ without_index (indexes_of l.left) q.task = ap indexes_of asked.rest ∙ indexes_of-remove l.left q.task in
-    subst (λ U. IsAnswer (demand_of U q.task (without_index (indexes_of l.left) q.task)) (limit_of (task_at U q.task)) answer) asked.same
-    (subst (λ H. IsAnswer (demand_of q.set q.task H) (limit_of (task_at q.set q.task)) answer) above right)
+    subst (λ U. IsOutcome U q.task (without_index (indexes_of l.left) q.task) answer) asked.same
+    (subst (λ H. IsOutcome q.set q.task H answer) above right)
 
-pub AreRight-set : (U : List Task) (L : Indexes) (answers : List (Option Answer)) (i : ℕ) (o : Option Answer) → AreRight U L answers → i < length U → IsRightAt U L i o → AreRight U L (set answers i o)
+pub AreRight-set : (U : List Task) (L : Indexes) (answers : List (Option Outcome)) (i : ℕ) (o : Option Outcome) → AreRight U L answers → i < length U → IsRightAt U L i o → AreRight U L (set answers i o)
 AreRight-set U L answers i o are lt right = record {
   full = length-set answers i o ∙ are.full;
   right = λ k. elim (cases_eq k i) [
@@ -35,7 +34,7 @@ AreRight-set U L answers i o are lt right = record {
   ];
 }
 
-pub AreMissing-set : (left missing : members.FinSet nat_cmp) (answers : List (Option Answer)) (i : ℕ) (answer : Answer) → i < length answers → AreMissing left missing answers → AreMissing left (members.remove missing i) (set answers i (Some answer))
+pub AreMissing-set : (left missing : members.FinSet nat_cmp) (answers : List (Option Outcome)) (i : ℕ) (answer : Outcome) → i < length answers → AreMissing left missing answers → AreMissing left (members.remove missing i) (set answers i (Some answer))
 AreMissing-set left missing answers i answer lt are k =
     let removed : members.contains (members.remove missing i) k ≡ without_index (indexes_of missing) i k = ap (λ H. H k) (indexes_of-remove missing i) in
     elim (cases_eq k i) [

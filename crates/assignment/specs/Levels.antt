@@ -2,15 +2,14 @@
 use Rattle.std.specs.Prelude.{◌≡◌, ℕ, ◌<◌, ◌&&◌, ◌⊎◌, Bool, true, false, not, List, length, Option, None, Some, is_some, IsSome, IsTrue, IsFalse, slice_index_or}
 use Rattle.std.specs.Ordering.{nat_cmp}
 use Rattle.std.specs.FinSet.{FinSet, contains, remove}
-use Rattle.task_sheet.specs.Sheet.{Task, task_at}
+use Rattle.task_sheet.specs.Sheet.{Task}
 use Rattle.task_sheet.specs.Indexes.{Indexes, indexes_of, without_index, listed_below}
-use Rattle.task_sheet.specs.Demand.{demand_of, limit_of}
 use Rattle.task_sheet.specs.Orders.{Stands}
 use Rattle.task_sheet.specs.Levels.{IsObstruction}
 use Rattle.task_sheet.specs.Verdicts.{FailureData, tasks_of, AllFailures}
-use Rattle.response_time.specs.Answers.{IsAnswer}
-use Rattle.response_time.specs.declared.Answer.{Answer}
-use Rattle.response_time.specs.declared.Answer.TheVariants.{Pass, Fail}
+use Rattle.assignment.specs.Outcomes.{IsOutcome}
+use Rattle.assignment.specs.declared.outcome.Outcome.{Outcome}
+use Rattle.assignment.specs.declared.outcome.Outcome.TheVariants.{Pass, Fail}
 use Rattle.assignment.specs.Questions.{QuestionData}
 
 -- a set, the tasks of it that are left, which are the candidates, and those of them that have no finding yet
@@ -47,27 +46,27 @@ pub record IsObstructed (U : List Task) (L : Indexes) (fails : List FailureData)
   pub each : AllFailures U L fails
 
 -- what is known of a candidate is right
-abbrev pub IsRightAt : List Task → Indexes → ℕ → Option Answer → Type 0
+abbrev pub IsRightAt : List Task → Indexes → ℕ → Option Outcome → Type 0
 IsRightAt U L k None = Unit {0}
-IsRightAt U L k (Some answer) = IsAnswer (demand_of U k (without_index L k)) (limit_of (task_at U k)) answer
+IsRightAt U L k (Some answer) = IsOutcome U k (without_index L k) answer
 
 -- the answer lets its task stand there
-abbrev pub lets_stand : Answer → Bool
+abbrev pub lets_stand : Outcome → Bool
 lets_stand (Pass response) = true
-lets_stand (Fail chain) = false
+lets_stand (Fail reason) = false
 
 -- an answer for each task, where it is known, and each that is known is right
-pub record AreRight (U : List Task) (L : Indexes) (answers : List (Option Answer)) : Type 0 where
+pub record AreRight (U : List Task) (L : Indexes) (answers : List (Option Outcome)) : Type 0 where
   pub full : length answers ≡ length U
   pub right : (k : ℕ) → IsRightAt U L k (slice_index_or answers k None)
 
 -- the candidates that have no answer
-abbrev pub AreMissing : FinSet nat_cmp → FinSet nat_cmp → List (Option Answer) → Type 0
+abbrev pub AreMissing : FinSet nat_cmp → FinSet nat_cmp → List (Option Outcome) → Type 0
 AreMissing left missing answers =
     (k : ℕ) → contains missing k ≡ (contains left k && not (is_some (slice_index_or answers k None)))
 
 -- the answers are enough: each candidate has one, but for those of greater rank than one that may stand
-abbrev pub IsEnough : List Task → Indexes → List (Option Answer) → Type 0
+abbrev pub IsEnough : List Task → Indexes → List (Option Outcome) → Type 0
 IsEnough U L answers =
     (k : ℕ) → IsTrue (L k) → ((j : ℕ) → j < k → IsTrue (L j) → ¬ Stands U j (without_index L j))
     → IsSome (slice_index_or answers k None)

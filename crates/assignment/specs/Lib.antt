@@ -1,5 +1,6 @@
 pub mod Kept
 pub mod Verdict
+pub mod Outcomes
 pub mod Questions
 pub mod Levels
 pub mod Closes
@@ -8,3 +9,5 @@ pub mod LevelFields
 pub mod Climbs
 pub mod Climbing
 pub mod ClimbFields
+pub mod Places
+pub mod Placings

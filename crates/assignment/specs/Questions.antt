@@ -1,15 +1,14 @@
--- Questions whether a task passes, and their right answers.
+-- Questions whether a task may stand, and their right answers.
 use Rattle.std.specs.Prelude.{ℕ, ◌<◌, List, length, IsFalse}
 use Rattle.std.specs.Ordering.{nat_cmp}
 use Rattle.std.specs.FinSet.{FinSet}
-use Rattle.task_sheet.specs.Sheet.{Task, task_at}
+use Rattle.task_sheet.specs.Sheet.{Task}
 use Rattle.task_sheet.specs.Indexes.{indexes_of, IsPart}
-use Rattle.task_sheet.specs.Demand.{demand_of, limit_of}
 use Rattle.task_sheet.specs.Orders.{all_of}
-use Rattle.response_time.specs.Answers.{IsAnswer}
-use Rattle.response_time.specs.declared.Answer.{Answer}
+use Rattle.assignment.specs.Outcomes.{IsOutcome}
+use Rattle.assignment.specs.declared.outcome.Outcome.{Outcome}
 
--- whether the task of the set passes with those above it
+-- whether the task of the set may stand with those above it
 pub record QuestionData : Type 0 where
   pub set : List Task
   pub above : FinSet nat_cmp
@@ -24,8 +23,8 @@ pub record IsQuestion (q : QuestionData) : Type 0 where
 -- a question with its answer
 pub record FindingData : Type 0 where
   pub question : QuestionData
-  pub answer : Answer
+  pub answer : Outcome
 
--- the response of the task, or its full chain
-abbrev pub IsRight : QuestionData → Answer → Type 0
-IsRight q a = IsAnswer (demand_of q.set q.task (indexes_of q.above)) (limit_of (task_at q.set q.task)) a
+-- the response of the task, or the reason why it may not stand there
+abbrev pub IsRight : QuestionData → Outcome → Type 0
+IsRight q a = IsOutcome q.set q.task (indexes_of q.above) a

@@ -7,9 +7,9 @@ ghost use Rattle.assignment.specs.Levels.{with_finding, IsAsked, IsDecided, IsEn
 ghost use Rattle.assignment.specs.Closes.{IsClosed};
 ghost use Rattle.assignment.specs.Takes.{IsTaken};
 
+use crate::outcome::Outcome;
 use crate::question::{Finding, Question};
 use crate::verdict::{Failure, LevelRecord};
-use response_time::Answer;
 use std::alloc::{AllocError, Global};
 use std::marker::Model;
 use std::sync::Arc;
@@ -22,7 +22,7 @@ pub struct Level {
     set: Arc<TaskSet>,
     left: Members,
     missing: Members,
-    answers: Vec<Option<Answer>>,
+    answers: Vec<Option<Outcome>>,
     fails: Vec<Failure>,
 }
 
@@ -68,7 +68,7 @@ pub enum Closed {
 }
 
 // No answer for each of so many tasks.
-fn unanswered(alloc: Global, count: usize) -> Result<Vec<Option<Answer>>, AllocError>
+fn unanswered(alloc: Global, count: usize) -> Result<Vec<Option<Outcome>>, AllocError>
     ensures { IfOk result (λ answers. answers.items ≡ replicate count None) }
 {
     let mut answers = Vec::with_capacity(alloc, count)?;
@@ -79,17 +79,17 @@ fn unanswered(alloc: Global, count: usize) -> Result<Vec<Option<Answer>>, AllocE
 }
 
 // Whether the answer on a task lets it stand there.
-fn lets_stand(answer: &Answer) -> bool
+fn lets_stand(answer: &Outcome) -> bool
     ensures { result ≡ lets_stand answer.now }
 {
     match answer {
-        Answer::Pass { .. } => true,
-        Answer::Fail { .. } => false,
+        Outcome::Pass { .. } => true,
+        Outcome::Fail { .. } => false,
     }
 }
 
 // The answer on a task that has one.
-fn take_answer(answers: &mut Vec<Option<Answer>>, task: usize) -> Answer
+fn take_answer(answers: &mut Vec<Option<Outcome>>, task: usize) -> Outcome
     requires within { task < length answers.old.items }
     requires known { IsSome (slice_index_or answers.old.items task None) }
     ensures value { Some result ≡ slice_index_or answers.old.items task None }
@@ -105,7 +105,7 @@ fn take_answer(answers: &mut Vec<Option<Answer>>, task: usize) -> Answer
 fn gather(
     set: &TaskSet,
     left: Members,
-    mut answers: Vec<Option<Answer>>,
+    mut answers: Vec<Option<Outcome>>,
     mut fails: Vec<Failure>,
 ) -> Closed
     requires part { IsPart (indexes_of left) (all_of set.now) }
@@ -119,14 +119,14 @@ fn gather(
     for task in 0..set.sheets().len() {
         if left.has(task) {
             match take_answer(&mut answers, task) {
-                Answer::Pass { response } => {
+                Outcome::Pass { response } => {
                     return Closed::Chosen(LevelRecord {
                         task,
                         response,
                         fails,
                     });
                 }
-                Answer::Fail { chain } => fails.push_reserved(Failure { task, chain }),
+                Outcome::Fail { reason } => fails.push_reserved(Failure { task, reason }),
             }
         }
     }

@@ -4,7 +4,10 @@
 mod assigning;
 mod climb;
 mod feasibility;
+pub mod laws;
 mod level;
+mod outcome;
+mod placing;
 mod question;
 mod verdict;
 
@@ -12,5 +15,7 @@ pub use assigning::assign;
 pub use climb::{Climb, ClimbFault, Unfinished};
 pub use feasibility::is_feasible;
 pub use level::{Closed, Level, NotAll, TakeFault};
+pub use outcome::{Outcome, Reason};
+pub use placing::{Place, Placing, place_all};
 pub use question::{AnswerFault, Finding, Question};
 pub use verdict::{Assignment, Failure, LevelRecord, Obstruction, Verdict};

@@ -1,18 +1,21 @@
-//! Questions whether a task passes, and findings on them.
-ghost use Rattle.std.specs.Prelude.{◌≡◌, ◌↔◌, ◌<◌, length, IsTrue, IsFalse, IfOk, IfErr};
+//! Questions whether a task may stand, and findings on them.
+ghost use Rattle.std.specs.Prelude.{◌≡◌, ◌↔◌, ◌<◌, length, IsTrue, IsFalse, IfOk, IfErr, IfSome, IfNone};
 ghost use Rattle.task_sheet.specs.Indexes.{indexes_of, IsPart};
-ghost use Rattle.task_sheet.specs.Orders.{all_of, Stands};
+ghost use Rattle.task_sheet.specs.Orders.{all_of, is_bound, Stands};
+ghost use Rattle.task_sheet.specs.Verdicts.{IsLeastOver};
 ghost use Rattle.ceilings.specs.IsTableOf.{IsTableOf};
 ghost use Rattle.assignment.specs.Questions.{IsQuestion, IsRight};
 
+use crate::outcome::{Outcome, Reason, is_bound, least_over, unbound_outcome};
 use ceilings::LockTable;
-use response_time::{Answer, respond};
+use response_time::respond;
 use std::alloc::{AllocError, Global};
 use std::marker::Model;
 use std::sync::Arc;
 use task_sheet::{Members, TaskSet};
 
-/// Whether a task of a set passes with some other tasks of the set above it.
+/// Whether a task of a set may stand with some other tasks of the set above it: it passes, and need not stand above
+/// any of them.
 #[derive(Drop)]
 pub struct Question {
     set: Arc<TaskSet>,
@@ -34,12 +37,13 @@ impl Model for Question {
     ghost invariant = { λ q. IsQuestion (record { set = q.set.value; above = q.above; task = q.task }) };
 }
 
-/// A question with its answer: the response in microseconds, or the full chain that shows that there is none within the
-/// deadline (Audsley et al. 1993).
+/// A question with its answer: the response in microseconds, or the reason why the task may not stand there: the full
+/// chain that shows that there is no response within the deadline (Audsley et al. 1993), or a task above it above which
+/// it must stand.
 #[derive(Drop)]
 pub struct Finding {
     question: Question,
-    answer: Answer,
+    answer: Outcome,
 }
 
 impl Model for Finding {
@@ -123,25 +127,44 @@ impl Question {
     }
 }
 
+// The reason why the task of a question may not stand, where it is bound.
+fn over(question: &Question, table: &LockTable) -> Option<usize>
+    requires { IsTableOf question.now.set table.now }
+    ensures none { IfNone result
+        (IsFalse (is_bound question.now.set question.now.task (indexes_of question.now.above))) }
+    ensures some { IfSome result (λ other.
+        IsLeastOver question.now.set question.now.task (indexes_of question.now.above) other) }
+{
+    if !is_bound(&question.set, table, question.task, question.above) {
+        return None;
+    }
+    least_over(&question.set, table, question.task, question.above)
+}
+
 // The right answer to a question.
-fn answer_to(alloc: Global, question: &Question, table: &LockTable) -> Result<Answer, AllocError>
+fn answer_to(alloc: Global, question: &Question, table: &LockTable) -> Result<Outcome, AllocError>
     requires { IsTableOf question.now.set table.now }
     ensures { IfOk result (λ answer. IsRight question.now answer) }
 {
+    if let Some(other) = over(question, table) {
+        return Ok(Outcome::Fail {
+            reason: Reason::Over(other),
+        });
+    }
     let response = respond(alloc, &question.set, table, question.task, question.above)?;
-    Ok(response.answer)
+    Ok(unbound_outcome(response.answer))
 }
 
 // Whether the right answer to a question lets its task stand there.
-fn lets_pass(question: &Question, answer: &Answer) -> bool
+fn lets_pass(question: &Question, answer: &Outcome) -> bool
     requires { IsRight question.now answer.now }
     ensures { IsTrue result ↔ Stands question.now.set question.now.task (indexes_of question.now.above) }
 {
     // The set is valid: the proof has it from its sheets.
     let _ = question.set().sheets();
     match answer {
-        Answer::Pass { .. } => true,
-        Answer::Fail { .. } => false,
+        Outcome::Pass { .. } => true,
+        Outcome::Fail { .. } => false,
     }
 }
 
@@ -154,7 +177,7 @@ impl Finding {
     }
 
     /// The answer, which is right.
-    pub fn answer(&self) -> &Answer
+    pub fn answer(&self) -> &Outcome
         ensures same { result.now ≡ self.now.answer }
         ensures right { IsRight self.now.question self.now.answer }
     {
@@ -170,7 +193,7 @@ impl Finding {
     }
 
     // The answer, out of the finding.
-    pub(crate) fn into_answer(self) -> Answer
+    pub(crate) fn into_answer(self) -> Outcome
         ensures same { result ≡ self.answer }
         ensures right { IsRight self.question result }
     {

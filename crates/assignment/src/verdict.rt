@@ -3,24 +3,25 @@ ghost use Rattle.std.specs.Prelude.{◌≡◌};
 ghost use Rattle.task_sheet.specs.Verdicts.{IsBestOrder, IsStuck, IsVerdictOf};
 ghost use Rattle.assignment.specs.Verdict.{set_of, verdict_of};
 
+use crate::outcome::Reason;
 use std::marker::Model;
 use std::sync::Arc;
 use task_sheet::TaskSet;
 
-/// A task that does not pass where it was asked, by its index, and the chain that shows it:
-/// 1, then each demand of the number before it, up to the first that is past the deadline, in microseconds.
+/// A task that may not stand where it was asked, by its index, and the reason that shows it.
 #[derive(Drop)]
 pub struct Failure {
     pub task: usize,
-    pub chain: Vec<u64>,
+    pub reason: Reason,
 }
 
 impl Model for Failure {
     ghost use Rattle.task_sheet.specs.Verdicts.{FailureData};
+    ghost use Rattle.assignment.specs.Outcomes.{reason_of};
 
     ghost Value = { FailureData };
 
-    ghost view = { λ f. record { task = f.task; chain = f.chain.items } };
+    ghost view = { λ f. record { task = f.task; reason = reason_of f.reason } };
 }
 
 /// A level: the index of its task, the task's response there in microseconds,
@@ -58,8 +59,8 @@ impl Model for Assignment {
     ghost invariant = { λ a. IsBestOrder a.set.value a.levels.items };
 }
 
-/// The greatest set of tasks of which none passes below the others, each with its chain; the tasks outside it stand
-/// below.
+/// The greatest set of tasks of which none may stand below the others, each with the reason why; the tasks outside it
+/// stand below.
 #[derive(Drop)]
 pub struct Obstruction {
     set: Arc<TaskSet>,

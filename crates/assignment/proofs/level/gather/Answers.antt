@@ -1,6 +1,7 @@
 use Rattle.std.proofs.Common.{◌≡◌, ◌+◌, length, sym, ◌∙◌, ap, subst, arith, Some}
 use Rattle.task_sheet.specs.Indexes.{indexes_of}
 use Rattle.task_sheet.proofs.MembersIndexes.{member_of-len}
+use Rattle.assignment.specs.Outcomes.{reason_of}
 use Rattle.assignment.specs.Levels.{IsRightAt}
 use Rattle.assignment.proofs.GatherLaws.{IsGathering, IsGathering-skip, IsGathering-fail, IsGathering-all}
 use Rattle.assignment.proofs.level.gather.Goals as goal
@@ -18,7 +19,7 @@ loop-task-preserved c =
           let known = w.take_answer.ensures.value ∙ so.rest n (omega arith) in
           let right = subst (λ o. IsRightAt U L n o) (sym known ∙ ap Some w.in-Fail.is) (c.requires.right.right n) in
           record {
-            gathering = IsGathering-fail U L given c.loop-task.answers.items c.if-has.answers.items c.loop-task.fails.items c.if-has.fails.items n w.in-Fail.chain.items c.sheets-task-end.ensures.kept so (sym c.has.ensures ∙ w.if-has.true) (rw w.answers-is w.take_answer.ensures.taken) (rw w.fails-is w.push_reserved.ensures.items) right;
+            gathering = IsGathering-fail U L given c.loop-task.answers.items c.if-has.answers.items c.loop-task.fails.items c.if-has.fails.items n (reason_of w.in-Fail.reason) c.sheets-task-end.ensures.kept so (sym c.has.ensures ∙ w.if-has.true) (rw w.answers-is w.take_answer.ensures.taken) (rw w.fails-is w.push_reserved.ensures.items) right;
             few = rw w.fails-is (omega arith);
             room = rw w.fails-is (omega arith);
           }

@@ -6,8 +6,8 @@ use Rattle.assignment.specs.Levels.{LevelState, IsAsked, IsRightAt}
 use Rattle.assignment.proofs.TakeLaws.{found_again, IsRightAt-asked, AreRight-set, AreMissing-set}
 use Rattle.assignment.proofs.level.Level.accept.Goals as goal
 
-pub invariant_of-self-then-has-3 : goal.invariant_of-self-then-has-3
-invariant_of-self-then-has-3 c =
+pub invariant_of-self-then-has-4 : goal.invariant_of-self-then-has-4
+invariant_of-self-then-has-4 c =
     let q = c.args.finding.question in
     let a = c.self.inside in
     let inv = c.self.invariant in

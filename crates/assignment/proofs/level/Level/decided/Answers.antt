@@ -2,14 +2,14 @@ use Rattle.std.proofs.Common.{◌≡◌, ◌+◌, ◌<◌, ◌∙◌, ℕ, List,
 use Rattle.std.proofs.lemmas.Bool.{both_ways}
 use Rattle.std.proofs.lemmas.List.{get_or_read}
 use Rattle.task_sheet.specs.Indexes.{indexes_of}
-use Rattle.response_time.specs.declared.Answer.{Answer}
+use Rattle.assignment.specs.declared.outcome.Outcome.{Outcome}
 use Rattle.assignment.specs.Levels.{LevelState, IsDecided}
 use Rattle.assignment.proofs.LevelLaws.{NoneBelow, NoneBelow-skip, NoneBelow-fail, IsDecided-standing, known-found, known-stands}
 use Rattle.assignment.proofs.level.Level.decided.Goals as goal
 use Rattle.assignment.proofs.level.Level.decided.Goals.{then-has+in-Some+else-lets_stand, else-has}
 
 -- what was read at a place
-read_at : (answers : List (Option Answer)) (k : ℕ) (o : Option Answer) (answer : Answer) → k < length answers → o ≡ get_or answers k o → o ≡ Some answer → get_or answers k None ≡ Some answer
+read_at : (answers : List (Option Outcome)) (k : ℕ) (o : Option Outcome) (answer : Outcome) → k < length answers → o ≡ get_or answers k o → o ≡ Some answer → get_or answers k None ≡ Some answer
 read_at answers k o answer lt read is = sym (get_or_read answers k o lt read None) ∙ is
 
 pub returns-in-Some : goal.returns-in-Some

@@ -1,0 +1,77 @@
+//! Whether a task may stand, with what shows it.
+ghost use Rattle.std.specs.Prelude.{◌≡◌, ◌<◌, ℕ, List, length, IsFalse, IfSome, IfNone};
+ghost use Rattle.task_sheet.specs.Sheet.{Task};
+ghost use Rattle.task_sheet.specs.Indexes.{Indexes, indexes_of, IsPart};
+ghost use Rattle.task_sheet.specs.Orders.{all_of, is_bound};
+ghost use Rattle.task_sheet.specs.Verdicts.{IsLeastOver};
+ghost use Rattle.ceilings.specs.IsTableOf.{IsTableOf};
+ghost use Rattle.response_time.specs.Answers.{IsAnswer};
+ghost use Rattle.assignment.specs.Outcomes.{IsOutcome};
+
+use ceilings::LockTable;
+use response_time::Answer;
+use task_sheet::{Members, TaskSet};
+
+/// Why a task may not stand where it was asked.
+#[derive(Drop)]
+pub enum Reason {
+    /// It doesn't pass: 1, then each demand of the number before it, up to the first that is past what its jitter leaves
+    /// of the deadline, in microseconds.
+    Chain(Vec<u64>),
+    /// A task is above it above which it must stand: of these the one of least rank, by its index.
+    Over(usize),
+}
+
+/// Whether a task may stand where it was asked.
+#[derive(Drop)]
+pub enum Outcome {
+    /// It may: its response in microseconds from the arrival, the least positive time that is its own demand with its
+    /// jitter.
+    Pass { response: u64 },
+    /// It may not.
+    Fail { reason: Reason },
+}
+
+// The outcome on a task that need not stand above any of the others.
+pub(crate) fn unbound_outcome(answer: Answer) -> Outcome
+    ensures { (U : List Task) (i : ℕ) (H : Indexes) → IsFalse (is_bound U i H)
+        → IsAnswer U i H answer → IsOutcome U i H result }
+{
+    match answer {
+        Answer::Pass { response } => Outcome::Pass { response },
+        Answer::Fail { chain } => Outcome::Fail {
+            reason: Reason::Chain(chain),
+        },
+    }
+}
+
+/// Whether a task must stand above one of these. The table is that of the set.
+pub(crate) fn is_bound(set: &TaskSet, table: &LockTable, task: usize, above: Members) -> bool
+    requires table { IsTableOf set.now table.now }
+    requires task { task < length set.now }
+    requires part { IsPart (indexes_of above) (all_of set.now) }
+    ensures { result ≡ is_bound set.now task (indexes_of above) }
+{
+    table.outranked(task).meets(above)
+}
+
+/// Of these that a task must stand above, the one of least rank. The table is that of the set.
+pub(crate) fn least_over(
+    set: &TaskSet,
+    table: &LockTable,
+    task: usize,
+    above: Members,
+) -> Option<usize>
+    requires table { IsTableOf set.now table.now }
+    requires task { task < length set.now }
+    ensures none { IfNone result (IsFalse (is_bound set.now task (indexes_of above))) }
+    ensures some { IfSome result (λ other. IsLeastOver set.now task (indexes_of above) other) }
+{
+    let outranked = table.outranked(task);
+    for other in 0..set.len() {
+        if outranked.has(other) && above.has(other) {
+            return Some(other);
+        }
+    }
+    None
+}
