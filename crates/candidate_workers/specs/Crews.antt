@@ -1,7 +1,8 @@
 -- What came of the workers of a level, all together.
-use Rattle.std.specs.Prelude.{◌≡◌, ℕ, ◌+◌, ◌<◌, ◌≤◌, true, false, cond, List, [], ◌∷◌, ◌++◌, map, Option, None, Some, Result, Ok, Err, All}
+use Rattle.std.specs.Prelude.{◌≡◌, ℕ, ◌+◌, ◌<◌, ◌≤◌, true, false, cond, List, [], ◌∷◌, ◌++◌, map, Option, None, Some, Result, Ok, Err, All, IsFalse}
 use Rattle.std.specs.List.{Contains}
 use Rattle.std.specs.Global.{Vec}
+use Rattle.std.specs.FinSet.{contains}
 use Rattle.assignment.specs.Questions.{FindingData}
 use Rattle.assignment.specs.Levels.{LevelState}
 use Rattle.candidate_workers.specs.declared.asking.WorkFault.{WorkFault}
@@ -19,6 +20,10 @@ abbrev pub tasks_handed : List (Result (Vec FindingData) WorkFault) → List ℕ
 tasks_handed [] = []
 tasks_handed (Ok findings ∷ rest) = map task_of findings.items ++ tasks_handed rest
 tasks_handed (Err fault ∷ rest) = tasks_handed rest
+
+-- each of these tasks has a finding
+abbrev pub AreFound : LevelState → List ℕ → Type 0
+AreFound level tasks = (k : ℕ) → 0 < times k tasks → IsFalse (contains level.missing k)
 
 -- the faults of the workers
 abbrev pub work_faults : List (Result (Vec FindingData) WorkFault) → List AssayFault

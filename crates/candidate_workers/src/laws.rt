@@ -5,8 +5,8 @@ ghost use Rattle.candidate_workers.specs.declared.gathering.Claimed.{Claimed};
 ghost use Rattle.candidate_workers.specs.Claims.{count_of, candidate_at, times};
 ghost use Rattle.candidate_workers.specs.Crews.{AreClaims};
 
-/// The workers handed on a finding for each candidate up to the least that passes, and for all where none passes: they
-/// leave the collector nothing to answer.
+/// The workers handed on a finding for each candidate up to the least that passes, and for all where none passes: these
+/// decide the level.
 pub fn claims_find_all()
     ensures { (level : LevelState) (tasks : List ℕ) (claimed : Claimed) (k : ℕ) →
         AreClaims level tasks claimed → k < count_of level → k ≤ claimed.least →

@@ -9,6 +9,7 @@ mod deciding;
 mod gate;
 mod gathering;
 mod laws;
+mod threads;
 mod view;
 
 pub use asking::WorkFault;
@@ -18,4 +19,5 @@ pub use crew::share_out;
 pub use gate::{Gate, OpenGate};
 pub use gathering::{Claimed, Crew, Handed};
 pub use laws::claims_find_all;
+pub use threads::threads_worth;
 pub use view::View;
