@@ -12,3 +12,4 @@ pub mod AskingLaws
 pub mod Determined
 pub mod LevelLaws
 pub mod AdvanceLaws
+pub mod LegalLaws

@@ -5,8 +5,7 @@ use Rattle.std.specs.FinSet as members
 use Rattle.task_sheet.specs.Sheet.{Task}
 use Rattle.task_sheet.specs.MembersWords.{all_below}
 use Rattle.task_sheet.specs.Indexes.{indexes_of, without_index}
-use Rattle.task_sheet.specs.Responses.{IsResponse}
-use Rattle.task_sheet.specs.Demand.{demand_of}
+use Rattle.task_sheet.specs.Demand.{IsResponseOf}
 use Rattle.task_sheet.specs.Levels.{IsChosen}
 use Rattle.task_sheet.proofs.MembersIndexes.{indexes_of-all_below}
 use Rattle.assignment.specs.Questions.{QuestionData}
@@ -78,15 +77,15 @@ module _ (U : List Task) (c : ClimbState) (l : LevelState) (found : List Asked) 
           let count : length c'.levels ≡ suc (length c.levels) = omega (arith, ap (λ (x : ClimbState). length x.levels) placed.after, length-append c.levels (placed.level ∷ [])) in
           let L : members.FinSet nat_cmp = level_at U (length c.levels) in
           let is : IsChosen U (indexes_of L) placed.level.task = subst (λ m. IsChosen U (indexes_of m) placed.level.task) so.left (subst (λ V. IsChosen V (indexes_of c.left) placed.level.task) so.same placed.chosen) in
-          let answer : IsResponse (demand_of U placed.level.task (without_index (indexes_of L) placed.level.task)) placed.level.response =
-          subst (λ m. IsResponse (demand_of U placed.level.task (without_index (indexes_of m) placed.level.task)) placed.level.response) so.left
-          (subst (λ V. IsResponse (demand_of V placed.level.task (without_index (indexes_of c.left) placed.level.task)) placed.level.response) so.same placed.right.response) in (
+          let answer : IsResponseOf U placed.level.task (without_index (indexes_of L) placed.level.task) placed.level.response =
+          subst (λ m. IsResponseOf U placed.level.task (without_index (indexes_of m) placed.level.task) placed.level.response) so.left
+          (subst (λ V. IsResponseOf V placed.level.task (without_index (indexes_of c.left) placed.level.task) placed.level.response) so.same placed.right.response) in (
             length c.levels,
             news asked missing,
             record {
               next = subst (λ n. IsPresent U (found ++ asked_of q ∷ []) n) count (progress-present U c' l' (found ++ asked_of q ∷ []) so' going');
               number = number ∙ count;
               chosen = subst (λ i. IsChosen U (indexes_of L) i) (sym chosen) is;
-              right = subst (λ i. IsResponse (demand_of U i (without_index (indexes_of L) i)) response) (sym chosen) (subst (λ r. IsResponse (demand_of U placed.level.task (without_index (indexes_of L) placed.level.task)) r) (sym right) answer);
+              right = subst (λ i. IsResponseOf U i (without_index (indexes_of L) i) response) (sym chosen) (subst (λ r. IsResponseOf U placed.level.task (without_index (indexes_of L) placed.level.task) r) (sym right) answer);
             },
           )

@@ -4,9 +4,9 @@ use Rattle.std.specs.FinSet.{contains}
 use Rattle.std.proofs.lemmas.Bool.{cases_order, both_ways}
 use Rattle.task_sheet.specs.Sheet.{Task}
 use Rattle.task_sheet.specs.Indexes.{Indexes, indexes_of, without_index}
-use Rattle.task_sheet.specs.Responses.{IsResponse}
-use Rattle.task_sheet.specs.Demand.{demand_of}
+use Rattle.task_sheet.specs.Demand.{IsResponseOf}
 use Rattle.task_sheet.specs.Levels.{IsChosen}
+use Rattle.task_sheet.proofs.PassingLaws.{IsResponseOf-one}
 use Rattle.assignment.specs.Questions.{QuestionData}
 use Rattle.assignment.specs.Levels.{IsAsked}
 use Rattle.desk_core.specs.declared.asked.Asked.{Asked}
@@ -21,9 +21,6 @@ chosen-one U L i j first second = elim (cases_order i j) [
   | inl e ↦ e
   | inr apart ↦ elim apart [ inl lt ↦ absurd (second.first i lt first.member first.stands) | inr lt ↦ absurd (first.first j lt second.member second.stands) ]
 ]
-
-response-one : (W : ℕ → ℕ) (r s : ℕ) → IsResponse W r → IsResponse W s → r ≡ s
-response-one W r s first second = omega (arith, first.least s second.positive second.fixed, second.least r first.positive first.fixed)
 
 module _ (U : List Task) (found : List Asked) (q : QuestionData) where
   -- no stranger
@@ -48,7 +45,7 @@ module _ (U : List Task) (found : List Asked) (q : QuestionData) where
       let number : level ≡ level' = first.number ∙ sym b.number in
       let L : Indexes = indexes_of (level_at U k) in
       let chosen : task ≡ task' = chosen-one U L task task' first.chosen b.chosen in
-      let right : response ≡ response' = response-one (demand_of U task' (without_index L task')) response response' (subst (λ i. IsResponse (demand_of U i (without_index L i)) response) chosen first.right) b.right in
+      let right : response ≡ response' = IsResponseOf-one U task' (without_index L task') response response' (subst (λ i. IsResponseOf U i (without_index L i) response) chosen first.right) b.right in
       λ i. LevelDone (number i) (chosen i) (right i)
 
   pub told-one : (a b : Told) → IsTold U found q a → IsTold U found q b → a ≡ b

@@ -16,5 +16,6 @@ IsTelling trial Taken = Unit {0}
 IsTelling trial (LevelDone level task response) = task < length trial.set
 IsTelling trial Tested = IsTested trial.set trial.found
 
+-- the reply says what is told of the finding
 abbrev pub IsBrought : TrialData → QuestionData → Reply → Type 0
 IsBrought trial q reply = (told : Told) × IsTold trial.set trial.found q told × IsToldReply trial.set told reply

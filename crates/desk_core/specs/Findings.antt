@@ -5,8 +5,7 @@ use Rattle.std.specs.FinSet.{FinSet, contains, insert, remove}
 use Rattle.task_sheet.specs.Sheet.{Task}
 use Rattle.task_sheet.specs.Indexes.{indexes_of, without_index}
 use Rattle.task_sheet.specs.MembersWords.{same_members}
-use Rattle.task_sheet.specs.Responses.{IsResponse}
-use Rattle.task_sheet.specs.Demand.{demand_of}
+use Rattle.task_sheet.specs.Demand.{IsResponseOf}
 use Rattle.task_sheet.specs.Levels.{IsChosen}
 use Rattle.assignment.specs.Questions.{QuestionData}
 use Rattle.assignment.specs.Levels.{LevelState, IsAsked, IsDecided}
@@ -58,7 +57,7 @@ pub record IsLevelDone (U : List Task) (found : List Asked) (k level task respon
   pub next : IsPresent U found (suc k)
   pub number : level ≡ suc k
   pub chosen : IsChosen U (indexes_of (level_at U k)) task
-  pub right : IsResponse (demand_of U task (without_index (indexes_of (level_at U k)) task)) response
+  pub right : IsResponseOf U task (without_index (indexes_of (level_at U k)) task) response
 
 -- the answer to a finding, by its question
 abbrev pub IsTold : List Task → List Asked → QuestionData → Told → Type 0

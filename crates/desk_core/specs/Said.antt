@@ -5,6 +5,7 @@ use Rattle.desk_core.specs.declared.events.Cause.{Cause}
 use Rattle.desk_core.specs.declared.events.Reply.{Reply}
 use Rattle.desk_core.specs.declared.events.Reply.TheVariants as reply
 
+-- a reply, by what it says
 pub data Said : Type 0 where
   Opened : (draft version : ℕ) → Said
   Done : Said
@@ -15,6 +16,7 @@ pub data Said : Type 0 where
   Decided : (place : ℕ) (entry : Entry) → Said
   Refused : (cause : Cause) → Said
 
+-- what a reply says
 abbrev pub said_of : Reply → Said
 said_of (reply.Opened draft version) = Opened draft version
 said_of reply.Done = Done

@@ -33,6 +33,7 @@ IsStage (Err refusal) (Trying trial) = ⊥
 IsStage (Err refusal) (Complete verdict found names) = ⊥
 IsStage (Err refusal) (Tested judged found names) = ⊥
 
+-- the test is begun
 abbrev pub is_begun : Stage → Bool
 is_begun Fresh = false
 is_begun (Trying trial) = true

@@ -20,10 +20,12 @@ IsTrying U found (Tested infeasible) = IsTested U found × IsShown U infeasible.
 IsTrying U found NoSuchDraft = ⊥
 IsTrying U found Untestable = ⊥
 
+-- where a draft stands whose changes come to this
 abbrev pub IsStandingOn : Result (List Owned) Refusal → List Asked → Standing → Type 0
 IsStandingOn (Err refusal) found standing = standing ≡ Untestable
 IsStandingOn (Ok tasks) found standing = IsTrying (set_of tasks) found standing
 
+-- where the draft in a slot stands
 abbrev pub IsStanding : Option Live → Standing → Type 0
 IsStanding None standing = standing ≡ NoSuchDraft
 IsStanding (Some l) standing = IsStandingOn (on_base l.draft) l.found standing
@@ -35,14 +37,17 @@ IsShort found (Tested infeasible) = Unit {0}
 IsShort found NoSuchDraft = Unit {0}
 IsShort found Untestable = Unit {0}
 
+-- so it is for the draft in a slot
 abbrev pub IsShortOf : Option Live → Standing → Type 0
 IsShortOf None standing = Unit {0}
 IsShortOf (Some l) standing = IsShort l.found standing
 
+-- the question on the candidate of a name, where the changes come to this
 abbrev pub IsQuestionOn : Result (List Owned) Refusal → List Asked → List ℕ → Option QuestionData → Type 0
 IsQuestionOn (Err refusal) found name question = question ≡ None
 IsQuestionOn (Ok tasks) found name question = IsNamed (set_of tasks) found name question
 
+-- the question on the candidate of a name, for the draft in a slot
 abbrev pub IsQuestionOf : Option Live → List ℕ → Option QuestionData → Type 0
 IsQuestionOf None name question = question ≡ None
 IsQuestionOf (Some l) name question = IsQuestionOn (on_base l.draft) l.found name question

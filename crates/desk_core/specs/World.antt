@@ -35,16 +35,20 @@ pub record World : Type 0 where
   pub book : Book
   pub drafts : List (Option Live)
 
+-- the world before all events: an empty book and no draft
 abbrev pub start : World
 start = record { book = empty_book; drafts = [] }
 
+-- a slot that is there
 abbrev pub if_live : Option (Option Live) → Option Live
 if_live None = None
 if_live (Some slot) = slot
 
+-- the draft of a number, from 1, where it is live
 abbrev pub live_at : List (Option Live) → ℕ → Option Live
 live_at drafts number = if number == 0 then None else if_live (slice_get drafts (number - 1))
 
+-- the reply to an event on a draft that has to be live
 abbrev pub live_reply : Option Live → (Live → Reply) → Reply
 live_reply None f = Refused NoSuchDraft
 live_reply (Some l) f = f l
@@ -54,6 +58,7 @@ abbrev pub after_slot : Option Live → (Live → Option Live) → Option Live
 after_slot None f = None
 after_slot (Some l) f = f l
 
+-- a draft that a team opens on this state
 abbrev pub opened : ℕ → Desk → Live
 opened team desk = record { draft = record { team = team; base = desk; changes = [] }; found = [] }
 
@@ -63,10 +68,12 @@ cause_of draft.NotYours = NotYours
 cause_of draft.NoSuchTask = NoSuchTask
 cause_of draft.DraftFull = DraftFull
 
+-- the reply to an edit that comes to this
 abbrev pub edit_reply : Result (List (List ℕ × Change)) EditRefusal → Reply
 edit_reply (Ok changes) = Done
 edit_reply (Err refusal) = Refused (cause_of refusal)
 
+-- the draft after an edit that comes to this
 abbrev pub edited : Live → Result (List (List ℕ × Change)) EditRefusal → Live
 edited l (Err refusal) = l
 edited l (Ok changes) =
@@ -81,10 +88,12 @@ IsShown U names =
     × ((members : List FailureData) × IsVerdictOf U (verdict.Infeasible members)
     × (names ≡ map (λ i. (task_at U i).name) (tasks_of members))))
 
+-- the reply that a test is complete, with the names that its verdict shows
 abbrev pub IsTestedReply : List Task → Reply → Type 0
 IsTestedReply U (Tested infeasible) = IsShown U infeasible.items
 IsTestedReply U _ = ⊥
 
+-- the reply that says what is told of a finding
 abbrev pub IsToldReply : List Task → Told → Reply → Type 0
 IsToldReply U told.Stranger reply = reply ≡ Refused Stranger
 IsToldReply U told.Twice reply = reply ≡ Refused Twice
@@ -92,11 +101,13 @@ IsToldReply U told.Taken reply = reply ≡ Taken
 IsToldReply U (told.LevelDone level task response) reply = reply ≡ LevelDone level (task_at U task).name response
 IsToldReply U told.Tested reply = IsTestedReply U reply
 
+-- the reply to a finding for a draft whose changes come to this
 abbrev pub IsFoundAnswer : Result (List Owned) Refusal → List Asked → QuestionData → Reply → Type 0
 IsFoundAnswer (Err refusal) found q reply = reply ≡ Refused Untestable
 IsFoundAnswer (Ok tasks) found q reply =
     (t : Told) × IsTold (set_of tasks) found q t × IsToldReply (set_of tasks) t reply
 
+-- the reply to a finding for the draft in a slot
 abbrev pub IsFoundReply : Option Live → QuestionData → Reply → Type 0
 IsFoundReply None q reply = reply ≡ Refused NoSuchDraft
 IsFoundReply (Some l) q reply = IsFoundAnswer (on_base l.draft) l.found q reply
@@ -108,6 +119,7 @@ noted found a (LevelDone level name response) = found ++ a ∷ []
 noted found a (Tested infeasible) = found ++ a ∷ []
 noted found a _ = found
 
+-- the draft with a finding more, where the reply takes it
 abbrev pub with_finding : Live → Asked → Reply → Live
 with_finding l a reply = record { draft = l.draft; found = noted l.found a reply }
 
@@ -117,6 +129,7 @@ abbrev pub IsTestedOn : Result (List Owned) Refusal → List Asked → Type 0
 IsTestedOn (Err refusal) found = ⊥
 IsTestedOn (Ok tasks) found = IsTested (set_of tasks) found
 
+-- the draft is tested
 abbrev pub IsTestedDraft : Live → Type 0
 IsTestedDraft l = IsTestedOn (on_base l.draft) l.found
 
@@ -124,22 +137,27 @@ IsTestedDraft l = IsTestedOn (on_base l.draft) l.found
 abbrev pub IsStale : Book → Live → Type 0
 IsStale b l = IsTestedDraft l × (l.draft.base.version < b.desk.version)
 
+-- the draft on another state, without findings
 abbrev pub rebased : Live → Desk → Live
 rebased l desk = record { draft = record { team = l.draft.team; base = desk; changes = l.draft.changes }; found = [] }
 
+-- the reply to the commit of a live draft: stale, or the machine's decision
 abbrev pub IsLiveCommit : Book → Live → Reply → Type 0
 IsLiveCommit b l (Stale version) = IsStale b l × (version ≡ b.desk.version)
 IsLiveCommit b l (Decided place entry) = (¬ IsStale b l) × IsNextEntry b l.draft place entry.value
 IsLiveCommit b l _ = ⊥
 
+-- the reply to the commit of the draft in a slot
 abbrev pub IsCommitReply : Book → Option Live → Reply → Type 0
 IsCommitReply b None reply = reply ≡ Refused NoSuchDraft
 IsCommitReply b (Some l) reply = IsLiveCommit b l reply
 
+-- the book after a commit's reply
 abbrev pub book_after : Book → Reply → Book
 book_after b (Decided place entry) = logged b entry.value
 book_after b _ = b
 
+-- the draft after a commit's reply
 abbrev pub committed : Desk → Reply → Live → Option Live
 committed desk (Decided place entry) l = None
 committed desk (Stale version) l = Some (rebased l desk)
@@ -157,6 +175,7 @@ IsReply w (Found draft finding) reply = IsFoundReply (live_at w.drafts draft) fi
 IsReply w (Commit draft) reply = IsCommitReply w.book (live_at w.drafts draft) reply
 IsReply w (Abandon draft) reply = reply ≡ live_reply (live_at w.drafts draft) (λ l. Done)
 
+-- where a draft is live, the next world, else this one
 abbrev pub if_there : Option Live → World → World → World
 if_there None w next = w
 if_there (Some l) w next = next

@@ -11,7 +11,8 @@ ghost use Rattle.desk_core.specs.declared.told.Told.{Told};
 ghost use Rattle.task_sheet.specs.Choices.{chosen_of, level_at};
 ghost use Rattle.desk_core.specs.Findings.{IsTold};
 ghost use Rattle.desk_core.specs.Said.{said_of};
-ghost use Rattle.desk_core.specs.World.{World, IsRun, after_all};
+ghost use Rattle.drafts.specs.Books.{IsLegalBook};
+ghost use Rattle.desk_core.specs.World.{World, start, IsRun, after_all};
 ghost use Rattle.desk_core.specs.declared.events.Event.{Event};
 ghost use Rattle.desk_core.specs.declared.events.Reply.{Reply};
 
@@ -45,4 +46,11 @@ pub fn replies_are_one()
     ensures world { (w : World) (events : List Event) (first second : List Reply)
         → IsRun w events first → IsRun w events second
         → after_all w events first ≡ after_all w events second }
+{}
+
+/// The book is legal after any events, whatever replies they get that the world may give: each decision of its log is
+/// the machine's, its state is the log's replay, and its version is the number of admitted entries.
+pub fn runs_are_legal()
+    ensures { (events : List Event) (replies : List Reply)
+        → IsRun start events replies → IsLegalBook (after_all start events replies).book }
 {}

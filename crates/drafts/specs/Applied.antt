@@ -20,6 +20,7 @@ owned_of [] teams = []
 owned_of (s ∷ sheets) [] = []
 owned_of (s ∷ sheets) (t ∷ teams) = record { sheet = s; team = t } ∷ owned_of sheets teams
 
+-- the task has this name
 abbrev pub has_name : List ℕ → Owned → Bool
 has_name name o = same_bytes o.sheet.name name
 
@@ -45,6 +46,7 @@ abbrev pub is_foreign : ℕ → Option Owned → Bool
 is_foreign team None = false
 is_foreign team (Some o) = not (o.team == team)
 
+-- some team holds the name
 abbrev pub is_there : Option Owned → Bool
 is_there None = false
 is_there (Some o) = true
@@ -62,6 +64,7 @@ after_change team tasks name Remove =
 abbrev pub is_team_at : ℕ → List ℕ → ℕ → Bool
 is_team_at team teams i = option_map_or (λ t. t == team) (slice_get teams i) false
 
+-- the teams of the tasks
 abbrev pub teams_of : List Owned → List ℕ
 teams_of tasks = map (λ o. o.team) tasks
 
@@ -73,6 +76,7 @@ holder_after team tasks name = option_map_or (λ o. o.team) (held name tasks) te
 abbrev pub if_few : List Owned → Result (List Owned) Refusal
 if_few tasks = if nat_le (length tasks) 32 then Ok tasks else Err TooManyTasks
 
+-- what follows where nothing was refused
 abbrev pub then_on : Result (List Owned) Refusal → (List Owned → Result (List Owned) Refusal)
     → Result (List Owned) Refusal
 then_on (Err refusal) f = Err refusal
@@ -83,5 +87,6 @@ abbrev pub all_changes : ℕ → List Owned → List (List ℕ × Change) → Re
 all_changes team tasks [] = Ok tasks
 all_changes team tasks (c ∷ changes) = then_on (after_change team tasks c.0 c.1) (λ next. all_changes team next changes)
 
+-- what a team's changes come to: the tasks, or the first refusal
 abbrev pub applied : ℕ → List Owned → List (List ℕ × Change) → Result (List Owned) Refusal
 applied team tasks changes = then_on (all_changes team tasks changes) if_few

@@ -1,12 +1,14 @@
 -- The book, and what an entry makes of it.
 use Rattle.std.specs.Prelude.{◌≡◌, ℕ, ◌+◌, length, List, [], ◌∷◌, ◌++◌}
-use Rattle.drafts.specs.Machine.{Desk, empty_desk, Entry, after_entry, IsDecision}
+use Rattle.drafts.specs.Machine.{Desk, empty_desk, Entry, after_entry, IsDecision, IsLegal, replay, admissions}
 use Rattle.drafts.specs.Changes.{Draft}
 
+-- the state, and the log of all decisions
 pub record Book : Type 0 where
   pub desk : Desk
   pub log : List Entry
 
+-- the book before the first commit
 abbrev pub empty_book : Book
 empty_book = record { desk = empty_desk; log = [] }
 
@@ -19,3 +21,10 @@ abbrev pub IsNextEntry : Book → Draft → ℕ → Entry → Type 0
 IsNextEntry b d place e =
     (place ≡ length b.log + 1) × (e.team ≡ d.team) × (e.changes ≡ d.changes)
     × IsDecision b.desk d.team d.changes e.decision
+
+-- each decision of the log is the machine's at its place, the state is the log's replay, and the version is the number
+-- of admitted entries
+pub record IsLegalBook (b : Book) : Type 0 where
+  pub legal : IsLegal empty_desk b.log
+  pub replay : replay empty_desk b.log ≡ b.desk
+  pub version : b.desk.version ≡ admissions b.log

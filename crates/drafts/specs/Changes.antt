@@ -32,6 +32,7 @@ IsNamed name Remove = Unit {0}
 abbrev pub AreNamed : List (List ℕ × Change) → Type 0
 AreNamed changes = AllByRecursion (λ c. IsNamed c.0 c.1) changes
 
+-- the change is a put
 abbrev pub is_put : Change → Bool
 is_put (Put sheet) = true
 is_put Remove = false
@@ -54,10 +55,12 @@ on_base d = applied d.team d.base.tasks d.changes
 abbrev pub change_on : List ℕ → List (List ℕ × Change) → Option Change
 change_on name changes = lookup (same_bytes name) changes
 
+-- the sheet that is held
 abbrev pub sheet_held : Option Owned → Option Task
 sheet_held None = None
 sheet_held (Some o) = Some o.sheet
 
+-- what a draft shows of a name: its own change, or else what its base holds
 abbrev pub shown : Option Owned → Option Change → Option Task
 shown base (Some (Put sheet)) = Some sheet
 shown base (Some Remove) = None

@@ -5,6 +5,7 @@ use Rattle.drafts.specs.declared.draft.EditRefusal.{EditRefusal}
 use Rattle.drafts.specs.declared.draft.EditCause.{EditCause}
 use Rattle.drafts.specs.declared.draft.EditCause.TheVariants.{OutOfMemory, Refused}
 
+-- want of memory, or the refusal that the edit comes to
 abbrev pub IsEditFault : Result (List (List ℕ × Change)) EditRefusal → EditCause → Type 0
 IsEditFault outcome OutOfMemory = Unit {0}
 IsEditFault outcome (Refused refusal) = outcome ≡ Err refusal

@@ -25,6 +25,7 @@ pub record Desk : Type 0 where
   pub version : ℕ
   pub tasks : List Owned
 
+-- the state before the first commit
 abbrev pub empty_desk : Desk
 empty_desk = record { version = 0; tasks = [] }
 
@@ -43,6 +44,7 @@ IsAnswer version (Ok tasks) (Refused told) = ⊥
 abbrev pub IsDecision : Desk → ℕ → List (List ℕ × Change) → Ruling → Type 0
 IsDecision desk team changes decision = IsAnswer desk.version (applied team desk.tasks changes) decision
 
+-- the state with these tasks, a version on
 abbrev pub admitted : Desk → Result (List Owned) Refusal → Desk
 admitted desk (Ok tasks) = record { version = desk.version + 1; tasks = tasks }
 admitted desk (Err refusal) = desk
@@ -53,6 +55,7 @@ moved desk (Admitted version) outcome = admitted desk outcome
 moved desk (Refused refusal) outcome = desk
 moved desk (Infeasible o) outcome = desk
 
+-- the state after an entry
 abbrev pub after_entry : Desk → Entry → Desk
 after_entry desk e = moved desk e.decision (applied e.team desk.tasks e.changes)
 
@@ -66,6 +69,7 @@ abbrev pub replay : Desk → List Entry → Desk
 replay desk [] = desk
 replay desk (e ∷ log) = replay (after_entry desk e) log
 
+-- 1 for an admission, else 0
 abbrev pub one_if_admitted : Ruling → ℕ
 one_if_admitted (Admitted version) = 1
 one_if_admitted (Refused refusal) = 0

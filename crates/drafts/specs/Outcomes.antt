@@ -58,6 +58,7 @@ IsNextState desk outcome (judged.Stuck o) next = next ≡ None
 abbrev pub IsEntryOf : ℕ → Draft → Judged → Entry → Type 0
 IsEntryOf version d j e = (e.team ≡ d.team) × (e.changes ≡ d.changes) × IsSaid version j e.decision
 
+-- the next state, where there is one
 abbrev pub after_next : Desk → Option Desk → Desk
 after_next desk None = desk
 after_next desk (Some next) = next

@@ -2,12 +2,15 @@
 use Rattle.std.specs.Prelude.{ℕ, ◌≤◌}
 use Rattle.drafts.specs.declared.team.Team.TheInside.{Inside}
 
+-- the number of a team
 abbrev pub number_of : Inside → ℕ
 number_of a = a.number
 
+-- the team of a number
 abbrev pub team_of : ℕ → Inside
 team_of n = record { number = n }
 
+-- a team's number is from 1 to 8
 pub record IsTeam (a : Inside) : Type 0 where
   pub from : 1 ≤ a.number
   pub to : a.number ≤ 8

@@ -149,6 +149,7 @@ impl Book {
         ensures log { map (λ e. e.value) result.1.items ≡ self.log }
         ensures legal { IsLegal empty_desk self.log }
         ensures replay { replay empty_desk self.log ≡ self.desk }
+        ensures version { self.desk.version ≡ admissions self.log }
     {
         (self.state, self.log)
     }
@@ -191,6 +192,7 @@ impl Book {
     ) -> Result<Decided, AllocError>
         requires { IsJudged (applied draft.now.team self.old.desk.tasks draft.now.changes) judged.now }
         ensures entry { IfOk result (λ d. IsNextEntry self.old draft.now d.place d.entry.value) }
+        ensures said { IfOk result (λ d. IsSaid self.old.desk.version judged.now d.entry.value.decision) }
         ensures ok { IfOk result (λ d. self.new ≡ logged self.old d.entry.value) }
         ensures err { OnErr result (self.new ≡ self.old) }
     {

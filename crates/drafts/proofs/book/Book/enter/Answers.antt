@@ -4,7 +4,7 @@ use Rattle.drafts.specs.Applied.{applied}
 use Rattle.drafts.specs.Machine.{IsLegal, replay, empty_desk}
 use Rattle.drafts.specs.Books.{Book, logged, IsNextEntry}
 use Rattle.drafts.specs.BookFields.{book_of}
-use Rattle.drafts.specs.Outcomes.{IsJudged, IsEntryOf, IsNextState}
+use Rattle.drafts.specs.Outcomes.{IsJudged, IsSaid, IsEntryOf, IsNextState}
 use Rattle.drafts.proofs.BookLaws.{version_room, entered-next, entered-kept, entered-desk}
 use Rattle.drafts.proofs.book.Book.enter.Goals as goal
 
@@ -51,6 +51,16 @@ returns-clause-entry c =
     let is : IsEntryOf b.desk.version d j e = subst (λ v. IsEntryOf v d j e) (c.version.ensures ∙ ap (λ x. x.version) c.deref.ensures) c.in_ok-entry.ensures in
     let at : c.len.result ≡ length b.log + 1 = omega (arith, c.len.ensures, c.in_ok-push.ensures.len, length-map a.log.items (λ x. x.value), a.log.ok.0, a.log.ok.1) in
     subst (λ (x : Book). IsNextEntry x d c.len.result e) c.self.view_is (entered-next b c.self.invariant.legal c.self.invariant.same d j judged e is c.len.result at)
+
+pub returns-clause-said : goal.returns-clause-said
+returns-clause-said c =
+    let a = c.self.inside in
+    let b : Book = book_of a in
+    let d = c.args.draft.now in
+    let j = c.args.judged.now in
+    let e = c.in_ok-entry.entry.value in
+    let is : IsEntryOf b.desk.version d j e = subst (λ v. IsEntryOf v d j e) (c.version.ensures ∙ ap (λ x. x.version) c.deref.ensures) c.in_ok-entry.ensures in
+    subst (λ (x : Book). IsSaid x.desk.version j e.decision) c.self.view_is is.2
 
 pub returns-clause-ok : goal.returns-clause-ok
 returns-clause-ok c =
