@@ -6,3 +6,4 @@ pub mod RankLaws
 pub mod ForeignLaws
 pub mod ContentLaws
 pub mod AgreeLaws
+pub mod OwnLaws

@@ -1,5 +1,5 @@
 -- What is said of the set that changes come to is said of what they come to.
-use Rattle.std.proofs.Common.{◌≡◌, ◌<◌, ℕ, List, length, refl, sym, ◌∙◌, subst}
+use Rattle.std.proofs.Common.{◌≡◌, ◌<◌, ◌≤◌, ℕ, inl, inr, List, length, refl, sym, ◌∙◌, subst, arith}
 use Rattle.std.specs.Prelude.{Result, Ok, Err, OnOk, IfErr}
 use Rattle.task_sheet.specs.Sheet.{Task}
 use Rattle.task_sheet.specs.TaskSet.{IsTaskSet}
@@ -34,6 +34,13 @@ untested_set may U workers assay.BadWorkers cause good h is = absurd (good h)
 untested_set may U workers assay.ThreadRefused cause good h is = subst (λ (x : CommitCause). IsUntestedSet may U x) (sym is) tt
 untested_set may U workers (assay.GateShut task) cause good h is = subst (λ (x : CommitCause). IsUntestedSet may U x) (sym is) (record { task = task; shut = h; named = refl })
 untested_set may U workers assay.OutOfMemory cause good h is = subst (λ (x : CommitCause). IsUntestedSet may U x) (sym is) tt
+
+-- no more workers than a good number of them, and some, are a good number
+pub still_good : (n workers : ℕ) → ¬ IsBadCount workers → 0 < n → n ≤ workers → ¬ IsBadCount n
+still_good n workers good some le = λ bad. elim bad [
+  | inl none ↦ omega (arith, none, some)
+  | inr many ↦ good (inr (omega (arith, many, le)))
+]
 
 -- ---- questions of the one verdict
 pub none_shut : (shut : QuestionData → Type 0) (U own : List Task) (v : VerdictData) → own ≡ U → IsTaskSet U → IsVerdictOf own v

@@ -1,8 +1,7 @@
 -- What `new` refuses, and what `close` answers.
 use Rattle.std.specs.Prelude.{◌≡◌, ◌<◌, ◌≤◌, ◌⊎◌, ℕ, List, true, false}
-use Rattle.drafts.specs.Books.{Book}
+use Rattle.drafts.specs.Books.{Book, IsLegalBook}
 use Rattle.drafts.specs.Machine.{Entry}
-use Rattle.book_lock.specs.LockedFields.{IsLegalBook}
 use Rattle.book_lock.specs.Passes.{Known, has_team, places_of, HaveReceipts}
 use Rattle.book_lock.specs.declared.closing.NewFault.{NewFault}
 use Rattle.book_lock.specs.declared.closing.NewFault.TheVariants.{BadTeams, OutOfMemory}

@@ -1,11 +1,12 @@
 -- What a round of a commit answers, and the whole commit.
-use Rattle.std.specs.Prelude.{◌≡◌, ◌≢◌, ◌<◌, ℕ, Result, Ok, Err}
+use Rattle.std.specs.Prelude.{◌≡◌, ◌≢◌, ◌<◌, ◌⊎◌, ℕ, Result, Ok, Err}
 use Rattle.assignment.specs.Questions.{QuestionData}
 use Rattle.candidate_workers.specs.Faults.{IsBadCount}
 use Rattle.drafts.specs.Applied.{applied}
 use Rattle.drafts.specs.Machine.{Desk}
 use Rattle.drafts.specs.Changes.{Draft}
 use Rattle.drafts.specs.Changes.{on_base}
+use Rattle.book_lock.specs.Reached.{IsReached}
 use Rattle.book_lock.specs.Passes.{Known}
 use Rattle.book_lock.specs.Settles.{IsReceived}
 use Rattle.book_lock.specs.Asking.{NoneShut, IsUntested}
@@ -28,12 +29,14 @@ IsRound may always d old (Ok (Overtaken back base)) new =
     × IsSameChange d back
     × (base.value ≡ d.base)
     × (d.base.version < back.base.version)
+    × IsReached back.base
     × (new ≡ old)
 IsRound may always d old (Err fault) new = IsUntested may (on_base d) fault.cause × (fault.draft ≡ d) × (new ≡ old)
 
--- some test of these changes, on the base or on a later state, wasn't made
+-- some test of these changes wasn't made: on the draft's base, or on a state that the node came to
 abbrev pub IsUntestedOn : (QuestionData → Type 0) → Draft → CommitCause → Type 0
-IsUntestedOn may d cause = (desk : Desk) × IsUntested may (applied d.team desk.tasks d.changes) cause
+IsUntestedOn may d cause =
+    (desk : Desk) × ((desk ≡ d.base) ⊎ IsReached desk) × IsUntested may (applied d.team desk.tasks d.changes) cause
 
 -- the later rounds of a draft: what is handed back is on the base that it came with
 abbrev pub IsLater : (QuestionData → Type 0) → Draft → Desk → Known → Result ℕ CommitFault → Known → Type 0
@@ -43,12 +46,13 @@ IsLater may d base old (Err fault) new =
     × (fault.draft ≡ (let e : Draft = record { team = d.team; base = base; changes = d.changes } in e))
     × (new ≡ old)
 
--- why there is no decision. The question that was shut out may be on the set that the changes come to on a later state.
+-- why there is no decision; the question that was shut out may be on the set that the changes come to on a later state
 abbrev pub IsUndecided : (QuestionData → Type 0) → ℕ → Draft → Known → CommitCause → Type 0
 IsUndecided may workers d p OtherTeam = d.team ≢ p.team
 IsUndecided may workers d p BadWorkers = (d.team ≡ p.team) × IsBadCount workers
 IsUndecided may workers d p cause = (d.team ≡ p.team) × (¬ IsBadCount workers) × IsUntestedOn may d cause
 
+-- the whole commit: a receipt, with no question on the first set that the gate always shuts out, or the draft as it came
 abbrev pub Commits :
     (QuestionData → Type 0) → (QuestionData → Type 0) → ℕ → Draft → Known → Result ℕ CommitFault → Known → Type 0
 Commits may always workers d old (Ok place) new =

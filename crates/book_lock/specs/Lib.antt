@@ -2,7 +2,7 @@ pub mod Own
 pub mod Foreign
 pub mod Passes
 pub mod PassFields
-pub mod LockedFields
+pub mod Reached
 pub mod Settles
 pub mod Opening
 pub mod Closing

@@ -1,9 +1,9 @@
 -- What `open` answers.
-use Rattle.std.specs.Prelude.{◌≡◌, List, [], true, false, Result, Ok, Err}
-use Rattle.drafts.specs.Machine.{Desk, Entry, IsLegal, replay, empty_desk}
-use Rattle.drafts.specs.Books.{Book}
+use Rattle.std.specs.Prelude.{◌≡◌, [], true, false, Result, Ok, Err}
+use Rattle.drafts.specs.Machine.{Desk}
+use Rattle.drafts.specs.Books.{Book, IsLegalBook}
 use Rattle.drafts.specs.Changes.{Draft}
-use Rattle.book_lock.specs.LockedFields.{IsLegalBook}
+use Rattle.book_lock.specs.Reached.{IsReached}
 use Rattle.book_lock.specs.Own.{own_of, IsForeignName}
 use Rattle.book_lock.specs.Passes.{Known, is_up_to}
 use Rattle.book_lock.specs.declared.answer.OpenFault.{OpenFault}
@@ -13,6 +13,8 @@ use Rattle.book_lock.specs.declared.answer.OpenFault.TheVariants.{Foreign, Behin
 abbrev pub IsOwn : Desk → Known → Type 0
 IsOwn desk p = own_of p.team desk.tasks ≡ p.tasks
 
+-- what a book answers to a pass: a draft on its state; the first name at which the team's tasks differ; that it is older
+-- than a receipt
 abbrev pub Opens : Book → Known → Result Draft OpenFault → Type 0
 Opens b p (Ok d) =
     IsOwn b.desk p
@@ -22,15 +24,13 @@ Opens b p (Err (Foreign name)) = IsForeignName (own_of p.team b.desk.tasks) p.ta
 Opens b p (Err (Behind version)) = IsOwn b.desk p × (version ≡ b.desk.version) × (is_up_to version p.receipts ≡ false)
 Opens b p (Err OutOfMemory) = Unit {0}
 
--- an empty draft of that team on the state of some legal log, with its tasks, and no older than its receipts
+-- an empty draft of that team on a state that a node can come to, with its tasks, and no older than its receipts
 pub record IsOpenedFor (p : Known) (d : Draft) : Type 0 where
   pub team : d.team ≡ p.team
   pub changes : d.changes ≡ []
   pub own : IsOwn d.base p
   pub late : is_up_to d.base.version p.receipts ≡ true
-  pub log : List Entry
-  pub legal : IsLegal empty_desk log
-  pub base : replay empty_desk log ≡ d.base
+  pub reached : IsReached d.base
 
 -- a fault that some legal book answers to that pass
 pub record IsNotOpenedFor (p : Known) (fault : OpenFault) : Type 0 where

@@ -26,6 +26,7 @@ receiving p place l = record {
   receipts = p.receipts ++ (place, l) ∷ [];
 }
 
+-- the version of an admission; 0 of another decision
 abbrev pub version_in : Ruling → ℕ
 version_in (Admitted version) = version
 version_in (Refused refusal) = 0
@@ -42,6 +43,7 @@ places_of team place [] = []
 places_of team place (l ∷ ls) =
     if l.team == team then (place, l) ∷ places_of team (place + 1) ls else places_of team (place + 1) ls
 
+-- the pass of a team that has decided nothing yet
 abbrev pub newcomer : ℕ → ℕ → Known
 newcomer team parts = record { team = team; parts = parts; tasks = []; receipts = [] }
 

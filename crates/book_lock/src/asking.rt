@@ -7,7 +7,7 @@ ghost use Rattle.drafts.specs.Outcomes.{IsJudged};
 ghost use Rattle.book_lock.specs.Asking.{NoneShutOf, NoneShut, IsJudgedSet, IsUntestedSet, IsUntested, IsOnTask, IsCauseOf};
 
 use crate::commit::{CommitCause, CommitFault};
-use candidate_workers::{AssayFault, Gate, assay};
+use candidate_workers::{AssayFault, Gate, assay, threads_worth};
 use drafts::{Applied, Draft, Judged, Proposal, share};
 use std::alloc::Global;
 use std::sync::{Arc, Wait};
@@ -29,7 +29,7 @@ fn cause_of(set: &TaskSet, fault: AssayFault) -> CommitCause
     }
 }
 
-// The verdict on a set, to be shared.
+// The verdict on a set, to be shared, by at most so many workers.
 fn test_set<G: Gate + Sync, R: Threads + Wait>(
     rt: &R,
     alloc: Global,
@@ -46,7 +46,7 @@ fn test_set<G: Gate + Sync, R: Threads + Wait>(
     let Ok(own) = set.clone() else {
         return Err(CommitCause::OutOfMemory);
     };
-    match assay(rt, alloc, own, workers, gate) {
+    match assay(rt, alloc, own, threads_worth(&set, workers), gate) {
         Ok(verdict) => match share(alloc, verdict) {
             Ok(judged) => Ok(judged),
             Err(_) => Err(CommitCause::OutOfMemory),

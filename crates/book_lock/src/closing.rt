@@ -191,6 +191,8 @@ impl<L: Ledger> Desk<L> {
             });
         }
         let mut locked = locked.into_inner();
+        // The book is legal: the proof has it from its state.
+        let _ = locked.state();
         if let Some(team) = mismatch(teams, &passes, locked.log()) {
             let cause = CloseCause::ReceiptMismatch { team };
             let locked = Mutex::new(locked);

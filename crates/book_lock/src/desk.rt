@@ -1,7 +1,7 @@
 //! The desk.
 
 ghost use Rattle.std.specs.Prelude.{◌≡◌, ◌≤◌, IfErr, IfOk, map};
-ghost use Rattle.book_lock.specs.Settles.{Answers, HoldsFor};
+ghost use Rattle.book_lock.specs.Settles.{Answers, HoldsSome};
 ghost use Rattle.book_lock.specs.Opening.{IsNotOpenedFor, IsOpenedFor};
 
 use crate::answer::{DeskFault, OpenFault, Outcome};
@@ -66,7 +66,7 @@ impl<L: Ledger> Desk<L> {
         draft: Draft,
     ) -> Result<usize, HeldFault>
         requires { draft.team ≡ pass.old.team }
-        ensures { HoldsFor draft pass.old result pass.new }
+        ensures { HoldsSome draft pass.old result pass.new }
     {
         let mut locked = self.locked.lock(rt);
         locked.settle_held(alloc, pass, draft)

@@ -8,6 +8,7 @@ mod commit;
 mod content;
 mod desk;
 mod foreign;
+pub mod laws;
 mod locked;
 mod own;
 mod pass;

@@ -1,14 +1,13 @@
 //! What lies under the lock, and the functions that are lent it.
 
 ghost use Rattle.std.specs.Prelude.{◌≡◌, ◌≤◌, [], length, map};
-ghost use Rattle.drafts.specs.Books.{empty_book};
-ghost use Rattle.book_lock.specs.LockedFields.{IsLegalBook};
+ghost use Rattle.drafts.specs.Books.{empty_book, IsLegalBook};
 ghost use Rattle.book_lock.specs.Settles.{Settles, Holds};
 ghost use Rattle.book_lock.specs.Opening.{Opens};
 
 use crate::answer::{DeskFault, OpenFault, Outcome};
 use crate::foreign::foreign;
-use crate::pass::{Pass, Receipt, is_up_to};
+use crate::pass::{Pass, Receipt, later};
 use drafts::{Book, Decided, Draft, Entry, HeldFault, NodeState, Proposal, SettleFault, Settled};
 use std::alloc::Global;
 use std::marker::Model;
@@ -62,7 +61,9 @@ impl<L: Ledger> Locked<L> {
         ensures bound { all.old.amount ≤ length self.old.log }
         ensures counted { all.old.parts ≡ L.parts → length self.old.log ≡ all.old.amount }
         ensures same { self.new ≡ self.old }
+        ensures share { (all.new.amount ≡ all.old.amount) × (all.new.parts ≡ all.old.parts) }
     {
+        // The book is legal: the proof has it from its state.
         let _ = self.book.state();
         self.decisions.audit(all);
     }
@@ -88,7 +89,7 @@ impl<L: Ledger> Locked<L> {
             Ok(None) => {}
         }
         let version = state.version();
-        if !is_up_to(version, &pass.receipts) {
+        if !pass.is_up_to(version) {
             return Err(OpenFault::Behind { version });
         }
         match self.book.snapshot() {
@@ -108,6 +109,7 @@ impl<L: Ledger> Locked<L> {
         ensures legal { IsLegalBook self.old × IsLegalBook self.new }
         ensures settles { Settles self.old proposal pass.old result self.new pass.new }
     {
+        // The book is legal: the proof has it from its state.
         let _ = self.book.state();
         let Ok(tasks) = pass.tasks.changed(alloc, proposal.draft()) else {
             return Err(DeskFault::OutOfMemory { proposal });
@@ -119,6 +121,7 @@ impl<L: Ledger> Locked<L> {
             Ok(Settled::Decided { place, entry }) => {
                 self.decisions.add(&mut pass.share, 1);
                 pass.tasks.keep(entry.decision(), tasks);
+                pass.latest = later(pass.latest, entry.decision());
                 pass.receipts.push_reserved(Receipt { place, entry });
                 let _ = self.book.state();
                 Ok(Outcome::Decided { place })
@@ -140,6 +143,7 @@ impl<L: Ledger> Locked<L> {
         ensures legal { IsLegalBook self.old × IsLegalBook self.new }
         ensures holds { Holds self.old draft pass.old result self.new pass.new }
     {
+        // The book is legal: the proof has it from its state.
         let _ = self.book.state();
         let Ok(tasks) = pass.tasks.changed(alloc, &draft) else {
             return Err(HeldFault { draft });
@@ -151,6 +155,7 @@ impl<L: Ledger> Locked<L> {
             Ok(Decided { place, entry }) => {
                 self.decisions.add(&mut pass.share, 1);
                 pass.tasks.keep(entry.decision(), tasks);
+                pass.latest = later(pass.latest, entry.decision());
                 pass.receipts.push_reserved(Receipt { place, entry });
                 let _ = self.book.state();
                 Ok(place)

@@ -1,6 +1,6 @@
 //! A team's pass.
 
-ghost use Rattle.std.specs.Prelude.{◌≡◌, ◌<◌, [], length, map};
+ghost use Rattle.std.specs.Prelude.{◌≡◌, ◌<◌, ◌&&◌, ℕ, nat_le, [], length, map};
 ghost use Rattle.drafts.specs.Rulings.{ruling_of};
 ghost use Rattle.book_lock.specs.Passes.{newcomer, is_up_to, version_in};
 ghost use Rattle.book_lock.specs.PassFields.{receipt_of};
@@ -20,19 +20,21 @@ pub struct Receipt {
     pub entry: Arc<Entry>,
 }
 
-/// What a team knows. Its share of the ledger counts its receipts.
+/// What a team knows. Its share of the ledger counts its receipts, and the latest version to which one of them admits is
+/// kept beside them (0 where none does).
 #[derive(Drop)]
 pub struct Pass<L: Ledger> {
     pub(crate) team: Team,
     pub(crate) share: Share<L>,
     pub(crate) tasks: OwnTasks,
     pub(crate) receipts: Vec<Receipt>,
+    pub(crate) latest: u64,
 }
 
 impl<L: Ledger> Model for Pass<L> {
     ghost use Rattle.std.specs.Prelude.{◌≡◌, ◌<◌, length, map};
     ghost use Rattle.book_lock.specs.Passes.{Known};
-    ghost use Rattle.book_lock.specs.PassFields.{receipt_of};
+    ghost use Rattle.book_lock.specs.PassFields.{receipt_of, IsLatest};
 
     ghost Value = { Known };
 
@@ -43,7 +45,9 @@ impl<L: Ledger> Model for Pass<L> {
       receipts = map receipt_of p.receipts.items;
     } };
 
-    ghost invariant = { λ p. (0 < p.share.parts) × (p.share.amount ≡ length p.receipts.items) };
+    ghost invariant = { λ p. (0 < p.share.parts)
+        × (p.share.amount ≡ length p.receipts.items)
+        × IsLatest p.latest (map receipt_of p.receipts.items) };
 }
 
 impl<L: Ledger> Pass<L> {
@@ -56,6 +60,7 @@ impl<L: Ledger> Pass<L> {
             share,
             tasks: OwnTasks::new(alloc),
             receipts: Vec::new(alloc),
+            latest: 0,
         }
     }
 
@@ -69,8 +74,16 @@ impl<L: Ledger> Pass<L> {
             share,
             tasks: _,
             receipts: _,
+            latest: _,
         } = self;
         share
+    }
+
+    // Whether no admitted receipt is of a later version.
+    pub(crate) fn is_up_to(&self, version: u64) -> bool
+        ensures { result ≡ is_up_to version self.now.receipts }
+    {
+        self.latest <= version
     }
 
     /// The team.
@@ -113,14 +126,10 @@ fn version_of(decision: &Decision) -> u64
     }
 }
 
-// Whether no admitted receipt is of a later version.
-pub(crate) fn is_up_to(version: u64, receipts: &[Receipt]) -> bool
-    ensures { result ≡ is_up_to version (map receipt_of receipts.now) }
+// The later of a version and that to which a decision admits.
+pub(crate) fn later(latest: u64, decision: &Decision) -> u64
+    ensures { (version : ℕ) → nat_le result version
+        ≡ (nat_le latest version && nat_le (version_in (ruling_of decision.now)) version) }
 {
-    for receipt in receipts {
-        if version_of(receipt.entry.decision()) > version {
-            return false;
-        }
-    }
-    true
+    latest.max(version_of(decision))
 }

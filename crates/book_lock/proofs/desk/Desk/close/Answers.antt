@@ -1,7 +1,6 @@
 use Rattle.std.proofs.Common.{◌≡◌, ◌≤◌, ℕ, List, true, map, sym, ap, subst, ◌∙◌}
-use Rattle.drafts.specs.Books.{Book}
+use Rattle.drafts.specs.Books.{Book, IsLegalBook}
 use Rattle.drafts.specs.Machine.{Entry}
-use Rattle.book_lock.specs.LockedFields.{IsLegalBook}
 use Rattle.book_lock.specs.Passes.{Known, has_team, places_of, HaveReceipts}
 use Rattle.book_lock.proofs.desk.Desk.close.Goals as goal
 
