@@ -1,2 +1,3 @@
 pub mod PlayLaws
 pub mod TestLaws
+pub mod RunLaws

@@ -1,5 +1,5 @@
 -- What a script makes of the world, and what is printed of it.
-use Rattle.std.specs.Prelude.{◌≡◌, ℕ, List, [], ◌∷◌, ◌++◌, Option, Some, None, Result, Ok, Err, option_map, codes}
+use Rattle.std.specs.Prelude.{◌≡◌, ◌⊎◌, ℕ, List, [], ◌∷◌, ◌++◌, map, Option, Some, None, Result, Ok, Err, option_map, codes}
 use Rattle.task_sheet.specs.Verdicts.{LevelData, IsBestOrder}
 use Rattle.assignment.specs.Questions.{FindingData}
 use Rattle.drafts.specs.declared.roster.Owned.{Owned}
@@ -14,7 +14,8 @@ use Rattle.desk_core.specs.declared.events.Event.TheVariants as event
 use Rattle.desk_core.specs.declared.events.Reply.{Reply}
 use Rattle.desk_core.specs.declared.events.Standing.{Standing}
 use Rattle.desk_core.specs.declared.events.Standing.TheVariants as standing
-use Rattle.desk_core.specs.World.{World, Live, live_at, IsReply, happens}
+use Rattle.drafts.specs.Books.{IsLegalBook}
+use Rattle.desk_core.specs.World.{World, Live, live_at, IsReply, happens, IsRun, after_all}
 use Rattle.desk_core.specs.Standings.{IsStanding, IsQuestionOf}
 use Rattle.scripts.specs.declared.line.Line.{Line}
 use Rattle.scripts.specs.declared.line.Row.{Row}
@@ -71,6 +72,7 @@ IsSaid (standing.Tested infeasible) text = text ≡ tested_line infeasible.items
 IsSaid standing.NoSuchDraft text = text ≡ refused_line (cause_word cause.NoSuchDraft)
 IsSaid standing.Untestable text = text ≡ refused_line (cause_word cause.Untestable)
 
+-- a line `test`
 abbrev pub IsTestLine : World → ℕ → World → List ℕ → Type 0
 IsTestLine w draft v text =
     (findings : List FindingData) × (s : Standing)
@@ -96,17 +98,39 @@ ArePlayed w (line ∷ lines) v text =
     (u : World) × (first : List ℕ) × (rest : List ℕ)
     × IsPlayed w line.row u first × ArePlayed u lines v rest × (text ≡ first ++ rest)
 
+-- ---- the events of lines
+-- a row's events: its own; of `found`, a finding for the draft or none; of `test`, findings for the draft
+abbrev pub AreEventsOf : Row → List Event → Type 0
+AreEventsOf (Open team) events = events ≡ event.Open team ∷ []
+AreEventsOf (Put draft sheet) events = events ≡ event.Put draft sheet ∷ []
+AreEventsOf (Remove draft name) events = events ≡ event.Remove draft name ∷ []
+AreEventsOf (Found draft name other) events = (events ≡ []) ⊎ ((f : FindingData) × (events ≡ event.Found draft f ∷ []))
+AreEventsOf (Test draft) events = (fs : List FindingData) × (events ≡ map (λ f. event.Found draft f) fs)
+AreEventsOf (Commit draft) events = events ≡ event.Commit draft ∷ []
+AreEventsOf (Abandon draft) events = events ≡ event.Abandon draft ∷ []
+
+-- those of lines, one line after the other
+abbrev pub AreEvents : List Line → List Event → Type 0
+AreEvents [] events = events ≡ []
+AreEvents (line ∷ lines) events =
+    (first : List Event) × (rest : List Event)
+    × AreEventsOf line.row first × AreEvents lines rest × (events ≡ first ++ rest)
+
+-- the events get replies that the world may give, and these lead from one world to the other
+abbrev pub IsLedBy : World → List Event → World → Type 0
+IsLedBy w events v = (replies : List Reply) × IsRun w events replies × (v ≡ after_all w events replies)
+
 -- the book: its version and the best order of its tasks
 abbrev pub IsBookText : Desk → List ℕ → Type 0
 IsBookText desk text =
     (levels : List LevelData) × IsBestOrder (set_of desk.tasks) levels
     × (text ≡ state_lines desk.version desk.tasks levels)
 
--- all lines are played from an empty desk on, and then the book is printed
+-- all lines are played from an empty desk on, and then the book, which is legal, is printed
 abbrev pub PlaysAll : World → List Line → List ℕ → Type 0
 PlaysAll w lines text =
     (v : World) × (played : List ℕ) × (book : List ℕ)
-    × ArePlayed w lines v played × IsBookText v.book.desk book × (text ≡ played ++ book)
+    × ArePlayed w lines v played × IsLegalBook v.book × IsBookText v.book.desk book × (text ≡ played ++ book)
 
 -- some of the lines are played, from the first on
 abbrev pub PlaysSome : World → List Line → List ℕ → Type 0

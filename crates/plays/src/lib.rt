@@ -2,6 +2,7 @@
 #![tactic(auto)]
 
 mod asking;
+pub mod laws;
 mod playing;
 mod printing;
 

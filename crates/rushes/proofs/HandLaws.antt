@@ -43,7 +43,7 @@ AllOwn-read team (x ∷ slots) (suc i) slot all lt is = AllOwn-read team slots i
 
 -- ---- what a commit leaves of the pass
 received_team : (d : Draft) (old new : Known) (place : ℕ) → IsReceived d old place new → new.team ≡ old.team
-received_team d old new place so = ap (λ (p : Known). p.team) so.3
+received_team d old new place so = ap (λ (p : Known). p.team) so.entered.3
 
 pub committed_team : (may always : QuestionData → Type 0) (workers : ℕ) (d : Draft) (old new : Known) (r : Result ℕ CommitFault) → Commits may always workers d old r new → new.team ≡ old.team
 committed_team may always workers d old new (Ok place) so = received_team d old new place so.3
@@ -63,7 +63,7 @@ other_cause workers d p ThreadRefused team good so is = elim is [ inl e ↦ cc |
 other_cause workers d p (GateShut name) team good so is = shut so.2
   where
     shut : IsUntestedOn (λ q. ⊥) d (GateShut name) → ⊥
-    shut u = none (applied d.team u.0.tasks d.changes) name u.1
+    shut u = none (applied d.team u.0.tasks d.changes) name u.2
 other_cause workers d p OutOfMemory team good so is = elim is [ inl e ↦ cc | inr (inl e) ↦ cc | inr (inr e) ↦ let f = e.1 in cc ]
 
 -- ---- a draft is taken out for its commit

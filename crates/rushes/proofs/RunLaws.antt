@@ -21,7 +21,7 @@ edited_team h k number edit (Some d) so = ap (λ (x : Hand). x.pass.team) so
 
 committed_team : (h k : Hand) (number : ℕ) (slot : Option Draft) → IsCommitted h number k slot → k.pass.team ≡ h.pass.team
 committed_team h k number None so = ap (λ (x : Hand). x.pass.team) so
-committed_team h k number (Some d) so = ap (λ (x : Hand). x.pass.team) so.3 ∙ ap (λ (p : Known). p.team) so.2.3
+committed_team h k number (Some d) so = ap (λ (x : Hand). x.pass.team) so.3 ∙ ap (λ (p : Known). p.team) so.2.entered.3
 
 abandoned_team : (h k : Hand) (number : ℕ) (slot : Option Draft) → k ≡ abandoned h number slot → k.pass.team ≡ h.pass.team
 abandoned_team h k number None so = ap (λ (x : Hand). x.pass.team) so

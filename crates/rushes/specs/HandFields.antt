@@ -7,6 +7,7 @@ abbrev pub IsOwn : ℕ → Option Draft → Type 0
 IsOwn team None = Unit {0}
 IsOwn team (Some d) = d.team ≡ team
 
+-- each draft is one of the team
 abbrev pub AllOwn : ℕ → List (Option Draft) → Type 0
 AllOwn team [] = Unit {0}
 AllOwn team (slot ∷ slots) = IsOwn team slot × AllOwn team slots

@@ -2,11 +2,10 @@
 use Rattle.std.specs.Prelude.{◌≡◌, ◌≤◌, ℕ, ◌-◌, ◌==◌, List, [], ◌∷◌, ◌++◌, Option, None, Some, Result, Ok, Err, slice_get, slice_set, map, MatchBool, if◌then◌else◌}
 use Rattle.drafts.specs.declared.change.Change.{Change}
 use Rattle.drafts.specs.declared.draft.EditRefusal.{EditRefusal}
-use Rattle.drafts.specs.Books.{Book}
+use Rattle.drafts.specs.Books.{Book, IsLegalBook}
 use Rattle.drafts.specs.Machine.{Entry}
 use Rattle.drafts.specs.Changes.{Draft, after_put, after_remove}
 use Rattle.book_lock.specs.declared.closing.Closing.{Closing}
-use Rattle.book_lock.specs.LockedFields.{IsLegalBook}
 use Rattle.book_lock.specs.Opening.{IsOpenedFor}
 use Rattle.book_lock.specs.Passes.{Known, newcomer, places_of}
 use Rattle.book_lock.specs.Settles.{IsReceived}
@@ -24,6 +23,7 @@ pub record Hand : Type 0 where
 abbrev pub fresh : Known → Hand
 fresh pass = record { drafts = []; pass = pass }
 
+-- a slot that is there
 abbrev pub if_there : Option (Option Draft) → Option Draft
 if_there None = None
 if_there (Some slot) = slot

@@ -1,13 +1,15 @@
 -- What a reading of words answers.
-use Rattle.std.specs.Prelude.{◌≡◌, List, ◌++◌, Result, Ok, Err}
+use Rattle.std.specs.Prelude.{◌≡◌, Result, Ok, Err}
 use Rattle.scripts.specs.declared.line.RowFault.{RowFault}
-use Rattle.scripts.specs.declared.line.RowFault.TheVariants.{Bad, Sheet, OutOfMemory}
+use Rattle.scripts.specs.declared.line.RowFault.TheVariants.{Bad, Sheet, BadJitter, Outranks, OutOfMemory}
 
 -- the reading has this fault; want of memory says nothing of it
 abbrev pub Fails : {Y : Type 0} → RowFault → Result Y RowFault → Type 0
 Fails OutOfMemory read = Unit {0}
 Fails Bad read = read ≡ Err Bad
 Fails (Sheet cause) read = read ≡ Err (Sheet cause)
+Fails BadJitter read = read ≡ Err BadJitter
+Fails (Outranks cause) read = read ≡ Err (Outranks cause)
 
 -- a result is that of the definition, or want of memory
 abbrev pub Gives : {X Y : Type 0} → (X → Y) → Result X RowFault → Result Y RowFault → Type 0

@@ -1,14 +1,15 @@
 -- What the words of a script's line say.
-use Rattle.std.specs.Prelude.{ℕ, Bool, true, false, ◌==◌, ◌&&◌, nat_le, List, [], ◌∷◌, Option, Some, None, Result, Ok, Err, bytes_eq, codes, if◌then◌else◌}
+use Rattle.std.specs.Prelude.{ℕ, Bool, true, false, ◌==◌, ◌&&◌, nat_le, nat_lt, List, [], ◌∷◌, Option, Some, None, Result, Ok, Err, bytes_eq, codes, if◌then◌else◌}
 use Rattle.std.specs.List.{slice_split}
-use Rattle.task_sheet.specs.Sheet.{CriticalSection, Task, task_of}
-use Rattle.task_sheet.specs.SheetFault.{sheet_fault}
+use Rattle.task_sheet.specs.Sheet.{CriticalSection, Task, task_of, with_jitter, outranking}
+use Rattle.task_sheet.specs.SheetFault.{sheet_fault, outranks_fault}
+use Rattle.task_sheet.specs.declared.sheet.OutranksCause.{OutranksCause}
 use Rattle.task_sheet.specs.declared.sheet.SheetCause.{SheetCause}
 use Rattle.lines.specs.Words.{name_in, number_in}
 use Rattle.scripts.specs.declared.line.Row.{Row}
 use Rattle.scripts.specs.declared.line.Row.TheVariants.{Open, Put, Remove, Found, Test, Commit, Abandon}
 use Rattle.scripts.specs.declared.line.RowFault.{RowFault}
-use Rattle.scripts.specs.declared.line.RowFault.TheVariants.{Bad, Sheet}
+use Rattle.scripts.specs.declared.line.RowFault.TheVariants.{Bad, Sheet, BadJitter, Outranks}
 
 infixl 10 ◌>>=◌
 -- goes on where there is no fault
@@ -58,13 +59,14 @@ draft_in opened word = up_to opened (number_in word)
 abbrev pub team_in : List ℕ → Option ℕ
 team_in word = up_to 8 (number_in word)
 
--- the two parts of a text round a byte that stands in it once
+-- the parts of a list of two
 abbrev pub pair_of : List (List ℕ) → Option (List ℕ × List ℕ)
 pair_of [] = None
 pair_of (front ∷ []) = None
 pair_of (front ∷ back ∷ []) = Some (front, back)
 pair_of (front ∷ back ∷ more ∷ rest) = None
 
+-- the parts of a text before and behind a byte that stands in it once
 abbrev pub round : ℕ → List ℕ → Option (List ℕ × List ℕ)
 round byte text = pair_of (slice_split (λ b. b == byte) text)
 
@@ -109,11 +111,50 @@ section_in word = do
 abbrev pub sections_in : List (List ℕ) → Result (List CriticalSection) RowFault
 sections_in ws = each_in section_in ws
 
+-- ---- fields that may be left out
+-- the value of these two sides, where the first is the key
+abbrev pub value_of : List ℕ → Option (List ℕ × List ℕ) → Option (List ℕ)
+value_of key None = None
+value_of key (Some sides) = if bytes_eq sides.0 key then Some sides.1 else None
+
+-- the value of a word `KEY=VALUE`
+abbrev pub value_in : List ℕ → List ℕ → Option (List ℕ)
+value_in key word = value_of key (round 61 word)
+
+-- the value that the first word has, and the words behind it; or no value, and all words
+abbrev pub field_case : Option (List ℕ) → List ℕ → List (List ℕ) → Option (List ℕ) × List (List ℕ)
+field_case (Some value) w ws = (Some value, ws)
+field_case None w ws = (None, w ∷ ws)
+
+-- the value of the field `KEY=VALUE`, if it comes next, and the words behind it
+unfoldable pub next_field : List ℕ → List (List ℕ) → Option (List ℕ) × List (List ℕ)
+next_field key [] = (None, [])
+next_field key (w ∷ ws) = field_case (value_in key w) w ws
+
+-- the number that a value is, and 0 of no value
+abbrev pub number_or_zero : Option (List ℕ) → Result ℕ RowFault
+number_or_zero None = Ok 0
+number_or_zero (Some text) = wanted (number_in text)
+
+-- the names between the signs `+` of a value, and none of no value
+abbrev pub names_or_none : Option (List ℕ) → Result (List (List ℕ)) RowFault
+names_or_none None = Ok []
+names_or_none (Some text) = names_in (slice_split (λ b. b == 43) text)
+
 -- ---- lines, by the words behind the first
 -- a valid sheet
 abbrev pub valid : Option SheetCause → Task → Result Task RowFault
 valid None task = Ok task
 valid (Some cause) task = Err (Sheet cause)
+
+-- the sheet with a jitter, which is below its deadline
+abbrev pub late : ℕ → Task → Result Task RowFault
+late jitter task = if nat_lt jitter task.deadline then Ok (with_jitter task jitter) else Err BadJitter
+
+-- a valid sheet that names these tasks
+abbrev pub valid_over : Option OutranksCause → Task → Result Task RowFault
+valid_over None task = Ok task
+valid_over (Some cause) task = Err (Outranks cause)
 
 -- the values of a sheet
 unfoldable pub sheet_in : List (List ℕ) → Result Task RowFault
@@ -123,22 +164,31 @@ sheet_in ws = do
   period ← next_number weight.1
   deadline ← next_number period.1
   cost ← next_number deadline.1
-  sections ← sections_in cost.1
+  let delay : Option (List ℕ) × List (List ℕ) = next_field (codes "j") cost.1
+  jitter ← number_or_zero delay.0
+  let over : Option (List ℕ) × List (List ℕ) = next_field (codes "over") delay.1
+  names ← names_or_none over.0
+  sections ← sections_in over.1
   let task : Task = task_of name.0 weight.0 period.0 deadline.0 cost.0 sections
-  valid (sheet_fault task) task
+  sheet ← valid (sheet_fault task) task
+  later ← late jitter sheet
+  valid_over (outranks_fault name.0 names) (outranking later names)
 
+-- what the words behind `open` say
 unfoldable pub open_in : List (List ℕ) → Result Row RowFault
 open_in ws = do
   w ← first ws
   team ← wanted (team_in w.0)
   at_end w.1 (Open team)
 
+-- what the words behind `put` say
 unfoldable pub put_in : ℕ → List (List ℕ) → Result Row RowFault
 put_in opened ws = do
   draft ← next_draft opened ws
   sheet ← sheet_in draft.1
   Ok (Put draft.0 sheet)
 
+-- what the words behind `remove` say
 unfoldable pub remove_in : ℕ → List (List ℕ) → Result Row RowFault
 remove_in opened ws = do
   draft ← next_draft opened ws
@@ -152,6 +202,7 @@ other_in opened draft (w ∷ ws) = do
   other ← wanted (draft_in opened w)
   at_end ws other
 
+-- what the words behind `found` say
 unfoldable pub found_in : ℕ → List (List ℕ) → Result Row RowFault
 found_in opened ws = do
   draft ← next_draft opened ws

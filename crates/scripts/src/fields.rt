@@ -1,7 +1,7 @@
 //! Words that are fields of a line.
-ghost use Rattle.std.specs.Prelude.{◌≡◌, MatchOption};
+ghost use Rattle.std.specs.Prelude.{◌≡◌, MatchOption, option_map};
 ghost use Rattle.scripts.specs.Gives.{Gives};
-ghost use Rattle.scripts.specs.Rows.{draft_in, first, is_over, next_draft, next_name, next_number, only_draft, other_in, round, team_in};
+ghost use Rattle.scripts.specs.Rows.{draft_in, first, is_over, next_draft, next_field, next_name, next_number, number_or_zero, only_draft, other_in, round, team_in, value_in};
 
 use crate::line::RowFault;
 use drafts::Team;
@@ -52,6 +52,37 @@ pub(crate) fn round(text: &[u8], byte: u8) -> Option<(&[u8], &[u8])>
     match cut(back, byte) {
         Some((_middle, _more)) => None,
         None => Some((front, back)),
+    }
+}
+
+// The value of a word `KEY=VALUE`.
+fn value_in<'a>(key: &[u8], word: &'a [u8]) -> Option<&'a [u8]>
+    ensures { option_map (λ v. v.now) result ≡ value_in key.now word.now }
+{
+    let (front, value) = round(word, b'=')?;
+    if front == key { Some(value) } else { None }
+}
+
+/// The value of the field `KEY=VALUE`, if it comes next.
+#[tactic(auto, unfolding(crate::specs::Rows::next_field))]
+pub(crate) fn next_field<'a>(key: &[u8], words: &mut Words<'a>) -> Option<&'a [u8]>
+    ensures { (option_map (λ v. v.now) result, words.new) ≡ next_field key.now words.old }
+{
+    let value = value_in(key, words.peek()?)?;
+    words.next();
+    Some(value)
+}
+
+/// The number that a value is, and 0 of no value.
+pub(crate) fn number_or_zero(value: Option<&[u8]>) -> Result<u64, RowFault>
+    ensures { Gives (λ x. x) result (number_or_zero (option_map (λ v. v.now) value.entry)) }
+{
+    let Some(text) = value else {
+        return Ok(0);
+    };
+    match number_of(text) {
+        Some(number) => Ok(number),
+        None => Err(RowFault::Bad),
     }
 }
 

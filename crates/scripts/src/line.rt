@@ -3,7 +3,7 @@ ghost use Rattle.std.specs.Prelude.{◌≡◌};
 
 use drafts::Team;
 use std::alloc::AllocFailed;
-use task_sheet::{Name, Sheet, SheetCause};
+use task_sheet::{Name, OutranksCause, Sheet, SheetCause};
 
 /// What a line of a script says. A draft is the number of the line that opened it, among all such lines, from 1.
 #[derive(Drop)]
@@ -12,7 +12,8 @@ pub enum Row {
     Open {
         team: Team,
     },
-    /// `put DRAFT NAME WEIGHT PERIOD DEADLINE COST SECTION..`: a sheet is put into a draft.
+    /// `put DRAFT NAME WEIGHT PERIOD DEADLINE COST SECTION..`, behind the cost with `j=JITTER` where the jitter isn't 0 and
+    /// then `over=NAME+NAME` where the task must stand above others: a sheet is put into a draft.
     Put {
         draft: usize,
         sheet: Sheet,
@@ -59,6 +60,10 @@ pub enum ScriptFault {
     BadLine { line: u64 },
     /// The values of the line are no sheet.
     Sheet { line: u64, cause: SheetCause },
+    /// The jitter of the line isn't below its deadline.
+    BadJitter { line: u64 },
+    /// The names of the line are none of tasks above which its task can have to stand.
+    Outranks { line: u64, cause: OutranksCause },
     /// A growth was refused.
     OutOfMemory,
 }
@@ -70,6 +75,10 @@ pub(crate) enum RowFault {
     Bad,
     // The values are no sheet.
     Sheet { cause: SheetCause },
+    // The jitter isn't below the deadline.
+    BadJitter,
+    // The names are none of tasks above which the task can have to stand.
+    Outranks { cause: OutranksCause },
     // A growth was refused.
     OutOfMemory,
 }

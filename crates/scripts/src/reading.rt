@@ -28,6 +28,11 @@ fn fault_at(number: u64, fault: RowFault) -> ScriptFault
             line: number,
             cause,
         },
+        RowFault::BadJitter => ScriptFault::BadJitter { line: number },
+        RowFault::Outranks { cause } => ScriptFault::Outranks {
+            line: number,
+            cause,
+        },
         RowFault::OutOfMemory => ScriptFault::OutOfMemory,
     }
 }

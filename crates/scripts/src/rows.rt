@@ -1,17 +1,28 @@
 //! The rows of a script.
 ghost use Rattle.std.specs.Prelude.{◌≡◌, bytes_eq};
 ghost use Rattle.scripts.specs.Gives.{Gives};
-ghost use Rattle.scripts.specs.Rows.{found_in, open_in, put_in, remove_in, row_in, row_of, sheet_in};
+ghost use Rattle.scripts.specs.Rows.{found_in, late, open_in, put_in, remove_in, row_in, row_of, sheet_in};
 ghost use Rattle.lines.specs.Words.{words};
 
 use crate::fields::{
-    is_over, next, next_draft, next_name, next_number, only_draft, other_of, team_of,
+    is_over, next, next_draft, next_field, next_name, next_number, number_or_zero, only_draft,
+    other_of, team_of,
 };
 use crate::line::{Row, RowFault};
-use crate::sections::sections_of;
+use crate::sections::{names_or_none, sections_of};
 use lines::Words;
 use std::alloc::Global;
-use task_sheet::{Sheet, SheetFault};
+use task_sheet::{OutranksFault, Sheet, SheetFault};
+
+// The sheet with a jitter.
+fn late(sheet: Sheet, jitter: u64) -> Result<Sheet, RowFault>
+    ensures { Gives (λ x. x) result (late jitter sheet) }
+{
+    match sheet.jittered(jitter) {
+        Ok(sheet) => Ok(sheet),
+        Err(_) => Err(RowFault::BadJitter),
+    }
+}
 
 // The sheet of the values that are left.
 #[tactic(auto, unfolding(crate::specs::Rows::sheet_in))]
@@ -23,10 +34,17 @@ fn sheet_of(alloc: Global, words: &mut Words<'_>) -> Result<Sheet, RowFault>
     let period = next_number(words)?;
     let deadline = next_number(words)?;
     let cost = next_number(words)?;
+    let jitter = number_or_zero(next_field(b"j", words))?;
+    let names = names_or_none(alloc, next_field(b"over", words))?;
     let sections = sections_of(alloc, words)?;
-    match Sheet::new(name, weight, period, deadline, cost, sections) {
+    let sheet = match Sheet::new(name, weight, period, deadline, cost, sections) {
+        Ok(sheet) => sheet,
+        Err(SheetFault { cause, sections: _ }) => return Err(RowFault::Sheet { cause }),
+    };
+    let sheet = late(sheet, jitter)?;
+    match sheet.outranking(names) {
         Ok(sheet) => Ok(sheet),
-        Err(SheetFault { cause, sections: _ }) => Err(RowFault::Sheet { cause }),
+        Err(OutranksFault { cause, .. }) => Err(RowFault::Outranks { cause }),
     }
 }
 

@@ -1,8 +1,8 @@
-//! Sections in a line, as `LOCK+LOCK@AT:LEN`.
-ghost use Rattle.std.specs.Prelude.{◌≡◌, ◌==◌};
+//! Sections in a line, as `LOCK+LOCK@AT:LEN`, and names, as `NAME+NAME`.
+ghost use Rattle.std.specs.Prelude.{◌≡◌, ◌==◌, option_map};
 ghost use Rattle.std.specs.List.{slice_split};
 ghost use Rattle.scripts.specs.Gives.{Gives};
-ghost use Rattle.scripts.specs.Rows.{names_in, section_in, sections_in};
+ghost use Rattle.scripts.specs.Rows.{names_in, names_or_none, section_in, sections_in};
 
 use crate::fields::round;
 use crate::line::RowFault;
@@ -28,6 +28,16 @@ fn names_of(alloc: Global, text: &[u8]) -> Result<Vec<Name>, RowFault>
     };
     names.push(name)?;
     Ok(names)
+}
+
+/// The names of a value, and none of no value.
+pub(crate) fn names_or_none(alloc: Global, value: Option<&[u8]>) -> Result<Vec<Name>, RowFault>
+    ensures { Gives (λ x. x.items) result (names_or_none (option_map (λ v. v.now) value.entry)) }
+{
+    match value {
+        Some(text) => names_of(alloc, text),
+        None => Ok(Vec::new(alloc)),
+    }
 }
 
 // The section that a word is.

@@ -8,6 +8,7 @@ use Rattle.desk_core.proofs.StepLaws.{on_ok}
 use Rattle.scripts.specs.declared.line.Line.{Line}
 use Rattle.plays.specs.Plays.{ArePlayed, IsBookText}
 use Rattle.plays.proofs.PlayLaws.{ArePlayed-push, none_left}
+use Rattle.plays.proofs.RunLaws.{played-legal}
 use Rattle.plays.proofs.playing.put_lines.Goals as goal
 
 pub loop-line-preserved : goal.loop-line-preserved
@@ -43,8 +44,9 @@ returns-in-Ok-put-clause-all g c =
     let all : c.loop-line.yielded ≡ c.args.lines.items = none_left c.loop-line.yielded c.loop-line.line-iterator.rest.items c.args.lines.items c.loop-line.line-iterator.rest.len so.rest so.counted c.in-None.ensures.steps.0 in
     let here : c.state.result.now ≡ c.loop-line.core.book.desk = c.state.ensures.now ∙ ap (λ (b : Book). b.desk) c.book.ensures in
     let book : IsBookText c.loop-line.core.book.desk text = subst (λ (d : Desk). IsBookText d text) here c.in-Ok-book_text.ensures in
+    let played : ArePlayed start c.args.lines.items c.loop-line.core so.text = subst (λ (ls : List Line). ArePlayed start ls c.loop-line.core so.text) all so.played in
     let wrote : Appends between after text = subst (λ (bs : List ℕ). Appends between after bs) c.as_bytes-2.ensures.value c.in-Ok-put.ensures.sent in (
       so.text ++ text,
-      (c.loop-line.core, so.text, text, subst (λ (ls : List Line). ArePlayed start ls c.loop-line.core so.text) all so.played, book, refl),
+      (c.loop-line.core, so.text, text, played, played-legal c.loop-line.core c.args.lines.items so.text played, book, refl),
       Appends-trans before between after so.text text so.sent wrote,
     )

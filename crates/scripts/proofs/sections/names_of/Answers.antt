@@ -1,4 +1,4 @@
-use Rattle.std.proofs.Common.{◌≡◌, ◌==◌, ℕ, List, [], Option, Result, ap, sym}
+use Rattle.std.proofs.Common.{◌==◌, ℕ, List, [], Option, Result, ap, sym}
 use Rattle.std.specs.List.{slice_split}
 use Rattle.lines.specs.Words.{name_in}
 use Rattle.scripts.specs.declared.line.RowFault.{RowFault}
