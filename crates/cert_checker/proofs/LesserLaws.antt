@@ -6,7 +6,7 @@ use Rattle.std.proofs.lemmas.List.{append-nil}
 use Rattle.std.proofs.lemmas.Bool.{cases_Bool, cases_eq, and_parts, and_from, or_cases, both_ways, ltb-true, leb-true, lt-ltb, le-leb, eqb-true}
 use Rattle.task_sheet.specs.Indexes.{Indexes, among, listed_below}
 use Rattle.task_sheet.proofs.IndexLaws.{listed-has}
-use Rattle.cert_checker.specs.Faults.{are_lesser, first_missing}
+use Rattle.cert_checker.specs.Faults.{are_lesser, first_unnamed}
 
 -- the indexes of L among the next ones from a first, rising
 up : ℕ → ℕ → Indexes → List ℕ
@@ -114,10 +114,10 @@ test-none true true n e m = refl
 test-none true false n e m = absurd cc
 test-none false named n e m = absurd cc
 
-missing-sound : (L : Indexes) (named : List ℕ) (n j : ℕ) → first_missing L named n ≡ None → j < n → L j ≡ true → among named j ≡ true
+missing-sound : (L : Indexes) (named : List ℕ) (n j : ℕ) → first_unnamed L named n ≡ None → j < n → L j ≡ true → among named j ≡ true
 missing-sound L named zero j h lt member = absurd (omega arith)
 missing-sound L named (suc n) j h lt member =
-    let both = none-or (first_missing L named n) (cond (L n && not (among named n)) (Some n) None) h in
+    let both = none-or (first_unnamed L named n) (cond (L n && not (among named n)) (Some n) None) h in
     elim (cases_eq j n) [
       | inl e ↦ ap (among named) e ∙ test-none (L n) (among named n) n both.1 (ap L (sym e) ∙ member)
       | inr ne ↦ missing-sound L named n j both.0 (omega arith) member
@@ -128,17 +128,17 @@ test-full true true n h = refl
 test-full true false n h = absurd (both_ways false refl (h refl))
 test-full false named n h = refl
 
-pub missing-complete : (L : Indexes) (named : List ℕ) (n : ℕ) → ((j : ℕ) → j < n → L j ≡ true → among named j ≡ true) → first_missing L named n ≡ None
+pub missing-complete : (L : Indexes) (named : List ℕ) (n : ℕ) → ((j : ℕ) → j < n → L j ≡ true → among named j ≡ true) → first_unnamed L named n ≡ None
 missing-complete L named zero h = refl
 missing-complete L named (suc n) h =
-    let before : first_missing L named n ≡ None = missing-complete L named n (λ j lt member. h j (omega arith) member) in
+    let before : first_unnamed L named n ≡ None = missing-complete L named n (λ j lt member. h j (omega arith) member) in
     rw before (test-full (L n) (among named n) n (λ member. h n (omega arith) member))
 
 -- ---- both together
-pub lesser-sound : (L : Indexes) (n : ℕ) (ks : List ℕ) → are_lesser L 0 n ks ≡ true → first_missing L ks n ≡ None → ks ≡ listed_below n L
+pub lesser-sound : (L : Indexes) (n : ℕ) (ks : List ℕ) → are_lesser L 0 n ks ≡ true → first_unnamed L ks n ≡ None → ks ≡ listed_below n L
 lesser-sound L n ks h none = lesser-up n 0 n L ks (omega arith) h (λ j le lt member. missing-sound L ks n j none lt member) ∙ sym (listed-is n L)
 
-pub lesser-complete : (L : Indexes) (n : ℕ) (ks : List ℕ) → ks ≡ listed_below n L → (are_lesser L 0 n ks ≡ true) × (first_missing L ks n ≡ None)
+pub lesser-complete : (L : Indexes) (n : ℕ) (ks : List ℕ) → ks ≡ listed_below n L → (are_lesser L 0 n ks ≡ true) × (first_unnamed L ks n ≡ None)
 lesser-complete L n ks e = (
   ap (are_lesser L 0 n) (e ∙ listed-is n L) ∙ up-lesser n 0 n L (omega arith),
   missing-complete L ks n (λ j lt member. ap (λ (xs : List ℕ). among xs j) e ∙ listed-has n L j lt member),

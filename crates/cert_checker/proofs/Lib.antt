@@ -1,6 +1,5 @@
 pub mod SeenSteps
 pub mod WorkSteps
-pub mod RequestLaws
 pub mod ChainSteps
 pub mod LevelSteps
 pub mod ChainTests

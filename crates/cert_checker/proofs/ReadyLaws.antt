@@ -1,26 +1,26 @@
 -- A certificate without a fault is ready, and a ready one has no fault.
-use Rattle.std.proofs.Common.{◌≡◌, ℕ, suc, ◌+◌, ◌<◌, Bool, true, false, cond, ◌&&◌, ◌==◌, not, nat_lt, List, [], ◌∷◌, length, Option, Some, None, refl, ap, arith}
+use Rattle.std.proofs.Common.{◌≡◌, ℕ, suc, ◌+◌, ◌<◌, ◌≤◌, Bool, true, false, cond, ◌&&◌, ◌==◌, not, nat_lt, List, [], ◌∷◌, length, Option, Some, None, refl, sym, ap, subst, arith}
 use Rattle.std.specs.Prelude.{nat_le}
 use Rattle.std.specs.Option.{option_or}
 use Rattle.std.specs.List.{AllByRecursion}
-use Rattle.std.proofs.lemmas.Bool.{and_parts, and_from, both_ways, or_left, ltb-true, leb-true, lt-ltb, le-leb, eq-eqb}
+use Rattle.std.proofs.lemmas.Bool.{and_parts, and_from, both_ways, or_left, ltb-true, leb-true, lt-ltb, le-leb, eq-eqb, not-true}
 use Rattle.std.proofs.lemmas.Bool.Decides.{nat_tests}
 use Rattle.task_sheet.specs.Sheet.{Task, task_at}
 use Rattle.task_sheet.specs.Indexes.{Indexes, IsPart, no_index, without_index, among}
 use Rattle.task_sheet.specs.Demand.{demand_of, limit_of}
-use Rattle.task_sheet.specs.Orders.{all_of, IsOrderOf}
+use Rattle.task_sheet.specs.Orders.{all_of, must_outrank, is_bound, IsOrderOf}
 use Rattle.task_sheet.specs.Verdicts.{tasks_of, order_of}
-use Rattle.task_sheet.specs.Ready.{AllRefuted, IsReadyLevel, AllReady, IsReadyOrder, IsReadySet}
+use Rattle.task_sheet.specs.Ready.{time_of, Refutes, AllRefuted, IsReadyLevel, AllReady, IsReadyOrder, IsReadySet}
 use Rattle.task_sheet.proofs.IndexLaws.{IsOrderOf-head, IsOrderOf-rest, without-part_of, order-below}
-use Rattle.certificate.specs.Body.{Chain, Level, Body, Best, NoOrder}
+use Rattle.certificate.specs.Body.{Reason, Chain, Over, Fail, Level, Body, Best, NoOrder, Cert}
+use Rattle.certificate.specs.Versions.{version_for}
 use Rattle.certificate.proofs.VerdictSpelling.{fails-below}
-use Rattle.cert_checker.specs.Naming.{task_of, failures_of, level_of, levels_of, IsReady}
-use Rattle.cert_checker.specs.Chains.{is_chain}
-use Rattle.cert_checker.specs.Faults.{unless, are_new, has_all, are_lesser, does_pass, is_refuted, bad_chain, first_missing, missing_at, level_fault, levels_fault, order_fault, set_fault, check_fault}
+use Rattle.cert_checker.specs.Naming.{task_by_name, reason_by_index, failures_of, level_by_index, levels_of, may_serve, IsReadyBody, IsReady}
+use Rattle.cert_checker.specs.Faults.{fault_unless, are_new, has_all, are_lesser, covers, time_stands, refutes, is_refuted, bad_fail, first_unnamed, missing_at, level_fault, levels_fault, order_fault, set_fault, body_fault, check_fault}
 use Rattle.cert_checker.specs.declared.fault.CheckFault.{CheckFault}
-use Rattle.cert_checker.specs.declared.fault.CheckFault.TheVariants.{WrongTasks, BadPass, BadChain, EmptySet}
-use Rattle.cert_checker.specs.declared.levels.Asked.{Asked}
-use Rattle.cert_checker.specs.declared.levels.Asked.TheVariants.{Tasks, Pass, Chains, Missing}
+use Rattle.cert_checker.specs.declared.fault.CheckFault.TheVariants.{WrongVersion, WrongTasks, BadPass, BadChain, EmptySet}
+use Rattle.cert_checker.specs.declared.levels.LevelCheck.{LevelCheck}
+use Rattle.cert_checker.specs.declared.levels.LevelCheck.TheVariants.{Tasks, Pass, Chains, Missing}
 use Rattle.cert_checker.proofs.ChainTests.{chain-sound, chain-complete}
 use Rattle.cert_checker.proofs.LesserLaws.{none-or, lesser-sound, lesser-complete}
 use Rattle.cert_checker.proofs.NamedLaws.{new-order, new-part, order-sound, set-complete, order-complete}
@@ -30,11 +30,11 @@ or-none : {A : Type 0} (o p : Option A) → o ≡ None → p ≡ None → option
 or-none None p e f = f
 or-none (Some x) p e f = absurd cc
 
-met : (b : Bool) (fault : CheckFault) → unless b fault ≡ None → b ≡ true
+met : (b : Bool) (fault : CheckFault) → fault_unless b fault ≡ None → b ≡ true
 met true fault e = refl
 met false fault e = absurd cc
 
-unmet : (b : Bool) (fault : CheckFault) → b ≡ true → unless b fault ≡ None
+unmet : (b : Bool) (fault : CheckFault) → b ≡ true → fault_unless b fault ≡ None
 unmet true fault e = refl
 unmet false fault e = absurd cc
 
@@ -42,74 +42,97 @@ found : (U : List Task) (place : ℕ) (o : Option ℕ) → missing_at U place o 
 found U place None e = refl
 found U place (Some k) e = absurd cc
 
--- ---- chains
-chains-sound : (U : List Task) (place : ℕ) (L : Indexes) (cs : List Chain) → bad_chain U place L cs ≡ None → AllRefuted U L (failures_of U cs)
-chains-sound U place L [] h = tt
-chains-sound U place L (c ∷ cs) h =
-    let both = none-or (unless (is_refuted U L c) (BadChain place c.name)) (bad_chain U place L cs) h in
-    let k = task_of U c.name in
-    let parts = and_parts (nat_lt k (length U)) (is_chain (demand_of U k (without_index L k)) (limit_of (task_at U k)) c.numbers) (met (is_refuted U L c) (BadChain place c.name) both.0) in
-    (chain-sound (demand_of U k (without_index L k)) (limit_of (task_at U k)) c.numbers parts.1, chains-sound U place L cs both.1)
+-- ---- failures
+refutes-sound : (U : List Task) (i : ℕ) (H : Indexes) (reason : Reason) → refutes U i H reason ≡ true → Refutes U i H (reason_by_index U reason)
+refutes-sound U i H (Chain numbers) h = chain-sound (demand_of U i H) (limit_of (task_at U i)) numbers h
+refutes-sound U i H (Over other) h =
+    let k = task_by_name U other in
+    let both = and_parts (nat_lt k (length U) && H k) (must_outrank U i k) h in
+    let first = and_parts (nat_lt k (length U)) (H k) both.0 in
+    (ltb-true k (length U) first.0, first.1, both.1)
 
-chains-complete : (U : List Task) (place : ℕ) (L : Indexes) (cs : List Chain) → AllByRecursion (λ k. k < length U) (tasks_of (failures_of U cs)) → AllRefuted U L (failures_of U cs) → bad_chain U place L cs ≡ None
-chains-complete U place L [] known h = refl
-chains-complete U place L (c ∷ cs) known h =
-    let k = task_of U c.name in
-    let first : is_refuted U L c ≡ true =
-    and_from (nat_lt k (length U)) (is_chain (demand_of U k (without_index L k)) (limit_of (task_at U k)) c.numbers) (lt-ltb k (length U) known.0)
-    (chain-complete (demand_of U k (without_index L k)) (limit_of (task_at U k)) c.numbers h.0) in
-    or-none (unless (is_refuted U L c) (BadChain place c.name)) (bad_chain U place L cs) (unmet (is_refuted U L c) (BadChain place c.name) first) (chains-complete U place L cs known.1 h.1)
+refutes-complete : (U : List Task) (i : ℕ) (H : Indexes) (reason : Reason) → Refutes U i H (reason_by_index U reason) → refutes U i H reason ≡ true
+refutes-complete U i H (Chain numbers) h = chain-complete (demand_of U i H) (limit_of (task_at U i)) numbers h
+refutes-complete U i H (Over other) h =
+    let k = task_by_name U other in
+    and_from (nat_lt k (length U) && H k) (must_outrank U i k) (and_from (nat_lt k (length U)) (H k) (lt-ltb k (length U) h.0) h.1) h.2
+
+fails-sound : (U : List Task) (place : ℕ) (L : Indexes) (fs : List Fail) → bad_fail U place L fs ≡ None → AllRefuted U L (failures_of U fs)
+fails-sound U place L [] h = tt
+fails-sound U place L (f ∷ fs) h =
+    let both = none-or (fault_unless (is_refuted U L f) (BadChain place f.name)) (bad_fail U place L fs) h in
+    let k = task_by_name U f.name in
+    let parts = and_parts (nat_lt k (length U)) (refutes U k (without_index L k) f.reason) (met (is_refuted U L f) (BadChain place f.name) both.0) in
+    (refutes-sound U k (without_index L k) f.reason parts.1, fails-sound U place L fs both.1)
+
+fails-complete : (U : List Task) (place : ℕ) (L : Indexes) (fs : List Fail) → AllByRecursion (λ k. k < length U) (tasks_of (failures_of U fs)) → AllRefuted U L (failures_of U fs) → bad_fail U place L fs ≡ None
+fails-complete U place L [] known h = refl
+fails-complete U place L (f ∷ fs) known h =
+    let k = task_by_name U f.name in
+    let first : is_refuted U L f ≡ true =
+    and_from (nat_lt k (length U)) (refutes U k (without_index L k) f.reason) (lt-ltb k (length U) known.0)
+    (refutes-complete U k (without_index L k) f.reason h.0) in
+    or-none (fault_unless (is_refuted U L f) (BadChain place f.name)) (bad_fail U place L fs) (unmet (is_refuted U L f) (BadChain place f.name) first) (fails-complete U place L fs known.1 h.1)
 
 -- ---- a level
-level-sound : (U : List Task) (place : ℕ) (L : Indexes) (l : Level) → ((asked : Asked) → level_fault U asked place L l ≡ None) → IsReadyLevel U L (level_of U l)
+-- the response that a time gives leaves the time
+time-own : (U : List Task) (l : Level) → time_of U (level_by_index U l) ≡ l.time
+time-own U l = omega arith
+
+level-sound : (U : List Task) (place : ℕ) (L : Indexes) (l : Level) → ((asked : LevelCheck) → level_fault U asked place L l ≡ None) → IsReadyLevel U L (level_by_index U l)
 level-sound U place L l h =
-    let k = task_of U l.name in
+    let k = task_by_name U l.name in
     let fails = tasks_of (failures_of U l.fails) in
-    let covers = nat_le (demand_of U k (without_index L k) l.time) l.time in
-    let pass = and_parts (nat_le 1 l.time && nat_le l.time (limit_of (task_at U k))) covers (met (does_pass U L k l.time) (BadPass place) (h Pass)) in
+    let enough = nat_le (demand_of U k (without_index L k) l.time) l.time in
+    let stands = and_parts (covers U L k l.time) (not (is_bound U k (without_index L k))) (met (time_stands U L k l.time) (BadPass place) (h Pass)) in
+    let pass = and_parts (nat_le 1 l.time && nat_le l.time (limit_of (task_at U k))) enough stands.0 in
     let times = and_parts (nat_le 1 l.time) (nat_le l.time (limit_of (task_at U k))) pass.0 in
+    let same = time-own U l in
     record {
-      positive = leb-true 1 l.time times.0;
-      within = leb-true l.time (limit_of (task_at U k)) times.1;
-      covers = leb-true (demand_of U k (without_index L k) l.time) l.time pass.1;
-      lesser = lesser-sound L k fails (met (are_lesser L 0 k fails) (WrongTasks place) (h Tasks)) (found U place (first_missing L fails k) (h Missing));
-      refuted = chains-sound U place L l.fails (h Chains);
+      positive = omega (arith, same, leb-true 1 l.time times.0);
+      within = omega (arith, same, leb-true l.time (limit_of (task_at U k)) times.1);
+      covers = subst (λ (t : ℕ). demand_of U k (without_index L k) t ≤ t) (sym same) (leb-true (demand_of U k (without_index L k) l.time) l.time pass.1);
+      unbound = not-true (is_bound U k (without_index L k)) stands.1;
+      lesser = lesser-sound L k fails (met (are_lesser L 0 k fails) (WrongTasks place) (h Tasks)) (found U place (first_unnamed L fails k) (h Missing));
+      refuted = fails-sound U place L l.fails (h Chains);
     }
 
-level-complete : (U : List Task) (asked : Asked) (place : ℕ) (L : Indexes) (l : Level) → task_of U l.name < length U → IsReadyLevel U L (level_of U l) → level_fault U asked place L l ≡ None
+level-complete : (U : List Task) (asked : LevelCheck) (place : ℕ) (L : Indexes) (l : Level) → task_by_name U l.name < length U → IsReadyLevel U L (level_by_index U l) → level_fault U asked place L l ≡ None
 level-complete U Tasks place L l lt ready =
-    let k = task_of U l.name in
+    let k = task_by_name U l.name in
     let fails = tasks_of (failures_of U l.fails) in
     unmet (are_lesser L 0 k fails) (WrongTasks place) (lesser-complete L k fails ready.lesser).0
 level-complete U Pass place L l lt ready =
-    let k = task_of U l.name in
-    let covers = nat_le (demand_of U k (without_index L k) l.time) l.time in
-    unmet (does_pass U L k l.time) (BadPass place)
-    (and_from (nat_le 1 l.time && nat_le l.time (limit_of (task_at U k))) covers
-    (and_from (nat_le 1 l.time) (nat_le l.time (limit_of (task_at U k))) (le-leb 1 l.time ready.positive) (le-leb l.time (limit_of (task_at U k)) ready.within))
-    (le-leb (demand_of U k (without_index L k) l.time) l.time ready.covers))
+    let k = task_by_name U l.name in
+    let enough = nat_le (demand_of U k (without_index L k) l.time) l.time in
+    let same = time-own U l in
+    unmet (time_stands U L k l.time) (BadPass place) (and_from (covers U L k l.time) (not (is_bound U k (without_index L k)))
+    (and_from (nat_le 1 l.time && nat_le l.time (limit_of (task_at U k))) enough
+    (and_from (nat_le 1 l.time) (nat_le l.time (limit_of (task_at U k))) (le-leb 1 l.time (omega (arith, same, ready.positive))) (le-leb l.time (limit_of (task_at U k)) (omega (arith, same, ready.within))))
+    (le-leb (demand_of U k (without_index L k) l.time) l.time (subst (λ (t : ℕ). demand_of U k (without_index L k) t ≤ t) same ready.covers)))
+    (ap not ready.unbound))
 level-complete U Chains place L l lt ready =
-    let k = task_of U l.name in
+    let k = task_by_name U l.name in
     let known = fails-below (length U) L k (tasks_of (failures_of U l.fails)) lt ready.lesser in
-    chains-complete U place L l.fails known ready.refuted
+    fails-complete U place L l.fails known ready.refuted
 level-complete U Missing place L l lt ready =
-    let k = task_of U l.name in
+    let k = task_by_name U l.name in
     let fails = tasks_of (failures_of U l.fails) in
     ap (missing_at U place) (lesser-complete L k fails ready.lesser).1
 
 -- ---- the levels
-levels-sound : (U : List Task) (place : ℕ) (L : Indexes) (ls : List Level) → ((asked : Asked) → levels_fault U asked place L ls ≡ None) → AllReady U L (levels_of U ls)
+levels-sound : (U : List Task) (place : ℕ) (L : Indexes) (ls : List Level) → ((asked : LevelCheck) → levels_fault U asked place L ls ≡ None) → AllReady U L (levels_of U ls)
 levels-sound U place L [] h = tt
 levels-sound U place L (l ∷ ls) h =
-    let rest : Asked → Option CheckFault = λ asked. levels_fault U asked (place + 1) (without_index L (task_of U l.name)) ls in (
+    let rest : LevelCheck → Option CheckFault = λ asked. levels_fault U asked (place + 1) (without_index L (task_by_name U l.name)) ls in (
       level-sound U place L l (λ asked. (none-or (level_fault U asked place L l) (rest asked) (h asked)).0),
-      levels-sound U (place + 1) (without_index L (task_of U l.name)) ls (λ asked. (none-or (level_fault U asked place L l) (rest asked) (h asked)).1),
+      levels-sound U (place + 1) (without_index L (task_by_name U l.name)) ls (λ asked. (none-or (level_fault U asked place L l) (rest asked) (h asked)).1),
     )
 
-levels-complete : (U : List Task) (asked : Asked) (place : ℕ) (L : Indexes) (ls : List Level) → IsOrderOf L (order_of (levels_of U ls)) → IsPart L (all_of U) → AllReady U L (levels_of U ls) → levels_fault U asked place L ls ≡ None
+levels-complete : (U : List Task) (asked : LevelCheck) (place : ℕ) (L : Indexes) (ls : List Level) → IsOrderOf L (order_of (levels_of U ls)) → IsPart L (all_of U) → AllReady U L (levels_of U ls) → levels_fault U asked place L ls ≡ None
 levels-complete U asked place L [] each part ready = refl
 levels-complete U asked place L (l ∷ ls) each part ready =
-    let k = task_of U l.name in
+    let k = task_by_name U l.name in
     let above = order_of (levels_of U ls) in
     or-none (level_fault U asked place L l) (levels_fault U asked (place + 1) (without_index L k) ls)
     (level-complete U asked place L l (ltb-true k (length U) (part k (IsOrderOf-head L k above each))) ready.0)
@@ -140,7 +163,7 @@ order-without_fault U ls h =
     }
   where
     each : levels_fault U Tasks 1 (all_of U) ls ≡ None → levels_fault U Pass 1 (all_of U) ls ≡ None → levels_fault U Chains 1 (all_of U) ls ≡ None → levels_fault U Missing 1 (all_of U) ls ≡ None
-        → (asked : Asked) → levels_fault U asked 1 (all_of U) ls ≡ None
+        → (asked : LevelCheck) → levels_fault U asked 1 (all_of U) ls ≡ None
     each a b c d Tasks = a
     each a b c d Pass = b
     each a b c d Chains = c
@@ -151,53 +174,64 @@ order-ready U ls ready =
     let n = length U in
     let order = order_of (levels_of U ls) in
     let all = all_of U in
-    let none = λ (asked : Asked). levels-complete U asked 1 all ls ready.each_once (λ k is. is) ready.ready in
+    let none = λ (asked : LevelCheck). levels-complete U asked 1 all ls ready.each_once (λ k is. is) ready.ready in
     let named : (are_new n no_index order && has_all n (among order)) ≡ true = order-complete n order ready.each_once in
     rw named (or-none (levels_fault U Tasks 1 all ls) (option_or (levels_fault U Pass 1 all ls) (option_or (levels_fault U Chains 1 all ls) (levels_fault U Missing 1 all ls))) (none Tasks)
     (or-none (levels_fault U Pass 1 all ls) (option_or (levels_fault U Chains 1 all ls) (levels_fault U Missing 1 all ls)) (none Pass)
     (or-none (levels_fault U Chains 1 all ls) (levels_fault U Missing 1 all ls) (none Chains) (none Missing))))
 
 -- ---- a set
-some-member : (U : List Task) (cs : List Chain) → not (length cs == 0) ≡ true → (k : ℕ) × (among (tasks_of (failures_of U cs)) k ≡ true)
+some-member : (U : List Task) (cs : List Fail) → not (length cs == 0) ≡ true → (k : ℕ) × (among (tasks_of (failures_of U cs)) k ≡ true)
 some-member U [] h = absurd cc
-some-member U (c ∷ cs) h = (task_of U c.name, or_left (task_of U c.name == task_of U c.name) (among (tasks_of (failures_of U cs)) (task_of U c.name)) (eq-eqb (task_of U c.name) (task_of U c.name) refl))
+some-member U (c ∷ cs) h = (task_by_name U c.name, or_left (task_by_name U c.name == task_by_name U c.name) (among (tasks_of (failures_of U cs)) (task_by_name U c.name)) (eq-eqb (task_by_name U c.name) (task_by_name U c.name) refl))
 
 suc-some : (n : ℕ) → not (suc n == 0) ≡ true
 suc-some n = grind (arith, nat_tests)
 
-member-some : (U : List Task) (cs : List Chain) (k : ℕ) → among (tasks_of (failures_of U cs)) k ≡ true → not (length cs == 0) ≡ true
+member-some : (U : List Task) (cs : List Fail) (k : ℕ) → among (tasks_of (failures_of U cs)) k ≡ true → not (length cs == 0) ≡ true
 member-some U [] k h = absurd (both_ways false refl h)
 member-some U (c ∷ cs) k h = suc-some (length cs)
 
-set-without_fault : (U : List Task) (cs : List Chain) → set_fault U cs ≡ None → IsReadySet U (failures_of U cs)
+set-without_fault : (U : List Task) (cs : List Fail) → set_fault U cs ≡ None → IsReadySet U (failures_of U cs)
 set-without_fault U cs h =
     let n = length U in
     let ks = tasks_of (failures_of U cs) in
-    let bad = bad_chain U 0 (among ks) cs in
-    let empty = unless (not (length cs == 0)) EmptySet in
+    let bad = bad_fail U 0 (among ks) cs in
+    let empty = fault_unless (not (length cs == 0)) EmptySet in
     let g = guard-none (are_new n no_index ks) (option_or bad empty) (WrongTasks 0) h in
     let both = none-or bad empty g.1 in
     record {
       within = new-part n ks g.0;
       some = some-member U cs (met (not (length cs == 0)) EmptySet both.1);
       distinct = new-order n ks g.0;
-      refuted = chains-sound U 0 (among ks) cs both.0;
+      refuted = fails-sound U 0 (among ks) cs both.0;
     }
 
-set-ready : (U : List Task) (cs : List Chain) → IsReadySet U (failures_of U cs) → set_fault U cs ≡ None
+set-ready : (U : List Task) (cs : List Fail) → IsReadySet U (failures_of U cs) → set_fault U cs ≡ None
 set-ready U cs ready =
     let n = length U in
     let ks = tasks_of (failures_of U cs) in
     let named : are_new n no_index ks ≡ true = set-complete n (among ks) ks ready.distinct ready.within in
     let known = order-below n (among ks) ks ready.distinct ready.within in
-    rw named (or-none (bad_chain U 0 (among ks) cs) (unless (not (length cs == 0)) EmptySet) (chains-complete U 0 (among ks) cs known ready.refuted)
+    rw named (or-none (bad_fail U 0 (among ks) cs) (fault_unless (not (length cs == 0)) EmptySet) (fails-complete U 0 (among ks) cs known ready.refuted)
     (unmet (not (length cs == 0)) EmptySet (member-some U cs ready.some.0 ready.some.1)))
 
 -- ---- the whole
-pub ready-from_none : (U : List Task) (b : Body) → check_fault U b ≡ None → IsReady U b
-ready-from_none U (Best levels) h = order-without_fault U levels h
-ready-from_none U (NoOrder members) h = set-without_fault U members h
+body-sound : (U : List Task) (b : Body) → body_fault U b ≡ None → IsReadyBody U b
+body-sound U (Best levels) h = order-without_fault U levels h
+body-sound U (NoOrder members) h = set-without_fault U members h
 
-pub none-from_ready : (U : List Task) (b : Body) → IsReady U b → check_fault U b ≡ None
-none-from_ready U (Best levels) h = order-ready U levels h
-none-from_ready U (NoOrder members) h = set-ready U members h
+body-complete : (U : List Task) (b : Body) → IsReadyBody U b → body_fault U b ≡ None
+body-complete U (Best levels) h = order-ready U levels h
+body-complete U (NoOrder members) h = set-ready U members h
+
+pub ready-from_none : (U : List Task) (c : Cert) → check_fault U c ≡ None → IsReady U c
+ready-from_none U c h =
+    let serves = may_serve c.version (version_for U) in
+    let both = none-or (fault_unless serves WrongVersion) (body_fault U c.body) h in
+    record { version = met serves WrongVersion both.0; body = body-sound U c.body both.1 }
+
+pub none-from_ready : (U : List Task) (c : Cert) → IsReady U c → check_fault U c ≡ None
+none-from_ready U c h =
+    let serves = may_serve c.version (version_for U) in
+    or-none (fault_unless serves WrongVersion) (body_fault U c.body) (unmet serves WrongVersion h.version) (body-complete U c.body h.body)

@@ -8,8 +8,8 @@ use Rattle.std.proofs.lemmas.Bool.{cases_eq, eq-eqb, ne_eqb, lt-ltb}
 use Rattle.task_sheet.specs.Sheet.{Task}
 use Rattle.task_sheet.specs.Indexes.{Indexes, no_index, with_index, among}
 use Rattle.task_sheet.specs.Verdicts.{tasks_of, order_of}
-use Rattle.certificate.specs.Body.{Chain, Level}
-use Rattle.cert_checker.specs.Naming.{task_of, failures_of, levels_of}
+use Rattle.certificate.specs.Body.{Fail, Level}
+use Rattle.cert_checker.specs.Naming.{task_by_name, failures_of, levels_of}
 use Rattle.cert_checker.specs.Faults.{are_new, has_all}
 
 -- the rest of a list at an element
@@ -59,13 +59,13 @@ seen-all U seen here all e h = (
 )
 
 -- ---- the lists that are gone over
-pub chains-at : (U : List Task) (cs : List Chain) (i : ℕ) (c : Chain) → i < length cs → c ≡ get_or cs i c → tasks_of (failures_of U (drop i cs)) ≡ task_of U c.name ∷ tasks_of (failures_of U (drop (i + 1) cs))
-chains-at U cs i c lt e = ap (λ (x : List Chain). tasks_of (failures_of U x)) (dropped cs i c lt e)
+pub fails-at : (U : List Task) (cs : List Fail) (i : ℕ) (c : Fail) → i < length cs → c ≡ get_or cs i c → tasks_of (failures_of U (drop i cs)) ≡ task_by_name U c.name ∷ tasks_of (failures_of U (drop (i + 1) cs))
+fails-at U cs i c lt e = ap (λ (x : List Fail). tasks_of (failures_of U x)) (dropped cs i c lt e)
 
-pub chains-end : (U : List Task) (cs : List Chain) (i : ℕ) → length cs ≤ i → tasks_of (failures_of U (drop i cs)) ≡ []
-chains-end U cs i le = ap (λ (x : List Chain). tasks_of (failures_of U x)) (drop_of_length-le cs le)
+pub fails-end : (U : List Task) (cs : List Fail) (i : ℕ) → length cs ≤ i → tasks_of (failures_of U (drop i cs)) ≡ []
+fails-end U cs i le = ap (λ (x : List Fail). tasks_of (failures_of U x)) (drop_of_length-le cs le)
 
-pub levels-at : (U : List Task) (ls : List Level) (i : ℕ) (l : Level) → i < length ls → l ≡ get_or ls i l → order_of (levels_of U (drop i ls)) ≡ task_of U l.name ∷ order_of (levels_of U (drop (i + 1) ls))
+pub levels-at : (U : List Task) (ls : List Level) (i : ℕ) (l : Level) → i < length ls → l ≡ get_or ls i l → order_of (levels_of U (drop i ls)) ≡ task_by_name U l.name ∷ order_of (levels_of U (drop (i + 1) ls))
 levels-at U ls i l lt e = ap (λ (x : List Level). order_of (levels_of U x)) (dropped ls i l lt e)
 
 pub levels-end : (U : List Task) (ls : List Level) (i : ℕ) → length ls ≤ i → order_of (levels_of U (drop i ls)) ≡ []
@@ -83,6 +83,6 @@ pub is-new : (n task : ℕ) (seen : Indexes) → task < n → seen task ≡ fals
 is-new n task seen lt out = rw (lt-ltb task n lt, out) refl
 
 -- one more name
-pub seen-step : (U : List Task) (seen more : Indexes) (name read : List ℕ) (here rest all : List ℕ) → read ≡ name → here ≡ task_of U name ∷ rest
-    → (nat_lt (task_of U read) (length U) && not (seen (task_of U read))) ≡ true → more ≡ with_index seen (task_of U read) → IsSeen U seen here all → IsSeen U more rest all
-seen-step U seen more name read here rest all e first new is h = seen-more U seen more (task_of U read) here rest all (first ∙ ap (λ (n : List ℕ). task_of U n ∷ rest) (sym e)) new is h
+pub seen-step : (U : List Task) (seen more : Indexes) (name read : List ℕ) (here rest all : List ℕ) → read ≡ name → here ≡ task_by_name U name ∷ rest
+    → (nat_lt (task_by_name U read) (length U) && not (seen (task_by_name U read))) ≡ true → more ≡ with_index seen (task_by_name U read) → IsSeen U seen here all → IsSeen U more rest all
+seen-step U seen more name read here rest all e first new is h = seen-more U seen more (task_by_name U read) here rest all (first ∙ ap (λ (n : List ℕ). task_by_name U n ∷ rest) (sym e)) new is h

@@ -2,7 +2,7 @@
 use Rattle.std.specs.Prelude.{◌≡◌, ℕ, List, [], None, Ok}
 use Rattle.task_sheet.specs.Sheet.{Task}
 use Rattle.task_sheet.specs.Verdicts.{VerdictData, Admitted, Infeasible, order_of}
-use Rattle.certificate.specs.Body.{Body, HasSpelling}
+use Rattle.certificate.specs.Body.{Body, Cert, HasSpelling}
 use Rattle.certificate.specs.Body as says
 use Rattle.certificate.specs.Spelling.{spelling}
 use Rattle.certificate.specs.Lines.{certificate_in}
@@ -27,10 +27,10 @@ abbrev pub kind_of_verdict : VerdictData → Checked
 kind_of_verdict (Admitted levels) = Best
 kind_of_verdict (Infeasible members) = NoOrder
 
--- the certificate of a verdict can be written, reads back, is ready, has no fault and shows what the verdict says
+-- the certificate of a verdict is written, read back, ready, faultless and of the verdict's kind
 pub record IsAccepted (U : List Task) (v : VerdictData) : Type 0 where
   pub spelled : HasSpelling (certificate_of U v)
   pub read_back : certificate_in (spelling (certificate_of U v)) ≡ Ok (certificate_of U v)
   pub ready : IsReady U (certificate_of U v)
   pub faultless : check_fault U (certificate_of U v) ≡ None
-  pub kind : kind_of (certificate_of U v) ≡ kind_of_verdict v
+  pub kind : kind_of (certificate_of U v).body ≡ kind_of_verdict v

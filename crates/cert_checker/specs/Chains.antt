@@ -11,6 +11,6 @@ goes_past W limit a [] = nat_lt limit a
 goes_past W limit a (b ∷ bs) = may_follow W limit a b && goes_past W limit b bs
 
 -- the numbers are a chain, as a test
-abbrev pub is_chain : (ℕ → ℕ) → ℕ → List ℕ → Bool
-is_chain W limit [] = false
-is_chain W limit (a ∷ bs) = (a == 1) && goes_past W limit a bs
+abbrev pub are_chain : (ℕ → ℕ) → ℕ → List ℕ → Bool
+are_chain W limit [] = false
+are_chain W limit (a ∷ bs) = (a == 1) && goes_past W limit a bs

@@ -2,5 +2,4 @@ pub mod Naming
 pub mod Chains
 pub mod Faults
 pub mod Work
-pub mod Requests
 pub mod Answers

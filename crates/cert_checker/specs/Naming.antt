@@ -1,31 +1,56 @@
 -- A certificate's names as the tasks of a set, and what it has to show.
-use Rattle.std.specs.Prelude.{ℕ, List, length, map, position, unwrap_or}
-use Rattle.task_sheet.specs.Sheet.{Task, same_bytes}
-use Rattle.task_sheet.specs.Verdicts.{FailureData, LevelData}
+use Rattle.std.specs.Prelude.{◌≡◌, ℕ, ◌+◌, Bool, true, false, List, length, map, position}
+use Rattle.std.specs.Prelude.{unwrap_or}
+use Rattle.task_sheet.specs.Sheet.{Task, task_at, same_bytes}
+use Rattle.task_sheet.specs.Verdicts as verdict
+use Rattle.task_sheet.specs.Verdicts.{ReasonData, FailureData, LevelData}
 use Rattle.task_sheet.specs.Ready.{IsReadyOrder, IsReadySet}
-use Rattle.certificate.specs.Body.{Chain, Level, Body, Best, NoOrder}
+use Rattle.certificate.specs.Body.{Reason, Chain, Over, Fail, Level, Body, Best, NoOrder, Cert}
+use Rattle.certificate.specs.Versions.{version_for}
+use Rattle.certificate.specs.declared.version.CertVersion.{CertVersion}
+use Rattle.certificate.specs.declared.version.CertVersion.TheVariants.{First, Second}
 
 -- the task with a name; a name that no task has stands past the end of the set
-abbrev pub task_of : List Task → List ℕ → ℕ
-task_of U name = unwrap_or (position (λ s. same_bytes s.name name) U) (length U)
+abbrev pub task_by_name : List Task → List ℕ → ℕ
+task_by_name U name = unwrap_or (position (λ s. same_bytes s.name name) U) (length U)
 
--- a failure, by its task's index
-abbrev pub failure_of : List Task → Chain → FailureData
-failure_of U c = record { task = task_of U c.name; chain = c.numbers }
+-- a reason, by the other task's index
+abbrev pub reason_by_index : List Task → Reason → ReasonData
+reason_by_index U (Chain numbers) = verdict.Chain numbers
+reason_by_index U (Over other) = verdict.Over (task_by_name U other)
+
+-- a failure, by its tasks' indexes
+abbrev pub failure_of : List Task → Fail → FailureData
+failure_of U f = record { task = task_by_name U f.name; reason = reason_by_index U f.reason }
 
 -- failures, by their tasks' indexes
-abbrev pub failures_of : List Task → List Chain → List FailureData
-failures_of U cs = map (failure_of U) cs
+abbrev pub failures_of : List Task → List Fail → List FailureData
+failures_of U fs = map (failure_of U) fs
 
--- a level, by its tasks' indexes
-abbrev pub level_of : List Task → Level → LevelData
-level_of U l = record { task = task_of U l.name; response = l.time; fails = failures_of U l.fails }
+-- a level, by its tasks' indexes, with the response that its time gives
+abbrev pub level_by_index : List Task → Level → LevelData
+level_by_index U l = record {
+  task = task_by_name U l.name;
+  response = l.time + (task_at U (task_by_name U l.name)).jitter;
+  fails = failures_of U l.fails;
+}
 
 -- levels, by their tasks' indexes
 abbrev pub levels_of : List Task → List Level → List LevelData
-levels_of U ls = map (level_of U) ls
+levels_of U ls = map (level_by_index U) ls
 
--- the certificate is ready for the set: it shows its order best, or that no order passes
-abbrev pub IsReady : List Task → Body → Type 0
-IsReady U (Best levels) = IsReadyOrder U (levels_of U levels)
-IsReady U (NoOrder members) = IsReadySet U (failures_of U members)
+-- the body is ready for the set: it shows its order best, or that no order passes
+abbrev pub IsReadyBody : List Task → Body → Type 0
+IsReadyBody U (Best levels) = IsReadyOrder U (levels_of U levels)
+IsReadyBody U (NoOrder members) = IsReadySet U (failures_of U members)
+
+-- a certificate of a version may speak of a set that needs one: the second of all sets
+abbrev pub may_serve : (version needed : CertVersion) → Bool
+may_serve First First = true
+may_serve First Second = false
+may_serve Second needed = true
+
+-- the certificate is ready for the set: its version serves the set, and its body is ready
+pub record IsReady (U : List Task) (c : Cert) : Type 0 where
+  pub version : may_serve c.version (version_for U) ≡ true
+  pub body : IsReadyBody U c.body

@@ -1,41 +1,48 @@
-//! The numbers that show that a task fails, or passes.
+//! What shows that a task fails, or may stand.
 ghost use Rattle.std.specs.Prelude.{◌≡◌, ◌<◌, ◌≤◌, ◌+◌, ◌&&◌, ℕ, nat_le, length};
 ghost use Rattle.task_sheet.specs.Sheet.{task_at};
 ghost use Rattle.task_sheet.specs.Indexes.{indexes_of, without_index};
 ghost use Rattle.task_sheet.specs.Demand.{demand_of, limit_of};
-ghost use Rattle.cert_checker.specs.Naming.{task_of};
-ghost use Rattle.cert_checker.specs.Requests.{requests_within};
-ghost use Rattle.cert_checker.specs.Chains.{may_follow, goes_past, is_chain};
-ghost use Rattle.cert_checker.specs.Faults.{does_pass, is_refuted, bad_chain};
+ghost use Rattle.cert_checker.specs.Naming.{task_by_name};
+ghost use Rattle.cert_checker.specs.Work.{demand_from};
+ghost use Rattle.cert_checker.specs.Chains.{may_follow, goes_past, are_chain};
+ghost use Rattle.certificate.specs.ReasonOf.{reason_of};
+ghost use Rattle.cert_checker.specs.Faults.{covers, time_stands, is_outranked, refutes, is_refuted};
+ghost use Rattle.cert_checker.specs.Faults.{bad_fail};
 
 use crate::fault::CheckFault;
-use crate::naming::task_of;
-use crate::requests::Requests;
-use crate::work::{base_demand, limit_of, work_within};
-use certificate::CertChain;
-use task_sheet::{Members, TaskSet};
+use crate::naming::task_by_name;
+use crate::outranking::{is_bound, must_outrank};
+use crate::work::{base_demand, demand_from, limit_of};
+use certificate::{CertFail, CertReason};
+use task_sheet::{Members, Name, TaskSet};
 
 // Whether the number may stand behind the last one.
-#[inline(always)]
-fn may_follow(requests: &mut Requests, limit: u64, last: u64, number: u64) -> bool
+fn may_follow(set: &TaskSet, above: Members, base: u64, limit: u64, last: u64, number: u64) -> bool
+    requires base { base ≤ 20000000 }
     requires limit { limit ≤ 10000000 }
-    requires longer { requests.old.time ≤ last }
-    ensures is { result ≡ may_follow (λ t. requests_within t requests.old) limit last number }
-    ensures same { (t : ℕ) → requests_within t requests.new ≡ requests_within t requests.old }
-    ensures carried { requests.new.time ≤ last }
+    ensures { result ≡ may_follow (demand_from set.now (indexes_of above) base) limit last number }
 {
-    last <= limit && last < number && number <= requests.advance(last)
+    last <= limit && last < number && number <= demand_from(set, above, base, last)
 }
 
-// Whether the numbers climb past the limit from the last one.
-fn goes_past(mut requests: Requests, limit: u64, first: u64, numbers: &[u64]) -> bool
+// Whether the numbers climb past the limit from the first one.
+fn goes_past(
+    set: &TaskSet,
+    above: Members,
+    base: u64,
+    limit: u64,
+    first: u64,
+    numbers: &[u64],
+) -> bool
+    requires base { base ≤ 20000000 }
     requires limit { limit ≤ 10000000 }
-    requires longer { requests.time ≤ first }
-    ensures { result ≡ goes_past (λ t. requests_within t requests) limit first numbers.now }
+    ensures { result
+        ≡ goes_past (demand_from set.now (indexes_of above) base) limit first numbers.now }
 {
     let mut last = first;
     for number in numbers {
-        if !may_follow(&mut requests, limit, last, *number) {
+        if !may_follow(set, above, base, limit, last, *number) {
             return false;
         }
         last = *number;
@@ -44,10 +51,11 @@ fn goes_past(mut requests: Requests, limit: u64, first: u64, numbers: &[u64]) ->
 }
 
 // Whether the numbers are a chain of the task with these above it.
-fn is_chain(set: &TaskSet, task: usize, above: Members, numbers: &[u64]) -> bool
+fn are_chain(set: &TaskSet, task: usize, above: Members, numbers: &[u64]) -> bool
     requires { task < length set.now }
     ensures { result
-        ≡ is_chain (demand_of set.now task (indexes_of above)) (limit_of (task_at set.now task)) numbers.now }
+        ≡ are_chain (demand_of set.now task (indexes_of above)) (limit_of (task_at set.now task))
+        numbers.now }
 {
     let Some((first, rest)) = numbers.split_first() else {
         return false;
@@ -56,14 +64,15 @@ fn is_chain(set: &TaskSet, task: usize, above: Members, numbers: &[u64]) -> bool
         return false;
     }
     let limit = limit_of(&set.sheets()[task]);
-    let requests = Requests::new(set, above, base_demand(set, task, above));
-    goes_past(requests, limit, 1, rest)
+    let base = base_demand(set, task, above);
+    goes_past(set, above, base, limit, 1, rest)
 }
 
-/// Whether the time is from 1 to the limit of the task, and covers its demand below the others that are left.
-pub fn does_pass(set: &TaskSet, left: Members, task: usize, time: u64) -> bool
+// Whether the time is from 1 to the limit of the task, and covers its demand below the others
+// that are left.
+fn covers(set: &TaskSet, left: Members, task: usize, time: u64) -> bool
     requires { task < length set.now }
-    ensures { result ≡ does_pass set.now (indexes_of left) task time }
+    ensures { result ≡ covers set.now (indexes_of left) task time }
 {
     let sheets = set.sheets();
     let limit = limit_of(&sheets[task]);
@@ -71,31 +80,61 @@ pub fn does_pass(set: &TaskSet, left: Members, task: usize, time: u64) -> bool
         return false;
     }
     let above = left.without(task);
-    work_within(set, above, base_demand(set, task, above), time) <= time
+    demand_from(set, above, base_demand(set, task, above), time) <= time
 }
 
-// Whether the name is a task's, and its numbers are a chain below the others that are left.
-fn is_refuted(set: &TaskSet, left: Members, chain: &CertChain) -> bool
-    ensures { result ≡ is_refuted set.now (indexes_of left) chain.now }
+/// Whether the time does so, and the task need not stand above any of the others that are left.
+pub fn time_stands(set: &TaskSet, left: Members, task: usize, time: u64) -> bool
+    requires { task < length set.now }
+    ensures { result ≡ time_stands set.now (indexes_of left) task time }
 {
-    let task = task_of(set, chain.name);
-    task < set.len() && is_chain(set, task, left.without(task), &chain.numbers)
+    // The set is small: the proof has it from its sheets.
+    let _ = set.sheets();
+    covers(set, left, task, time) && !is_bound(set, task, left.without(task))
 }
 
-/// The first of the chains that is none.
-pub fn bad_chain(
+// Whether the name is that of one of the tasks above, above which the task must stand.
+fn is_outranked(set: &TaskSet, task: usize, above: Members, other: Name) -> bool
+    requires { task < length set.now }
+    ensures { result ≡ is_outranked set.now task (indexes_of above) (task_by_name set.now other) }
+{
+    let other = task_by_name(set, other);
+    other < set.len() && above.has(other) && must_outrank(set, task, other)
+}
+
+// Whether the reason refutes a task with these above it.
+fn refutes(set: &TaskSet, task: usize, above: Members, reason: &CertReason) -> bool
+    requires { task < length set.now }
+    ensures { result ≡ refutes set.now task (indexes_of above) (reason_of reason.now) }
+{
+    match reason {
+        CertReason::Chain(numbers) => are_chain(set, task, above, numbers),
+        CertReason::Over(other) => is_outranked(set, task, above, *other),
+    }
+}
+
+// Whether the name is a task's, and its reason refutes it below the others that are left.
+fn is_refuted(set: &TaskSet, left: Members, fail: &CertFail) -> bool
+    ensures { result ≡ is_refuted set.now (indexes_of left) fail.now }
+{
+    let task = task_by_name(set, fail.name);
+    task < set.len() && refutes(set, task, left.without(task), &fail.reason)
+}
+
+/// The first of the failures that is none.
+pub fn bad_fail(
     set: &TaskSet,
     place: usize,
     left: Members,
-    chains: &[CertChain],
+    fails: &[CertFail],
 ) -> Option<CheckFault>
-    ensures { result ≡ bad_chain set.now place (indexes_of left) chains.now }
+    ensures { result ≡ bad_fail set.now place (indexes_of left) fails.now }
 {
-    for chain in chains {
-        if !is_refuted(set, left, chain) {
+    for fail in fails {
+        if !is_refuted(set, left, fail) {
             return Some(CheckFault::BadChain {
                 level: place,
-                name: chain.name,
+                name: fail.name,
             });
         }
     }

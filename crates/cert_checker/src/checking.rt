@@ -1,15 +1,16 @@
 //! The whole check.
 ghost use Rattle.std.specs.Prelude.{◌≡◌, ◌↔◌, Ok, Some, None, IfOk, IfErr, IsOk, MatchResult};
 ghost use Rattle.task_sheet.specs.Orders.{IsBest, IsFeasible};
-ghost use Rattle.cert_checker.specs.Naming.{IsReady};
+ghost use Rattle.cert_checker.specs.Naming.{may_serve, IsReady};
 ghost use Rattle.cert_checker.specs.Answers.{kind_of, order_in};
-ghost use Rattle.cert_checker.specs.Faults.{order_fault, set_fault, check_fault};
+ghost use Rattle.cert_checker.specs.Faults.{order_fault, set_fault, body_fault, check_fault};
+ghost use Rattle.certificate.specs.BodyOf.{body_of};
 
-use crate::chains::bad_chain;
+use crate::chains::bad_fail;
 use crate::fault::CheckFault;
-use crate::levels::{Asked, levels_fault};
+use crate::levels::{LevelCheck, levels_fault};
 use crate::naming::{is_order, tasks_of};
-use certificate::{CertBody, CertChain, CertLevel, Certificate};
+use certificate::{CertBody, CertFail, CertLevel, CertVersion, Certificate, version_for};
 use task_sheet::TaskSet;
 
 /// What a certificate shows.
@@ -28,26 +29,26 @@ fn order_fault(set: &TaskSet, levels: &[CertLevel]) -> Option<CheckFault>
     if !is_order(set, levels) {
         return Some(CheckFault::WrongTasks { level: 0 });
     }
-    if let Some(fault) = levels_fault(set, Asked::Tasks, levels) {
+    if let Some(fault) = levels_fault(set, LevelCheck::Tasks, levels) {
         return Some(fault);
     }
-    if let Some(fault) = levels_fault(set, Asked::Pass, levels) {
+    if let Some(fault) = levels_fault(set, LevelCheck::Pass, levels) {
         return Some(fault);
     }
-    if let Some(fault) = levels_fault(set, Asked::Chains, levels) {
+    if let Some(fault) = levels_fault(set, LevelCheck::Chains, levels) {
         return Some(fault);
     }
-    levels_fault(set, Asked::Missing, levels)
+    levels_fault(set, LevelCheck::Missing, levels)
 }
 
 // The first fault of a `none` certificate.
-fn set_fault(set: &TaskSet, members: &[CertChain]) -> Option<CheckFault>
+fn set_fault(set: &TaskSet, members: &[CertFail]) -> Option<CheckFault>
     ensures { result ≡ set_fault set.now members.now }
 {
     let Some(tasks) = tasks_of(set, members) else {
         return Some(CheckFault::WrongTasks { level: 0 });
     };
-    if let Some(fault) = bad_chain(set, 0, tasks, members) {
+    if let Some(fault) = bad_fail(set, 0, tasks, members) {
         return Some(fault);
     }
     if members.is_empty() {
@@ -56,13 +57,24 @@ fn set_fault(set: &TaskSet, members: &[CertChain]) -> Option<CheckFault>
     None
 }
 
-// What the certificate shows, or its first fault.
-fn shown(set: &TaskSet, certificate: &Certificate) -> Result<Checked, CheckFault>
-    ensures { MatchResult result
-        (λ kind. (check_fault set.now certificate.now ≡ None) × (kind ≡ kind_of certificate.now))
-        (λ fault. check_fault set.now certificate.now ≡ Some fault) }
+// Whether a certificate of a version may speak of a set that needs one.
+fn may_serve(version: CertVersion, needed: CertVersion) -> bool
+    ensures { result ≡ may_serve version needed }
 {
-    match certificate.body() {
+    match (version, needed) {
+        (CertVersion::First, CertVersion::Second) => false,
+        _ => true,
+    }
+}
+
+// What a body shows, or its first fault.
+fn shown(set: &TaskSet, body: &CertBody) -> Result<Checked, CheckFault>
+    ensures { MatchResult result
+        (λ kind. (body_fault set.now (body_of body.now) ≡ None)
+        × (kind ≡ kind_of (body_of body.now)))
+        (λ fault. body_fault set.now (body_of body.now) ≡ Some fault) }
+{
+    match body {
         CertBody::Best(levels) => match order_fault(set, levels) {
             None => Ok(Checked::Best),
             Some(fault) => Err(fault),
@@ -74,16 +86,30 @@ fn shown(set: &TaskSet, certificate: &Certificate) -> Result<Checked, CheckFault
     }
 }
 
-/// Checks a certificate against a set, whoever wrote it: by the numbers alone, in the order of the faults, each over
-/// the whole certificate before the next. It takes no memory.
+// What the certificate shows, or its first fault.
+fn judged(set: &TaskSet, certificate: &Certificate) -> Result<Checked, CheckFault>
+    ensures { MatchResult result
+        (λ kind. (check_fault set.now certificate.now ≡ None)
+        × (kind ≡ kind_of certificate.now.body))
+        (λ fault. check_fault set.now certificate.now ≡ Some fault) }
+{
+    if !may_serve(certificate.version(), version_for(set)) {
+        return Err(CheckFault::WrongVersion);
+    }
+    shown(set, certificate.body())
+}
+
+/// Checks a certificate against a set, whoever wrote it: by the numbers alone, in the order of the
+/// faults, each over the whole certificate before the next. It takes no memory.
 pub fn check(set: &TaskSet, certificate: &Certificate) -> Result<Checked, CheckFault>
     ensures ready { IsOk result ↔ IsReady set.now certificate.now }
-    ensures kind { IfOk result (λ kind. kind ≡ kind_of certificate.now) }
+    ensures kind { IfOk result (λ kind. kind ≡ kind_of certificate.now.body) }
     ensures fault { IfErr result (λ fault. check_fault set.now certificate.now ≡ Some fault) }
-    ensures best { result ≡ Ok Checked.Best → IsBest set.now (order_in set.now certificate.now) }
+    ensures best { result ≡ Ok Checked.Best
+        → IsBest set.now (order_in set.now certificate.now.body) }
     ensures no_order { result ≡ Ok Checked.NoOrder → ¬ IsFeasible set.now }
 {
     // Its contract says that the set is one of at most 32 valid sheets.
     let _sheets = set.sheets();
-    shown(set, certificate)
+    judged(set, certificate)
 }

@@ -3,14 +3,14 @@ ghost use Rattle.std.specs.Prelude.{◌≡◌, List, None, ◌↔◌};
 ghost use Rattle.task_sheet.specs.Sheet.{Task};
 ghost use Rattle.task_sheet.specs.TaskSet.{IsTaskSet};
 ghost use Rattle.task_sheet.specs.Verdicts.{VerdictData, IsVerdictOf};
-ghost use Rattle.certificate.specs.Body.{Body};
+ghost use Rattle.certificate.specs.Body.{Cert};
 ghost use Rattle.cert_checker.specs.Naming.{IsReady};
 ghost use Rattle.cert_checker.specs.Faults.{check_fault};
 ghost use Rattle.cert_checker.specs.Answers.{IsAccepted};
 
 /// A certificate has no fault exactly where it is ready.
 pub fn faultless_is_ready()
-    ensures { (U : List Task) (b : Body) → (check_fault U b ≡ None) ↔ IsReady U b }
+    ensures { (U : List Task) (c : Cert) → (check_fault U c ≡ None) ↔ IsReady U c }
 {}
 
 /// The certificate of each verdict is written, read back and accepted.

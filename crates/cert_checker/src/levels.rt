@@ -5,23 +5,25 @@ ghost use Rattle.task_sheet.specs.Indexes.{indexes_of, without_index, among};
 ghost use Rattle.task_sheet.specs.Orders.{all_of};
 ghost use Rattle.task_sheet.specs.Verdicts.{tasks_of};
 ghost use Rattle.certificate.specs.Body.{Level};
-ghost use Rattle.cert_checker.specs.Naming.{task_of, failures_of};
-ghost use Rattle.cert_checker.specs.Faults.{unless, are_lesser, first_missing, missing_at, level_fault, levels_fault};
+ghost use Rattle.cert_checker.specs.Naming.{task_by_name, failures_of};
+ghost use Rattle.cert_checker.specs.Faults.{fault_unless, are_lesser, first_unnamed, missing_at};
+ghost use Rattle.cert_checker.specs.Faults.{level_fault, levels_fault};
 
-use crate::chains::{bad_chain, does_pass};
+use crate::chains::{bad_fail, time_stands};
 use crate::fault::CheckFault;
-use crate::naming::task_of;
-use certificate::{CertChain, CertLevel};
+use crate::naming::task_by_name;
+use certificate::{CertFail, CertLevel};
 use task_sheet::{Members, Name, TaskSet};
 
 /// What is asked of each level.
 #[derive(Clone, Copy)]
-pub enum Asked {
+pub enum LevelCheck {
     /// Its failures are of remaining tasks of smaller rank, by rank.
     Tasks,
-    /// Its time is within the deadline, and covers the demand.
+    /// Its time is within the deadline, and covers the demand; its task need not stand above one
+    /// above it.
     Pass,
-    /// Its failures' numbers are chains.
+    /// Its failures are such.
     Chains,
     /// Each remaining task of smaller rank has a failure.
     Missing,
@@ -36,13 +38,14 @@ fn is_lesser(left: Members, from: usize, chosen: usize, task: usize) -> bool
 }
 
 // Whether the failures are of tasks that are left and lie below the chosen one, by rank.
-fn are_lesser(set: &TaskSet, left: Members, chosen: usize, fails: &[CertChain]) -> bool
+fn are_lesser(set: &TaskSet, left: Members, chosen: usize, fails: &[CertFail]) -> bool
     requires { chosen ≤ 32 }
-    ensures { result ≡ are_lesser (indexes_of left) 0 chosen (tasks_of (failures_of set.now fails.now)) }
+    ensures { result
+        ≡ are_lesser (indexes_of left) 0 chosen (tasks_of (failures_of set.now fails.now)) }
 {
     let mut from = 0;
-    for chain in fails {
-        let task = task_of(set, chain.name);
+    for fail in fails {
+        let task = task_by_name(set, fail.name);
         if !is_lesser(left, from, chosen, task) {
             return false;
         }
@@ -52,11 +55,11 @@ fn are_lesser(set: &TaskSet, left: Members, chosen: usize, fails: &[CertChain]) 
 }
 
 // Whether some failure is of the task.
-fn has_failure(set: &TaskSet, fails: &[CertChain], task: usize) -> bool
+fn has_failure(set: &TaskSet, fails: &[CertFail], task: usize) -> bool
     ensures { result ≡ among (tasks_of (failures_of set.now fails.now)) task }
 {
-    for chain in fails {
-        if task_of(set, chain.name) == task {
+    for fail in fails {
+        if task_by_name(set, fail.name) == task {
             return true;
         }
     }
@@ -64,9 +67,10 @@ fn has_failure(set: &TaskSet, fails: &[CertChain], task: usize) -> bool
 }
 
 // The least task that is left, lies below the chosen one and has no failure.
-fn first_missing(set: &TaskSet, left: Members, chosen: usize, fails: &[CertChain]) -> Option<usize>
+fn first_unnamed(set: &TaskSet, left: Members, chosen: usize, fails: &[CertFail]) -> Option<usize>
     requires { chosen ≤ 32 }
-    ensures is { result ≡ first_missing (indexes_of left) (tasks_of (failures_of set.now fails.now)) chosen }
+    ensures is { result
+        ≡ first_unnamed (indexes_of left) (tasks_of (failures_of set.now fails.now)) chosen }
     ensures below { IfSome result (λ k. k < chosen) }
 {
     for k in 0..chosen {
@@ -90,8 +94,8 @@ fn missing_at(set: &TaskSet, place: usize, missing: Option<usize>) -> Option<Che
 }
 
 // The fault, where the test fails.
-fn unless(is_met: bool, fault: CheckFault) -> Option<CheckFault>
-    ensures { result ≡ unless is_met fault }
+fn fault_unless(is_met: bool, fault: CheckFault) -> Option<CheckFault>
+    ensures { result ≡ fault_unless is_met fault }
 {
     if is_met { None } else { Some(fault) }
 }
@@ -99,42 +103,42 @@ fn unless(is_met: bool, fault: CheckFault) -> Option<CheckFault>
 // The fault of a level's task, time and failures.
 fn level_fault(
     set: &TaskSet,
-    asked: Asked,
+    asked: LevelCheck,
     level: usize,
     left: Members,
     name: Name,
     time: u64,
-    fails: &[CertChain],
+    fails: &[CertFail],
 ) -> Option<CheckFault>
-    requires { task_of set.now name < length set.now }
+    requires { task_by_name set.now name < length set.now }
     ensures { let l : Level = record { name = name; time = time; fails = fails.now } in
         result ≡ level_fault set.now asked level (indexes_of left) l }
 {
-    let task = task_of(set, name);
+    let task = task_by_name(set, name);
     match asked {
-        Asked::Tasks => unless(
+        LevelCheck::Tasks => fault_unless(
             are_lesser(set, left, task, fails),
             CheckFault::WrongTasks { level },
         ),
-        Asked::Pass => unless(
-            does_pass(set, left, task, time),
+        LevelCheck::Pass => fault_unless(
+            time_stands(set, left, task, time),
             CheckFault::BadPass { level },
         ),
-        Asked::Chains => bad_chain(set, level, left, fails),
-        Asked::Missing => missing_at(set, level, first_missing(set, left, task, fails)),
+        LevelCheck::Chains => bad_fail(set, level, left, fails),
+        LevelCheck::Missing => missing_at(set, level, first_unnamed(set, left, task, fails)),
     }
 }
 
 /// The first fault of the levels, which name tasks of the set.
-pub fn levels_fault(set: &TaskSet, asked: Asked, levels: &[CertLevel]) -> Option<CheckFault>
-    requires { All (λ (l : Level). task_of set.now l.name < length set.now) levels.now }
+pub fn levels_fault(set: &TaskSet, asked: LevelCheck, levels: &[CertLevel]) -> Option<CheckFault>
+    requires { All (λ (l : Level). task_by_name set.now l.name < length set.now) levels.now }
     ensures { result ≡ levels_fault set.now asked 1 (all_of set.now) levels.now }
 {
     let mut left = Members::all(set.len());
     for (i, level) in levels.iter().enumerate() {
         match level_fault(set, asked, i + 1, left, level.name, level.t, &level.fails) {
             Some(fault) => return Some(fault),
-            None => left = left.without(task_of(set, level.name)),
+            None => left = left.without(task_by_name(set, level.name)),
         }
     }
     None

@@ -7,7 +7,7 @@ mod fault;
 pub mod laws;
 mod levels;
 mod naming;
-mod requests;
+mod outranking;
 mod work;
 
 pub use checking::{Checked, check};

@@ -1,16 +1,17 @@
 //! The tasks that names are.
-ghost use Rattle.std.specs.Prelude.{◌≡◌, ◌<◌, ◌≤◌, ◌&&◌, not, nat_lt, true, false, length, MatchOption};
+ghost use Rattle.std.specs.Prelude.{◌≡◌, ◌<◌, ◌≤◌, ◌&&◌, not, nat_lt, true, false, length};
+ghost use Rattle.std.specs.Prelude.{MatchOption};
 ghost use Rattle.task_sheet.specs.Indexes.{indexes_of, no_index, with_index, among};
 ghost use Rattle.task_sheet.specs.Verdicts.{tasks_of, order_of};
-ghost use Rattle.cert_checker.specs.Naming.{task_of, failures_of, levels_of};
+ghost use Rattle.cert_checker.specs.Naming.{task_by_name, failures_of, levels_of};
 ghost use Rattle.cert_checker.specs.Faults.{are_new, has_all};
 
-use certificate::{CertChain, CertLevel};
+use certificate::{CertFail, CertLevel};
 use task_sheet::{Members, Name, TaskSet};
 
 /// The index of the task with a name; a name that no task has gets the number of the tasks.
-pub fn task_of(set: &TaskSet, name: Name) -> usize
-    ensures is { result ≡ task_of set.now name }
+pub fn task_by_name(set: &TaskSet, name: Name) -> usize
+    ensures is { result ≡ task_by_name set.now name }
     ensures few { length set.now ≤ 32 }
 {
     set.find(name).unwrap_or(set.len())
@@ -19,11 +20,13 @@ pub fn task_of(set: &TaskSet, name: Name) -> usize
 // The tasks that were seen, and one more, if it is one and was not seen.
 fn see(set: &TaskSet, seen: Members, name: Name) -> Option<Members>
     ensures { MatchOption result
-        ((nat_lt (task_of set.now name) (length set.now) && not (indexes_of seen (task_of set.now name))) ≡ false)
-        (λ m. ((nat_lt (task_of set.now name) (length set.now) && not (indexes_of seen (task_of set.now name))) ≡ true)
-        × (indexes_of m ≡ with_index (indexes_of seen) (task_of set.now name))) }
+        ((nat_lt (task_by_name set.now name) (length set.now)
+        && not (indexes_of seen (task_by_name set.now name))) ≡ false)
+        (λ m. ((nat_lt (task_by_name set.now name) (length set.now)
+        && not (indexes_of seen (task_by_name set.now name))) ≡ true)
+        × (indexes_of m ≡ with_index (indexes_of seen) (task_by_name set.now name))) }
 {
-    let task = task_of(set, name);
+    let task = task_by_name(set, name);
     if task < set.len() && !seen.has(task) {
         Some(seen.with(task))
     } else {
@@ -31,16 +34,16 @@ fn see(set: &TaskSet, seen: Members, name: Name) -> Option<Members>
     }
 }
 
-/// The tasks of chains, where each is one and none is named twice.
-pub fn tasks_of(set: &TaskSet, chains: &[CertChain]) -> Option<Members>
+/// The tasks of failures, where each is one and none is named twice.
+pub fn tasks_of(set: &TaskSet, fails: &[CertFail]) -> Option<Members>
     ensures { MatchOption result
-        (are_new (length set.now) no_index (tasks_of (failures_of set.now chains.now)) ≡ false)
-        (λ m. (are_new (length set.now) no_index (tasks_of (failures_of set.now chains.now)) ≡ true)
-        × (indexes_of m ≡ among (tasks_of (failures_of set.now chains.now)))) }
+        (are_new (length set.now) no_index (tasks_of (failures_of set.now fails.now)) ≡ false)
+        (λ m. (are_new (length set.now) no_index (tasks_of (failures_of set.now fails.now)) ≡ true)
+        × (indexes_of m ≡ among (tasks_of (failures_of set.now fails.now)))) }
 {
     let mut seen = Members::empty();
-    for chain in chains {
-        match see(set, seen, chain.name) {
+    for fail in fails {
+        match see(set, seen, fail.name) {
             Some(more) => seen = more,
             None => return None,
         }

@@ -1,27 +1,29 @@
 //! The work requested of a task and of those above it in a window, in microseconds.
 ghost use Rattle.std.specs.Prelude.{◌≡◌, ◌+◌, ◌*◌, ◌<◌, ◌≤◌, ℕ, length};
-ghost use Rattle.task_sheet.specs.Sheet.{task_at};
+ghost use Rattle.task_sheet.specs.Sheet.{IsValidSheet, task_at};
 ghost use Rattle.task_sheet.specs.TaskSet.{IsTaskSet};
 ghost use Rattle.task_sheet.specs.Indexes.{indexes_of};
 ghost use Rattle.task_sheet.specs.Locks.{names_lock, uses, shares_lock, reaches};
-ghost use Rattle.task_sheet.specs.Demand.{interference_within, releases_within, limit_of, longest_reached, blocking_of, interference_of};
-ghost use Rattle.cert_checker.specs.Work.{work_within};
+ghost use Rattle.task_sheet.specs.Demand.{interference_within, releases_within, limit_of};
+ghost use Rattle.task_sheet.specs.Demand.{longest_reached, blocking_of, interference_of};
+ghost use Rattle.cert_checker.specs.Work.{demand_from};
 
 use task_sheet::{Members, Name, Section, Sheet, TaskSet};
 
-/// The longest time that serves a task: its deadline.
+/// The longest time that serves a task: what its jitter leaves of its deadline.
 pub fn limit_of(sheet: &Sheet) -> u64
     ensures { result ≡ limit_of sheet.now }
 {
-    sheet.deadline()
+    sheet.limit()
 }
 
 // How many jobs of a task are released within a window.
 fn releases_within(sheet: &Sheet, time: u64) -> u64
-    requires { 0 < sheet.now.period }
+    requires sheet { IsValidSheet sheet.now }
+    requires time { time ≤ 10000000 }
     ensures { result ≡ releases_within sheet.now time }
 {
-    time.div_ceil(sheet.period())
+    (time + sheet.jitter()).div_ceil(sheet.period())
 }
 
 // Whether a section names a lock.
@@ -70,7 +72,8 @@ fn longest(set: &TaskSet, sheet: &Sheet, members: Members) -> u64
     longest
 }
 
-// The longest section of a task that is neither `task` nor above it, which these reach (Sha, Rajkumar, Lehoczky 1990).
+// The longest section of a task that is neither `task` nor above it, which these reach (Sha,
+// Rajkumar, Lehoczky 1990).
 fn blocking(set: &TaskSet, task: usize, above: Members) -> u64
     requires { task < length set.now }
     ensures { result ≡ blocking_of set.now task (indexes_of above) }
@@ -89,7 +92,8 @@ fn blocking(set: &TaskSet, task: usize, above: Members) -> u64
 /// The part of the demand that does not grow with the window: the task's cost and its blocking.
 pub fn base_demand(set: &TaskSet, task: usize, above: Members) -> u64
     requires { task < length set.now }
-    ensures is { result ≡ (task_at set.now task).cost + blocking_of set.now task (indexes_of above) }
+    ensures is { result
+        ≡ (task_at set.now task).cost + blocking_of set.now task (indexes_of above) }
     ensures fits { result ≤ 20000000 }
 {
     set.sheets()[task].cost() + blocking(set, task, above)
@@ -99,7 +103,7 @@ pub fn base_demand(set: &TaskSet, task: usize, above: Members) -> u64
 fn interference_within(set: &TaskSet, above: Members, time: u64) -> u64
     requires { time ≤ 10000000 }
     ensures is { result ≡ interference_within set.now (indexes_of above) time }
-    ensures fits { result ≤ 640000000 }
+    ensures fits { result ≤ 960000000 }
 {
     let mut taken = 0;
     for (h, sheet) in set.sheets().iter().enumerate() {
@@ -111,10 +115,10 @@ fn interference_within(set: &TaskSet, above: Members, time: u64) -> u64
 }
 
 /// What must be executed in a window: the base demand, and the jobs released above within it.
-pub fn work_within(set: &TaskSet, above: Members, once: u64, time: u64) -> u64
+pub fn demand_from(set: &TaskSet, above: Members, once: u64, time: u64) -> u64
     requires once { once ≤ 20000000 }
     requires time { time ≤ 10000000 }
-    ensures { result ≡ work_within set.now (indexes_of above) once time }
+    ensures { result ≡ demand_from set.now (indexes_of above) once time }
 {
     once + interference_within(set, above, time)
 }

@@ -11,19 +11,20 @@ use Rattle.std.proofs.lemmas.List.Concat.{flat_map-cons}
 use Rattle.std.proofs.lemmas.List.Elements.{All-append, All-from_recursion}
 use Rattle.std.proofs.lemmas.List.Splits.{slice_split_at, slice_split_none, join_with_byte-slice_split}
 use Rattle.task_sheet.specs.Name.{is_name, IsName}
-use Rattle.certificate.specs.Body.{Chain, Level, IsShort, IsChainText, IsLevelText}
-use Rattle.certificate.specs.Spelling.{chain_line, chain_lines, level_line, level_lines}
+use Rattle.certificate.specs.Body.{Fail, Level, IsShort, IsFailText, IsLevelText}
+use Rattle.certificate.specs.Spelling.{fail_line, fail_lines, level_line, level_lines}
 use Rattle.lines.specs.Lines.{parts}
 use Rattle.lines.specs.Words.{words, number_in}
-use Rattle.certificate.specs.Words.{chain_in}
+use Rattle.certificate.specs.Words.{fail_in}
 use Rattle.certificate.specs.Lines.{◌>>=◌, At, line_from, wanted, level_of, level_in, fails_case, fails_from, level_at, levels_at}
 use Rattle.lines.proofs.NumberLaws.{number_takes, number_again}
 use Rattle.certificate.proofs.WordLaws.{cond_given}
 use Rattle.lines.proofs.Parts.{parts_some}
 use Rattle.certificate.proofs.LevelLoops.{fails_line}
-use Rattle.certificate.proofs.ChainLaws.{chain_text, chain_takes, chain_again, decimal_lacks, name_lacks}
+use Rattle.certificate.proofs.FailLaws.{fail_text, fail_takes, fail_again, decimal_lacks, name_lacks}
 use Rattle.certificate.proofs.LineLaws.{left, bind_ok, ok_is, wanted_ok, line_takes, line_end, line_again}
-use Rattle.certificate.proofs.MemberLaws.{chain_lacks}
+use Rattle.certificate.proofs.MemberLaws.{fail_lacks}
+use Rattle.certificate.specs.declared.version.CertVersion.{CertVersion}
 
 -- a level's line without its end
 abbrev pub level_text : ℕ → List ℕ → ℕ → List ℕ
@@ -91,36 +92,37 @@ pub level_end : (k : ℕ) (l : Level) (rest : List ℕ) → level_text k l.name 
 level_end k l rest = simp append_assoc
 
 -- ---- the failures of a level
-fails_cases : (l : List ℕ) (p : List ℕ) (ps : List (List ℕ)) (n : ℕ) (o : Option Chain) (rest : List Chain × At) → chain_in (codes "fails") (words l) ≡ o
-    → (join_with_byte 10 (p ∷ ps) ≡ chain_lines (codes "fails") rest.0 ++ left rest.1) × AllByRecursion IsChainText rest.0
-    → (join_with_byte 10 (l ∷ p ∷ ps) ≡ chain_lines (codes "fails") (fails_case o (record { parts = l ∷ p ∷ ps; line = n }) rest).0 ++ left (fails_case o (record { parts = l ∷ p ∷ ps; line = n }) rest).1)
-    × AllByRecursion IsChainText (fails_case o (record { parts = l ∷ p ∷ ps; line = n }) rest).0
-fails_cases l p ps n None rest e h = (refl, tt)
-fails_cases l p ps n (Some c) rest e h =
-    let t = chain_takes (codes "fails") l c e in (
-      ap (λ (y : List ℕ). y ++ 10 ∷ join_with_byte 10 (p ∷ ps)) t.0
-          ∙ ap (λ (y : List ℕ). chain_text (codes "fails") c ++ 10 ∷ y) h.0
-          ∙ line_end (codes "fails") c (chain_lines (codes "fails") rest.0 ++ left rest.1)
-          ∙ sym (append_assoc (chain_line (codes "fails") c) (chain_lines (codes "fails") rest.0) (left rest.1))
-          ∙ ap (λ (y : List ℕ). y ++ left rest.1) (sym (flat_map-cons (chain_line (codes "fails")) c rest.0)),
-      (t.1, h.1),
-    )
+module _ (v : CertVersion) where
+  fails_cases : (l : List ℕ) (p : List ℕ) (ps : List (List ℕ)) (n : ℕ) (o : Option Fail) (rest : List Fail × At) → fail_in v (codes "fails") (words l) ≡ o
+      → (join_with_byte 10 (p ∷ ps) ≡ fail_lines (codes "fails") rest.0 ++ left rest.1) × AllByRecursion (IsFailText v) rest.0
+      → (join_with_byte 10 (l ∷ p ∷ ps) ≡ fail_lines (codes "fails") (fails_case o (record { parts = l ∷ p ∷ ps; line = n }) rest).0 ++ left (fails_case o (record { parts = l ∷ p ∷ ps; line = n }) rest).1)
+      × AllByRecursion (IsFailText v) (fails_case o (record { parts = l ∷ p ∷ ps; line = n }) rest).0
+  fails_cases l p ps n None rest e h = (refl, tt)
+  fails_cases l p ps n (Some c) rest e h =
+      let t = fail_takes v (codes "fails") l c e in (
+        ap (λ (y : List ℕ). y ++ 10 ∷ join_with_byte 10 (p ∷ ps)) t.0
+            ∙ ap (λ (y : List ℕ). fail_text (codes "fails") c ++ 10 ∷ y) h.0
+            ∙ line_end (codes "fails") c (fail_lines (codes "fails") rest.0 ++ left rest.1)
+            ∙ sym (append_assoc (fail_line (codes "fails") c) (fail_lines (codes "fails") rest.0) (left rest.1))
+            ∙ ap (λ (y : List ℕ). y ++ left rest.1) (sym (flat_map-cons (fail_line (codes "fails")) c rest.0)),
+        (t.1, h.1),
+      )
 
-fails_take : (ps : List (List ℕ)) (n : ℕ) → (join_with_byte 10 ps ≡ chain_lines (codes "fails") (fails_from ps n).0 ++ left (fails_from ps n).1) × AllByRecursion IsChainText (fails_from ps n).0
-unfolding fails_from
-fails_take [] n = (refl, tt)
-fails_take (l ∷ []) n = (refl, tt)
-fails_take (l ∷ x ∷ xs) n = fails_cases l x xs n (chain_in (codes "fails") (words l)) (fails_from (x ∷ xs) (n + 1)) refl (fails_take (x ∷ xs) (n + 1))
+  fails_take : (ps : List (List ℕ)) (n : ℕ) → (join_with_byte 10 ps ≡ fail_lines (codes "fails") (fails_from v ps n).0 ++ left (fails_from v ps n).1) × AllByRecursion (IsFailText v) (fails_from v ps n).0
+  unfolding fails_from
+  fails_take [] n = (refl, tt)
+  fails_take (l ∷ []) n = (refl, tt)
+  fails_take (l ∷ x ∷ xs) n = fails_cases l x xs n (fail_in v (codes "fails") (words l)) (fails_from v (x ∷ xs) (n + 1)) refl (fails_take (x ∷ xs) (n + 1))
 
--- no line of a failure comes first
-abbrev pub BeginsNoFailure : List ℕ → Type 0
-BeginsNoFailure rest = (n : ℕ) → fails_from (parts rest) n ≡ ([], record { parts = parts rest; line = n })
+  -- no line of a failure comes first
+  abbrev pub BeginsNoFailure : List ℕ → Type 0
+  BeginsNoFailure rest = (n : ℕ) → fails_from v (parts rest) n ≡ ([], record { parts = parts rest; line = n })
 
-pub no_failure : (l rest : List ℕ) → All (λ x. (x == 10) ≡ false) l → chain_in (codes "fails") (words l) ≡ None → BeginsNoFailure (l ++ 10 ∷ rest)
-no_failure l rest plain none n =
-    let cut : parts (l ++ 10 ∷ rest) ≡ l ∷ parts rest = slice_split_at (λ b. b == 10) l 10 rest plain refl in
-    let here : fails_from (l ∷ parts rest) n ≡ ([], record { parts = l ∷ parts rest; line = n }) = fails_line l (parts rest) n (parts_some rest) ∙ rw none refl in
-    subst (λ (y : List (List ℕ)). fails_from y n ≡ ([], record { parts = y; line = n })) (sym cut) here
+  pub no_failure : (l rest : List ℕ) → All (λ x. (x == 10) ≡ false) l → fail_in v (codes "fails") (words l) ≡ None → BeginsNoFailure (l ++ 10 ∷ rest)
+  no_failure l rest plain none n =
+      let cut : parts (l ++ 10 ∷ rest) ≡ l ∷ parts rest = slice_split_at (λ b. b == 10) l 10 rest plain refl in
+      let here : fails_from v (l ∷ parts rest) n ≡ ([], record { parts = l ∷ parts rest; line = n }) = fails_line v l (parts rest) n (parts_some rest) ∙ rw none refl in
+      subst (λ (y : List (List ℕ)). fails_from v y n ≡ ([], record { parts = y; line = n })) (sym cut) here
 
 fails_plain : All (λ x. (x == 32) ≡ false) (codes "fails")
 fails_plain = All-from_recursion (λ x. (x == 32) ≡ false) (codes "fails") (refl, (refl, (refl, (refl, (refl, tt)))))
@@ -128,99 +130,100 @@ fails_plain = All-from_recursion (λ x. (x == 32) ≡ false) (codes "fails") (re
 fails_clean : All (λ x. (x == 10) ≡ false) (codes "fails")
 fails_clean = All-from_recursion (λ x. (x == 10) ≡ false) (codes "fails") (refl, (refl, (refl, (refl, (refl, tt)))))
 
-fails_again : (cs : List Chain) (rest : List ℕ) (n : ℕ) → AllByRecursion IsChainText cs → BeginsNoFailure rest
-    → fails_from (parts (chain_lines (codes "fails") cs ++ rest)) n ≡ (cs, record { parts = parts rest; line = n + length cs })
-fails_again [] rest n fits none = none n ∙ rw (add-zero n) refl
-fails_again (c ∷ cs) rest n fits none =
-    let more : List ℕ = chain_lines (codes "fails") cs ++ rest in
-    let regrouped : chain_lines (codes "fails") (c ∷ cs) ++ rest ≡ chain_text (codes "fails") c ++ 10 ∷ more =
-    ap (λ (y : List ℕ). y ++ rest) (flat_map-cons (chain_line (codes "fails")) c cs) ∙ append_assoc (chain_line (codes "fails") c) (chain_lines (codes "fails") cs) rest
-    ∙ sym (line_end (codes "fails") c more) in
-    let cut : parts (chain_text (codes "fails") c ++ 10 ∷ more) ≡ chain_text (codes "fails") c ∷ parts more =
-    slice_split_at (λ b. b == 10) (chain_text (codes "fails") c) 10 more (chain_lacks (codes "fails") c fails_clean fits.0) refl in
-    let same : n + 1 + length cs ≡ n + suc (length cs) = omega arith in
-    ap (λ (y : List ℕ). fails_from (parts y) n) regrouped
-    ∙ ap (λ (y : List (List ℕ)). fails_from y n) cut
-    ∙ fails_line (chain_text (codes "fails") c) (parts more) n (parts_some more)
-    ∙ rw (chain_again (codes "fails") c fails_plain fits.0, fails_again cs rest (n + 1) fits.1 none, same) refl
-
--- ---- a level
-pub level_takes : (k : ℕ) (a : At) (x : Level × At) → level_at k a ≡ Ok x → (left a ≡ level_line k x.0 ++ (chain_lines (codes "fails") x.0.fails ++ left x.1)) × IsLevelText x.0
-unfolding level_at
-level_takes k a x e =
-    let l = bind_ok (line_from a.parts a.line) (λ l. wanted a.line (level_in k (words l.0)) >>= λ h. Ok (record { name = h.0; time = h.1; fails = (fails_from l.1.parts l.1.line).0 }, (fails_from l.1.parts l.1.line).1)) x e in
-    let f : List Chain × At = fails_from l.0.1.parts l.0.1.line in
-    let h = bind_ok (wanted a.line (level_in k (words l.0.0))) (λ h. Ok (record { name = h.0; time = h.1; fails = f.0 }, f.1)) x l.2 in
-    let t = level_line_takes k l.0.0 h.0 (wanted_ok a.line (level_in k (words l.0.0)) h.0 h.1) in
-    let fs = fails_take l.0.1.parts l.0.1.line in
-    let made : Level = record { name = h.0.0; time = h.0.1; fails = f.0 } in
-    let whole : left a ≡ level_line k made ++ (chain_lines (codes "fails") f.0 ++ left f.1) =
-    line_takes a.parts a.line l.0 l.1
-    ∙ ap (λ (y : List ℕ). y ++ 10 ∷ left l.0.1) t.0
-    ∙ ap (λ (y : List ℕ). level_text k h.0.0 h.0.1 ++ 10 ∷ y) fs.0
-    ∙ level_end k made (chain_lines (codes "fails") f.0 ++ left f.1) in
-    let both : Level × At = (made, f.1) in
-    subst (λ (y : Level × At). (left a ≡ level_line k y.0 ++ (chain_lines (codes "fails") y.0.fails ++ left y.1)) × IsLevelText y.0) (ok_is both x h.2)
-    (whole, record { name = t.1; short = t.2; fails = fs.1 })
-
-pub level_again : (k : ℕ) (l : Level) (rest : List ℕ) (n : ℕ) → IsShort k → IsLevelText l → BeginsNoFailure rest
-    → level_at k (record { parts = parts (level_line k l ++ (chain_lines (codes "fails") l.fails ++ rest)); line = n }) ≡ Ok (l, record { parts = parts rest; line = n + 1 + length l.fails })
-unfolding level_at
-level_again k l rest n short fits none =
-    let more : List ℕ = chain_lines (codes "fails") l.fails ++ rest in
-    let line : line_from (parts (level_line k l ++ more)) n ≡ Ok (level_text k l.name l.time, record { parts = parts more; line = n + 1 }) =
-    ap (λ (y : List ℕ). line_from (parts y) n) (sym (level_end k l more)) ∙ line_again (level_text k l.name l.time) more n (level_lacks k l.name l.time short fits.name fits.short) in
-    rw (line, level_line_again k l.name l.time short fits.name fits.short, fails_again l.fails rest (n + 1) fits.fails none) refl
-
--- ---- levels
-pub levels_take : (n k : ℕ) (a : At) (x : List Level × At) → levels_at n k a ≡ Ok x → (left a ≡ level_lines k x.0 ++ left x.1) × (length x.0 ≡ n) × AllByRecursion IsLevelText x.0
-unfolding levels_at
-levels_take zero k a x e =
-    let made : List Level × At = ([], a) in
-    subst (λ (y : List Level × At). (left a ≡ level_lines k y.0 ++ left y.1) × (length y.0 ≡ 0) × AllByRecursion IsLevelText y.0) (ok_is made x e) (refl, refl, tt)
-levels_take (suc n) k a x e =
-    let f = bind_ok (level_at k a) (λ first. levels_at n (k + 1) first.1 >>= λ others. Ok (first.0 ∷ others.0, others.1)) x e in
-    let o = bind_ok (levels_at n (k + 1) f.0.1) (λ others. Ok (f.0.0 ∷ others.0, others.1)) x f.2 in
-    let first = level_takes k a f.0 f.1 in
-    let rest = levels_take n (k + 1) f.0.1 o.0 o.1 in
-    let fails : List ℕ = chain_lines (codes "fails") f.0.0.fails in
-    let whole : left a ≡ level_lines k (f.0.0 ∷ o.0.0) ++ left o.0.1 =
-    first.0 ∙ ap (λ (y : List ℕ). level_line k f.0.0 ++ (fails ++ y)) rest.0
-    ∙ ap (λ (y : List ℕ). level_line k f.0.0 ++ y) (sym (append_assoc fails (level_lines (k + 1) o.0.0) (left o.0.1)))
-    ∙ sym (append_assoc (level_line k f.0.0) (fails ++ level_lines (k + 1) o.0.0) (left o.0.1)) in
-    let made : List Level × At = (f.0.0 ∷ o.0.0, o.0.1) in
-    subst (λ (y : List Level × At). (left a ≡ level_lines k y.0 ++ left y.1) × (length y.0 ≡ suc n) × AllByRecursion IsLevelText y.0) (ok_is made x o.2) (whole, ap suc rest.1, (first.1, rest.2))
-
 -- the number of the line that follows levels
 abbrev pub line_after : ℕ → List Level → ℕ
 line_after n [] = n
 line_after n (l ∷ ls) = line_after (n + 1 + length l.fails) ls
 
-level_word : (k : ℕ) (name : List ℕ) (t : ℕ) → IsShort k → IsName name → IsShort t → chain_in (codes "fails") (words (level_text k name t)) ≡ None
-unfolding chain_in
-level_word k name t short named brief = ap (chain_in (codes "fails")) (words_level k name t short named brief) ∙ refl
+module _ (v : CertVersion) where
+  fails_again : (cs : List Fail) (rest : List ℕ) (n : ℕ) → AllByRecursion (IsFailText v) cs → BeginsNoFailure v rest
+      → fails_from v (parts (fail_lines (codes "fails") cs ++ rest)) n ≡ (cs, record { parts = parts rest; line = n + length cs })
+  fails_again [] rest n fits none = none n ∙ rw (add-zero n) refl
+  fails_again (c ∷ cs) rest n fits none =
+      let more : List ℕ = fail_lines (codes "fails") cs ++ rest in
+      let regrouped : fail_lines (codes "fails") (c ∷ cs) ++ rest ≡ fail_text (codes "fails") c ++ 10 ∷ more =
+      ap (λ (y : List ℕ). y ++ rest) (flat_map-cons (fail_line (codes "fails")) c cs) ∙ append_assoc (fail_line (codes "fails") c) (fail_lines (codes "fails") cs) rest
+      ∙ sym (line_end (codes "fails") c more) in
+      let cut : parts (fail_text (codes "fails") c ++ 10 ∷ more) ≡ fail_text (codes "fails") c ∷ parts more =
+      slice_split_at (λ b. b == 10) (fail_text (codes "fails") c) 10 more (fail_lacks v (codes "fails") c fails_clean fits.0) refl in
+      let same : n + 1 + length cs ≡ n + suc (length cs) = omega arith in
+      ap (λ (y : List ℕ). fails_from v (parts y) n) regrouped
+      ∙ ap (λ (y : List (List ℕ)). fails_from v y n) cut
+      ∙ fails_line v (fail_text (codes "fails") c) (parts more) n (parts_some more)
+      ∙ rw (fail_again v (codes "fails") c fails_plain fits.0, fails_again cs rest (n + 1) fits.1 none, same) refl
 
-pub levels_begin : (k : ℕ) (ls : List Level) (rest : List ℕ) → k + length ls < 10 ^ 10 → AllByRecursion IsLevelText ls → BeginsNoFailure rest → BeginsNoFailure (level_lines k ls ++ rest)
-levels_begin k [] rest small fits none = none
-levels_begin k (l ∷ ls) rest small fits none =
-    let short : IsShort k = omega arith in
-    let fails : List ℕ = chain_lines (codes "fails") l.fails in
-    let regrouped : level_text k l.name l.time ++ 10 ∷ (fails ++ (level_lines (k + 1) ls ++ rest)) ≡ level_lines k (l ∷ ls) ++ rest =
-    level_end k l (fails ++ (level_lines (k + 1) ls ++ rest))
-    ∙ ap (λ (y : List ℕ). level_line k l ++ y) (sym (append_assoc fails (level_lines (k + 1) ls) rest))
-    ∙ sym (append_assoc (level_line k l) (fails ++ level_lines (k + 1) ls) rest) in
-    subst BeginsNoFailure regrouped (no_failure (level_text k l.name l.time) (fails ++ (level_lines (k + 1) ls ++ rest)) (level_lacks k l.name l.time short fits.0.name fits.0.short) (level_word k l.name l.time short fits.0.name fits.0.short))
+  -- ---- a level
+  pub level_takes : (k : ℕ) (a : At) (x : Level × At) → level_at v k a ≡ Ok x → (left a ≡ level_line k x.0 ++ (fail_lines (codes "fails") x.0.fails ++ left x.1)) × IsLevelText v x.0
+  unfolding level_at
+  level_takes k a x e =
+      let l = bind_ok (line_from a.parts a.line) (λ l. wanted a.line (level_in k (words l.0)) >>= λ h. Ok (record { name = h.0; time = h.1; fails = (fails_from v l.1.parts l.1.line).0 }, (fails_from v l.1.parts l.1.line).1)) x e in
+      let f : List Fail × At = fails_from v l.0.1.parts l.0.1.line in
+      let h = bind_ok (wanted a.line (level_in k (words l.0.0))) (λ h. Ok (record { name = h.0; time = h.1; fails = f.0 }, f.1)) x l.2 in
+      let t = level_line_takes k l.0.0 h.0 (wanted_ok a.line (level_in k (words l.0.0)) h.0 h.1) in
+      let fs = fails_take v l.0.1.parts l.0.1.line in
+      let made : Level = record { name = h.0.0; time = h.0.1; fails = f.0 } in
+      let whole : left a ≡ level_line k made ++ (fail_lines (codes "fails") f.0 ++ left f.1) =
+      line_takes a.parts a.line l.0 l.1
+      ∙ ap (λ (y : List ℕ). y ++ 10 ∷ left l.0.1) t.0
+      ∙ ap (λ (y : List ℕ). level_text k h.0.0 h.0.1 ++ 10 ∷ y) fs.0
+      ∙ level_end k made (fail_lines (codes "fails") f.0 ++ left f.1) in
+      let both : Level × At = (made, f.1) in
+      subst (λ (y : Level × At). (left a ≡ level_line k y.0 ++ (fail_lines (codes "fails") y.0.fails ++ left y.1)) × IsLevelText v y.0) (ok_is both x h.2)
+      (whole, record { name = t.1; short = t.2; fails = fs.1 })
 
-pub levels_again : (ls : List Level) (rest : List ℕ) (k n : ℕ) → k + length ls < 10 ^ 10 → AllByRecursion IsLevelText ls → BeginsNoFailure rest
-    → levels_at (length ls) k (record { parts = parts (level_lines k ls ++ rest); line = n }) ≡ Ok (ls, record { parts = parts rest; line = line_after n ls })
-unfolding levels_at
-levels_again [] rest k n small fits none = refl
-levels_again (l ∷ ls) rest k n small fits none =
-    let short : IsShort k = omega arith in
-    let fewer : k + 1 + length ls < 10 ^ 10 = omega arith in
-    let fails : List ℕ = chain_lines (codes "fails") l.fails in
-    let more : List ℕ = level_lines (k + 1) ls ++ rest in
-    let regrouped : level_lines k (l ∷ ls) ++ rest ≡ level_line k l ++ (fails ++ more) =
-    append_assoc (level_line k l) (fails ++ level_lines (k + 1) ls) rest ∙ ap (λ (y : List ℕ). level_line k l ++ y) (append_assoc fails (level_lines (k + 1) ls) rest) in
-    ap (λ (y : List ℕ). levels_at (suc (length ls)) k (record { parts = parts y; line = n })) regrouped
-    ∙ rw (level_again k l more n short fits.0 (levels_begin (k + 1) ls rest fewer fits.1 none), levels_again ls rest (k + 1) (n + 1 + length l.fails) fewer fits.1 none) refl
+  pub level_again : (k : ℕ) (l : Level) (rest : List ℕ) (n : ℕ) → IsShort k → IsLevelText v l → BeginsNoFailure v rest
+      → level_at v k (record { parts = parts (level_line k l ++ (fail_lines (codes "fails") l.fails ++ rest)); line = n }) ≡ Ok (l, record { parts = parts rest; line = n + 1 + length l.fails })
+  unfolding level_at
+  level_again k l rest n short fits none =
+      let more : List ℕ = fail_lines (codes "fails") l.fails ++ rest in
+      let line : line_from (parts (level_line k l ++ more)) n ≡ Ok (level_text k l.name l.time, record { parts = parts more; line = n + 1 }) =
+      ap (λ (y : List ℕ). line_from (parts y) n) (sym (level_end k l more)) ∙ line_again (level_text k l.name l.time) more n (level_lacks k l.name l.time short fits.name fits.short) in
+      rw (line, level_line_again k l.name l.time short fits.name fits.short, fails_again l.fails rest (n + 1) fits.fails none) refl
+
+  -- ---- levels
+  pub levels_take : (n k : ℕ) (a : At) (x : List Level × At) → levels_at v n k a ≡ Ok x → (left a ≡ level_lines k x.0 ++ left x.1) × (length x.0 ≡ n) × AllByRecursion (IsLevelText v) x.0
+  unfolding levels_at
+  levels_take zero k a x e =
+      let made : List Level × At = ([], a) in
+      subst (λ (y : List Level × At). (left a ≡ level_lines k y.0 ++ left y.1) × (length y.0 ≡ 0) × AllByRecursion (IsLevelText v) y.0) (ok_is made x e) (refl, refl, tt)
+  levels_take (suc n) k a x e =
+      let f = bind_ok (level_at v k a) (λ first. levels_at v n (k + 1) first.1 >>= λ others. Ok (first.0 ∷ others.0, others.1)) x e in
+      let o = bind_ok (levels_at v n (k + 1) f.0.1) (λ others. Ok (f.0.0 ∷ others.0, others.1)) x f.2 in
+      let first = level_takes k a f.0 f.1 in
+      let rest = levels_take n (k + 1) f.0.1 o.0 o.1 in
+      let fails : List ℕ = fail_lines (codes "fails") f.0.0.fails in
+      let whole : left a ≡ level_lines k (f.0.0 ∷ o.0.0) ++ left o.0.1 =
+      first.0 ∙ ap (λ (y : List ℕ). level_line k f.0.0 ++ (fails ++ y)) rest.0
+      ∙ ap (λ (y : List ℕ). level_line k f.0.0 ++ y) (sym (append_assoc fails (level_lines (k + 1) o.0.0) (left o.0.1)))
+      ∙ sym (append_assoc (level_line k f.0.0) (fails ++ level_lines (k + 1) o.0.0) (left o.0.1)) in
+      let made : List Level × At = (f.0.0 ∷ o.0.0, o.0.1) in
+      subst (λ (y : List Level × At). (left a ≡ level_lines k y.0 ++ left y.1) × (length y.0 ≡ suc n) × AllByRecursion (IsLevelText v) y.0) (ok_is made x o.2) (whole, ap suc rest.1, (first.1, rest.2))
+
+  level_word : (k : ℕ) (name : List ℕ) (t : ℕ) → IsShort k → IsName name → IsShort t → fail_in v (codes "fails") (words (level_text k name t)) ≡ None
+  unfolding fail_in
+  level_word k name t short named brief = ap (fail_in v (codes "fails")) (words_level k name t short named brief) ∙ refl
+
+  pub levels_begin : (k : ℕ) (ls : List Level) (rest : List ℕ) → k + length ls < 10 ^ 10 → AllByRecursion (IsLevelText v) ls → BeginsNoFailure v rest → BeginsNoFailure v (level_lines k ls ++ rest)
+  levels_begin k [] rest small fits none = none
+  levels_begin k (l ∷ ls) rest small fits none =
+      let short : IsShort k = omega arith in
+      let fails : List ℕ = fail_lines (codes "fails") l.fails in
+      let regrouped : level_text k l.name l.time ++ 10 ∷ (fails ++ (level_lines (k + 1) ls ++ rest)) ≡ level_lines k (l ∷ ls) ++ rest =
+      level_end k l (fails ++ (level_lines (k + 1) ls ++ rest))
+      ∙ ap (λ (y : List ℕ). level_line k l ++ y) (sym (append_assoc fails (level_lines (k + 1) ls) rest))
+      ∙ sym (append_assoc (level_line k l) (fails ++ level_lines (k + 1) ls) rest) in
+      subst (BeginsNoFailure v) regrouped (no_failure v (level_text k l.name l.time) (fails ++ (level_lines (k + 1) ls ++ rest)) (level_lacks k l.name l.time short fits.0.name fits.0.short) (level_word k l.name l.time short fits.0.name fits.0.short))
+
+  pub levels_again : (ls : List Level) (rest : List ℕ) (k n : ℕ) → k + length ls < 10 ^ 10 → AllByRecursion (IsLevelText v) ls → BeginsNoFailure v rest
+      → levels_at v (length ls) k (record { parts = parts (level_lines k ls ++ rest); line = n }) ≡ Ok (ls, record { parts = parts rest; line = line_after n ls })
+  unfolding levels_at
+  levels_again [] rest k n small fits none = refl
+  levels_again (l ∷ ls) rest k n small fits none =
+      let short : IsShort k = omega arith in
+      let fewer : k + 1 + length ls < 10 ^ 10 = omega arith in
+      let fails : List ℕ = fail_lines (codes "fails") l.fails in
+      let more : List ℕ = level_lines (k + 1) ls ++ rest in
+      let regrouped : level_lines k (l ∷ ls) ++ rest ≡ level_line k l ++ (fails ++ more) =
+      append_assoc (level_line k l) (fails ++ level_lines (k + 1) ls) rest ∙ ap (λ (y : List ℕ). level_line k l ++ y) (append_assoc fails (level_lines (k + 1) ls) rest) in
+      ap (λ (y : List ℕ). levels_at v (suc (length ls)) k (record { parts = parts y; line = n })) regrouped
+      ∙ rw (level_again k l more n short fits.0 (levels_begin (k + 1) ls rest fewer fits.1 none), levels_again ls rest (k + 1) (n + 1 + length l.fails) fewer fits.1 none) refl

@@ -1,46 +1,41 @@
 -- Reading levels one after the other, as a loop does.
-use Rattle.std.proofs.Common.{◌≡◌, ℕ, suc, ◌-◌, ◌+◌, ◌≤◌, ◌<◌, List, [], ◌∷◌, ◌++◌, Result, Ok, Err, refl, sym, ap, ◌∙◌, append_assoc, arith}
+use Rattle.std.proofs.Common.{◌≡◌, ℕ, suc, ◌-◌, ◌+◌, ◌≤◌, ◌<◌, List, [], ◌∷◌, ◌++◌, Result, Ok, Err, refl, sym, ap, ◌∙◌, arith}
 use Rattle.std.proofs.lemmas.List.{append-nil}
 use Rattle.certificate.specs.declared.fault.CertFault.{CertFault}
 use Rattle.certificate.specs.declared.fault.CertFault.TheVariants.{BadHead, BadLine, Truncated, Trailing, OutOfMemory}
 use Rattle.certificate.specs.Body.{Level}
-use Rattle.certificate.specs.Lines.{◌>>=◌, At, Fails, level_at, levels_at}
+use Rattle.certificate.specs.Lines.{At, Fails, level_at, levels_at}
+use Rattle.certificate.proofs.MemberLoops.{with_front, with_front-bind}
+use Rattle.certificate.specs.declared.version.CertVersion.{CertVersion}
 
--- what was read before, and what is still read
-abbrev pub with_levels : List Level → Result (List Level × At) CertFault → Result (List Level × At) CertFault
-with_levels front read = read >>= λ x. Ok (front ++ x.0, x.1)
+module _ (v : CertVersion) where
+  pub with_levels_next : (front : List Level) (count i : ℕ) (at : At) (n : Level) (after : At) (total : Result (List Level × At) CertFault) → i < count → level_at v (i + 1) at ≡ Ok (n, after)
+      → with_front front (levels_at v (count - i) (i + 1) at) ≡ total → with_front (front ++ n ∷ []) (levels_at v (count - (i + 1)) (i + 1 + 1) after) ≡ total
+  unfolding levels_at
+  with_levels_next front count i at n after total lt h so_far =
+      let k : count - i ≡ suc (count - (i + 1)) = omega arith in
+      let one : with_front front (levels_at v (count - i) (i + 1) at) ≡ with_front (front ++ n ∷ []) (levels_at v (count - (i + 1)) (i + 1 + 1) after) = rw (k, h) (with_front-bind front n (levels_at v (count - (i + 1)) (i + 1 + 1) after)) in
+      sym one ∙ so_far
 
-with_levels-bind : (front : List Level) (n : Level) (read : Result (List Level × At) CertFault) → with_levels front (read >>= λ x. Ok (n ∷ x.0, x.1)) ≡ with_levels (front ++ n ∷ []) read
-with_levels-bind front n (Ok x) = ap (λ (ns : List Level). Ok (ns, x.1)) (simp append_assoc)
-with_levels-bind front n (Err f) = refl
+  with_levels_stops : (front : List Level) (count i : ℕ) (at : At) (e : CertFault) (total : Result (List Level × At) CertFault) → i < count → level_at v (i + 1) at ≡ Err e
+      → with_front front (levels_at v (count - i) (i + 1) at) ≡ total → total ≡ Err e
+  unfolding levels_at
+  with_levels_stops front count i at e total lt h so_far =
+      let k : count - i ≡ suc (count - (i + 1)) = omega arith in
+      let one : with_front front (levels_at v (count - i) (i + 1) at) ≡ Err e = rw (k, h) refl in
+      sym so_far ∙ one
 
-pub with_levels_next : (front : List Level) (count i : ℕ) (at : At) (n : Level) (after : At) (total : Result (List Level × At) CertFault) → i < count → level_at (i + 1) at ≡ Ok (n, after)
-    → with_levels front (levels_at (count - i) (i + 1) at) ≡ total → with_levels (front ++ n ∷ []) (levels_at (count - (i + 1)) (i + 1 + 1) after) ≡ total
-unfolding levels_at
-with_levels_next front count i at n after total lt h so_far =
-    let k : count - i ≡ suc (count - (i + 1)) = omega arith in
-    let one : with_levels front (levels_at (count - i) (i + 1) at) ≡ with_levels (front ++ n ∷ []) (levels_at (count - (i + 1)) (i + 1 + 1) after) = rw (k, h) (with_levels-bind front n (levels_at (count - (i + 1)) (i + 1 + 1) after)) in
-    sym one ∙ so_far
+  pub Fails-with_levels : (e : CertFault) (front : List Level) (count i : ℕ) (at : At) (total : Result (List Level × At) CertFault) → i < count → Fails e (level_at v (i + 1) at)
+      → with_front front (levels_at v (count - i) (i + 1) at) ≡ total → Fails e total
+  Fails-with_levels OutOfMemory front count i at total lt h so_far = tt
+  Fails-with_levels BadHead front count i at total lt h so_far = with_levels_stops front count i at BadHead total lt h so_far
+  Fails-with_levels (BadLine line) front count i at total lt h so_far = with_levels_stops front count i at (BadLine line) total lt h so_far
+  Fails-with_levels Truncated front count i at total lt h so_far = with_levels_stops front count i at Truncated total lt h so_far
+  Fails-with_levels Trailing front count i at total lt h so_far = with_levels_stops front count i at Trailing total lt h so_far
 
-with_levels_stops : (front : List Level) (count i : ℕ) (at : At) (e : CertFault) (total : Result (List Level × At) CertFault) → i < count → level_at (i + 1) at ≡ Err e
-    → with_levels front (levels_at (count - i) (i + 1) at) ≡ total → total ≡ Err e
-unfolding levels_at
-with_levels_stops front count i at e total lt h so_far =
-    let k : count - i ≡ suc (count - (i + 1)) = omega arith in
-    let one : with_levels front (levels_at (count - i) (i + 1) at) ≡ Err e = rw (k, h) refl in
-    sym so_far ∙ one
-
-pub Fails-with_levels : (e : CertFault) (front : List Level) (count i : ℕ) (at : At) (total : Result (List Level × At) CertFault) → i < count → Fails e (level_at (i + 1) at)
-    → with_levels front (levels_at (count - i) (i + 1) at) ≡ total → Fails e total
-Fails-with_levels OutOfMemory front count i at total lt h so_far = tt
-Fails-with_levels BadHead front count i at total lt h so_far = with_levels_stops front count i at BadHead total lt h so_far
-Fails-with_levels (BadLine line) front count i at total lt h so_far = with_levels_stops front count i at (BadLine line) total lt h so_far
-Fails-with_levels Truncated front count i at total lt h so_far = with_levels_stops front count i at Truncated total lt h so_far
-Fails-with_levels Trailing front count i at total lt h so_far = with_levels_stops front count i at Trailing total lt h so_far
-
-pub with_levels_last : (front : List Level) (count i : ℕ) (at : At) (total : Result (List Level × At) CertFault) → count ≤ i → with_levels front (levels_at (count - i) (i + 1) at) ≡ total → total ≡ Ok (front, at)
-unfolding levels_at
-with_levels_last front count i at total le so_far =
-    let k : count - i ≡ 0 = omega arith in
-    let one : with_levels front (levels_at (count - i) (i + 1) at) ≡ Ok (front, at) = rw k (ap (λ (ns : List Level). Ok (ns, at)) (append-nil front)) in
-    sym so_far ∙ one
+  pub with_levels_last : (front : List Level) (count i : ℕ) (at : At) (total : Result (List Level × At) CertFault) → count ≤ i → with_front front (levels_at v (count - i) (i + 1) at) ≡ total → total ≡ Ok (front, at)
+  unfolding levels_at
+  with_levels_last front count i at total le so_far =
+      let k : count - i ≡ 0 = omega arith in
+      let one : with_front front (levels_at v (count - i) (i + 1) at) ≡ Ok (front, at) = rw k (ap (λ (ns : List Level). Ok (ns, at)) (append-nil front)) in
+      sym so_far ∙ one

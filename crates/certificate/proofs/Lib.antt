@@ -1,7 +1,7 @@
 pub mod NumberLoops
-pub mod Chains
+pub mod FailCases
 pub mod WordLaws
-pub mod ChainLaws
+pub mod FailLaws
 pub mod MemberLoops
 pub mod LevelLoops
 pub mod LevelSteps

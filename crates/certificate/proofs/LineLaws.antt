@@ -9,18 +9,18 @@ use Rattle.std.proofs.lemmas.Slice.Eq.{bytes_eq-Decides}
 use Rattle.std.proofs.lemmas.List.{nil_from_length}
 use Rattle.std.proofs.lemmas.List.Elements.{All-from_recursion}
 use Rattle.std.proofs.lemmas.List.Splits.{slice_split_at, slice_split_none, join_with_byte-slice_split}
-use Rattle.certificate.specs.Body.{Chain}
-use Rattle.certificate.specs.Spelling.{chain_line}
+use Rattle.certificate.specs.Body.{Fail}
+use Rattle.certificate.specs.Spelling.{fail_line}
 use Rattle.lines.specs.Lines.{parts}
 use Rattle.lines.specs.Words.{words, number_in}
 use Rattle.certificate.specs.Lines.{◌>>=◌, At, line_from, wanted, count_in, few, at_most_32, end_at, is_over}
 use Rattle.certificate.specs.declared.fault.CertFault.{CertFault}
-use Rattle.certificate.specs.declared.fault.CertFault.TheVariants.{BadHead, BadLine, Trailing}
+use Rattle.certificate.specs.declared.fault.CertFault.TheVariants.{BadLine, Trailing}
 use Rattle.lines.proofs.NumberLaws.{number_takes, number_again}
 use Rattle.certificate.proofs.WordLaws.{cond_given}
 use Rattle.lines.proofs.Parts.{parts_some}
 use Rattle.certificate.proofs.MemberLoops.{line_is, over_is}
-use Rattle.certificate.proofs.ChainLaws.{chain_text, decimal_lacks}
+use Rattle.certificate.proofs.FailLaws.{fail_text, decimal_lacks}
 
 -- the bytes that are left
 abbrev pub left : At → List ℕ
@@ -49,7 +49,7 @@ line_takes (l ∷ m ∷ ms) n x e =
     let made : List ℕ × At = (l, record { parts = m ∷ ms; line = n + 1 }) in
     subst (λ (y : List ℕ × At). l ++ 10 ∷ join_with_byte 10 (m ∷ ms) ≡ y.0 ++ 10 ∷ left y.1) (ok_is made x e) refl
 
-pub line_end : (word : List ℕ) (c : Chain) (rest : List ℕ) → chain_text word c ++ 10 ∷ rest ≡ chain_line word c ++ rest
+pub line_end : (word : List ℕ) (c : Fail) (rest : List ℕ) → fail_text word c ++ 10 ∷ rest ≡ fail_line word c ++ rest
 line_end word c rest = simp append_assoc
 
 pub line_again : (l rest : List ℕ) (n : ℕ) → All (λ x. (x == 10) ≡ false) l → line_from (parts (l ++ 10 ∷ rest)) n ≡ Ok (l, record { parts = parts rest; line = n + 1 })
@@ -109,8 +109,3 @@ end_again rest n =
 pub closed_bind : {A B : Type 0} (over : Bool) (x : A) (y : B) → (closed over x >>= λ z. Ok y) ≡ closed over y
 closed_bind true x y = refl
 closed_bind false x y = refl
-
--- ---- the head
-pub guard_head : {A : Type 0} (b : Bool) (r : Result A CertFault) (y : A) → cond b r (Err BadHead) ≡ Ok y → (b ≡ true) × (r ≡ Ok y)
-guard_head true r y e = (refl, e)
-guard_head false r y e = absurd cc

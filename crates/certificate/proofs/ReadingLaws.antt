@@ -1,121 +1,112 @@
 -- A whole certificate: what is read is spelled so, and what is spelled so is read.
-use Rattle.std.proofs.Common.{◌≡◌, ℕ, suc, ◌+◌, ◌≤◌, ◌==◌, false, cond, List, [], ◌∷◌, ◌++◌, length, All, Option, Some, None, Result, Ok, Err, refl, sym, ap, ◌∙◌, subst, append_assoc, arith}
+use Rattle.std.proofs.Common.{◌≡◌, ℕ, suc, ◌+◌, ◌≤◌, ◌==◌, Bool, true, false, cond, List, [], ◌∷◌, ◌++◌, length, All, Option, Some, None, Result, Ok, Err, refl, sym, ap, ◌∙◌, subst, append_assoc, arith}
 use Rattle.std.specs.Prelude.{bytes_eq, codes}
 use Rattle.std.specs.Fmt.{decimal}
 use Rattle.std.proofs.lemmas.Bool.Decides.{nat_tests}
+use Rattle.std.proofs.lemmas.Option.{same_Some}
 use Rattle.std.proofs.lemmas.Slice.Eq.{bytes_eq-Decides}
 use Rattle.std.proofs.lemmas.List.{append-nil}
 use Rattle.std.proofs.lemmas.List.Elements.{All-append, All-from_recursion}
 use Rattle.std.proofs.lemmas.List.Splits.{slice_split_at, slice_split_none, join_with_byte-slice_split}
-use Rattle.certificate.specs.Body.{Chain, Level, HasSpelling, Body, Best, NoOrder}
-use Rattle.certificate.specs.Spelling.{chain_lines, count_line, head_line, level_lines, spelling}
+use Rattle.certificate.specs.declared.version.CertVersion.{CertVersion}
+use Rattle.certificate.specs.declared.version.CertVersion.TheVariants.{First, Second}
+use Rattle.certificate.specs.Body.{Fail, Level, IsBodyText, HasSpelling, Body, Best, NoOrder, Cert}
+use Rattle.certificate.specs.Spelling.{fail_lines, count_line, head_text, head_line, level_lines, body_text, spelling}
 use Rattle.lines.specs.Lines.{parts}
 use Rattle.lines.specs.Words.{words}
-use Rattle.certificate.specs.Words.{chain_in}
-use Rattle.certificate.specs.Lines.{◌>>=◌, At, line_from, certificate_in, count_in, end_at, members_at, levels_at, best_of, members_of, body_case, Gives}
+use Rattle.certificate.specs.Words.{fail_in}
+use Rattle.certificate.specs.Lines.{◌>>=◌, At, line_from, certificate_in, count_in, end_at, members_at, levels_at, best_of, members_of, body_case, body_at, version_in, versioned, Gives}
 use Rattle.certificate.specs.declared.fault.CertFault.{CertFault}
-use Rattle.certificate.specs.declared.fault.CertFault.TheVariants.{BadHead, Trailing}
-use Rattle.certificate.proofs.ChainLaws.{decimal_lacks}
-use Rattle.certificate.proofs.LineLaws.{left, bind_ok, ok_is, line_takes, line_again, count_takes, count_again, end_takes, end_again, closed, closed_bind, guard_head}
+use Rattle.certificate.specs.declared.fault.CertFault.TheVariants.{Trailing}
+use Rattle.certificate.proofs.FailLaws.{decimal_lacks}
+use Rattle.certificate.proofs.LineLaws.{left, bind_ok, ok_is, line_takes, line_again, count_takes, count_again, end_takes, end_again, closed, closed_bind}
 use Rattle.certificate.proofs.MemberLaws.{members_take, members_again}
 use Rattle.certificate.proofs.LevelLaws.{BeginsNoFailure, no_failure, levels_take, levels_again, line_after}
 
 -- ---- what is read
-best_takes : (n : ℕ) (a : At) (b : Body) → best_of n a ≡ Ok b → n ≤ 32
-    → (ls : List Level) × (Best ls ≡ b) × (left a ≡ level_lines 1 ls ++ codes "end\n") × (length ls ≡ n) × HasSpelling (Best ls)
-unfolding best_of
-best_takes n a b e small =
-    let l = bind_ok (levels_at n 1 a) (λ ls. end_at ls.1 >>= λ end. Ok (Best ls.0)) b e in
-    let o = bind_ok (end_at l.0.1) (λ end. Ok (Best l.0.0)) b l.2 in
-    let t = levels_take n 1 a l.0 l.1 in
-    let ended : left l.0.1 ≡ codes "end\n" = end_takes l.0.1 o.1 in
-    (l.0.0, ok_is (Best l.0.0) b o.2, t.0 ∙ ap (λ (y : List ℕ). level_lines 1 l.0.0 ++ y) ended, t.1, (omega (arith, t.1), t.2))
-
-none_takes : (n : ℕ) (a : At) (b : Body) → members_of n a ≡ Ok b → n ≤ 32
-    → (ms : List Chain) × (NoOrder ms ≡ b) × (left a ≡ chain_lines (codes "member") ms ++ codes "end\n") × (length ms ≡ n) × HasSpelling (NoOrder ms)
-unfolding members_of
-none_takes n a b e small =
-    let l = bind_ok (members_at n a) (λ ms. end_at ms.1 >>= λ end. Ok (NoOrder ms.0)) b e in
-    let o = bind_ok (end_at l.0.1) (λ end. Ok (NoOrder l.0.0)) b l.2 in
-    let t = members_take n a l.0 l.1 in
-    let ended : left l.0.1 ≡ codes "end\n" = end_takes l.0.1 o.1 in
-    (l.0.0, ok_is (NoOrder l.0.0) b o.2, t.0 ∙ ap (λ (y : List ℕ). chain_lines (codes "member") l.0.0 ++ y) ended, t.1, (omega (arith, t.1), t.2))
-
--- the rest of a certificate, behind its head
-abbrev pub tail_of : Body → List ℕ
-tail_of (Best ls) = count_line (codes "best") (length ls) ++ (level_lines 1 ls ++ codes "end\n")
-tail_of (NoOrder ms) = count_line (codes "none") (length ms) ++ (chain_lines (codes "member") ms ++ codes "end\n")
-
 counted : (word line rest : List ℕ) (m n : ℕ) → line ≡ word ++ 32 ∷ decimal m → m ≡ n → line ++ 10 ∷ rest ≡ count_line word n ++ rest
 counted word line rest m n e same =
     let regrouped : (word ++ 32 ∷ decimal m) ++ 10 ∷ rest ≡ count_line word m ++ rest = simp append_assoc in
     ap (λ (y : List ℕ). y ++ 10 ∷ rest) e ∙ regrouped ∙ ap (λ (k : ℕ). count_line word k ++ rest) same
 
-cases_take : (second : List ℕ) (o p : Option ℕ) (a : At) (b : Body) → count_in (codes "best") (words second) ≡ o → count_in (codes "none") (words second) ≡ p → body_case o p a ≡ Ok b
-    → (second ++ 10 ∷ left a ≡ tail_of b) × HasSpelling b
-cases_take second (Some n) p a b best none e =
-    let count = count_takes (codes "best") second n best in
-    let t = best_takes n a b e count.1 in
-    subst (λ (y : Body). (second ++ 10 ∷ left a ≡ tail_of y) × HasSpelling y) t.1
-    (counted (codes "best") second (left a) n (length t.0) count.0 (sym t.3) ∙ ap (λ (y : List ℕ). count_line (codes "best") (length t.0) ++ y) t.2, t.4)
-cases_take second None (Some n) a b best none e =
-    let count = count_takes (codes "none") second n none in
-    let t = none_takes n a b e count.1 in
-    subst (λ (y : Body). (second ++ 10 ∷ left a ≡ tail_of y) × HasSpelling y) t.1
-    (counted (codes "none") second (left a) n (length t.0) count.0 (sym t.3) ∙ ap (λ (y : List ℕ). count_line (codes "none") (length t.0) ++ y) t.2, t.4)
-cases_take second None None a b best none e = absurd cc
+module _ (v : CertVersion) where
+  best_takes : (n : ℕ) (a : At) (b : Body) → best_of v n a ≡ Ok b → n ≤ 32
+      → (ls : List Level) × (Best ls ≡ b) × (left a ≡ level_lines 1 ls ++ codes "end\n") × (length ls ≡ n) × IsBodyText v (Best ls)
+  unfolding best_of
+  best_takes n a b e small =
+      let l = bind_ok (levels_at v n 1 a) (λ ls. end_at ls.1 >>= λ end. Ok (Best ls.0)) b e in
+      let o = bind_ok (end_at l.0.1) (λ end. Ok (Best l.0.0)) b l.2 in
+      let t = levels_take v n 1 a l.0 l.1 in
+      let ended : left l.0.1 ≡ codes "end\n" = end_takes l.0.1 o.1 in
+      (l.0.0, ok_is (Best l.0.0) b o.2, t.0 ∙ ap (λ (y : List ℕ). level_lines 1 l.0.0 ++ y) ended, t.1, (omega (arith, t.1), t.2))
 
-spelled : (b : Body) → codes "desk-certificate 1" ++ 10 ∷ tail_of b ≡ spelling b
-spelled (Best ls) = refl
-spelled (NoOrder ms) = refl
+  none_takes : (n : ℕ) (a : At) (b : Body) → members_of v n a ≡ Ok b → n ≤ 32
+      → (ms : List Fail) × (NoOrder ms ≡ b) × (left a ≡ fail_lines (codes "member") ms ++ codes "end\n") × (length ms ≡ n) × IsBodyText v (NoOrder ms)
+  unfolding members_of
+  none_takes n a b e small =
+      let l = bind_ok (members_at v n a) (λ ms. end_at ms.1 >>= λ end. Ok (NoOrder ms.0)) b e in
+      let o = bind_ok (end_at l.0.1) (λ end. Ok (NoOrder l.0.0)) b l.2 in
+      let t = members_take v n a l.0 l.1 in
+      let ended : left l.0.1 ≡ codes "end\n" = end_takes l.0.1 o.1 in
+      (l.0.0, ok_is (NoOrder l.0.0) b o.2, t.0 ∙ ap (λ (y : List ℕ). fail_lines (codes "member") l.0.0 ++ y) ended, t.1, (omega (arith, t.1), t.2))
 
-abbrev after_head : At → Result Body CertFault
-after_head a = line_from a.parts a.line >>= λ second. body_case (count_in (codes "best") (words second.0)) (count_in (codes "none") (words second.0)) second.1
+  cases_take : (second : List ℕ) (o p : Option ℕ) (a : At) (b : Body) → count_in (codes "best") (words second) ≡ o → count_in (codes "none") (words second) ≡ p → body_case v o p a ≡ Ok b
+      → (second ++ 10 ∷ left a ≡ body_text b) × IsBodyText v b
+  cases_take second (Some n) p a b best none e =
+      let count = count_takes (codes "best") second n best in
+      let t = best_takes n a b e count.1 in
+      subst (λ (y : Body). (second ++ 10 ∷ left a ≡ body_text y) × IsBodyText v y) t.1
+      (counted (codes "best") second (left a) n (length t.0) count.0 (sym t.3) ∙ ap (λ (y : List ℕ). count_line (codes "best") (length t.0) ++ y) t.2, t.4)
+  cases_take second None (Some n) a b best none e =
+      let count = count_takes (codes "none") second n none in
+      let t = none_takes n a b e count.1 in
+      subst (λ (y : Body). (second ++ 10 ∷ left a ≡ body_text y) × IsBodyText v y) t.1
+      (counted (codes "none") second (left a) n (length t.0) count.0 (sym t.3) ∙ ap (λ (y : List ℕ). count_line (codes "none") (length t.0) ++ y) t.2, t.4)
+  cases_take second None None a b best none e = absurd cc
 
-pub certificate_takes : (bytes : List ℕ) (b : Body) → certificate_in bytes ≡ Ok b → (bytes ≡ spelling b) × HasSpelling b
+  pub body_takes : (a : At) (b : Body) → body_at v a ≡ Ok b → (left a ≡ body_text b) × IsBodyText v b
+  unfolding body_at
+  body_takes a b e =
+      let s = bind_ok (line_from a.parts a.line) (λ second. body_case v (count_in (codes "best") (words second.0)) (count_in (codes "none") (words second.0)) second.1) b e in
+      let t = cases_take s.0.0 (count_in (codes "best") (words s.0.0)) (count_in (codes "none") (words s.0.0)) s.0.1 b refl refl s.2 in
+      (line_takes a.parts a.line s.0 s.1 ∙ t.0, t.1)
+
+head_ends : (v : CertVersion) (rest : List ℕ) → head_text v ++ 10 ∷ rest ≡ head_line v ++ rest
+head_ends v rest = simp append_assoc
+
+version_takes : (head : List ℕ) (v : CertVersion) → version_in head ≡ Some v → head ≡ head_text v
+version_takes head v = by (bytes_eq head (head_text First)) refl
+  where
+    second : (b : Bool) → bytes_eq head (head_text Second) ≡ b → cond b (Some Second) None ≡ Some v → head ≡ head_text v
+    second true is e = (bytes_eq-Decides head (head_text Second)).0 is ∙ ap head_text (same_Some Second v e)
+    second false is e = absurd cc
+
+    by : (b : Bool) → bytes_eq head (head_text First) ≡ b → cond b (Some First) (cond (bytes_eq head (head_text Second)) (Some Second) None) ≡ Some v → head ≡ head_text v
+    by true is e = (bytes_eq-Decides head (head_text First)).0 is ∙ ap head_text (same_Some First v e)
+    by false is e = second (bytes_eq head (head_text Second)) refl e
+
+versioned_takes : (o : Option CertVersion) (a : At) (c : Cert) → versioned o a ≡ Ok c → (o ≡ Some c.version) × (left a ≡ body_text c.body) × HasSpelling c
+versioned_takes None a c e = absurd cc
+versioned_takes (Some v) a c e =
+    let b = bind_ok (body_at v a) (λ body. Ok (record { version = v; body = body })) c e in
+    let t = body_takes v a b.0 b.1 in
+    let made : Cert = record { version = v; body = b.0 } in
+    subst (λ (x : Cert). (Some v ≡ Some x.version) × (left a ≡ body_text x.body) × HasSpelling x) (ok_is made c b.2) (refl, t.0, t.1)
+
+pub certificate_takes : (bytes : List ℕ) (c : Cert) → certificate_in bytes ≡ Ok c → (bytes ≡ spelling c) × HasSpelling c
 unfolding certificate_in
-certificate_takes bytes b e =
-    let h = bind_ok (line_from (parts bytes) 1) (λ head. cond (bytes_eq head.0 (codes "desk-certificate 1")) (after_head head.1) (Err BadHead)) b e in
-    let g = guard_head (bytes_eq h.0.0 (codes "desk-certificate 1")) (after_head h.0.1) b h.2 in
-    let s = bind_ok (line_from h.0.1.parts h.0.1.line) (λ second. body_case (count_in (codes "best") (words second.0)) (count_in (codes "none") (words second.0)) second.1) b g.1 in
-    let t = cases_take s.0.0 (count_in (codes "best") (words s.0.0)) (count_in (codes "none") (words s.0.0)) s.0.1 b refl refl s.2 in (
+certificate_takes bytes c e =
+    let h = bind_ok (line_from (parts bytes) 1) (λ head. versioned (version_in head.0) head.1) c e in
+    let t = versioned_takes (version_in h.0.0) h.0.1 c h.2 in (
       sym (join_with_byte-slice_split 10 bytes)
           ∙ line_takes (parts bytes) 1 h.0 h.1
-          ∙ ap (λ (y : List ℕ). y ++ 10 ∷ left h.0.1) ((bytes_eq-Decides h.0.0 (codes "desk-certificate 1")).0 g.0)
-          ∙ ap (λ (y : List ℕ). codes "desk-certificate 1" ++ 10 ∷ y) (line_takes h.0.1.parts h.0.1.line s.0 s.1 ∙ t.0)
-          ∙ spelled b,
-      t.1,
+          ∙ ap (λ (y : List ℕ). y ++ 10 ∷ left h.0.1) (version_takes h.0.0 c.version t.0)
+          ∙ ap (λ (y : List ℕ). head_text c.version ++ 10 ∷ y) t.1
+          ∙ head_ends c.version (body_text c.body),
+      t.2,
     )
 
 -- ---- what is spelled
-no_chain : chain_in (codes "fails") (words (codes "end")) ≡ None
-unfolding chain_in
-no_chain = refl
-
-end_begins : (rest : List ℕ) → BeginsNoFailure (codes "end\n" ++ rest)
-end_begins rest =
-    let plain : All (λ x. (x == 10) ≡ false) (codes "end") = All-from_recursion (λ x. (x == 10) ≡ false) (codes "end") (refl, (refl, (refl, tt))) in
-    no_failure (codes "end") rest plain no_chain
-
-best_again : (ls : List Level) (rest : List ℕ) (n : ℕ) → HasSpelling (Best ls) → best_of (length ls) (record { parts = parts (level_lines 1 ls ++ (codes "end\n" ++ rest)); line = n }) ≡ closed (length rest == 0) (Best ls)
-unfolding best_of
-best_again ls rest n fits =
-    rw (levels_again ls (codes "end\n" ++ rest) 1 n (omega (arith, fits.0)) fits.1 (end_begins rest), end_again rest (line_after n ls)) (closed_bind (length rest == 0) tt (Best ls))
-
-none_again : (ms : List Chain) (rest : List ℕ) (n : ℕ) → HasSpelling (NoOrder ms) → members_of (length ms) (record { parts = parts (chain_lines (codes "member") ms ++ (codes "end\n" ++ rest)); line = n }) ≡ closed (length rest == 0) (NoOrder ms)
-unfolding members_of
-none_again ms rest n fits =
-    rw (members_again ms (codes "end\n" ++ rest) n fits.1, end_again rest (n + length ms)) (closed_bind (length rest == 0) tt (NoOrder ms))
-
-head_plain : All (λ x. (x == 10) ≡ false) (codes "desk-certificate 1")
-head_plain = All-from_recursion (λ x. (x == 10) ≡ false) (codes "desk-certificate 1") (refl, (refl, (refl, (refl, (refl, (refl, (refl, (refl, (refl, (refl, (refl, (refl, (refl, (refl, (refl, (refl, (refl, (refl, tt))))))))))))))))))
-
-head_again : (count rest : List ℕ) → All (λ x. (x == 10) ≡ false) count
-    → certificate_in (codes "desk-certificate 1" ++ 10 ∷ (count ++ 10 ∷ rest)) ≡ body_case (count_in (codes "best") (words count)) (count_in (codes "none") (words count)) (record { parts = parts rest; line = 3 })
-unfolding certificate_in
-head_again count rest plain =
-    rw (line_again (codes "desk-certificate 1") (count ++ 10 ∷ rest) 1 head_plain, line_again count rest 2 plain) refl
-
 best_word : All (λ x. (x == 32) ≡ false) (codes "best")
 best_word = All-from_recursion (λ x. (x == 32) ≡ false) (codes "best") (refl, (refl, (refl, (refl, tt))))
 
@@ -135,32 +126,76 @@ other_word n small =
     ∙ ap (λ (y : List (List ℕ)). codes "none" ∷ y) (slice_split_none (λ b. b == 32) (decimal n) (decimal_lacks 32 n (omega arith) (omega arith))))
     ∙ refl
 
-regroup_body : (word digits lines rest : List ℕ) → (word ++ 32 ∷ digits ++ 10 ∷ [] ++ (lines ++ codes "end\n")) ++ rest ≡ (word ++ 32 ∷ digits) ++ 10 ∷ (lines ++ (codes "end\n" ++ rest))
-regroup_body word digits lines rest = simp append_assoc
+regroup : (word digits lines rest : List ℕ) → (word ++ 32 ∷ digits ++ 10 ∷ [] ++ (lines ++ codes "end\n")) ++ rest ≡ (word ++ 32 ∷ digits) ++ 10 ∷ (lines ++ (codes "end\n" ++ rest))
+regroup word digits lines rest = simp append_assoc
 
-regroup : (word digits lines rest : List ℕ) → (head_line ++ (word ++ 32 ∷ digits ++ 10 ∷ [] ++ (lines ++ codes "end\n"))) ++ rest ≡ codes "desk-certificate 1" ++ 10 ∷ ((word ++ 32 ∷ digits) ++ 10 ∷ (lines ++ (codes "end\n" ++ rest)))
-regroup word digits lines rest = ap (λ (y : List ℕ). codes "desk-certificate 1" ++ 10 ∷ y) (regroup_body word digits lines rest)
+module _ (v : CertVersion) where
+  no_chain : fail_in v (codes "fails") (words (codes "end")) ≡ None
+  unfolding fail_in
+  no_chain = refl
+
+  end_begins : (rest : List ℕ) → BeginsNoFailure v (codes "end\n" ++ rest)
+  end_begins rest =
+      let plain : All (λ x. (x == 10) ≡ false) (codes "end") = All-from_recursion (λ x. (x == 10) ≡ false) (codes "end") (refl, (refl, (refl, tt))) in
+      no_failure v (codes "end") rest plain no_chain
+
+  best_again : (ls : List Level) (rest : List ℕ) (n : ℕ) → IsBodyText v (Best ls) → best_of v (length ls) (record { parts = parts (level_lines 1 ls ++ (codes "end\n" ++ rest)); line = n }) ≡ closed (length rest == 0) (Best ls)
+  unfolding best_of
+  best_again ls rest n fits =
+      rw (levels_again v ls (codes "end\n" ++ rest) 1 n (omega (arith, fits.0)) fits.1 (end_begins rest), end_again rest (line_after n ls)) (closed_bind (length rest == 0) tt (Best ls))
+
+  none_again : (ms : List Fail) (rest : List ℕ) (n : ℕ) → IsBodyText v (NoOrder ms) → members_of v (length ms) (record { parts = parts (fail_lines (codes "member") ms ++ (codes "end\n" ++ rest)); line = n }) ≡ closed (length rest == 0) (NoOrder ms)
+  unfolding members_of
+  none_again ms rest n fits =
+      rw (members_again v ms (codes "end\n" ++ rest) n fits.1, end_again rest (n + length ms)) (closed_bind (length rest == 0) tt (NoOrder ms))
+
+  counted_again : (count rest : List ℕ) (n : ℕ) → All (λ x. (x == 10) ≡ false) count
+      → body_at v (record { parts = parts (count ++ 10 ∷ rest); line = n }) ≡ body_case v (count_in (codes "best") (words count)) (count_in (codes "none") (words count)) (record { parts = parts rest; line = n + 1 })
+  unfolding body_at
+  counted_again count rest n plain = rw (line_again count rest n plain) refl
+
+  -- what follows the first line, and what follows that
+  pub body_again : (b : Body) (rest : List ℕ) (n : ℕ) → IsBodyText v b → body_at v (record { parts = parts (body_text b ++ rest); line = n }) ≡ closed (length rest == 0) b
+  body_again (Best ls) rest n fits =
+      let count : List ℕ = codes "best" ++ 32 ∷ decimal (length ls) in
+      ap (λ (y : List ℕ). body_at v (record { parts = parts y; line = n })) (regroup (codes "best") (decimal (length ls)) (level_lines 1 ls) rest)
+      ∙ counted_again count (level_lines 1 ls ++ (codes "end\n" ++ rest)) n (best_plain (length ls) fits.0)
+      ∙ ap (λ (o : Option ℕ). body_case v o (count_in (codes "none") (words count)) (record { parts = parts (level_lines 1 ls ++ (codes "end\n" ++ rest)); line = n + 1 })) (count_again (codes "best") (length ls) best_word fits.0)
+      ∙ best_again ls rest (n + 1) fits
+  body_again (NoOrder ms) rest n fits =
+      let count : List ℕ = codes "none" ++ 32 ∷ decimal (length ms) in
+      ap (λ (y : List ℕ). body_at v (record { parts = parts y; line = n })) (regroup (codes "none") (decimal (length ms)) (fail_lines (codes "member") ms) rest)
+      ∙ counted_again count (fail_lines (codes "member") ms ++ (codes "end\n" ++ rest)) n (none_plain (length ms) fits.0)
+      ∙ ap (λ (o : Option ℕ). body_case v o (count_in (codes "none") (words count)) (record { parts = parts (fail_lines (codes "member") ms ++ (codes "end\n" ++ rest)); line = n + 1 })) (other_word (length ms) fits.0)
+      ∙ ap (λ (o : Option ℕ). body_case v None o (record { parts = parts (fail_lines (codes "member") ms ++ (codes "end\n" ++ rest)); line = n + 1 })) (count_again (codes "none") (length ms) none_word fits.0)
+      ∙ none_again ms rest (n + 1) fits
+
+head_plain : (v : CertVersion) → All (λ x. (x == 10) ≡ false) (head_text v)
+head_plain First = All-from_recursion (λ x. (x == 10) ≡ false) (head_text First) (refl, (refl, (refl, (refl, (refl, (refl, (refl, (refl, (refl, (refl, (refl, (refl, (refl, (refl, (refl, (refl, (refl, (refl, tt))))))))))))))))))
+head_plain Second = All-from_recursion (λ x. (x == 10) ≡ false) (head_text Second) (refl, (refl, (refl, (refl, (refl, (refl, (refl, (refl, (refl, (refl, (refl, (refl, (refl, (refl, (refl, (refl, (refl, (refl, tt))))))))))))))))))
+
+version_again : (v : CertVersion) → version_in (head_text v) ≡ Some v
+version_again First = refl
+version_again Second = refl
+
+abbrev with_version : CertVersion → Body → Cert
+with_version v b = record { version = v; body = b }
+
+closed_versioned : (over : Bool) (v : CertVersion) (b : Body) → (closed over b >>= λ body. Ok (with_version v body)) ≡ closed over (with_version v b)
+closed_versioned true v b = refl
+closed_versioned false v b = refl
 
 -- a spelling and what follows it: the certificate where nothing follows, and else the bytes that trail
-pub certificate_again : (b : Body) (rest : List ℕ) → HasSpelling b → certificate_in (spelling b ++ rest) ≡ closed (length rest == 0) b
-certificate_again (Best ls) rest fits =
-    let count : List ℕ = codes "best" ++ 32 ∷ decimal (length ls) in
-    let regrouped : spelling (Best ls) ++ rest ≡ codes "desk-certificate 1" ++ 10 ∷ (count ++ 10 ∷ (level_lines 1 ls ++ (codes "end\n" ++ rest))) = regroup (codes "best") (decimal (length ls)) (level_lines 1 ls) rest in
+pub certificate_again : (c : Cert) (rest : List ℕ) → HasSpelling c → certificate_in (spelling c ++ rest) ≡ closed (length rest == 0) c
+unfolding certificate_in
+certificate_again c rest fits =
+    let text : List ℕ = body_text c.body ++ rest in
+    let regrouped : spelling c ++ rest ≡ head_text c.version ++ 10 ∷ text = append_assoc (head_line c.version) (body_text c.body) rest ∙ sym (head_ends c.version text) in
     ap certificate_in regrouped
-    ∙ head_again count (level_lines 1 ls ++ (codes "end\n" ++ rest)) (best_plain (length ls) fits.0)
-    ∙ ap (λ (o : Option ℕ). body_case o (count_in (codes "none") (words count)) (record { parts = parts (level_lines 1 ls ++ (codes "end\n" ++ rest)); line = 3 })) (count_again (codes "best") (length ls) best_word fits.0)
-    ∙ best_again ls rest 3 fits
-certificate_again (NoOrder ms) rest fits =
-    let count : List ℕ = codes "none" ++ 32 ∷ decimal (length ms) in
-    let regrouped : spelling (NoOrder ms) ++ rest ≡ codes "desk-certificate 1" ++ 10 ∷ (count ++ 10 ∷ (chain_lines (codes "member") ms ++ (codes "end\n" ++ rest))) = regroup (codes "none") (decimal (length ms)) (chain_lines (codes "member") ms) rest in
-    ap certificate_in regrouped
-    ∙ head_again count (chain_lines (codes "member") ms ++ (codes "end\n" ++ rest)) (none_plain (length ms) fits.0)
-    ∙ ap (λ (o : Option ℕ). body_case o (count_in (codes "none") (words count)) (record { parts = parts (chain_lines (codes "member") ms ++ (codes "end\n" ++ rest)); line = 3 })) (other_word (length ms) fits.0)
-    ∙ ap (λ (o : Option ℕ). body_case None o (record { parts = parts (chain_lines (codes "member") ms ++ (codes "end\n" ++ rest)); line = 3 })) (count_again (codes "none") (length ms) none_word fits.0)
-    ∙ none_again ms rest 3 fits
+    ∙ rw (line_again (head_text c.version) text 1 (head_plain c.version), version_again c.version, body_again c.version c.body rest 2 fits) (closed_versioned (length rest == 0) c.version c.body)
 
 -- ---- what follows from it
-pub reads_back : (b : Body) → HasSpelling b → certificate_in (spelling b) ≡ Ok b
+pub reads_back : (b : Cert) → HasSpelling b → certificate_in (spelling b) ≡ Ok b
 reads_back b fits = ap certificate_in (sym (append-nil (spelling b))) ∙ certificate_again b [] fits
 
 suc_apart : (n : ℕ) → (suc n == 0) ≡ false
@@ -169,20 +204,20 @@ suc_apart n = grind (arith, nat_tests)
 some_left : (x : ℕ) (xs : List ℕ) → (length (x ∷ xs) == 0) ≡ false
 some_left x xs = suc_apart (length xs)
 
-pub trails : (b : Body) (x : ℕ) (rest : List ℕ) → HasSpelling b → certificate_in (spelling b ++ x ∷ rest) ≡ Err Trailing
+pub trails : (b : Cert) (x : ℕ) (rest : List ℕ) → HasSpelling b → certificate_in (spelling b ++ x ∷ rest) ≡ Err Trailing
 trails b x rest fits = certificate_again b (x ∷ rest) fits ∙ rw (some_left x rest) refl
 
-not_closed : {P : Type 0} (b c : Body) → closed false b ≡ Ok c → P
+not_closed : {P : Type 0} (b c : Cert) → closed false b ≡ Ok c → P
 not_closed b c e = absurd cc
 
-closed_is : (rest : List ℕ) (b c : Body) → closed (length rest == 0) b ≡ Ok c → (rest ≡ []) × (b ≡ c)
+closed_is : (rest : List ℕ) (b c : Cert) → closed (length rest == 0) b ≡ Ok c → (rest ≡ []) × (b ≡ c)
 closed_is [] b c e = (refl, ok_is b c e)
 closed_is (x ∷ xs) b c e =
     not_closed b c (rw (some_left x xs) at e)
 
-pub no_prefix : (b c : Body) (rest : List ℕ) → HasSpelling b → HasSpelling c → spelling c ≡ spelling b ++ rest → (rest ≡ []) × (b ≡ c)
+pub no_prefix : (b c : Cert) (rest : List ℕ) → HasSpelling b → HasSpelling c → spelling c ≡ spelling b ++ rest → (rest ≡ []) × (b ≡ c)
 no_prefix b c rest first second e = closed_is rest b c (sym (certificate_again b rest first) ∙ ap certificate_in (sym e) ∙ reads_back c second)
 
 -- what a call answered is what reading the spelling gives
-pub only_read : {X : Type 0} (view : X → Body) (bytes : List ℕ) (r : Result X CertFault) (c : Body) → Gives view r (certificate_in bytes) → HasSpelling c → bytes ≡ spelling c → Gives view r (Ok c)
+pub only_read : {X : Type 0} (view : X → Cert) (bytes : List ℕ) (r : Result X CertFault) (c : Cert) → Gives view r (certificate_in bytes) → HasSpelling c → bytes ≡ spelling c → Gives view r (Ok c)
 only_read view bytes r c given fits e = subst (Gives view r) (ap certificate_in e ∙ reads_back c fits) given

@@ -5,33 +5,33 @@ use Rattle.std.specs.Fmt.{decimal}
 use Rattle.std.specs.Io.KnownBytes.{Appends, append_known}
 use Rattle.std.proofs.KnownBytes.{Appends-trans}
 use Rattle.std.proofs.lemmas.List.{take_more, append-nil, length-take-le}
-use Rattle.certificate.specs.Body.{Chain, Level}
-use Rattle.certificate.specs.Spelling.{numbers_text, chain_line, chain_lines, level_line, level_lines}
+use Rattle.certificate.specs.Body.{Fail, Level}
+use Rattle.certificate.specs.Spelling.{reason_text, fail_line, fail_lines, level_line, level_lines}
 use Rattle.streams.specs.Sending.{Sends}
 
-lines_append : (k : ℕ) (xs : List Level) (l : Level) → level_lines k (xs ++ l ∷ []) ≡ level_lines k xs ++ (level_line (length xs + k) l ++ chain_lines (codes "fails") l.fails)
-lines_append k [] l = rw zero-add (ap (λ (y : List ℕ). level_line k l ++ y) (append-nil (chain_lines (codes "fails") l.fails)))
+lines_append : (k : ℕ) (xs : List Level) (l : Level) → level_lines k (xs ++ l ∷ []) ≡ level_lines k xs ++ (level_line (length xs + k) l ++ fail_lines (codes "fails") l.fails)
+lines_append k [] l = rw zero-add (ap (λ (y : List ℕ). level_line k l ++ y) (append-nil (fail_lines (codes "fails") l.fails)))
 lines_append k (x ∷ xs) l =
     let same : length xs + (k + 1) ≡ suc (length xs) + k = omega arith in
-    let fails : List ℕ = chain_lines (codes "fails") x.fails in
-    let next : List ℕ = level_line (length xs + (k + 1)) l ++ chain_lines (codes "fails") l.fails in
+    let fails : List ℕ = fail_lines (codes "fails") x.fails in
+    let next : List ℕ = level_line (length xs + (k + 1)) l ++ fail_lines (codes "fails") l.fails in
     ap (λ (y : List ℕ). level_line k x ++ (fails ++ y)) (lines_append (k + 1) xs l)
     ∙ ap (λ (y : List ℕ). level_line k x ++ y) (sym (append_assoc fails (level_lines (k + 1) xs) next))
     ∙ sym (append_assoc (level_line k x) (fails ++ level_lines (k + 1) xs) next)
-    ∙ ap (λ (n : ℕ). (level_line k x ++ (fails ++ level_lines (k + 1) xs)) ++ (level_line n l ++ chain_lines (codes "fails") l.fails)) same
+    ∙ ap (λ (n : ℕ). (level_line k x ++ (fails ++ level_lines (k + 1) xs)) ++ (level_line n l ++ fail_lines (codes "fails") l.fails)) same
 
 lines_more : (ls : List Level) (i : ℕ) (l : Level) → i < length ls → l ≡ get_or ls i l
-    → level_lines 1 (take (i + 1) ls) ≡ level_lines 1 (take i ls) ++ (level_line (i + 1) l ++ chain_lines (codes "fails") l.fails)
+    → level_lines 1 (take (i + 1) ls) ≡ level_lines 1 (take i ls) ++ (level_line (i + 1) l ++ fail_lines (codes "fails") l.fails)
 lines_more ls i l lt e =
     let len : length (take i ls) ≡ i = length-take-le i ls (omega arith) in
     ap (level_lines 1) (take_more ls i l lt)
     ∙ ap (λ (x : Level). level_lines 1 (take i ls ++ x ∷ [])) (sym e)
     ∙ lines_append 1 (take i ls) l
-    ∙ ap (λ (n : ℕ). level_lines 1 (take i ls) ++ (level_line (n + 1) l ++ chain_lines (codes "fails") l.fails)) len
+    ∙ ap (λ (n : ℕ). level_lines 1 (take i ls) ++ (level_line (n + 1) l ++ fail_lines (codes "fails") l.fails)) len
 
 -- one more level
 pub level_sent : (first before between after : Option (List ℕ)) (held0 held1 held2 held3 : List ℕ) (ls : List Level) (i : ℕ) (l : Level) → i < length ls → l ≡ get_or ls i l
-    → Sends first held0 before held1 (level_lines 1 (take i ls)) → Sends before held1 between held2 (level_line (i + 1) l) → Sends between held2 after held3 (chain_lines (codes "fails") l.fails)
+    → Sends first held0 before held1 (level_lines 1 (take i ls)) → Sends before held1 between held2 (level_line (i + 1) l) → Sends between held2 after held3 (fail_lines (codes "fails") l.fails)
     → Sends first held0 after held3 (level_lines 1 (take (i + 1) ls))
 level_sent first before between after held0 held1 held2 held3 ls i l lt e so_far line fails =
     let a = append_known first held0 in
@@ -39,8 +39,8 @@ level_sent first before between after held0 held1 held2 held3 ls i l lt e so_far
     let c = append_known between held2 in
     let d = append_known after held3 in
     subst (Sends first held0 after held3) (sym (lines_more ls i l lt e))
-    (Appends-trans a b d (level_lines 1 (take i ls)) (level_line (i + 1) l ++ chain_lines (codes "fails") l.fails) so_far
-    (Appends-trans b c d (level_line (i + 1) l) (chain_lines (codes "fails") l.fails) line fails))
+    (Appends-trans a b d (level_lines 1 (take i ls)) (level_line (i + 1) l ++ fail_lines (codes "fails") l.fails) so_far
+    (Appends-trans b c d (level_line (i + 1) l) (fail_lines (codes "fails") l.fails) line fails))
 
 -- and then what is sent last
 pub then_sent : {T E : Type 0} (r : Result T E) (first before after : Option (List ℕ)) (held0 held1 held2 xs ys zs : List ℕ)
@@ -62,10 +62,10 @@ line_sent (Ok x) start word space rest end xs ys one two three four =
     Appends-trans start rest end (xs ++ 32 ∷ ys) (10 ∷ []) (Appends-trans start word rest xs (32 ∷ ys) one (Appends-trans word space rest (32 ∷ []) ys two three)) four
 line_sent (Err x) start word space rest end xs ys one two three four = tt
 
--- a chain's line
-pub chain_sent : {T E : Type 0} (r : Result T E) (start word space name rest end : Option (List ℕ)) (xs : List ℕ) (chain : Chain)
-    → Appends start word xs → Appends word space (32 ∷ []) → Appends space name chain.name → Appends name rest (numbers_text chain.numbers) → OnOk r (Appends rest end (10 ∷ []))
-    → OnOk r (Appends start end (chain_line xs chain))
-chain_sent r start word space name rest end xs chain one two three four five =
-    subst (λ (ys : List ℕ). OnOk r (Appends start end (ys ++ 10 ∷ []))) (sym (append_assoc xs (32 ∷ chain.name) (numbers_text chain.numbers)))
-    (line_sent r start word space rest end xs (chain.name ++ numbers_text chain.numbers) one two (Appends-trans space name rest chain.name (numbers_text chain.numbers) three four) five)
+-- a failure's line
+pub fail_sent : {T E : Type 0} (r : Result T E) (start word space name rest end : Option (List ℕ)) (xs : List ℕ) (fail : Fail)
+    → Appends start word xs → Appends word space (32 ∷ []) → Appends space name fail.name → Appends name rest (reason_text fail.reason) → OnOk r (Appends rest end (10 ∷ []))
+    → OnOk r (Appends start end (fail_line xs fail))
+fail_sent r start word space name rest end xs fail one two three four five =
+    subst (λ (ys : List ℕ). OnOk r (Appends start end (ys ++ 10 ∷ []))) (sym (append_assoc xs (32 ∷ fail.name) (reason_text fail.reason)))
+    (line_sent r start word space rest end xs (fail.name ++ reason_text fail.reason) one two (Appends-trans space name rest fail.name (reason_text fail.reason) three four) five)

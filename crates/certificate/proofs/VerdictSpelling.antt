@@ -4,20 +4,26 @@ use Rattle.std.specs.List.{AllByRecursion}
 use Rattle.std.proofs.lemmas.Bool.{ltb-true}
 use Rattle.std.proofs.lemmas.List.{length-map}
 use Rattle.std.proofs.lemmas.List.Elements.{All-from_recursion}
-use Rattle.task_sheet.specs.Sheet.{Task, task_at}
+use Rattle.std.specs.List.{list_any}
+use Rattle.std.proofs.lemmas.List.Folds.{list_any_at}
+use Rattle.task_sheet.specs.Sheet.{Task, no_task, task_at}
 use Rattle.task_sheet.specs.TaskSet.{IsTaskSet}
 use Rattle.task_sheet.specs.Indexes.{Indexes, IsPart, without_index, among, listed_below}
-use Rattle.task_sheet.specs.Responses.{ChainFrom, IsChain}
+use Rattle.task_sheet.specs.Responses.{ChainFrom}
 use Rattle.task_sheet.specs.Demand.{demand_of, limit_of}
-use Rattle.task_sheet.specs.Orders.{all_of, IsOrderOf}
-use Rattle.task_sheet.specs.Verdicts.{FailureData, LevelData, VerdictData, Admitted, Infeasible, tasks_of, order_of, IsBestOrder, IsStuck, IsVerdictOf}
-use Rattle.task_sheet.specs.Ready.{AllRefuted, AllReady, IsReadyOrder, IsReadySet}
+use Rattle.task_sheet.specs.Orders.{all_of, must_outrank, IsOrderOf}
+use Rattle.task_sheet.specs.Verdicts as verdict
+use Rattle.task_sheet.specs.Verdicts.{ReasonData, FailureData, LevelData, VerdictData, Admitted, Infeasible, tasks_of, order_of, IsBestOrder, IsStuck, IsVerdictOf}
+use Rattle.task_sheet.specs.Ready.{Refutes, AllRefuted, AllReady, IsReadyOrder, IsReadySet}
 use Rattle.task_sheet.proofs.IndexLaws.{without-part_of, IsOrderOf-head, IsOrderOf-rest, order-below, order-few}
 use Rattle.task_sheet.proofs.TaskLaws.{valid_at, AllTasks-from_set}
 use Rattle.task_sheet.proofs.DemandFits.{limit-fits, demand-fits}
 use Rattle.task_sheet.proofs.VerdictLaws.{IsBestOrder-ready, IsStuck-ready}
-use Rattle.certificate.specs.Body.{IsShort, IsChainText, IsLevelText, HasSpelling}
-use Rattle.certificate.specs.CertificateOf.{chain_named, chains_named, level_named, levels_named, certificate_of, IsKnownLevel}
+use Rattle.certificate.specs.declared.version.CertVersion.{CertVersion}
+use Rattle.certificate.specs.declared.version.CertVersion.TheVariants.{Second}
+use Rattle.certificate.specs.Body.{Over, IsShort, IsReasonText, IsFailText, IsLevelText, HasSpelling}
+use Rattle.certificate.specs.Versions.{names_task, some_bound, version_for}
+use Rattle.certificate.specs.CertificateOf.{reason_named, fail_named, fails_named, level_named, levels_named, certificate_of, IsKnownReason, IsKnownFail, IsKnownLevel}
 
 -- ---- tasks of the set
 push-below : (n m : ℕ) (ks : List ℕ) → AllByRecursion (λ k. k < n) ks → n ≤ m → n < m → AllByRecursion (λ k. k < m) (ks ++ n ∷ [])
@@ -49,42 +55,49 @@ module _ (U : List Task) (set : IsTaskSet U) where
       let fits = demand-fits U set i H a lt (omega (arith, limit, chain.0)) in
       (short, climb-short i H b bs lt (omega (arith, fits, chain.2)) chain.3)
 
-  chain-text : (f : FailureData) (H : Indexes) (numbers : List ℕ) → f.task < length U → numbers ≡ f.chain → IsChain (demand_of U f.task H) (limit_of (task_at U f.task)) numbers
-      → IsChainText (chain_named U f)
-  chain-text f H [] lt e chain = absurd chain
-  chain-text f H (a ∷ bs) lt e chain =
-      record {
-        name = (valid_at U f.task set lt).named;
-        some = subst (λ (ns : List ℕ). 0 < length ns) e (omega arith);
-        short = subst (λ (ns : List ℕ). AllByRecursion IsShort ns) e (climb-short f.task H a bs lt (omega (arith, chain.0)) chain.1);
-      }
+  -- where a task of the set must stand above another one of it, the second version serves
+  bound_shows : (i k : ℕ) → i < length U → k < length U → must_outrank U i k ≡ true → some_bound U ≡ true
+  unfolding some_bound
+  bound_shows i k lt within named =
+      list_any_at (λ (t : Task). list_any (names_task t) U) U i no_task lt (list_any_at (names_task (task_at U i)) U k no_task within named)
 
-  chains-text : (L : Indexes) (fails : List FailureData) → AllByRecursion (λ k. k < length U) (tasks_of fails) → AllRefuted U L fails → AllByRecursion IsChainText (chains_named U fails)
-  chains-text L [] known refuted = tt
-  chains-text L (f ∷ fails) known refuted = (chain-text f (without_index L f.task) f.chain known.0 refl refuted.0, chains-text L fails known.1 refuted.1)
+  reason-text : (i : ℕ) (H : Indexes) (reason : ReasonData) → i < length U → Refutes U i H reason → IsReasonText (version_for U) (reason_named U reason)
+  reason-text i H (verdict.Chain []) lt chain = absurd chain
+  reason-text i H (verdict.Chain (a ∷ bs)) lt chain = (omega arith, climb-short i H a bs lt (omega (arith, chain.0)) chain.1)
+  reason-text i H (verdict.Over other) lt over =
+      let bound = bound_shows i other lt over.0 over.2 in
+      let second : version_for U ≡ Second = rw bound refl in
+      subst (λ (v : CertVersion). IsReasonText v (Over (task_at U other).name)) (sym second) (valid_at U other set over.0).named
 
-  levels-text : (L : Indexes) (levels : List LevelData) → IsOrderOf L (order_of levels) → IsPart L (all_of U) → AllReady U L levels → AllByRecursion IsLevelText (levels_named U levels)
+  fails-text : (L : Indexes) (fails : List FailureData) → AllByRecursion (λ k. k < length U) (tasks_of fails) → AllRefuted U L fails → AllByRecursion (IsFailText (version_for U)) (fails_named U fails)
+  fails-text L [] known refuted = tt
+  fails-text L (f ∷ fails) known refuted = (
+    record { name = (valid_at U f.task set known.0).named; reason = reason-text f.task (without_index L f.task) f.reason known.0 refuted.0 },
+    fails-text L fails known.1 refuted.1,
+  )
+
+  levels-text : (L : Indexes) (levels : List LevelData) → IsOrderOf L (order_of levels) → IsPart L (all_of U) → AllReady U L levels → AllByRecursion (IsLevelText (version_for U)) (levels_named U levels)
   levels-text L [] each part ready = tt
   levels-text L (l ∷ levels) each part ready =
       let lt : l.task < length U = ltb-true l.task (length U) (part l.task (IsOrderOf-head L l.task (order_of levels) each)) in (
         record {
           name = (valid_at U l.task set lt).named;
           short = omega (arith, ready.0.within, limit-fits U set l.task lt);
-          fails = chains-text L l.fails (fails-below (length U) L l.task (tasks_of l.fails) lt ready.0.lesser) ready.0.refuted;
+          fails = fails-text L l.fails (fails-below (length U) L l.task (tasks_of l.fails) lt ready.0.lesser) ready.0.refuted;
         },
         levels-text (without_index L l.task) levels (IsOrderOf-rest L l.task (order_of levels) each) (without-part_of (length U) L l.task part) ready.1,
       )
 
-  pub ready_order-spelled : (levels : List LevelData) → IsReadyOrder U levels → (length (levels_named U levels) ≤ 32) × AllByRecursion IsLevelText (levels_named U levels)
+  pub ready_order-spelled : (levels : List LevelData) → IsReadyOrder U levels → (length (levels_named U levels) ≤ 32) × AllByRecursion (IsLevelText (version_for U)) (levels_named U levels)
   ready_order-spelled levels ready = (
     omega (arith, order-few (length U) (all_of U) (order_of levels) ready.each_once (λ k h. h), length-map levels (level_named U), length-map levels (λ (l : LevelData). l.task), set.few),
     levels-text (all_of U) levels ready.each_once (λ k h. h) ready.ready,
   )
 
-  pub ready_set-spelled : (members : List FailureData) → IsReadySet U members → (length (chains_named U members) ≤ 32) × AllByRecursion IsChainText (chains_named U members)
+  pub ready_set-spelled : (members : List FailureData) → IsReadySet U members → (length (fails_named U members) ≤ 32) × AllByRecursion (IsFailText (version_for U)) (fails_named U members)
   ready_set-spelled members ready = (
-    omega (arith, order-few (length U) (among (tasks_of members)) (tasks_of members) ready.distinct ready.within, length-map members (chain_named U), length-map members (λ (f : FailureData). f.task), set.few),
-    chains-text (among (tasks_of members)) members (order-below (length U) (among (tasks_of members)) (tasks_of members) ready.distinct ready.within) ready.refuted,
+    omega (arith, order-few (length U) (among (tasks_of members)) (tasks_of members) ready.distinct ready.within, length-map members (fail_named U), length-map members (λ (f : FailureData). f.task), set.few),
+    fails-text (among (tasks_of members)) members (order-below (length U) (among (tasks_of members)) (tasks_of members) ready.distinct ready.within) ready.refuted,
   )
 
   pub verdict-spelled : (v : VerdictData) → IsVerdictOf U v → HasSpelling (certificate_of U v)
@@ -92,26 +105,33 @@ module _ (U : List Task) (set : IsTaskSet U) where
   verdict-spelled (Infeasible members) h = ready_set-spelled members (IsStuck-ready U members h)
 
 -- ---- which tasks a verdict names
-all-below : (n : ℕ) (fails : List FailureData) → AllByRecursion (λ k. k < n) (tasks_of fails) → All (λ (f : FailureData). f.task < n) fails
-all-below n fails h = All-from_recursion (λ (f : FailureData). f.task < n) fails (each-below n fails h)
-  where
-    each-below : (n : ℕ) (fails : List FailureData) → AllByRecursion (λ k. k < n) (tasks_of fails) → AllByRecursion (λ (f : FailureData). f.task < n) fails
-    each-below n [] h = tt
-    each-below n (f ∷ fails) h = (h.0, each-below n fails h.1)
+reason-known : (U : List Task) (i : ℕ) (H : Indexes) (reason : ReasonData) → Refutes U i H reason → IsKnownReason (length U) reason
+reason-known U i H (verdict.Chain numbers) chain = tt
+reason-known U i H (verdict.Over other) over = over.0
 
-levels-known : (U : List Task) (L : Indexes) (levels : List LevelData) → IsOrderOf L (order_of levels) → IsPart L (all_of U) → AllReady U L levels → AllByRecursion (IsKnownLevel (length U)) levels
+pub fails-known : (U : List Task) (L : Indexes) (fails : List FailureData) → AllByRecursion (λ k. k < length U) (tasks_of fails) → AllRefuted U L fails → AllByRecursion (IsKnownFail (length U)) fails
+fails-known U L [] known refuted = tt
+fails-known U L (f ∷ fails) known refuted = (
+  record { task = known.0; reason = reason-known U f.task (without_index L f.task) f.reason refuted.0 },
+  fails-known U L fails known.1 refuted.1,
+)
+
+all-known : (U : List Task) (L : Indexes) (fails : List FailureData) → AllByRecursion (λ k. k < length U) (tasks_of fails) → AllRefuted U L fails → All (IsKnownFail (length U)) fails
+all-known U L fails known refuted = All-from_recursion (IsKnownFail (length U)) fails (fails-known U L fails known refuted)
+
+levels-known : (U : List Task) (L : Indexes) (levels : List LevelData) → IsOrderOf L (order_of levels) → IsPart L (all_of U) → AllReady U L levels → AllByRecursion (IsKnownLevel U) levels
 levels-known U L [] each part ready = tt
 levels-known U L (l ∷ levels) each part ready =
     let lt : l.task < length U = ltb-true l.task (length U) (part l.task (IsOrderOf-head L l.task (order_of levels) each)) in
     let lesser = fails-below (length U) L l.task (tasks_of l.fails) lt ready.0.lesser in
-    (record { task = lt; fails = all-below (length U) l.fails lesser }, levels-known U (without_index L l.task) levels (IsOrderOf-rest L l.task (order_of levels) each) (without-part_of (length U) L l.task part) ready.1)
+    (record { task = lt; late = omega (arith, ready.0.positive); fails = all-known U L l.fails lesser ready.0.refuted }, levels-known U (without_index L l.task) levels (IsOrderOf-rest L l.task (order_of levels) each) (without-part_of (length U) L l.task part) ready.1)
 
-pub best-known : (U : List Task) → IsTaskSet U → (levels : List LevelData) → IsBestOrder U levels → All (IsKnownLevel (length U)) levels
+pub best-known : (U : List Task) → IsTaskSet U → (levels : List LevelData) → IsBestOrder U levels → All (IsKnownLevel U) levels
 best-known U set levels h =
     let ready = IsBestOrder-ready U (AllTasks-from_set U set) levels h in
-    All-from_recursion (IsKnownLevel (length U)) levels (levels-known U (all_of U) levels ready.each_once (λ k h. h) ready.ready)
+    All-from_recursion (IsKnownLevel U) levels (levels-known U (all_of U) levels ready.each_once (λ k h. h) ready.ready)
 
-pub stuck-known : (U : List Task) (members : List FailureData) → IsStuck U members → All (λ (f : FailureData). f.task < length U) members
+pub stuck-known : (U : List Task) (members : List FailureData) → IsStuck U members → All (IsKnownFail (length U)) members
 stuck-known U members h =
     let ready = IsStuck-ready U members h in
-    all-below (length U) members (order-below (length U) (among (tasks_of members)) (tasks_of members) ready.distinct ready.within)
+    all-known U (among (tasks_of members)) members (order-below (length U) (among (tasks_of members)) (tasks_of members) ready.distinct ready.within) ready.refuted

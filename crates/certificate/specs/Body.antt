@@ -2,22 +2,34 @@
 use Rattle.std.specs.Prelude.{ℕ, ◌^◌, ◌<◌, ◌≤◌, List, length}
 use Rattle.std.specs.List.{AllByRecursion}
 use Rattle.task_sheet.specs.Name.{IsName}
+use Rattle.certificate.specs.declared.version.CertVersion.{CertVersion}
+use Rattle.certificate.specs.declared.version.CertVersion.TheVariants.{First, Second}
 
--- numbers that show that a task fails
-pub record Chain : Type 0 where
+-- why a task fails: numbers, or the name of a task above which it must stand
+pub data Reason : Type 0 where
+  Chain : (numbers : List ℕ) → Reason
+  Over : (other : List ℕ) → Reason
+
+-- a task that fails, and why
+pub record Fail : Type 0 where
   pub name : List ℕ
-  pub numbers : List ℕ
+  pub reason : Reason
 
 -- a level's task, a time that covers its demand, and those that fail there
 pub record Level : Type 0 where
   pub name : List ℕ
   pub time : ℕ
-  pub fails : List Chain
+  pub fails : List Fail
 
 -- what a certificate says: levels, or members
 pub data Body : Type 0 where
   Best : List Level → Body
-  NoOrder : List Chain → Body
+  NoOrder : List Fail → Body
+
+-- a certificate: its version, and what it says
+pub record Cert : Type 0 where
+  pub version : CertVersion
+  pub body : Body
 
 -- ---- what has a spelling
 
@@ -25,19 +37,28 @@ pub data Body : Type 0 where
 abbrev pub IsShort : ℕ → Type 0
 IsShort n = n < 10 ^ 10
 
--- a name, and numbers of at most ten digits
-pub record IsChainText (c : Chain) : Type 0 where
-  pub name : IsName c.name
-  pub some : 0 < length c.numbers
-  pub short : AllByRecursion IsShort c.numbers
+-- numbers of at most ten digits, or, from version 2 on, a name
+abbrev pub IsReasonText : CertVersion → Reason → Type 0
+IsReasonText v (Chain numbers) = (0 < length numbers) × AllByRecursion IsShort numbers
+IsReasonText First (Over other) = ⊥
+IsReasonText Second (Over other) = IsName other
+
+-- a name, and a reason that can be written
+pub record IsFailText (v : CertVersion) (f : Fail) : Type 0 where
+  pub name : IsName f.name
+  pub reason : IsReasonText v f.reason
 
 -- a name, a number of at most ten digits, and failures that can be written
-pub record IsLevelText (l : Level) : Type 0 where
+pub record IsLevelText (v : CertVersion) (l : Level) : Type 0 where
   pub name : IsName l.name
   pub short : IsShort l.time
-  pub fails : AllByRecursion IsChainText l.fails
+  pub fails : AllByRecursion (IsFailText v) l.fails
 
 -- the body can be written: at most 32 lines of a kind, names that are names, numbers of at most ten digits
-abbrev pub HasSpelling : Body → Type 0
-HasSpelling (Best levels) = (length levels ≤ 32) × AllByRecursion IsLevelText levels
-HasSpelling (NoOrder members) = (length members ≤ 32) × AllByRecursion IsChainText members
+abbrev pub IsBodyText : CertVersion → Body → Type 0
+IsBodyText v (Best levels) = (length levels ≤ 32) × AllByRecursion (IsLevelText v) levels
+IsBodyText v (NoOrder members) = (length members ≤ 32) × AllByRecursion (IsFailText v) members
+
+-- the certificate can be written
+abbrev pub HasSpelling : Cert → Type 0
+HasSpelling c = IsBodyText c.version c.body

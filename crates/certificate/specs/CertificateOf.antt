@@ -1,31 +1,54 @@
--- The certificate of a verdict: its numbers, with the names of the tasks.
-use Rattle.std.specs.Prelude.{ℕ, ◌<◌, List, map, All}
+-- The certificate of a verdict: its numbers and reasons, with the names of the tasks.
+use Rattle.std.specs.Prelude.{ℕ, ◌<◌, ◌≤◌, List, length, map, All}
 use Rattle.task_sheet.specs.Sheet.{Task, task_at}
-use Rattle.task_sheet.specs.Verdicts.{FailureData, LevelData, VerdictData, Admitted, Infeasible}
-use Rattle.certificate.specs.Body.{Chain, Level, Body, Best, NoOrder}
+use Rattle.task_sheet.specs.Verdicts as verdict
+use Rattle.task_sheet.specs.Verdicts.{ReasonData, FailureData, LevelData, VerdictData, Admitted, Infeasible}
+use Rattle.task_sheet.specs.Ready.{time_of}
+use Rattle.certificate.specs.Body.{Reason, Chain, Over, Fail, Level, Body, Best, NoOrder, Cert}
+use Rattle.certificate.specs.Versions.{version_for}
 
--- a failure, by its task's name
-abbrev pub chain_named : List Task → FailureData → Chain
-chain_named U f = record { name = (task_at U f.task).name; numbers = f.chain }
+-- a reason, by the other task's name
+abbrev pub reason_named : List Task → ReasonData → Reason
+reason_named U (verdict.Chain numbers) = Chain numbers
+reason_named U (verdict.Over other) = Over (task_at U other).name
+
+-- a failure, by its tasks' names
+abbrev pub fail_named : List Task → FailureData → Fail
+fail_named U f = record { name = (task_at U f.task).name; reason = reason_named U f.reason }
 
 -- failures, by their tasks' names
-abbrev pub chains_named : List Task → List FailureData → List Chain
-chains_named U fails = map (chain_named U) fails
+abbrev pub fails_named : List Task → List FailureData → List Fail
+fails_named U fails = map (fail_named U) fails
 
 -- a level, by its tasks' names
 abbrev pub level_named : List Task → LevelData → Level
-level_named U l = record { name = (task_at U l.task).name; time = l.response; fails = chains_named U l.fails }
+level_named U l = record { name = (task_at U l.task).name; time = time_of U l; fails = fails_named U l.fails }
 
 -- levels, by their tasks' names
 abbrev pub levels_named : List Task → List LevelData → List Level
 levels_named U levels = map (level_named U) levels
 
--- the certificate of a verdict on a set
-abbrev pub certificate_of : List Task → VerdictData → Body
-certificate_of U (Admitted levels) = Best (levels_named U levels)
-certificate_of U (Infeasible members) = NoOrder (chains_named U members)
+-- what the certificate of a verdict on a set says
+abbrev pub body_named : List Task → VerdictData → Body
+body_named U (Admitted levels) = Best (levels_named U levels)
+body_named U (Infeasible members) = NoOrder (fails_named U members)
 
--- the level names tasks of a set of n alone
-pub record IsKnownLevel (n : ℕ) (l : LevelData) : Type 0 where
-  pub task : l.task < n
-  pub fails : All (λ (f : FailureData). f.task < n) l.fails
+-- the certificate of a verdict on a set
+abbrev pub certificate_of : List Task → VerdictData → Cert
+certificate_of U v = record { version = version_for U; body = body_named U v }
+
+-- the reason names a task of a set of n, or none
+abbrev pub IsKnownReason : ℕ → ReasonData → Type 0
+IsKnownReason n (verdict.Chain numbers) = Unit {0}
+IsKnownReason n (verdict.Over other) = other < n
+
+-- the failure names tasks of a set of n alone
+pub record IsKnownFail (n : ℕ) (f : FailureData) : Type 0 where
+  pub task : f.task < n
+  pub reason : IsKnownReason n f.reason
+
+-- the level names tasks of the set alone, and its response is no less than its task's jitter
+pub record IsKnownLevel (U : List Task) (l : LevelData) : Type 0 where
+  pub task : l.task < length U
+  pub late : (task_at U l.task).jitter ≤ l.response
+  pub fails : All (IsKnownFail (length U)) l.fails

@@ -2,6 +2,8 @@ pub mod Body
 pub mod Spelling
 pub mod Words
 pub mod Lines
+pub mod ReasonOf
 pub mod BodyOf
+pub mod Versions
 pub mod Fields
 pub mod CertificateOf

@@ -2,11 +2,14 @@
 use Rattle.std.specs.Prelude.{◌≡◌, ℕ, zero, suc, ◌+◌, List, [], ◌∷◌, length, Bool, ◌&&◌, ◌==◌, nat_le, bytes_eq, Option, Some, None, Result, Ok, Err, if◌then◌else◌, codes}
 use Rattle.std.specs.List.{join_with_byte}
 use Rattle.task_sheet.specs.Name.{is_name}
-use Rattle.certificate.specs.Body.{Chain, Level, Body, Best, NoOrder}
+use Rattle.certificate.specs.Body.{Fail, Level, Body, Best, NoOrder, Cert}
+use Rattle.certificate.specs.Spelling.{head_text}
+use Rattle.certificate.specs.declared.version.CertVersion.{CertVersion}
+use Rattle.certificate.specs.declared.version.CertVersion.TheVariants.{First, Second}
 use Rattle.lines.specs.Lines.{parts}
 use Rattle.lines.specs.Words.{words, number_in}
 use Rattle.lines.specs.declared.place.Place.{Place}
-use Rattle.certificate.specs.Words.{chain_in}
+use Rattle.certificate.specs.Words.{fail_in}
 use Rattle.certificate.specs.declared.fault.CertFault.{CertFault}
 use Rattle.certificate.specs.declared.fault.CertFault.TheVariants.{BadHead, BadLine, Truncated, Trailing, OutOfMemory}
 
@@ -51,18 +54,18 @@ abbrev pub line_at : At → Result (List ℕ × At) CertFault
 line_at a = line_from a.parts a.line
 
 -- the next line as a member
-unfoldable pub member_at : At → Result (Chain × At) CertFault
-member_at a = do
+unfoldable pub member_at : CertVersion → At → Result (Fail × At) CertFault
+member_at v a = do
   x ← line_at a
-  c ← wanted a.line (chain_in (codes "member") (words x.0))
+  c ← wanted a.line (fail_in v (codes "member") (words x.0))
   Ok (c, x.1)
 
 -- the next n lines as members
-unfoldable pub members_at : ℕ → At → Result (List Chain × At) CertFault
-members_at zero a = Ok ([], a)
-members_at (suc n) a = do
-  first ← member_at a
-  others ← members_at n first.1
+unfoldable pub members_at : CertVersion → ℕ → At → Result (List Fail × At) CertFault
+members_at v zero a = Ok ([], a)
+members_at v (suc n) a = do
+  first ← member_at v a
+  others ← members_at v n first.1
   Ok (first.0 ∷ others.0, others.1)
 
 -- no byte is left
@@ -109,58 +112,75 @@ level_in k (w ∷ m ∷ name ∷ n ∷ []) =
 level_in k (w ∷ m ∷ name ∷ n ∷ x ∷ xs) = None
 
 -- one failure more, or the end of them
-abbrev pub fails_case : Option Chain → At → List Chain × At → List Chain × At
+abbrev pub fails_case : Option Fail → At → List Fail × At → List Fail × At
 fails_case None here rest = ([], here)
 fails_case (Some c) here rest = (c ∷ rest.0, rest.1)
 
 -- the lines of failures at the front, and what follows them
-unfoldable pub fails_from : List (List ℕ) → ℕ → List Chain × At
-fails_from [] line = ([], record { parts = []; line = line })
-fails_from (l ∷ []) line = ([], record { parts = l ∷ []; line = line })
-fails_from (l ∷ x ∷ xs) line =
-    fails_case (chain_in (codes "fails") (words l))
-    (record { parts = l ∷ x ∷ xs; line = line }) (fails_from (x ∷ xs) (line + 1))
+unfoldable pub fails_from : CertVersion → List (List ℕ) → ℕ → List Fail × At
+fails_from v [] line = ([], record { parts = []; line = line })
+fails_from v (l ∷ []) line = ([], record { parts = l ∷ []; line = line })
+fails_from v (l ∷ x ∷ xs) line =
+    fails_case (fail_in v (codes "fails") (words l))
+    (record { parts = l ∷ x ∷ xs; line = line }) (fails_from v (x ∷ xs) (line + 1))
 
 -- the next lines as level k with its failures
-unfoldable pub level_at : ℕ → At → Result (Level × At) CertFault
-level_at k a = do
+unfoldable pub level_at : CertVersion → ℕ → At → Result (Level × At) CertFault
+level_at v k a = do
   x ← line_at a
   h ← wanted a.line (level_in k (words x.0))
-  Ok (record { name = h.0; time = h.1; fails = (fails_from x.1.parts x.1.line).0 }, (fails_from x.1.parts x.1.line).1)
+  Ok (record { name = h.0; time = h.1; fails = (fails_from v x.1.parts x.1.line).0 }, (fails_from v x.1.parts x.1.line).1)
 
 -- n levels, of which the first has the number k
-unfoldable pub levels_at : ℕ → ℕ → At → Result (List Level × At) CertFault
-levels_at zero k a = Ok ([], a)
-levels_at (suc n) k a = do
-  first ← level_at k a
-  others ← levels_at n (k + 1) first.1
+unfoldable pub levels_at : CertVersion → ℕ → ℕ → At → Result (List Level × At) CertFault
+levels_at v zero k a = Ok ([], a)
+levels_at v (suc n) k a = do
+  first ← level_at v k a
+  others ← levels_at v n (k + 1) first.1
   Ok (first.0 ∷ others.0, others.1)
 
 -- the next lines as n levels
-unfoldable pub best_of : ℕ → At → Result Body CertFault
-best_of n a = do
-  ls ← levels_at n 1 a
+unfoldable pub best_of : CertVersion → ℕ → At → Result Body CertFault
+best_of v n a = do
+  ls ← levels_at v n 1 a
   end ← end_at ls.1
   Ok (Best ls.0)
 
 -- the next lines as n members
-unfoldable pub members_of : ℕ → At → Result Body CertFault
-members_of n a = do
-  ms ← members_at n a
+unfoldable pub members_of : CertVersion → ℕ → At → Result Body CertFault
+members_of v n a = do
+  ms ← members_at v n a
   end ← end_at ms.1
   Ok (NoOrder ms.0)
 
 -- the rest as levels or as members, by the count that was read
-abbrev pub body_case : Option ℕ → Option ℕ → At → Result Body CertFault
-body_case (Some n) other a = best_of n a
-body_case None (Some n) a = members_of n a
-body_case None None a = Err (BadLine 2)
+abbrev pub body_case : CertVersion → Option ℕ → Option ℕ → At → Result Body CertFault
+body_case v (Some n) other a = best_of v n a
+body_case v None (Some n) a = members_of v n a
+body_case v None None a = Err (BadLine 2)
+
+-- what follows the first line
+unfoldable pub body_at : CertVersion → At → Result Body CertFault
+body_at v a = do
+  second ← line_at a
+  body_case v (count_in (codes "best") (words second.0)) (count_in (codes "none") (words second.0)) second.1
+
+-- the version that a first line names
+abbrev pub version_in : List ℕ → Option CertVersion
+version_in head =
+    if bytes_eq head (head_text First) then Some First
+    else if bytes_eq head (head_text Second) then Some Second
+    else None
+
+-- the certificate that follows a first line
+abbrev pub versioned : Option CertVersion → At → Result Cert CertFault
+versioned None a = Err BadHead
+versioned (Some v) a = do
+  body ← body_at v a
+  Ok (record { version = v; body = body })
 
 -- the certificate that the bytes are, or the first fault
-unfoldable pub certificate_in : List ℕ → Result Body CertFault
+unfoldable pub certificate_in : List ℕ → Result Cert CertFault
 certificate_in bytes = do
   head ← line_at (record { parts = parts bytes; line = 1 })
-  if bytes_eq head.0 (codes "desk-certificate 1") then (do
-    second ← line_at head.1
-    body_case (count_in (codes "best") (words second.0)) (count_in (codes "none") (words second.0)) second.1
-    ) else Err BadHead
+  versioned (version_in head.0) head.1

@@ -2,19 +2,26 @@
 use Rattle.std.specs.Prelude.{ℕ, ◌+◌, List, [], ◌∷◌, ◌++◌, length, codes}
 use Rattle.std.specs.List.{flat_map}
 use Rattle.std.specs.Fmt.{decimal}
-use Rattle.certificate.specs.Body.{Chain, Level, Body, Best, NoOrder}
+use Rattle.certificate.specs.Body.{Reason, Chain, Over, Fail, Level, Body, Best, NoOrder, Cert}
+use Rattle.certificate.specs.declared.version.CertVersion.{CertVersion}
+use Rattle.certificate.specs.declared.version.CertVersion.TheVariants.{First, Second}
 
 -- each number after a space
 abbrev pub numbers_text : List ℕ → List ℕ
 numbers_text ns = flat_map (λ n. 32 ∷ decimal n) ns
 
--- a line of a word, a name and numbers
-abbrev pub chain_line : List ℕ → Chain → List ℕ
-chain_line word c = word ++ 32 ∷ c.name ++ numbers_text c.numbers ++ 10 ∷ []
+-- a reason behind a name: its numbers, or `over` and the other task's name
+abbrev pub reason_text : Reason → List ℕ
+reason_text (Chain numbers) = numbers_text numbers
+reason_text (Over other) = codes " over " ++ other
 
--- a line for each chain
-abbrev pub chain_lines : List ℕ → List Chain → List ℕ
-chain_lines word cs = flat_map (chain_line word) cs
+-- a line of a word, a name and a reason
+abbrev pub fail_line : List ℕ → Fail → List ℕ
+fail_line word f = word ++ 32 ∷ f.name ++ reason_text f.reason ++ 10 ∷ []
+
+-- a line for each failure
+abbrev pub fail_lines : List ℕ → List Fail → List ℕ
+fail_lines word fs = flat_map (fail_line word) fs
 
 -- the line of level k
 abbrev pub level_line : ℕ → Level → List ℕ
@@ -23,19 +30,27 @@ level_line k l = codes "level " ++ decimal k ++ 32 ∷ l.name ++ 32 ∷ decimal 
 -- the levels from k up
 abbrev pub level_lines : ℕ → List Level → List ℕ
 level_lines k [] = []
-level_lines k (l ∷ ls) = level_line k l ++ (chain_lines (codes "fails") l.fails ++ level_lines (k + 1) ls)
+level_lines k (l ∷ ls) = level_line k l ++ (fail_lines (codes "fails") l.fails ++ level_lines (k + 1) ls)
+
+-- the first line without its end
+abbrev pub head_text : CertVersion → List ℕ
+head_text First = codes "desk-certificate 1"
+head_text Second = codes "desk-certificate 2"
 
 -- the first line
-abbrev pub head_line : List ℕ
-head_line = codes "desk-certificate 1\n"
+abbrev pub head_line : CertVersion → List ℕ
+head_line v = head_text v ++ 10 ∷ []
 
 -- a line of a word and a count
 abbrev pub count_line : List ℕ → ℕ → List ℕ
 count_line word n = word ++ 32 ∷ decimal n ++ 10 ∷ []
 
+-- what follows the first line
+abbrev pub body_text : Body → List ℕ
+body_text (Best levels) = count_line (codes "best") (length levels) ++ (level_lines 1 levels ++ codes "end\n")
+body_text (NoOrder members) =
+    count_line (codes "none") (length members) ++ (fail_lines (codes "member") members ++ codes "end\n")
+
 -- the bytes of a certificate
-abbrev pub spelling : Body → List ℕ
-spelling (Best levels) =
-    head_line ++ (count_line (codes "best") (length levels) ++ (level_lines 1 levels ++ codes "end\n"))
-spelling (NoOrder members) =
-    head_line ++ (count_line (codes "none") (length members) ++ (chain_lines (codes "member") members ++ codes "end\n"))
+abbrev pub spelling : Cert → List ℕ
+spelling c = head_line c.version ++ body_text c.body

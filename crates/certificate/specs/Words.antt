@@ -1,9 +1,14 @@
--- What the words of a line with a chain say.
-use Rattle.std.specs.Prelude.{ℕ, List, [], ◌∷◌, ◌++◌, ◌&&◌, bytes_eq, Option, Some, None, if◌then◌else◌}
+-- What the words of a line with a failure say.
+use Rattle.std.specs.Prelude.{ℕ, List, [], ◌∷◌, ◌++◌, ◌&&◌, bytes_eq, codes, Option, Some, None, option_map, if◌then◌else◌}
+use Rattle.std.specs.Option.{option_or}
 use Rattle.std.specs.Global.{Vec}
 use Rattle.task_sheet.specs.Name.{is_name}
 use Rattle.lines.specs.Words.{number_in}
-use Rattle.certificate.specs.Body.{Chain}
+use Rattle.certificate.specs.Body.{Reason, Chain, Over, Fail}
+use Rattle.certificate.specs.ReasonOf.{reason_of}
+use Rattle.certificate.specs.declared.value.CertReason.{CertReason}
+use Rattle.certificate.specs.declared.version.CertVersion.{CertVersion}
+use Rattle.certificate.specs.declared.version.CertVersion.TheVariants.{First, Second}
 
 infixl 10 ◌>>=◌
 -- goes on where there is a value
@@ -19,14 +24,30 @@ numbers_in (w ∷ ws) = do
   ns ← numbers_in ws
   Some (n ∷ ns)
 
--- the word, a name, and a number or more
-unfoldable pub chain_in : List ℕ → List (List ℕ) → Option Chain
-chain_in word [] = None
-chain_in word (w ∷ []) = None
-chain_in word (w ∷ name ∷ []) = None
-chain_in word (w ∷ name ∷ n ∷ ns) =
+-- the word `over` and a name
+abbrev pub over_in : List (List ℕ) → Option Reason
+over_in [] = None
+over_in (w ∷ []) = None
+over_in (w ∷ name ∷ []) = if bytes_eq w (codes "over") && is_name name then Some (Over name) else None
+over_in (w ∷ name ∷ x ∷ xs) = None
+
+-- the same, from version 2 on
+abbrev pub later_in : CertVersion → List (List ℕ) → Option Reason
+later_in First ws = None
+later_in Second ws = over_in ws
+
+-- numbers, or what a later version allows in their place
+unfoldable pub reason_in : CertVersion → List (List ℕ) → Option Reason
+reason_in v ws = option_or (option_map Chain (numbers_in ws)) (later_in v ws)
+
+-- the word, a name, and a reason
+unfoldable pub fail_in : CertVersion → List ℕ → List (List ℕ) → Option Fail
+fail_in v word [] = None
+fail_in v word (w ∷ []) = None
+fail_in v word (w ∷ name ∷ []) = None
+fail_in v word (w ∷ name ∷ n ∷ ns) =
     if bytes_eq w word && is_name name then
-    (numbers_in (n ∷ ns) >>= λ numbers. Some (record { name = name; numbers = numbers })) else None
+    (reason_in v (n ∷ ns) >>= λ reason. Some (record { name = name; reason = reason })) else None
 
 -- the items of a vector, if there is one
 abbrev pub found : Option (Vec ℕ) → Option (List ℕ)
@@ -37,3 +58,8 @@ found (Some v) = Some v.items
 abbrev pub before : List ℕ → Option (List ℕ) → Option (List ℕ)
 before front None = None
 before front (Some ns) = Some (front ++ ns)
+
+-- what a reason says, if there is one
+abbrev pub told : Option CertReason → Option Reason
+told None = None
+told (Some r) = Some (reason_of r)

@@ -1,13 +1,14 @@
 //! A whole certificate.
 ghost use Rattle.std.specs.Prelude.{◌≡◌, ◌≤◌, ℕ, Option, Ok};
-ghost use Rattle.certificate.specs.Body.{Body};
+ghost use Rattle.certificate.specs.Body.{Body, Cert};
 ghost use Rattle.certificate.specs.BodyOf.{body_of};
-ghost use Rattle.certificate.specs.Lines.{Gives, at_place, best_of, members_of, body_case, certificate_in};
+ghost use Rattle.certificate.specs.Lines.{Gives, at_place, best_of, members_of, body_case, body_at, version_in, certificate_in};
 
 use crate::fault::CertFault;
 use crate::levels::levels;
 use crate::reading::{count_of, end, is_word, members, next_line};
-use crate::value::{CertChain, CertLevel};
+use crate::value::{CertFail, CertLevel};
+use crate::version::CertVersion;
 use lines::Place;
 use std::alloc::Global;
 
@@ -16,46 +17,79 @@ use std::alloc::Global;
 pub enum CertBody {
     /// The levels of an order, the lowest first.
     Best(Vec<CertLevel>),
-    /// The members of a set of which none passes below the others.
-    NoOrder(Vec<CertChain>),
+    /// The members of a set of which none may stand below the others.
+    NoOrder(Vec<CertFail>),
 }
 
 // The rest as levels, and the last line.
 #[tactic(auto, unfolding(crate::specs::Lines::best_of))]
-fn best_of<'a>(alloc: Global, count: u64, at: Place<'a>) -> Result<CertBody, CertFault>
+fn best_of<'a>(
+    alloc: Global,
+    version: CertVersion,
+    count: u64,
+    at: Place<'a>,
+) -> Result<CertBody, CertFault>
     requires { count ≤ 32 }
-    ensures { Gives body_of result (best_of count (at_place at.entry)) }
+    ensures { Gives body_of result (best_of version count (at_place at.entry)) }
 {
-    let (levels, after) = levels(alloc, count, at)?;
+    let (levels, after) = levels(alloc, version, count, at)?;
     end(after)?;
     Ok(CertBody::Best(levels))
 }
 
 // The rest as members, and the last line.
 #[tactic(auto, unfolding(crate::specs::Lines::members_of))]
-fn members_of<'a>(alloc: Global, count: u64, at: Place<'a>) -> Result<CertBody, CertFault>
-    ensures { Gives body_of result (members_of count (at_place at.entry)) }
+fn members_of<'a>(
+    alloc: Global,
+    version: CertVersion,
+    count: u64,
+    at: Place<'a>,
+) -> Result<CertBody, CertFault>
+    ensures { Gives body_of result (members_of version count (at_place at.entry)) }
 {
-    let (members, after) = members(alloc, count, at)?;
+    let (members, after) = members(alloc, version, count, at)?;
     end(after)?;
     Ok(CertBody::NoOrder(members))
 }
 
-/// What the certificate that the bytes are says, or the first fault.
-#[tactic(auto, unfolding(crate::specs::Lines::certificate_in))]
-pub fn certificate_in(alloc: Global, bytes: &[u8]) -> Result<CertBody, CertFault>
-    ensures { Gives body_of result (certificate_in bytes.now) }
+// What follows the first line.
+#[tactic(auto, unfolding(crate::specs::Lines::body_at))]
+fn body_at<'a>(alloc: Global, version: CertVersion, at: Place<'a>) -> Result<CertBody, CertFault>
+    ensures { Gives body_of result (body_at version (at_place at.entry)) }
 {
-    let (head, after) = next_line(Place::start(bytes))?;
-    if !is_word(head, b"desk-certificate 1") {
-        return Err(CertFault::BadHead);
-    }
-    let (second, after) = next_line(after)?;
+    let (second, after) = next_line(at)?;
     if let Some(count) = count_of(b"best", second) {
-        return best_of(alloc, count, after);
+        return best_of(alloc, version, count, after);
     }
     if let Some(count) = count_of(b"none", second) {
-        return members_of(alloc, count, after);
+        return members_of(alloc, version, count, after);
     }
     Err(CertFault::BadLine { line: 2 })
+}
+
+// The version that a first line names.
+fn version_in(head: &[u8]) -> Option<CertVersion>
+    ensures { result ≡ version_in head.now }
+{
+    if is_word(head, b"desk-certificate 1") {
+        Some(CertVersion::First)
+    } else if is_word(head, b"desk-certificate 2") {
+        Some(CertVersion::Second)
+    } else {
+        None
+    }
+}
+
+/// The certificate that the bytes are, or the first fault.
+#[tactic(auto, unfolding(crate::specs::Lines::certificate_in))]
+pub fn certificate_in(alloc: Global, bytes: &[u8]) -> Result<(CertVersion, CertBody), CertFault>
+    ensures { Gives (λ x. let c : Cert = record { version = x.0; body = body_of x.1 } in c)
+        result (certificate_in bytes.now) }
+{
+    let (head, after) = next_line(Place::start(bytes))?;
+    let Some(version) = version_in(head) else {
+        return Err(CertFault::BadHead);
+    };
+    let body = body_at(alloc, version, after)?;
+    Ok((version, body))
 }

@@ -1,7 +1,7 @@
 //! Certificates.
 ghost use Rattle.std.specs.Prelude.{◌≡◌, ◌++◌, true, Ok, IfOk, OnOk, OnErr};
 ghost use Rattle.std.specs.Io.KnownBytes.{Appends};
-ghost use Rattle.certificate.specs.Body.{Body, HasSpelling};
+ghost use Rattle.certificate.specs.Body.{Cert, HasSpelling};
 ghost use Rattle.certificate.specs.BodyOf.{body_of};
 ghost use Rattle.certificate.specs.CertificateOf.{certificate_of};
 ghost use Rattle.assignment.specs.Verdict.{set_of, verdict_of};
@@ -11,7 +11,8 @@ ghost use Rattle.certificate.specs.Lines.{Gives, certificate_in};
 use crate::body::{CertBody, certificate_in};
 use crate::fault::CertFault;
 use crate::naming::body_of;
-use crate::writing::put_body;
+use crate::version::{CertVersion, version_for};
+use crate::writing::put_certificate;
 use assignment::Verdict;
 use std::alloc::{AllocError, Global};
 use std::io::Write;
@@ -21,33 +22,46 @@ use streams::{Held, Watched, WriteFailed};
 /// Reasons for a verdict, which anybody can check against the set: `of` and `read` alone make them.
 #[derive(Drop)]
 pub struct Certificate {
+    version: CertVersion,
     body: CertBody,
 }
 
 impl Model for Certificate {
-    ghost use Rattle.certificate.specs.Body.{Body};
+    ghost use Rattle.certificate.specs.Body.{Cert};
 
-    ghost Value = { Body };
+    ghost Value = { Cert };
 
-    ghost use Rattle.certificate.specs.Fields.{body_in, IsKept};
+    ghost use Rattle.certificate.specs.Fields.{cert_in, IsKept};
 
-    ghost view = { body_in };
+    ghost view = { cert_in };
 
     ghost invariant = { IsKept };
 }
 
 impl Certificate {
-    /// The certificate of a verdict: its numbers, with the names of the tasks. The error is want of memory.
+    /// The certificate of a verdict: its numbers and reasons, with the names of the tasks, of the version that serves the
+    /// set. The error is want of memory.
     pub fn of(alloc: Global, verdict: &Verdict) -> Result<Certificate, AllocError>
         ensures { IfOk result (λ c. c ≡ certificate_of (set_of verdict.now) (verdict_of verdict.now)) }
     {
+        let set = verdict.set();
+        // Its contract says that the set is one of at most 32 valid sheets.
+        let _sheets = set.sheets();
         let body = body_of(alloc, verdict)?;
-        Ok(Certificate { body })
+        let version = version_for(set);
+        Ok(Certificate { version, body })
+    }
+
+    /// The version of the certificate.
+    pub fn version(&self) -> CertVersion
+        ensures { result ≡ self.now.version }
+    {
+        self.version
     }
 
     /// What the certificate says.
     pub fn body(&self) -> &CertBody
-        ensures same { body_of result.now ≡ self.now }
+        ensures same { body_of result.now ≡ self.now.body }
         ensures spelled { HasSpelling self.now }
     {
         &self.body
@@ -62,7 +76,7 @@ impl Certificate {
         ensures failed { OnErr result (out.new.has_failed ≡ true) }
     {
         let mut held = Held::new();
-        put_body(&self.body, &mut held, out)?;
+        put_certificate(self.version, &self.body, &mut held, out)?;
         held.send(out)
     }
 }
@@ -71,11 +85,11 @@ impl Certificate {
 /// or want of memory.
 pub fn read(alloc: Global, bytes: &[u8]) -> Result<Certificate, CertFault>
     ensures found { IfOk result (λ c. (bytes.now ≡ spelling c) × HasSpelling c) }
-    ensures only { (c : Body) → HasSpelling c → bytes.now ≡ spelling c → Gives (λ x. x) result (Ok c) }
+    ensures only { (c : Cert) → HasSpelling c → bytes.now ≡ spelling c → Gives (λ x. x) result (Ok c) }
     ensures exact { Gives (λ c. c) result (certificate_in bytes.now) }
 {
     match certificate_in(alloc, bytes) {
-        Ok(body) => Ok(Certificate { body }),
+        Ok((version, body)) => Ok(Certificate { version, body }),
         Err(fault) => Err(fault),
     }
 }

@@ -1,20 +1,26 @@
 //! Reading levels.
 ghost use Rattle.std.specs.Prelude.{◌≡◌, ◌+◌, ◌<◌, ◌≤◌, ◌^◌, ℕ, Ok, IfOk, length};
-ghost use Rattle.certificate.specs.Body.{Chain, Level, Body};
+ghost use Rattle.certificate.specs.Body.{Fail, Level, Body};
 ghost use Rattle.lines.specs.Words.{words};
 ghost use Rattle.certificate.specs.Lines.{Gives, at_place, level_in, level_of, fails_from, level_at, levels_at};
 
 use crate::fault::CertFault;
 use crate::reading::{is_word, next_line};
-use crate::value::{CertChain, CertLevel};
-use crate::words::chain_of;
+use crate::value::{CertFail, CertLevel};
+use crate::version::CertVersion;
+use crate::words::fail_of;
 use lines::{Place, complete_line, cut, number_of};
 use std::alloc::{AllocError, Global};
 use task_sheet::Name;
 
-// The chains of the lines `fails` that come next, and the place behind them.
-fn fails<'a>(alloc: Global, at: Place<'a>) -> Result<(Vec<CertChain>, Place<'a>), AllocError>
-    ensures { IfOk result (λ x. (x.0.items, at_place x.1) ≡ fails_from (at_place at.entry).parts at.entry.line) }
+// The failures of the lines `fails` that come next, and the place behind them.
+fn fails<'a>(
+    alloc: Global,
+    version: CertVersion,
+    at: Place<'a>,
+) -> Result<(Vec<CertFail>, Place<'a>), AllocError>
+    ensures { IfOk result (λ x. (x.0.items, at_place x.1)
+        ≡ fails_from version (at_place at.entry).parts at.entry.line) }
 {
     let mut fails = Vec::new(alloc);
     let mut at = at;
@@ -22,10 +28,10 @@ fn fails<'a>(alloc: Global, at: Place<'a>) -> Result<(Vec<CertChain>, Place<'a>)
         let Some((line, after)) = complete_line(at) else {
             return Ok((fails, at));
         };
-        let Some(chain) = chain_of(alloc, b"fails", line)? else {
+        let Some(fail) = fail_of(alloc, version, b"fails", line)? else {
             return Ok((fails, at));
         };
-        fails.push(chain)?;
+        fails.push(fail)?;
         at = after;
     }
 }
@@ -59,30 +65,36 @@ fn level_in(k: u64, line: &[u8]) -> Option<(Name, u64)>
 
 // The next lines as level `k` with its failures, and the place behind them.
 #[tactic(auto, unfolding(crate::specs::Lines::level_at))]
-fn level<'a>(alloc: Global, k: u64, at: Place<'a>) -> Result<(CertLevel, Place<'a>), CertFault>
-    ensures { Gives (λ x. (x.0, at_place x.1)) result (level_at k (at_place at.entry)) }
+fn level<'a>(
+    alloc: Global,
+    version: CertVersion,
+    k: u64,
+    at: Place<'a>,
+) -> Result<(CertLevel, Place<'a>), CertFault>
+    ensures { Gives (λ x. (x.0, at_place x.1)) result (level_at version k (at_place at.entry)) }
 {
     let (line, after) = next_line(at)?;
     let Some((name, t)) = level_in(k, line) else {
         return Err(CertFault::BadLine { line: at.line });
     };
-    let (fails, after) = fails(alloc, after)?;
+    let (fails, after) = fails(alloc, version, after)?;
     Ok((CertLevel { name, t, fails }, after))
 }
 
 /// The next lines as `count` levels, and the place behind them.
 pub fn levels<'a>(
     alloc: Global,
+    version: CertVersion,
     count: u64,
     at: Place<'a>,
 ) -> Result<(Vec<CertLevel>, Place<'a>), CertFault>
     requires { count ≤ 32 }
-    ensures { Gives (λ x. (x.0.items, at_place x.1)) result (levels_at count 1 (at_place at.entry)) }
+    ensures { Gives (λ x. (x.0.items, at_place x.1)) result (levels_at version count 1 (at_place at.entry)) }
 {
     let mut levels = Vec::new(alloc);
     let mut at = at;
     for i in 0..count {
-        let (level, after) = level(alloc, i + 1, at)?;
+        let (level, after) = level(alloc, version, i + 1, at)?;
         levels.push(level)?;
         at = after;
     }

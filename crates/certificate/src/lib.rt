@@ -10,10 +10,12 @@ mod levels;
 mod naming;
 mod reading;
 mod value;
+mod version;
 mod words;
 mod writing;
 
 pub use body::CertBody;
 pub use certificate::{Certificate, read};
 pub use fault::CertFault;
-pub use value::{CertChain, CertLevel};
+pub use value::{CertFail, CertLevel, CertReason};
+pub use version::{CertVersion, version_for};

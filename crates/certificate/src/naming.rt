@@ -1,54 +1,67 @@
 //! The certificate of a verdict.
 ghost use Rattle.std.specs.Prelude.{◌≡◌, ◌<◌, length, All, IfOk};
 ghost use Rattle.task_sheet.specs.Verdicts.{FailureData};
+ghost use Rattle.assignment.specs.Outcomes.{reason_of};
+ghost use Rattle.certificate.specs.ReasonOf as cert;
 ghost use Rattle.assignment.specs.Verdict.{set_of, verdict_of};
-ghost use Rattle.certificate.specs.Body.{Best, NoOrder, HasSpelling};
 ghost use Rattle.certificate.specs.BodyOf.{body_of};
-ghost use Rattle.certificate.specs.CertificateOf.{chain_named, chains_named, level_named, levels_named, certificate_of, IsKnownLevel};
+ghost use Rattle.certificate.specs.CertificateOf.{reason_named, fail_named, fails_named, level_named, levels_named, body_named, IsKnownReason, IsKnownFail, IsKnownLevel};
 
 use crate::body::CertBody;
-use crate::value::{CertChain, CertLevel};
-use assignment::{Assignment, Failure, LevelRecord, Obstruction, Verdict};
+use crate::value::{CertFail, CertLevel, CertReason};
+use assignment::{Assignment, Failure, LevelRecord, Obstruction, Reason, Verdict};
 use std::alloc::{AllocError, Global};
 use task_sheet::TaskSet;
 
-// A failure's numbers, with the name of its task.
-fn chain_named(alloc: Global, set: &TaskSet, failure: &Failure) -> Result<CertChain, AllocError>
-    requires { failure.now.task < length set.now }
-    ensures { IfOk result (λ c. c ≡ chain_named set.now failure.now) }
+// A reason, with the name of the other task.
+fn reason_named(alloc: Global, set: &TaskSet, reason: &Reason) -> Result<CertReason, AllocError>
+    requires { IsKnownReason (length set.now) (reason_of reason.now) }
+    ensures { IfOk result (λ r. cert.reason_of r ≡ reason_named set.now (reason_of reason.now)) }
+{
+    match reason {
+        Reason::Chain(numbers) => Ok(CertReason::Chain(Vec::from_slice(alloc, numbers)?)),
+        Reason::Over(other) => Ok(CertReason::Over(set.sheets()[*other].name())),
+    }
+}
+
+// A failure, with the names of its tasks.
+fn fail_named(alloc: Global, set: &TaskSet, failure: &Failure) -> Result<CertFail, AllocError>
+    requires { IsKnownFail (length set.now) failure.now }
+    ensures { IfOk result (λ f. f ≡ fail_named set.now failure.now) }
 {
     let sheets = set.sheets();
     let name = sheets[failure.task].name();
-    let numbers = Vec::from_slice(alloc, &failure.chain)?;
-    Ok(CertChain { name, numbers })
+    let reason = reason_named(alloc, set, &failure.reason)?;
+    Ok(CertFail { name, reason })
 }
 
-// Failures' numbers, with the names of their tasks.
-fn chains_named(
+// Failures, with the names of their tasks.
+fn fails_named(
     alloc: Global,
     set: &TaskSet,
     failures: &[Failure],
-) -> Result<Vec<CertChain>, AllocError>
-    requires { All (λ (f : FailureData). f.task < length set.now) failures.now }
-    ensures { IfOk result (λ v. v.items ≡ chains_named set.now failures.now) }
+) -> Result<Vec<CertFail>, AllocError>
+    requires { All (IsKnownFail (length set.now)) failures.now }
+    ensures { IfOk result (λ v. v.items ≡ fails_named set.now failures.now) }
 {
-    let mut chains = Vec::new(alloc);
+    let mut fails = Vec::new(alloc);
     for failure in failures {
-        let chain = chain_named(alloc, set, failure)?;
-        chains.push(chain)?;
+        let fail = fail_named(alloc, set, failure)?;
+        fails.push(fail)?;
     }
-    Ok(chains)
+    Ok(fails)
 }
 
-// A level's numbers, with the names of its tasks.
+// A level's numbers, with the names of its tasks: its time is the response past the task's jitter.
 fn level_named(alloc: Global, set: &TaskSet, level: &LevelRecord) -> Result<CertLevel, AllocError>
-    requires { IsKnownLevel (length set.now) level.now }
+    requires { IsKnownLevel set.now level.now }
     ensures { IfOk result (λ l. l ≡ level_named set.now level.now) }
 {
     let sheets = set.sheets();
-    let name = sheets[level.task].name();
-    let t = level.response;
-    let fails = chains_named(alloc, set, &level.fails)?;
+    let sheet = &sheets[level.task];
+    let name = sheet.name();
+    let t = level.response - sheet.jitter();
+    let fails = fails_named(alloc, set, &level.fails)?;
     Ok(CertLevel { name, t, fails })
 }
 
@@ -58,7 +71,7 @@ fn levels_named(
     set: &TaskSet,
     levels: &[LevelRecord],
 ) -> Result<Vec<CertLevel>, AllocError>
-    requires { All (IsKnownLevel (length set.now)) levels.now }
+    requires { All (IsKnownLevel set.now) levels.now }
     ensures { IfOk result (λ v. v.items ≡ levels_named set.now levels.now) }
 {
     let mut named = Vec::new(alloc);
@@ -71,8 +84,7 @@ fn levels_named(
 
 // The levels of the best order.
 fn best_named(alloc: Global, best: &Assignment) -> Result<Vec<CertLevel>, AllocError>
-    ensures same { IfOk result (λ v. v.items ≡ levels_named best.now.set best.now.levels) }
-    ensures spelled { HasSpelling (Best (levels_named best.now.set best.now.levels)) }
+    ensures { IfOk result (λ v. v.items ≡ levels_named best.now.set best.now.levels) }
 {
     let set = best.set();
     // Its contract says that the set is one of at most 32 valid sheets.
@@ -81,20 +93,18 @@ fn best_named(alloc: Global, best: &Assignment) -> Result<Vec<CertLevel>, AllocE
 }
 
 // The members of the greatest obstruction.
-fn stuck_named(alloc: Global, stuck: &Obstruction) -> Result<Vec<CertChain>, AllocError>
-    ensures same { IfOk result (λ v. v.items ≡ chains_named stuck.now.set stuck.now.members) }
-    ensures spelled { HasSpelling (NoOrder (chains_named stuck.now.set stuck.now.members)) }
+fn stuck_named(alloc: Global, stuck: &Obstruction) -> Result<Vec<CertFail>, AllocError>
+    ensures { IfOk result (λ v. v.items ≡ fails_named stuck.now.set stuck.now.members) }
 {
     let set = stuck.set();
     // Its contract says that the set is one of at most 32 valid sheets.
     let _sheets = set.sheets();
-    chains_named(alloc, set, stuck.members())
+    fails_named(alloc, set, stuck.members())
 }
 
 /// What the certificate of a verdict says.
 pub fn body_of(alloc: Global, verdict: &Verdict) -> Result<CertBody, AllocError>
-    ensures same { IfOk result (λ body. body_of body ≡ certificate_of (set_of verdict.now) (verdict_of verdict.now)) }
-    ensures spelled { HasSpelling (certificate_of (set_of verdict.now) (verdict_of verdict.now)) }
+    ensures { IfOk result (λ body. body_of body ≡ body_named (set_of verdict.now) (verdict_of verdict.now)) }
 {
     match verdict {
         Verdict::Admitted(best) => Ok(CertBody::Best(best_named(alloc, best)?)),

@@ -1,12 +1,13 @@
 //! Reading line after line.
 ghost use Rattle.std.specs.Prelude.{◌≡◌, ◌<◌, ◌≤◌, IfOk, IfSome, length, bytes_eq};
-ghost use Rattle.certificate.specs.Body.{Chain};
+ghost use Rattle.certificate.specs.Body.{Fail};
 ghost use Rattle.lines.specs.Words.{words};
 ghost use Rattle.certificate.specs.Lines.{Gives, at_place, line_at, member_at, members_at, end_at, count_in, few};
 
 use crate::fault::CertFault;
-use crate::value::CertChain;
-use crate::words::chain_of;
+use crate::value::CertFail;
+use crate::version::CertVersion;
+use crate::words::fail_of;
 use lines::{Place, complete_line, cut, number_of};
 use std::alloc::Global;
 
@@ -20,29 +21,34 @@ pub fn next_line<'a>(at: Place<'a>) -> Result<(&'a [u8], Place<'a>), CertFault>
 
 // The next line as a member, and the place behind it.
 #[tactic(auto, unfolding(crate::specs::Lines::member_at))]
-fn member<'a>(alloc: Global, at: Place<'a>) -> Result<(CertChain, Place<'a>), CertFault>
-    ensures { Gives (λ x. (x.0, at_place x.1)) result (member_at (at_place at.entry)) }
+fn member<'a>(
+    alloc: Global,
+    version: CertVersion,
+    at: Place<'a>,
+) -> Result<(CertFail, Place<'a>), CertFault>
+    ensures { Gives (λ x. (x.0, at_place x.1)) result (member_at version (at_place at.entry)) }
 {
     let (line, after) = next_line(at)?;
-    match chain_of(alloc, b"member", line)? {
+    match fail_of(alloc, version, b"member", line)? {
         None => Err(CertFault::BadLine { line: at.line }),
-        Some(chain) => Ok((chain, after)),
+        Some(fail) => Ok((fail, after)),
     }
 }
 
 /// The next `count` lines as members, and the place behind them.
 pub fn members<'a>(
     alloc: Global,
+    version: CertVersion,
     count: u64,
     at: Place<'a>,
-) -> Result<(Vec<CertChain>, Place<'a>), CertFault>
-    ensures { Gives (λ x. (x.0.items, at_place x.1)) result (members_at count (at_place at.entry)) }
+) -> Result<(Vec<CertFail>, Place<'a>), CertFault>
+    ensures { Gives (λ x. (x.0.items, at_place x.1)) result (members_at version count (at_place at.entry)) }
 {
     let mut members = Vec::new(alloc);
     let mut at = at;
     for _ in 0..count {
-        let (chain, after) = member(alloc, at)?;
-        members.push(chain)?;
+        let (fail, after) = member(alloc, version, at)?;
+        members.push(fail)?;
         at = after;
     }
     Ok((members, at))

@@ -3,19 +3,29 @@
 use std::marker::Model;
 use task_sheet::Name;
 
-/// Numbers, in microseconds, that show that a task fails.
+/// Why a task fails.
 #[derive(Drop)]
-pub struct CertChain {
-    pub name: Name,
-    pub numbers: Vec<u64>,
+pub enum CertReason {
+    /// Numbers, in microseconds, that show that it doesn't pass.
+    Chain(Vec<u64>),
+    /// It must stand above the task of this name.
+    Over(Name),
 }
 
-impl Model for CertChain {
-    ghost use Rattle.certificate.specs.Body.{Chain};
+/// A task that fails, and why.
+#[derive(Drop)]
+pub struct CertFail {
+    pub name: Name,
+    pub reason: CertReason,
+}
 
-    ghost Value = { Chain };
+impl Model for CertFail {
+    ghost use Rattle.certificate.specs.Body.{Fail};
+    ghost use Rattle.certificate.specs.ReasonOf.{reason_of};
 
-    ghost view = { λ c. record { name = c.name; numbers = c.numbers.items } };
+    ghost Value = { Fail };
+
+    ghost view = { λ f. record { name = f.name; reason = reason_of f.reason } };
 }
 
 /// A level's task, a time that covers its demand, and the tasks that fail there.
@@ -24,7 +34,7 @@ pub struct CertLevel {
     pub name: Name,
     /// In microseconds.
     pub t: u64,
-    pub fails: Vec<CertChain>,
+    pub fails: Vec<CertFail>,
 }
 
 impl Model for CertLevel {

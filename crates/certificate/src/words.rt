@@ -1,9 +1,11 @@
-//! The words of a line with a chain.
-ghost use Rattle.std.specs.Prelude.{◌≡◌, IfOk};
+//! The words of a line with a failure.
+ghost use Rattle.std.specs.Prelude.{◌≡◌, IfOk, option_map};
 ghost use Rattle.lines.specs.Words.{words};
-ghost use Rattle.certificate.specs.Words.{numbers_in, chain_in, found};
+ghost use Rattle.certificate.specs.Words.{numbers_in, over_in, later_in, reason_in, fail_in, found, told};
 
-use crate::value::CertChain;
+use crate::reading::is_word;
+use crate::value::{CertFail, CertReason};
+use crate::version::CertVersion;
 use lines::{cut, number_of};
 use std::alloc::{AllocError, Global};
 use task_sheet::Name;
@@ -28,9 +30,54 @@ pub fn numbers_of(alloc: Global, text: &[u8]) -> Result<Option<Vec<u64>>, AllocE
     Ok(Some(numbers))
 }
 
-/// The chain of a line of this word, a name and numbers.
-pub fn chain_of(alloc: Global, word: &[u8], line: &[u8]) -> Result<Option<CertChain>, AllocError>
-    ensures { IfOk result (λ o. o ≡ chain_in word.now (words line.now)) }
+// The reason of the word `over` and a name.
+fn over_of(text: &[u8]) -> Option<CertReason>
+    ensures { told result ≡ over_in (words text.now) }
+{
+    let (word, rest) = cut(text, b' ')?;
+    match cut(rest, b' ') {
+        Some((_name, _more)) => None,
+        None if is_word(word, b"over") => match Name::read(rest) {
+            Ok(other) => Some(CertReason::Over(other)),
+            Err(_) => None,
+        },
+        None => None,
+    }
+}
+
+// The reason that a later version than the first allows.
+fn later_of(version: CertVersion, text: &[u8]) -> Option<CertReason>
+    ensures { told result ≡ later_in version (words text.now) }
+{
+    match version {
+        CertVersion::First => None,
+        CertVersion::Second => over_of(text),
+    }
+}
+
+// The reason that words are.
+#[tactic(auto, unfolding(crate::specs::Words::reason_in))]
+fn reason_of(
+    alloc: Global,
+    version: CertVersion,
+    text: &[u8],
+) -> Result<Option<CertReason>, AllocError>
+    ensures { IfOk result (λ o. told o ≡ reason_in version (words text.now)) }
+{
+    match numbers_of(alloc, text)? {
+        Some(numbers) => Ok(Some(CertReason::Chain(numbers))),
+        None => Ok(later_of(version, text)),
+    }
+}
+
+/// The failure of a line of this word, a name and a reason.
+pub fn fail_of(
+    alloc: Global,
+    version: CertVersion,
+    word: &[u8],
+    line: &[u8],
+) -> Result<Option<CertFail>, AllocError>
+    ensures { IfOk result (λ o. o ≡ fail_in version word.now (words line.now)) }
 {
     let Some((first, rest)) = cut(line, b' ') else {
         return Ok(None);
@@ -44,8 +91,8 @@ pub fn chain_of(alloc: Global, word: &[u8], line: &[u8]) -> Result<Option<CertCh
     let Ok(name) = Name::read(name) else {
         return Ok(None);
     };
-    match numbers_of(alloc, rest)? {
+    match reason_of(alloc, version, rest)? {
         None => Ok(None),
-        Some(numbers) => Ok(Some(CertChain { name, numbers })),
+        Some(reason) => Ok(Some(CertFail { name, reason })),
     }
 }

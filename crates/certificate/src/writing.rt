@@ -1,14 +1,17 @@
 //! Writing, piece after piece, through bytes that are held back.
 ghost use Rattle.std.specs.Prelude.{◌≡◌, ◌++◌, ◌∷◌, [], ◌+◌, ◌<◌, ◌≤◌, ◌^◌, length, List, OnOk, OnErr, true, codes};
 ghost use Rattle.std.specs.Fmt.{decimal};
-ghost use Rattle.certificate.specs.Body.{Chain, Level, Body};
+ghost use Rattle.certificate.specs.Body.{Fail, Level, Body};
+ghost use Rattle.certificate.specs.Body.{Cert};
+ghost use Rattle.certificate.specs.ReasonOf.{reason_of};
 ghost use Rattle.certificate.specs.BodyOf.{body_of};
-ghost use Rattle.certificate.specs.Spelling.{numbers_text, chain_line, chain_lines, level_line, level_lines, count_line, spelling};
+ghost use Rattle.certificate.specs.Spelling.{numbers_text, reason_text, fail_line, fail_lines, level_line, level_lines, head_line, count_line, body_text, spelling};
 ghost use Rattle.streams.specs.Sending.{Sends};
 
 use crate::body::CertBody;
 use crate::digits::Digits;
-use crate::value::{CertChain, CertLevel};
+use crate::value::{CertFail, CertLevel, CertReason};
+use crate::version::CertVersion;
 use std::io::Write;
 use streams::{Held, Watched, WriteFailed};
 use task_sheet::Name;
@@ -59,39 +62,59 @@ fn put_numbers<W: Write + Drop>(
     Ok(())
 }
 
-// A line with a chain, behind a word.
-fn put_chain<W: Write + Drop>(
-    word: &[u8],
-    chain: &CertChain,
+// The reason of a failure.
+fn put_reason<W: Write + Drop>(
+    reason: &CertReason,
     held: &mut Held,
     out: &mut Watched<W>,
 ) -> Result<(), WriteFailed>
     ensures sent { OnOk result (Sends (W.contents out.old.inner) held.old
-        (W.contents out.new.inner) held.new (chain_line word.now chain.now)) }
+        (W.contents out.new.inner) held.new (reason_text (reason_of reason.now))) }
+    ensures ok { OnOk result (out.new.has_failed ≡ out.old.has_failed) }
+    ensures failed { OnErr result (out.new.has_failed ≡ true) }
+{
+    match reason {
+        CertReason::Chain(numbers) => put_numbers(numbers, held, out),
+        CertReason::Over(other) => {
+            held.put(b" over ", out)?;
+            put_name(*other, held, out)
+        }
+    }
+}
+
+// A line with a failure, behind a word.
+fn put_fail<W: Write + Drop>(
+    word: &[u8],
+    fail: &CertFail,
+    held: &mut Held,
+    out: &mut Watched<W>,
+) -> Result<(), WriteFailed>
+    ensures sent { OnOk result (Sends (W.contents out.old.inner) held.old
+        (W.contents out.new.inner) held.new (fail_line word.now fail.now)) }
     ensures ok { OnOk result (out.new.has_failed ≡ out.old.has_failed) }
     ensures failed { OnErr result (out.new.has_failed ≡ true) }
 {
     held.put(word, out)?;
     held.put(b" ", out)?;
-    put_name(chain.name, held, out)?;
-    put_numbers(&chain.numbers, held, out)?;
+    put_name(fail.name, held, out)?;
+    put_reason(&fail.reason, held, out)?;
     held.put(b"\n", out)
 }
 
-// A line for each chain, behind a word.
-fn put_chains<W: Write + Drop>(
+// A line for each failure, behind a word.
+fn put_fails<W: Write + Drop>(
     word: &[u8],
-    chains: &[CertChain],
+    fails: &[CertFail],
     held: &mut Held,
     out: &mut Watched<W>,
 ) -> Result<(), WriteFailed>
     ensures sent { OnOk result (Sends (W.contents out.old.inner) held.old
-        (W.contents out.new.inner) held.new (chain_lines word.now chains.now)) }
+        (W.contents out.new.inner) held.new (fail_lines word.now fails.now)) }
     ensures ok { OnOk result (out.new.has_failed ≡ out.old.has_failed) }
     ensures failed { OnErr result (out.new.has_failed ≡ true) }
 {
-    for chain in chains {
-        put_chain(word, chain, held, out)?;
+    for fail in fails {
+        put_fail(word, fail, held, out)?;
     }
     Ok(())
 }
@@ -160,7 +183,7 @@ fn put_levels<W: Write + Drop>(
 {
     for (i, level) in levels.iter().enumerate() {
         put_level((i + 1) as u64, level, held, out)?;
-        put_chains(b"fails", &level.fails, held, out)?;
+        put_fails(b"fails", &level.fails, held, out)?;
     }
     Ok(())
 }
@@ -201,35 +224,67 @@ fn put_best<W: Write + Drop>(
 
 // What follows the head of a `none` certificate.
 fn put_none<W: Write + Drop>(
-    members: &[CertChain],
+    members: &[CertFail],
     held: &mut Held,
     out: &mut Watched<W>,
 ) -> Result<(), WriteFailed>
     ensures sent { OnOk result (Sends (W.contents out.old.inner) held.old (W.contents out.new.inner) held.new
         (count_line (codes "none") (length members.now)
-        ++ (chain_lines (codes "member") members.now ++ codes "end\n"))) }
+        ++ (fail_lines (codes "member") members.now ++ codes "end\n"))) }
     ensures ok { OnOk result (out.new.has_failed ≡ out.old.has_failed) }
     ensures failed { OnErr result (out.new.has_failed ≡ true) }
 {
     put_count(b"none", members.len(), held, out)?;
-    put_chains(b"member", members, held, out)?;
+    put_fails(b"member", members, held, out)?;
     held.put(b"end\n", out)
 }
 
-/// Puts the spelling of a whole certificate.
-pub fn put_body<W: Write + Drop>(
+// What follows the first line.
+fn put_body<W: Write + Drop>(
     body: &CertBody,
     held: &mut Held,
     out: &mut Watched<W>,
 ) -> Result<(), WriteFailed>
     ensures sent { OnOk result
-        (Sends (W.contents out.old.inner) held.old (W.contents out.new.inner) held.new (spelling (body_of body.now))) }
+        (Sends (W.contents out.old.inner) held.old (W.contents out.new.inner) held.new (body_text (body_of body.now))) }
     ensures ok { OnOk result (out.new.has_failed ≡ out.old.has_failed) }
     ensures failed { OnErr result (out.new.has_failed ≡ true) }
 {
-    held.put(b"desk-certificate 1\n", out)?;
     match body {
         CertBody::Best(levels) => put_best(levels, held, out),
         CertBody::NoOrder(members) => put_none(members, held, out),
     }
+}
+
+// The first line.
+fn put_head<W: Write + Drop>(
+    version: CertVersion,
+    held: &mut Held,
+    out: &mut Watched<W>,
+) -> Result<(), WriteFailed>
+    ensures sent { OnOk result
+        (Sends (W.contents out.old.inner) held.old (W.contents out.new.inner) held.new (head_line version)) }
+    ensures ok { OnOk result (out.new.has_failed ≡ out.old.has_failed) }
+    ensures failed { OnErr result (out.new.has_failed ≡ true) }
+{
+    match version {
+        CertVersion::First => held.put(b"desk-certificate 1\n", out),
+        CertVersion::Second => held.put(b"desk-certificate 2\n", out),
+    }
+}
+
+/// Puts the spelling of a whole certificate.
+pub fn put_certificate<W: Write + Drop>(
+    version: CertVersion,
+    body: &CertBody,
+    held: &mut Held,
+    out: &mut Watched<W>,
+) -> Result<(), WriteFailed>
+    ensures sent { let c : Cert = record { version = version; body = body_of body.now } in OnOk result
+        (Sends (W.contents out.old.inner) held.old (W.contents out.new.inner) held.new (spelling c)) }
+    ensures ok { OnOk result (out.new.has_failed ≡ out.old.has_failed) }
+    ensures failed { OnErr result (out.new.has_failed ≡ true) }
+{
+    put_head(version, held, out)?;
+    put_body(body, held, out)
 }

@@ -4,5 +4,5 @@ use Rattle.task_sheet.specs.Verdicts.{tasks_of}
 use Rattle.cert_checker.specs.Naming.{failures_of}
 use Rattle.cert_checker.proofs.levels.has_failure.Given as goal
 
-abbrev pub invariant-loop-chain : goal.invariant-loop-chain
-invariant-loop-chain l = among (tasks_of (failures_of l.set (drop l.chain-index l.fails))) l.task ≡ among (tasks_of (failures_of l.set l.fails)) l.task
+abbrev pub invariant-loop-fail : goal.invariant-loop-fail
+invariant-loop-fail l = among (tasks_of (failures_of l.set (drop l.fail-index l.fails))) l.task ≡ among (tasks_of (failures_of l.set l.fails)) l.task

@@ -5,5 +5,5 @@ use Rattle.cert_checker.specs.Naming.{failures_of}
 use Rattle.cert_checker.proofs.SeenSteps.{IsSeen}
 use Rattle.cert_checker.proofs.naming.tasks_of.Given as goal
 
-abbrev pub invariant-loop-chain : goal.invariant-loop-chain
-invariant-loop-chain l = IsSeen l.set (indexes_of l.seen) (tasks_of (failures_of l.set (drop l.chain-index l.chains))) (tasks_of (failures_of l.set l.chains))
+abbrev pub invariant-loop-fail : goal.invariant-loop-fail
+invariant-loop-fail l = IsSeen l.set (indexes_of l.seen) (tasks_of (failures_of l.set (drop l.fail-index l.fails))) (tasks_of (failures_of l.set l.fails))

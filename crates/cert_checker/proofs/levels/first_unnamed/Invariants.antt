@@ -1,0 +1,9 @@
+use Rattle.std.proofs.Common.{◌≡◌, None}
+use Rattle.task_sheet.specs.Indexes.{indexes_of}
+use Rattle.task_sheet.specs.Verdicts.{tasks_of}
+use Rattle.cert_checker.specs.Naming.{failures_of}
+use Rattle.cert_checker.specs.Faults.{first_unnamed}
+use Rattle.cert_checker.proofs.levels.first_unnamed.Given as goal
+
+abbrev pub invariant-loop-k : goal.invariant-loop-k
+invariant-loop-k l = first_unnamed (indexes_of l.left) (tasks_of (failures_of l.set l.fails)) l.k ≡ None

@@ -1,0 +1,40 @@
+//! The tasks above which a task must stand, by names alone.
+ghost use Rattle.std.specs.Prelude.{◌≡◌, ◌<◌, length};
+ghost use Rattle.std.specs.List.{list_any};
+ghost use Rattle.task_sheet.specs.Sheet.{same_bytes};
+ghost use Rattle.task_sheet.specs.Indexes.{indexes_of};
+ghost use Rattle.task_sheet.specs.Orders.{must_outrank, is_bound};
+
+use task_sheet::{Members, Name, TaskSet};
+
+// Whether some name is this one.
+fn is_named(names: &[Name], name: Name) -> bool
+    ensures { result ≡ list_any (λ own. same_bytes own name) names.now }
+{
+    names.iter().any(|own| *own == name)
+}
+
+/// Whether a task must stand above another one.
+pub fn must_outrank(set: &TaskSet, task: usize, other: usize) -> bool
+    requires task { task < length set.now }
+    requires other { other < length set.now }
+    ensures { result ≡ must_outrank set.now task other }
+{
+    let sheets = set.sheets();
+    is_named(sheets[task].outranks(), sheets[other].name())
+}
+
+/// Whether a task must stand above one of these.
+pub fn is_bound(set: &TaskSet, task: usize, above: Members) -> bool
+    requires { task < length set.now }
+    ensures { result ≡ is_bound set.now task (indexes_of above) }
+{
+    // The set is small: the proof has it from its sheets.
+    let _ = set.sheets();
+    for other in 0..set.len() {
+        if above.has(other) && must_outrank(set, task, other) {
+            return true;
+        }
+    }
+    false
+}

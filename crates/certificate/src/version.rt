@@ -1,0 +1,57 @@
+//! The versions of certificates.
+ghost use Rattle.std.specs.Prelude.{◌≡◌};
+ghost use Rattle.std.specs.List.{list_any};
+ghost use Rattle.certificate.specs.Versions.{names_task, some_bound, has_jitter, version_for};
+
+use task_sheet::{Sheet, TaskSet};
+
+/// The version of a certificate.
+#[derive(Clone, Copy, Debug, PartialEq, Eq)]
+pub enum CertVersion {
+    /// For sets of which no task has jitter or must stand above another one: a task fails by numbers alone.
+    First,
+    /// For all sets: a task may also fail since it must stand above another one.
+    Second,
+}
+
+// Whether a task names another one as one above which it must stand.
+fn names_task(sheet: &Sheet, other: &Sheet) -> bool
+    ensures { result ≡ names_task sheet.now other.now }
+{
+    let name = other.name();
+    sheet.outranks().iter().any(|named| *named == name)
+}
+
+// Whether a task must stand above one of these.
+fn names_one(sheet: &Sheet, others: &[Sheet]) -> bool
+    ensures { result ≡ list_any (names_task sheet.now) others.now }
+{
+    others.iter().any(|other| names_task(sheet, other))
+}
+
+// Whether some task of the set must stand above another one of it.
+#[tactic(auto, unfolding(crate::specs::Versions::some_bound))]
+fn some_bound(set: &TaskSet) -> bool
+    ensures { result ≡ some_bound set.now }
+{
+    let sheets = set.sheets();
+    sheets.iter().any(|sheet| names_one(sheet, sheets))
+}
+
+// Whether some task has jitter.
+fn has_jitter(set: &TaskSet) -> bool
+    ensures { result ≡ has_jitter set.now }
+{
+    set.sheets().iter().any(|sheet| sheet.jitter() > 0)
+}
+
+/// The version that serves a set: the first where no task of it must stand above another one of it or has jitter.
+pub fn version_for(set: &TaskSet) -> CertVersion
+    ensures { result ≡ version_for set.now }
+{
+    if some_bound(set) || has_jitter(set) {
+        CertVersion::Second
+    } else {
+        CertVersion::First
+    }
+}
