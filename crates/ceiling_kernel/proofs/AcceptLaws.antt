@@ -1,5 +1,5 @@
 -- The first refusal of a release list, and what holds where there is none.
-use Rattle.std.proofs.Common.{ℕ, zero, suc, ◌+◌, ◌-◌, ◌<◌, ◌≤◌, ◌≡◌, ◌⊎◌, inl, inr, refl, sym, ap, ap₂, ◌∙◌, subst, arith, List, [], ◌∷◌, ◌++◌, length, get_or, map, take, set, replicate, get_or-set_same, get_or-set_other, length-set, Option, Some, None, Bool, true, false, ◌&&◌, ◌||◌, ◌==◌, nat_lt, is_none, unwrap_or, position, slice_index_or}
+use Rattle.std.proofs.Common.{ℕ, zero, suc, ◌+◌, ◌-◌, ◌<◌, ◌≤◌, ◌≡◌, inl, inr, refl, sym, ap, ap₂, ◌∙◌, subst, arith, List, [], ◌∷◌, ◌++◌, length, get_or, map, take, set, replicate, get_or-set_same, get_or-set_other, length-set, Option, Some, None, Bool, true, false, ◌&&◌, ◌||◌, ◌==◌, nat_lt, is_none, unwrap_or, position, slice_index_or}
 use Rattle.std.proofs.lemmas.Option.{none-some}
 use Rattle.std.specs.List.{list_any}
 use Rattle.std.specs.Option.{option_or, option_map}
@@ -12,13 +12,11 @@ use Rattle.task_sheet.specs.Indexes.{some_below}
 use Rattle.ceiling_kernel.specs.declared.trace.Release.{Release}
 use Rattle.ceiling_kernel.specs.declared.trace.RunFault.{RunFault}
 use Rattle.ceiling_kernel.specs.declared.trace.RunFault.TheVariants as fault
-use Rattle.ceiling_kernel.specs.Tick.{Node, job_at}
-use Rattle.ceiling_kernel.specs.Waits.{IsNode}
-use Rattle.ceiling_kernel.specs.Releases.{task_named, task_number, job_of, jobs_of, first_or, first_where, no_release, release_at, is_unsorted, is_unknown, is_soon_job, is_too_soon, is_past, refuse_if, refusal_of}
+use Rattle.ceiling_kernel.specs.Tick.{job_at}
+use Rattle.ceiling_kernel.specs.Releases.{task_named, task_number, job_of, jobs_of, first_or, first_where, no_release, release_at, is_unsorted, is_unknown, is_soon_job, is_too_soon, is_too_late, is_past, refuse_if, refusal_of}
 use Rattle.ceiling_kernel.specs.Releases.{soon_after}
-use Rattle.ceiling_kernel.specs.States.{IsRunnable}
 use Rattle.task_sheet.proofs.Below.{some_below-at, some_below-none}
-use Rattle.ceiling_kernel.proofs.ReleaseLaws.{job_is}
+use Rattle.ceiling_kernel.proofs.ReleaseLaws.{job_is, place_is}
 
 -- ---- the first that passes a test
 first_step : (test : ℕ → Bool) (n : ℕ) → first_where test (suc n) ≡ first_or (first_where test n) (test n) n
@@ -78,6 +76,7 @@ pub record IsAccepted (U : List Task) (rs : List Release) (until : ℕ) : Type 0
   pub sorted : first_where (is_unsorted rs) (length rs) ≡ None
   pub known : first_where (is_unknown U rs) (length rs) ≡ None
   pub spaced : first_where (is_too_soon U (jobs_of U rs)) (length rs) ≡ None
+  pub prompt : first_where (is_too_late U rs) (length rs) ≡ None
   pub before : list_any (is_past until) rs ≡ false
 
 pub accepted : (U : List Task) (rs : List Release) (until : ℕ) → refusal_of U rs until ≡ None → IsAccepted U rs until
@@ -85,11 +84,13 @@ accepted U rs until e =
     let a = or_none (option_map (λ k. fault.Unsorted (k + 1)) (first_where (is_unsorted rs) (length rs))) _ e in
     let b = or_none (option_map (λ k. fault.UnknownTask (k + 1)) (first_where (is_unknown U rs) (length rs))) _ a.1 in
     let c = or_none (option_map (λ k. fault.TooSoon (k + 1)) (first_where (is_too_soon U (jobs_of U rs)) (length rs))) _ b.1 in
-    let d = or_none (refuse_if (nat_lt 60000000 until || list_any (is_past until) rs) fault.PastHorizon) _ c.1 in
+    let l = or_none (option_map (λ k. fault.TooLate (k + 1)) (first_where (is_too_late U rs) (length rs))) _ c.1 in
+    let d = or_none (refuse_if (nat_lt 60000000 until || list_any (is_past until) rs) fault.PastHorizon) _ l.1 in
     record {
       sorted = map_none (λ k. fault.Unsorted (k + 1)) (first_where (is_unsorted rs) (length rs)) a.0;
       known = map_none (λ k. fault.UnknownTask (k + 1)) (first_where (is_unknown U rs) (length rs)) b.0;
       spaced = map_none (λ k. fault.TooSoon (k + 1)) (first_where (is_too_soon U (jobs_of U rs)) (length rs)) c.0;
+      prompt = map_none (λ k. fault.TooLate (k + 1)) (first_where (is_too_late U rs) (length rs)) l.0;
       before = (or_false_parts (nat_lt 60000000 until) (list_any (is_past until) rs) (if_none (nat_lt 60000000 until || list_any (is_past until) rs) fault.PastHorizon d.0)).1;
     }
 
@@ -123,10 +124,11 @@ position_below p xs h =
 pub known_from : (U : List Task) (rs : List Release) → first_where (is_unknown U rs) (length rs) ≡ None → (j : ℕ) → j < length rs → task_number U (release_at rs j) < length U
 known_from U rs e j lt = position_below (λ t. same_bytes t.name (release_at rs j).name) U (first_none (is_unknown U rs) (length rs) e j lt)
 
-pub runnable_from : (node : Node) (rs : List Release) (until : ℕ) → IsNode node → refusal_of node.tasks rs until ≡ None → IsRunnable node rs
-runnable_from node rs until ok e =
-    let a : IsAccepted node.tasks rs until = accepted node.tasks rs until e in
-    record { of_node = ok; known = known_from node.tasks rs a.known; sorted = sorted_from rs a.sorted }
+-- the kept index of a task is one of the set
+pub place_in : (U : List Task) (rs : List Release) (places : List ℕ) (k : ℕ) → places ≡ map (task_number U) rs → first_where (is_unknown U rs) (length rs) ≡ None → k < length rs → get_or places k 0 < length U
+place_in U rs places k e known lt =
+    let i : get_or places k 0 ≡ task_number U (release_at rs k) = place_is U rs places k e lt in
+    omega (arith, known_from U rs known k lt)
 
 -- ---- the tests that the code makes
 pub unsorted_is : (rs : List Release) (k : ℕ) → 0 < k → is_unsorted rs k ≡ nat_lt (release_at rs k).time (release_at rs (k - 1)).time
@@ -251,37 +253,14 @@ numbers-next U rs places k task r lt et ep =
     let e : task ≡ task_number U (get_or rs k r) = ap (λ o. unwrap_or o (length U)) et in
     ap₂ (λ x y. x ++ y ∷ []) ep e ∙ sym (map_more (task_number U) rs k r lt)
 
--- ---- the refusals
-pub refused_unsorted : (U : List Task) (rs : List Release) (until k : ℕ) → first_where (is_unsorted rs) (length rs) ≡ Some k → refusal_of U rs until ≡ Some (fault.Unsorted (k + 1))
-refused_unsorted U rs until k e = rw e
-
-pub refused_unknown : (U : List Task) (rs : List Release) (until k : ℕ) → first_where (is_unsorted rs) (length rs) ≡ None → first_where (is_unknown U rs) (length rs) ≡ Some k → refusal_of U rs until ≡ Some (fault.UnknownTask (k + 1))
-refused_unknown U rs until k a e = rw (a, e)
-
-pub refused_soon : (U : List Task) (rs : List Release) (until k : ℕ) → first_where (is_unsorted rs) (length rs) ≡ None → first_where (is_unknown U rs) (length rs) ≡ None
-    → first_where (is_too_soon U (jobs_of U rs)) (length rs) ≡ Some k → refusal_of U rs until ≡ Some (fault.TooSoon (k + 1))
-refused_soon U rs until k a b e = rw (a, b, e)
-
-pub refused_past : (U : List Task) (rs : List Release) (until : ℕ) → first_where (is_unsorted rs) (length rs) ≡ None → first_where (is_unknown U rs) (length rs) ≡ None
-    → first_where (is_too_soon U (jobs_of U rs)) (length rs) ≡ None → (nat_lt 60000000 until || list_any (is_past until) rs) ≡ true → refusal_of U rs until ≡ Some fault.PastHorizon
-refused_past U rs until a b c e = rw (a, b, c, e)
-
-pub refused_many : (U : List Task) (rs : List Release) (until : ℕ) → first_where (is_unsorted rs) (length rs) ≡ None → first_where (is_unknown U rs) (length rs) ≡ None
-    → first_where (is_too_soon U (jobs_of U rs)) (length rs) ≡ None → (nat_lt 60000000 until || list_any (is_past until) rs) ≡ false → 10000 < length rs → refusal_of U rs until ≡ Some fault.TooMany
-refused_many U rs until a b c e h = (let t : nat_lt 10000 (length rs) ≡ true = lt-ltb 10000 (length rs) h in rw (a, b, c, e, t))
-
-pub not_refused : (U : List Task) (rs : List Release) (until : ℕ) → first_where (is_unsorted rs) (length rs) ≡ None → first_where (is_unknown U rs) (length rs) ≡ None
-    → first_where (is_too_soon U (jobs_of U rs)) (length rs) ≡ None → (nat_lt 60000000 until || list_any (is_past until) rs) ≡ false → length rs ≤ 10000 → refusal_of U rs until ≡ None
-not_refused U rs until a b c e h = (let t : nat_lt 10000 (length rs) ≡ false = le-ltb 10000 (length rs) h in rw (a, b, c, e, t))
-
-pub past_or : (a b : Bool) → (a ≡ true) ⊎ (b ≡ true) → (a || b) ≡ true
-past_or a b h = elim h [ inl t ↦ rw t | inr t ↦ elim (cases_Bool a) [ inl s ↦ rw s | inr s ↦ rw (s, t) ] ]
-
-pub past_none : (until : ℕ) (b : Bool) → until ≤ 60000000 → b ≡ false → (nat_lt 60000000 until || b) ≡ false
-past_none until b h e = (let f : nat_lt 60000000 until ≡ false = le-ltb 60000000 until h in rw (f, e))
-
-pub past_horizon : (until : ℕ) (b : Bool) → 60000000 < until → (nat_lt 60000000 until || b) ≡ true
-past_horizon until b h = (let t : nat_lt 60000000 until ≡ true = lt-ltb 60000000 until h in rw t)
+-- ---- how late they are
+pub too_late_at : (U : List Task) (rs : List Release) (k i jitter : ℕ) (r : Release) (t : Task) (b : Bool) → k < length rs → i ≡ task_number U (release_at rs k) → i < length U → t ≡ get_or U i t → jitter ≡ t.jitter
+    → b ≡ nat_lt jitter (get_or rs k r).late → is_too_late U rs k ≡ b
+too_late_at U rs k i jitter r t b lt is known et ej eb =
+    let e : release_at rs k ≡ get_or rs k r = get_or_default rs k no_release r lt in
+    let f : task_at U i ≡ t = get_or_default U i no_task t known ∙ sym et in
+    let task : (task_at U (task_number U (release_at rs k))).jitter ≡ jitter = ap (λ n. (task_at U n).jitter) (sym is) ∙ (ap (λ x. x.jitter) f ∙ sym ej) in
+    ap₂ nat_lt task (ap (λ x. x.late) e) ∙ sym eb
 
 -- where no element passes a test, one that is read doesn't
 pub none_passes : {X : Type 0} (p : X → Bool) (xs : List X) (k : ℕ) (d : X) → k < length xs → list_any p xs ≡ false → p (get_or xs k d) ≡ false

@@ -10,11 +10,11 @@ use Rattle.std.specs.List.{list_any}
 use Rattle.task_sheet.specs.Sheet.{Task, CriticalSection, no_task, task_at}
 use Rattle.task_sheet.specs.Indexes.{Indexes, with_index, greatest_below}
 use Rattle.task_sheet.specs.Locks.{uses, shares_lock, reaches}
-use Rattle.task_sheet.specs.Demand.{releases_within, longest_reached, blocking_of, interference_of, demand_of}
-use Rattle.task_sheet.specs.Orders.{Stands, IsPassingOrder}
+use Rattle.task_sheet.specs.Demand.{releases_within, longest_reached, blocking_of, interference_of, demand_of, limit_of, past_jitter, Passes}
+use Rattle.task_sheet.specs.Orders.{IsPassingOrder}
 use Rattle.ceiling_kernel.specs.Tick.{Node, Job, job_at, task_of, level_at, level_of, executed_before, picked, ceiling, top_ceiling}
 use Rattle.ceiling_kernel.specs.Waits.{IsNode, IsLegal, lateness_of, NoOverrun}
-use Rattle.ceiling_kernel.specs.Bounds.{above_of, PassesBy, BoundHolds}
+use Rattle.ceiling_kernel.specs.Bounds.{above_of, is_ready_in, ready_within, WindowsHold, PassesBy, response_by, ResponsesBound, BoundHolds}
 use Rattle.ceiling_kernel.proofs.NodeLaws.{AreApart, IsSoundTask, IsSound, sound, top_user, stands_above}
 use Rattle.ceiling_kernel.proofs.SumLaws.{total, total-sum, total-le, total-add, total-same, total-single, total-zero}
 use Rattle.task_sheet.proofs.Below.{some_below-at, le-greatest_below}
@@ -30,7 +30,7 @@ most_jobs task t = ((t + lateness_of task) + task.period - 1) / task.period
 -- that is what the analysis counts
 most_jobs-releases : (task : Task) (t : ℕ) → 0 < task.period → most_jobs task t ≡ releases_within task t
 most_jobs-releases task t some =
-    let b : (t ≤ div_ceil t task.period * task.period) × (div_ceil t task.period * task.period < t + task.period) = div_ceil_times t task.period some in
+    let b : (t + task.jitter ≤ div_ceil (t + task.jitter) task.period * task.period) × (div_ceil (t + task.jitter) task.period * task.period < t + task.jitter + task.period) = div_ceil_times (t + task.jitter) task.period some in
     div-eq_of_lt-le task.period (omega (arith, b.1)) (omega (arith, b.0))
 
 -- a task of a level or above that uses one of some locks
@@ -62,6 +62,41 @@ module _ (node : Node) (jobs : List Job) (is_node : IsNode node) (legal : IsLega
             let none : task_at node.tasks i ≡ no_task = get_or_past node.tasks i no_task past in
             subst (λ x. AreApart 0 x.sections x.cost) (sym none) (omega arith)
       ]
+
+  -- of the jobs of task h that become ready in a window of t ticks, no more count
+  most_ready : (counts : ℕ → Bool) (h a t : ℕ) → h < length node.tasks → 0 < t → ((j : ℕ) → j < length jobs → counts j ≡ true → (a ≤ (job_at jobs j).ready) × ((job_at jobs j).ready < a + t))
+      → total (of_task (λ j. (job_at jobs j).task) (λ j. (job_at jobs j).arrival) counts h) (length jobs) ≤ most_jobs (task_at node.tasks h) t
+  most_ready counts h a t lt some in_window =
+      let v : IsSoundTask node h = valid.each h lt in
+      most_in_window (λ j. (job_at jobs j).task) (λ j. (job_at jobs j).arrival) counts h (a - lateness_of (task_at node.tasks h)) (t + lateness_of (task_at node.tasks h)) (task_at node.tasks h).period (length jobs)
+      v.period_from_one
+      (omega arith)
+      (λ j below c e.
+      let w : (a ≤ (job_at jobs j).ready) × ((job_at jobs j).ready < a + t) = in_window j below c in
+      let l : (job_at jobs j).ready ≤ (job_at jobs j).arrival + lateness_of (task_of node jobs j) = legal.not_late j below in
+      let same : lateness_of (task_of node jobs j) ≡ lateness_of (task_at node.tasks h) = ap (λ x. lateness_of (task_at node.tasks x)) e in
+      omega (arith, w.0))
+      (λ j k jk below c ej ek.
+      let s : (job_at jobs j).arrival + (task_of node jobs k).period ≤ (job_at jobs k).arrival = legal.spaced j k jk below (ej ∙ sym ek) in
+      let same : (task_of node jobs k).period ≡ (task_at node.tasks h).period = ap (λ x. (task_at node.tasks x).period) ek in
+      omega arith)
+      (λ j below c e.
+      let w : (a ≤ (job_at jobs j).ready) × ((job_at jobs j).ready < a + t) = in_window j below c in
+      let l : (job_at jobs j).arrival ≤ (job_at jobs j).ready = legal.not_early j below in
+      omega (arith, w.1))
+
+  -- a window holds no more jobs of a task than the analysis counts
+  window_holds : (h a t : ℕ) → h < length node.tasks → 0 < t → ready_within jobs h a t ≤ releases_within (task_at node.tasks h) t
+  window_holds h a t lt some =
+      let v : IsSoundTask node h = valid.each h lt in
+      let counted : most_jobs (task_at node.tasks h) t ≡ releases_within (task_at node.tasks h) t = most_jobs-releases (task_at node.tasks h) t v.period_from_one in
+      let most : total (of_task (λ j. (job_at jobs j).task) (λ j. (job_at jobs j).arrival) (is_ready_in jobs a t) h) (length jobs) ≤ most_jobs (task_at node.tasks h) t =
+      most_ready (is_ready_in jobs a t) h a t lt some (λ j below c.
+      let p : (nat_le a (job_at jobs j).ready ≡ true) × (nat_lt (job_at jobs j).ready (a + t) ≡ true) = and_parts (nat_le a (job_at jobs j).ready) (nat_lt (job_at jobs j).ready (a + t)) c in
+      (leb-true a (job_at jobs j).ready p.0, ltb-true (job_at jobs j).ready (a + t) p.1)) in
+      let sum : total (of_task (λ j. (job_at jobs j).task) (λ j. (job_at jobs j).arrival) (is_ready_in jobs a t) h) (length jobs) ≡ ready_within jobs h a t =
+      total-sum (of_task (λ j. (job_at jobs j).task) (λ j. (job_at jobs j).arrival) (is_ready_in jobs a t) h) (length jobs) in
+      omega arith
 
   module _ (i t : ℕ) (is : i < length node.tasks) (passes : PassesBy node i t) where
     abbrev level : ℕ
@@ -147,24 +182,7 @@ module _ (node : Node) (jobs : List Job) (is_node : IsNode node) (legal : IsLega
     number a h = total (of_task (λ j. (job_at jobs j).task) (λ j. (job_at jobs j).arrival) (counts a) h) (length jobs)
 
     number-le : (a h : ℕ) → h < length node.tasks → number a h ≤ most_jobs (task_at node.tasks h) t
-    number-le a h lt =
-        let v : IsSoundTask node h = valid.each h lt in
-        most_in_window (λ j. (job_at jobs j).task) (λ j. (job_at jobs j).arrival) (counts a) h (a - lateness_of (task_at node.tasks h)) (t + lateness_of (task_at node.tasks h)) (task_at node.tasks h).period (length jobs)
-        v.period_from_one
-        (let one : 0 < t = passes.from_one in omega arith)
-        (λ j below c e.
-        let p : (level ≤ level_of node jobs j) × (a ≤ ready_of j) × (ready_of j < a + t) = counts_parts a j c in
-        let l : ready_of j ≤ (job_at jobs j).arrival + lateness_of (task_of node jobs j) = legal.not_late j below in
-        let same : lateness_of (task_of node jobs j) ≡ lateness_of (task_at node.tasks h) = ap (λ x. lateness_of (task_at node.tasks x)) e in
-        omega arith)
-        (λ j k jk below c ej ek.
-        let s : (job_at jobs j).arrival + (task_of node jobs k).period ≤ (job_at jobs k).arrival = legal.spaced j k jk below (ej ∙ sym ek) in
-        let same : (task_of node jobs k).period ≡ (task_at node.tasks h).period = ap (λ x. (task_at node.tasks x).period) ek in
-        omega arith)
-        (λ j below c e.
-        let p : (level ≤ level_of node jobs j) × (a ≤ ready_of j) × (ready_of j < a + t) = counts_parts a j c in
-        let l : (job_at jobs j).arrival ≤ ready_of j = legal.not_early j below in
-        omega arith)
+    number-le a h lt = most_ready (counts a) h a t lt passes.from_one (λ j below c. let p : (level ≤ level_of node jobs j) × (a ≤ ready_of j) × (ready_of j < a + t) = counts_parts a j c in (p.1, p.2))
 
     number-zero : (a h : ℕ) → level_at node h < level → number a h ≡ 0
     number-zero a h low =
@@ -196,8 +214,9 @@ module _ (node : Node) (jobs : List Job) (is_node : IsNode node) (legal : IsLega
                 | inl e ↦
                     let own : eqb i h ≡ true = eq-eqb i h e in
                     let v : IsSoundTask node h = valid.each h lt in
-                    let p : t ≤ (task_at node.tasks i).deadline = passes.in_time in
-                    let ph : t ≤ (task_at node.tasks h).deadline = subst (λ x. t ≤ (task_at node.tasks x).deadline) e p in
+                    let p : t ≤ limit_of (task_at node.tasks i) = passes.in_time in
+                    let ph : t ≤ limit_of (task_at node.tasks h) = subst (λ x. t ≤ limit_of (task_at node.tasks x)) e p in
+                    let room : limit_of (task_at node.tasks h) + lateness_of (task_at node.tasks h) ≤ (task_at node.tasks h).deadline = v.late_within in
                     let within : (task_at node.tasks h).deadline ≤ (task_at node.tasks h).period = v.deadline_within in
                     let two : most_jobs (task_at node.tasks h) t < 2 = (div-lt_iff_lt-mul v.period_from_one).1 (let some : 0 < (task_at node.tasks h).period = v.period_from_one in omega arith) in
                     let one : number a h ≤ 1 = omega arith in
@@ -251,6 +270,20 @@ module _ (node : Node) (jobs : List Job) (is_node : IsNode node) (legal : IsLega
         finishes (length jobs) ready_of cost_of (is_high node jobs level level_some (λ k. apart_at (job_at jobs k).task)) (rest_at node jobs level level_some (λ k. apart_at (job_at jobs k).task)) (executed_before node jobs) (picked node jobs) (machine node jobs level level_some (λ k. apart_at (job_at jobs k).task))
         t blocking passes.from_one rest_most fits j lt (le-leb level (level_of node jobs j) (omega arith))
 
+pub windows_law : (node : Node) (jobs : List Job) → IsNode node → IsLegal node jobs → WindowsHold node jobs
+windows_law node jobs valid legal = window_holds node jobs valid legal
+
+pub responses_law : (node : Node) → ResponsesBound node
+responses_law node i r response within = (
+  past_jitter (task_at node.tasks i) r,
+  record {
+    from_one = omega (arith, response.positive);
+    in_time = omega (arith, response.positive);
+    enough = omega (arith, response.fixed);
+  },
+  omega (arith, response.positive),
+)
+
 executed_later : (node : Node) (jobs : List Job) (valid : IsNode node) (legal : IsLegal node jobs) (s u j : ℕ) → s ≤ u → executed_before node jobs s j ≤ executed_before node jobs u j
 executed_later node jobs valid legal s u j le =
     let one : 0 < 1 = omega arith in
@@ -260,11 +293,10 @@ executed_later node jobs valid legal s u j le =
 pub bound_law : (node : Node) (jobs : List Job) → IsNode node → IsLegal node jobs → BoundHolds node jobs
 bound_law node jobs valid legal j t lt passes =
     let i : ℕ = (job_at jobs j).task in
-    let late : ℕ = lateness_of (task_of node jobs j) in
     let fin : (task_of node jobs j).cost ≤ executed_before node jobs ((job_at jobs j).ready + t) j = within_bound node jobs valid legal i t (legal.known j lt) passes j lt refl in
     let by : (job_at jobs j).ready ≤ (job_at jobs j).arrival + lateness_of (task_of node jobs j) = legal.not_late j lt in
-    let later : executed_before node jobs ((job_at jobs j).ready + t) j ≤ executed_before node jobs ((job_at jobs j).arrival + (lateness_of (task_of node jobs j) + t)) j =
-    executed_later node jobs valid legal ((job_at jobs j).ready + t) ((job_at jobs j).arrival + (lateness_of (task_of node jobs j) + t)) j (omega arith) in
+    let later : executed_before node jobs ((job_at jobs j).ready + t) j ≤ executed_before node jobs ((job_at jobs j).arrival + response_by (task_of node jobs j) t) j =
+    executed_later node jobs valid legal ((job_at jobs j).ready + t) ((job_at jobs j).arrival + response_by (task_of node jobs j) t) j (omega arith) in
     omega arith
 
 -- where each task passes by some time, no job overruns the one before it
@@ -275,22 +307,23 @@ no_overrun_if node jobs valid legal pass k lt over =
     let i : ℕ = (job_at jobs j).task in
     let is : i < length node.tasks = legal.known j below in
     let p : (t : ℕ) × PassesBy node i t = pass i is in
-    let in_time : p.0 ≤ (task_at node.tasks i).deadline = p.1.in_time in
+    let in_time : p.0 ≤ limit_of (task_at node.tasks i) = p.1.in_time in
     let v : IsSoundTask node i = (let s : IsSound node = sound node valid in s.each i is) in
+    let room : limit_of (task_at node.tasks i) + lateness_of (task_at node.tasks i) ≤ (task_at node.tasks i).deadline = v.late_within in
     let within : (task_at node.tasks i).deadline ≤ (task_at node.tasks i).period = v.deadline_within in
     let gap : (job_at jobs j).arrival + (task_of node jobs k).period ≤ (job_at jobs k).arrival = legal.spaced j k over.1 lt over.2 in
     let same : (task_of node jobs k).period ≡ (task_at node.tasks i).period = ap (λ x. (task_at node.tasks x).period) (sym over.2) in
     let early : (job_at jobs k).arrival ≤ (job_at jobs k).ready = legal.not_early k lt in
-    let fin : (task_of node jobs j).cost ≤ executed_before node jobs ((job_at jobs j).arrival + (lateness_of (task_at node.tasks i) + p.0)) j = bound_law node jobs valid legal j p.0 below p.1 in
-    let later : executed_before node jobs ((job_at jobs j).arrival + (lateness_of (task_at node.tasks i) + p.0)) j ≤ executed_before node jobs (job_at jobs k).ready j =
-    executed_later node jobs valid legal ((job_at jobs j).arrival + (lateness_of (task_at node.tasks i) + p.0)) (job_at jobs k).ready j (omega arith) in
+    let fin : (task_of node jobs j).cost ≤ executed_before node jobs ((job_at jobs j).arrival + response_by (task_at node.tasks i) p.0) j = bound_law node jobs valid legal j p.0 below p.1 in
+    let later : executed_before node jobs ((job_at jobs j).arrival + response_by (task_at node.tasks i) p.0) j ≤ executed_before node jobs (job_at jobs k).ready j =
+    executed_later node jobs valid legal ((job_at jobs j).arrival + response_by (task_at node.tasks i) p.0) (job_at jobs k).ready j (omega arith) in
     let open_ : executed_before node jobs (job_at jobs k).ready j < (task_of node jobs j).cost = over.3 in
     omega arith
 
 -- in a passing order each task passes by some time
 passes_in : (node : Node) → IsNode node → IsPassingOrder node.tasks node.order → (i : ℕ) → i < length node.tasks → (t : ℕ) × PassesBy node i t
 passes_in node valid order i lt =
-    let p : Stands node.tasks i (above_of node i) = stands_above node valid order.each_stands i lt in
+    let p : Passes node.tasks i (above_of node i) = (stands_above node valid order.each_stands i lt).0 in
     (p.0, record { from_one = omega (arith, p.1); in_time = p.2; enough = p.3 })
 
 pub no_overrun_law : (node : Node) (jobs : List Job) → IsNode node → IsLegal node jobs → IsPassingOrder node.tasks node.order → NoOverrun node jobs

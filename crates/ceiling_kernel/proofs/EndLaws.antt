@@ -1,7 +1,9 @@
 -- What a run has shown at its end.
-use Rattle.std.proofs.Common.{ℕ, zero, suc, ◌+◌, ◌-◌, ◌<◌, ◌≤◌, ◌≡◌, inl, inr, refl, sym, ap, ◌∙◌, subst, arith, List, [], ◌∷◌, length, slice_index_or, Option, None, Some, false, true, cond, nat_le, nat_lt, eqb}
+use Rattle.std.proofs.Common.{ℕ, zero, suc, ◌^◌, All, Bool, ◌+◌, ◌-◌, ◌<◌, ◌≤◌, ◌≡◌, inl, inr, refl, sym, ap, ◌∙◌, subst, arith, List, [], ◌∷◌, length, slice_index_or, Option, None, Some, false, true, cond, nat_le, nat_lt, eqb}
 use Rattle.std.proofs.lemmas.Option.{none-some}
 use Rattle.std.proofs.lemmas.Bool.{cases_lt, cases_Bool, true≢false, le-leb, eq-eqb}
+use Rattle.std.proofs.lemmas.List.Elements.{All-from_get_or}
+use Rattle.task_sheet.specs.Sheet.{task_at}
 use Rattle.task_sheet.specs.Orders.{IsPassingOrder}
 use Rattle.ceiling_kernel.specs.declared.trace.Release.{Release}
 use Rattle.ceiling_kernel.specs.declared.trace.JobRecord.{JobRecord}
@@ -11,35 +13,36 @@ use Rattle.ceiling_kernel.specs.declared.trace.RunFault.TheVariants as fault
 use Rattle.ceiling_kernel.specs.declared.run.Pending.{Pending}
 use Rattle.ceiling_kernel.specs.Tick.{Node, Job, job_at, task_of, executed_before}
 use Rattle.ceiling_kernel.specs.Trace.{finish_before}
-use Rattle.ceiling_kernel.specs.Waits.{IsNode, IsLegal, NoOverrun, EachIsGranted}
-use Rattle.ceiling_kernel.specs.Bounds.{PassesBy}
-use Rattle.ceiling_kernel.specs.Releases.{task_number, jobs_of, job_of, no_release, release_at, is_soon_job, is_too_soon, is_past, refusal_of}
-use Rattle.ceiling_kernel.specs.Runs.{IsFirstOverrun, IsOverrun, record_of, no_record, records_from, MeetsBounds, IsNoOverrun}
-use Rattle.ceiling_kernel.specs.States.{Kept, IsStop}
+use Rattle.ceiling_kernel.specs.Waits.{IsNode, IsLegal, lateness_of, NoOverrun, EachIsGranted}
+use Rattle.ceiling_kernel.specs.Bounds.{PassesBy, response_by}
+use Rattle.ceiling_kernel.specs.Releases.{task_number, ready_of, jobs_of, job_of, no_release, release_at, is_soon_job, is_too_soon, is_too_late, is_past, refusal_of}
+use Rattle.ceiling_kernel.specs.Turns.{AreTurns}
+use Rattle.ceiling_kernel.specs.Runs.{IsFirstOverrun, IsOverrun, record_of, no_record, records_from, bound_by, MeetsBounds, IsNoOverrun}
+use Rattle.ceiling_kernel.specs.States.{IsRunnable, Kept, IsStop}
 use Rattle.ceiling_kernel.proofs.LockLaws.{nobody_waits_law}
 use Rattle.ceiling_kernel.proofs.BoundLaws.{bound_law, no_overrun_law}
 use Rattle.ceiling_kernel.proofs.FinishLaws.{finish_start, finish_step, finish_some, finish_later}
 use Rattle.ceiling_kernel.proofs.ReleaseLaws.{job_is, jobs_length}
-use Rattle.ceiling_kernel.proofs.RunLaws.{cost_some}
-use Rattle.ceiling_kernel.proofs.AcceptLaws.{IsAccepted, accepted, first_none, none_below, none_passes, not_lt, known_from, runnable_from}
+use Rattle.ceiling_kernel.proofs.NodeLaws.{IsSoundTask, IsSound, sound}
+use Rattle.ceiling_kernel.proofs.AcceptLaws.{IsAccepted, accepted, first_none, none_below, none_passes, not_lt, known_from}
 
 -- no release of an accepted list stands at the end or after it
 before_end : (node : Node) (rs : List Release) (until k : ℕ) → IsAccepted node.tasks rs until → k < length rs → (job_at (jobs_of node.tasks rs) k).ready < until
 before_end node rs until k a lt =
     let f : is_past until (release_at rs k) ≡ false = none_passes (is_past until) rs k no_release lt a.before in
-    let r : (job_at (jobs_of node.tasks rs) k).ready ≡ (release_at rs k).time = ap (λ x. x.ready) (job_is node.tasks rs k lt) in
-    elim (cases_lt (release_at rs k).time until) [
+    let r : (job_at (jobs_of node.tasks rs) k).ready ≡ ready_of (release_at rs k) = ap (λ x. x.ready) (job_is node.tasks rs k lt) in
+    elim (cases_lt (ready_of (release_at rs k)) until) [
       | inl before ↦ omega arith
-      | inr past ↦ absurd (true≢false (sym (le-leb until (release_at rs k).time past) ∙ f))
+      | inr past ↦ absurd (true≢false (sym (le-leb until (ready_of (release_at rs k)) past) ∙ f))
     ]
 
-pub no_overrun_then : (node : Node) (rs : List Release) (until t next : ℕ) (slots : List (Option Pending)) → refusal_of node.tasks rs until ≡ None → Kept node (jobs_of node.tasks rs) t next slots → until ≤ t → NoOverrun node (jobs_of node.tasks rs)
-no_overrun_then node rs until t next slots e kept le k lt over =
+pub no_overrun_then : (node : Node) (rs : List Release) (until t : ℕ) (come : ℕ → Bool) (slots : List (Option Pending)) → refusal_of node.tasks rs until ≡ None → Kept node (jobs_of node.tasks rs) t come slots → until ≤ t → NoOverrun node (jobs_of node.tasks rs)
+no_overrun_then node rs until t come slots e kept le k lt over =
     let l : length (jobs_of node.tasks rs) ≡ length rs = jobs_length node.tasks rs in
-    elim (cases_lt k next) [
-      | inl below ↦ kept.no_overrun k below over
-      | inr above ↦
-          let r : t ≤ (job_at (jobs_of node.tasks rs) k).ready = kept.to_come k above lt in
+    elim (cases_Bool (come k)) [
+      | inl has ↦ kept.no_overrun k has over
+      | inr not ↦
+          let r : t ≤ (job_at (jobs_of node.tasks rs) k).ready = kept.to_come k not lt in
           let b : (job_at (jobs_of node.tasks rs) k).ready < until = before_end node rs until k (accepted node.tasks rs until e) (omega arith) in
           omega arith
     ]
@@ -55,7 +58,11 @@ legal_from node rs until e =
           let t : (job_at (jobs_of node.tasks rs) j).task ≡ task_number node.tasks (release_at rs j) = ap (λ x. x.task) (job_is node.tasks rs j (omega arith)) in
           omega arith;
       not_early = λ j lt. (let r : job_at (jobs_of node.tasks rs) j ≡ job_of node.tasks (release_at rs j) = job_is node.tasks rs j (omega arith) in rw r (omega arith));
-      not_late = λ j lt. (let r : job_at (jobs_of node.tasks rs) j ≡ job_of node.tasks (release_at rs j) = job_is node.tasks rs j (omega arith) in rw r (omega arith));
+      not_late = λ j lt.
+          let r : job_at (jobs_of node.tasks rs) j ≡ job_of node.tasks (release_at rs j) = job_is node.tasks rs j (omega arith) in
+          let late : is_too_late node.tasks rs j ≡ false = first_none (is_too_late node.tasks rs) (length rs) a.prompt j (omega arith) in
+          let le : (release_at rs j).late ≤ lateness_of (task_at node.tasks (task_number node.tasks (release_at rs j))) = not_lt (lateness_of (task_at node.tasks (task_number node.tasks (release_at rs j)))) (release_at rs j).late late in
+          rw r (omega arith);
       spaced = λ j k jk lt same.
           let soon : is_too_soon node.tasks (jobs_of node.tasks rs) k ≡ false = first_none (is_too_soon node.tasks (jobs_of node.tasks rs)) (length rs) a.spaced k (omega arith) in
           let one : is_soon_job node.tasks (jobs_of node.tasks rs) k j ≡ false = none_below k (is_soon_job node.tasks (jobs_of node.tasks rs) k) soon j jk in
@@ -63,6 +70,20 @@ legal_from node rs until e =
           let f : nat_lt (job_at (jobs_of node.tasks rs) k).arrival ((job_at (jobs_of node.tasks rs) j).arrival + (task_of node (jobs_of node.tasks rs) k).period) ≡ false = rw t at one in
           not_lt (job_at (jobs_of node.tasks rs) k).arrival ((job_at (jobs_of node.tasks rs) j).arrival + (task_of node (jobs_of node.tasks rs) k).period) f;
     }
+
+-- each release of an accepted list is ready in time for the clock
+pub ready_fits : (node : Node) (rs : List Release) (until : ℕ) → until < 2 ^ 64 → refusal_of node.tasks rs until ≡ None → All (λ r. ready_of r < 2 ^ 64) rs
+ready_fits node rs until small e =
+    let a : IsAccepted node.tasks rs until = accepted node.tasks rs until e in
+    All-from_get_or (λ r. ready_of r < 2 ^ 64) rs no_release (λ k lt.
+    let r : (job_at (jobs_of node.tasks rs) k).ready ≡ ready_of (release_at rs k) = ap (λ x. x.ready) (job_is node.tasks rs k lt) in
+    let b : (job_at (jobs_of node.tasks rs) k).ready < until = before_end node rs until k a lt in
+    omega arith)
+
+pub runnable_from : (node : Node) (rs : List Release) (turns : List (ℕ × ℕ)) (until : ℕ) → IsNode node → refusal_of node.tasks rs until ≡ None → AreTurns (jobs_of node.tasks rs) turns → IsRunnable node rs turns
+runnable_from node rs turns until ok e are =
+    let a : IsAccepted node.tasks rs until = accepted node.tasks rs until e in
+    record { of_node = ok; known = known_from node.tasks rs a.known; legal = legal_from node rs until e; in_turn = are }
 
 -- where no job overruns, each that asks for a lock gets it
 pub each_granted : (node : Node) (rs : List Release) (until : ℕ) → IsNode node → refusal_of node.tasks rs until ≡ None → NoOverrun node (jobs_of node.tasks rs) → EachIsGranted node (jobs_of node.tasks rs)
@@ -99,16 +120,17 @@ bounded_trace node rs until trace ok e jobs_are j t lt passes in_run =
     let is : job_at (jobs_of node.tasks rs) j ≡ job_of node.tasks (release_at rs j) = job_is node.tasks rs j lt in
     let legal : IsLegal node (jobs_of node.tasks rs) = legal_from node rs until e in
     let passes' : PassesBy node (job_at (jobs_of node.tasks rs) j).task t = subst (λ x. PassesBy node x.task t) (sym is) passes in
-    let done : (task_of node (jobs_of node.tasks rs) j).cost ≤ executed_before node (jobs_of node.tasks rs) ((job_at (jobs_of node.tasks rs) j).arrival + (0 + t)) j = bound_law node (jobs_of node.tasks rs) ok legal j t (omega arith) passes' in
-    let at_time : (job_at (jobs_of node.tasks rs) j).arrival + (0 + t) ≡ (release_at rs j).time + t = (let a : (job_at (jobs_of node.tasks rs) j).arrival ≡ (release_at rs j).time = ap (λ x. x.arrival) is in omega arith) in
-    let done' : (task_of node (jobs_of node.tasks rs) j).cost ≤ executed_before node (jobs_of node.tasks rs) ((release_at rs j).time + t) j = subst (λ x. (task_of node (jobs_of node.tasks rs) j).cost ≤ executed_before node (jobs_of node.tasks rs) x j) at_time done in
-    let some : 0 < (task_of node (jobs_of node.tasks rs) j).cost = cost_some node rs (runnable_from node rs until ok e) j lt in
-    let f : (f : ℕ) × (finish_before node (jobs_of node.tasks rs) ((release_at rs j).time + t) j ≡ Some f) = finish_some node (jobs_of node.tasks rs) j ((release_at rs j).time + t) some done' in
-    let to : (release_at rs j).time + t + (until - ((release_at rs j).time + t)) ≡ until = omega arith in
-    let then : finish_before node (jobs_of node.tasks rs) until j ≡ Some f.0 = subst (λ x. finish_before node (jobs_of node.tasks rs) x j ≡ Some f.0) to (finish_later node (jobs_of node.tasks rs) j ((release_at rs j).time + t) (until - ((release_at rs j).time + t)) f.0 f.1) in
+    let done : (task_of node (jobs_of node.tasks rs) j).cost ≤ executed_before node (jobs_of node.tasks rs) ((job_at (jobs_of node.tasks rs) j).arrival + response_by (task_of node (jobs_of node.tasks rs) j) t) j = bound_law node (jobs_of node.tasks rs) ok legal j t (omega arith) passes' in
+    let at_time : (job_at (jobs_of node.tasks rs) j).arrival + response_by (task_of node (jobs_of node.tasks rs) j) t ≡ bound_by node (release_at rs j) t = ap (λ x. x.arrival + response_by (task_at node.tasks x.task) t) is in
+    let done' : (task_of node (jobs_of node.tasks rs) j).cost ≤ executed_before node (jobs_of node.tasks rs) (bound_by node (release_at rs j) t) j = subst (λ x. (task_of node (jobs_of node.tasks rs) j).cost ≤ executed_before node (jobs_of node.tasks rs) x j) at_time done in
+    let v : IsSoundTask node (job_at (jobs_of node.tasks rs) j).task = (let s : IsSound node = sound node ok in s.each (job_at (jobs_of node.tasks rs) j).task (legal.known j (omega arith))) in
+    let some : 0 < (task_of node (jobs_of node.tasks rs) j).cost = v.takes_time in
+    let f : (f : ℕ) × (finish_before node (jobs_of node.tasks rs) (bound_by node (release_at rs j) t) j ≡ Some f) = finish_some node (jobs_of node.tasks rs) j (bound_by node (release_at rs j) t) some done' in
+    let to : bound_by node (release_at rs j) t + (until - bound_by node (release_at rs j) t) ≡ until = omega arith in
+    let then : finish_before node (jobs_of node.tasks rs) until j ≡ Some f.0 = subst (λ x. finish_before node (jobs_of node.tasks rs) x j ≡ Some f.0) to (finish_later node (jobs_of node.tasks rs) j (bound_by node (release_at rs j) t) (until - bound_by node (release_at rs j) t) f.0 f.1) in
     let row : slice_index_or trace.jobs.items j no_record ≡ record_of node (jobs_of node.tasks rs) until j (release_at rs j) =
     ap (λ (x : List JobRecord). slice_index_or x j no_record) jobs_are ∙ (records_at node (jobs_of node.tasks rs) until 0 rs j lt ∙ ap (λ n. record_of node (jobs_of node.tasks rs) until n (release_at rs j)) (let z : 0 + j ≡ j = omega arith in z)) in
-    (f.0, ap (λ x. x.finish) row ∙ then, finish_within node (jobs_of node.tasks rs) j ((release_at rs j).time + t) f.0 f.1)
+    (f.0, ap (λ x. x.finish) row ∙ then, finish_within node (jobs_of node.tasks rs) j (bound_by node (release_at rs j) t) f.0 f.1)
 
 pub never_overruns : (node : Node) (rs : List Release) (until : ℕ) (name : List ℕ) (time : ℕ) → IsNode node → refusal_of node.tasks rs until ≡ None → IsOverrun node rs name time → IsPassingOrder node.tasks node.order → ⊥
 never_overruns node rs until name time ok e over order =
@@ -122,5 +144,6 @@ stop_without node rs until (fault.Overrun name time) ok r stop order = never_ove
 stop_without node rs until (fault.Unsorted place) ok r stop order = absurd stop
 stop_without node rs until (fault.UnknownTask place) ok r stop order = absurd stop
 stop_without node rs until (fault.TooSoon place) ok r stop order = absurd stop
+stop_without node rs until (fault.TooLate place) ok r stop order = absurd stop
 stop_without node rs until fault.PastHorizon ok r stop order = absurd stop
 stop_without node rs until fault.TooMany ok r stop order = absurd stop

@@ -1,13 +1,14 @@
 -- What the slots keep gives the pick of the tick rule, and each event keeps it.
-use Rattle.std.proofs.Common.{ℕ, suc, ◌+◌, ◌<◌, ◌≤◌, ◌≡◌, ◌≢◌, inl, inr, sym, ap, ap₂, ◌∙◌, subst, arith, List, length, set, replicate, Option, Some, None, true, slice_index_or, get_or-set_same, get_or-set_other, length-set}
+use Rattle.std.proofs.Common.{ℕ, ◌+◌, ◌<◌, ◌≤◌, ◌≡◌, ◌≢◌, inl, inr, sym, ap, ap₂, ◌∙◌, subst, arith, List, length, set, replicate, Option, Some, None, Bool, true, false, slice_index_or, get_or-set_same, get_or-set_other, length-set}
 use Rattle.std.proofs.lemmas.Option.{none-some}
-use Rattle.std.proofs.lemmas.Bool.{cases_Bool, cases_eq, cases_lt}
+use Rattle.std.proofs.lemmas.Bool.{cases_Bool, cases_eq, cases_lt, true≢false}
 use Rattle.std.proofs.lemmas.List.{get_or-replicate, length-replicate, get_or_past}
 use Rattle.task_sheet.specs.Sheet.{task_at}
 use Rattle.ceiling_kernel.specs.declared.run.Pending.{Pending}
 use Rattle.ceiling_kernel.specs.Tick.{Node, Job, job_at, task_of, level_at, level_of, active_of, is_pending, held_ceiling, executed_before, picked}
 use Rattle.ceiling_kernel.specs.Jumps.{change_after, NoneReadyBetween}
 use Rattle.ceiling_kernel.specs.Waits.{Overruns}
+use Rattle.ceiling_kernel.specs.Turns.{TasksKeepOrder}
 use Rattle.ceiling_kernel.specs.States.{active_at, best_slot, IsPending, Kept}
 use Rattle.ceiling_kernel.proofs.NodeLaws.{AreApart, IsSoundTask, IsSound}
 use Rattle.ceiling_kernel.proofs.PickLaws.{best_is, best_none_is}
@@ -33,25 +34,25 @@ module _ (node : Node) (jobs : List Job) (sound : IsSound node) (known : (j : �
   slot_of slots i = slice_index_or slots i None
 
   -- a pending job's active priority is that of the tick rule
-  pending_active : (t next i : ℕ) (p : Pending) → IsPending node jobs t next i p → p.active ≡ active_of node jobs (done t) p.job
-  pending_active t next i p is = is.active ∙ ap₂ (λ x e. active_at node x e) (sym is.own) is.executed
+  pending_active : (t : ℕ) (come : ℕ → Bool) (i : ℕ) (p : Pending) → IsPending node jobs t come i p → p.active ≡ active_of node jobs (done t) p.job
+  pending_active t come i p is = is.active ∙ ap₂ (λ x e. active_at node x e) (sym is.own) is.executed
 
-  pending_open : (t next i : ℕ) (p : Pending) → IsPending node jobs t next i p → done t p.job < cost_of p.job
-  pending_open t next i p is =
+  pending_open : (t : ℕ) (come : ℕ → Bool) (i : ℕ) (p : Pending) → IsPending node jobs t come i p → done t p.job < cost_of p.job
+  pending_open t come i p is =
       let e : p.executed ≡ done t p.job = is.executed in
       let c : (task_at node.tasks i).cost ≡ cost_of p.job = ap (λ x. (task_at node.tasks x).cost) (sym is.own) in
       let u : p.executed < (task_at node.tasks i).cost = is.unfinished in
       omega arith
 
   -- ---- the pick
-  module _ (t next : ℕ) (slots : List (Option Pending)) (kept : Kept node jobs t next slots) (later : (j : ℕ) → next ≤ j → j < length jobs → t < ready_of j) where
+  module _ (t : ℕ) (come : ℕ → Bool) (slots : List (Option Pending)) (kept : Kept node jobs t come slots) (later : (j : ℕ) → come j ≡ false → j < length jobs → t < ready_of j) where
     -- who is pending stands in the slot of its task
     has_slot : (k : ℕ) → k < length jobs → is_pending node jobs (done t) t k ≡ true → (q : Pending) × (slot_of slots (task_no k) ≡ Some q) × (q.job ≡ k)
     has_slot k lt pending =
         let p : (ready_of k ≤ t) × (done t k < cost_of k) = pending_parts node jobs t k pending in
-        elim (cases_lt k next) [
-          | inl below ↦ kept.complete k below p.1
-          | inr above ↦ (let l : t < ready_of k = later k above lt in absurd (omega arith))
+        elim (cases_Bool (come k)) [
+          | inl has ↦ kept.complete k has p.1
+          | inr not ↦ (let l : t < ready_of k = later k not lt in absurd (omega arith))
         ]
 
     pub pick_is : (p : Pending) → best_slot slots None ≡ Some p → picked node jobs t ≡ Some p.job
@@ -59,19 +60,17 @@ module _ (node : Node) (jobs : List Job) (sound : IsSound node) (known : (j : �
     pick_is p e =
         let s : IsBestSlot slots None p = slot_some slots None p e in
         let place : (i : ℕ) × (slot_of slots i ≡ Some p) = elim s.from [ inl no_one ↦ absurd (none-some p no_one) | inr found ↦ found ] in
-        let m : IsPending node jobs t next place.0 p = kept.pending place.0 p place.1 in
-        let w : next ≤ length jobs = kept.within in
-        let r : p.job < next = m.released in
-        let below : p.job < length jobs = omega arith in
-        let active_p : p.active ≡ active_of node jobs (done t) p.job = pending_active t next place.0 p m in
+        let m : IsPending node jobs t come place.0 p = kept.pending place.0 p place.1 in
+        let below : p.job < length jobs = kept.within p.job m.released in
+        let active_p : p.active ≡ active_of node jobs (done t) p.job = pending_active t come place.0 p m in
         let level_p : p.level ≡ level_of node jobs p.job = m.level ∙ ap (level_at node) (sym m.own) in
         best_is (is_pending node jobs (done t) t) (active_of node jobs (done t)) (level_of node jobs) (length jobs) p.job
-        below (pending_from node jobs t p.job (kept.admitted p.job r) (pending_open t next place.0 p m))
+        below (pending_from node jobs t p.job (kept.admitted p.job m.released) (pending_open t come place.0 p m))
         (λ k lt pending ne.
         let h : (q : Pending) × (slot_of slots (task_no k) ≡ Some q) × (q.job ≡ k) = has_slot k lt pending in
         let q : Pending = h.0 in
-        let mq : IsPending node jobs t next (task_no k) q = kept.pending (task_no k) q h.1 in
-        let active_q : q.active ≡ active_of node jobs (done t) k = pending_active t next (task_no k) q mq ∙ ap (active_of node jobs (done t)) h.2 in
+        let mq : IsPending node jobs t come (task_no k) q = kept.pending (task_no k) q h.1 in
+        let active_q : q.active ≡ active_of node jobs (done t) k = pending_active t come (task_no k) q mq ∙ ap (active_of node jobs (done t)) h.2 in
         let level_q : q.level ≡ level_of node jobs k = mq.level in
         elim (s.first (task_no k) q h.1) [
           | inl less ↦ inl (omega arith)
@@ -97,11 +96,11 @@ module _ (node : Node) (jobs : List Job) (sound : IsSound node) (known : (j : �
         ])
 
   -- ---- the start
-  pub kept_start : Kept node jobs 0 0 (replicate (length node.tasks) None)
-  kept_start = record {
-    within = omega arith;
-    admitted = λ j lt. absurd (omega arith);
-    to_come = λ j le lt. omega arith;
+  pub kept_start : (come : ℕ → Bool) → ((j : ℕ) → come j ≡ false) → Kept node jobs 0 come (replicate (length node.tasks) None)
+  kept_start come none = record {
+    within = λ j has. absurd (true≢false (sym has ∙ none j));
+    admitted = λ j has. absurd (true≢false (sym has ∙ none j));
+    to_come = λ j not lt. omega arith;
     slot_count = length-replicate (length node.tasks) none_of;
     pending = λ i p e. elim (cases_lt i (length node.tasks)) [
       | inl lt ↦ absurd (none-some p (sym (get_or-replicate (length node.tasks) i none_of None lt) ∙ e))
@@ -109,105 +108,129 @@ module _ (node : Node) (jobs : List Job) (sound : IsSound node) (known : (j : �
           let l : length (replicate (length node.tasks) none_of) ≡ length node.tasks = length-replicate (length node.tasks) none_of in
           absurd (none-some p (sym (get_or_past (replicate (length node.tasks) none_of) i None (omega arith)) ∙ e))
     ];
-    complete = λ j lt. absurd (omega arith);
-    no_overrun = λ k lt. absurd (omega arith);
+    complete = λ j has. absurd (true≢false (sym has ∙ none j));
+    no_overrun = λ k has. absurd (true≢false (sym has ∙ none k));
   }
     where
       none_of : Option Pending
       none_of = None
 
   -- ---- the events
-  module _ (t next : ℕ) (slots : List (Option Pending)) (kept : Kept node jobs t next slots) where
-    -- the next job becomes ready now, and its task's slot is free
-    pub kept_admit : (p : Pending) → next < length jobs → ready_of next ≤ t → p.job ≡ next → p.task ≡ task_no next → p.level ≡ level_at node (task_no next) → p.executed ≡ 0 → p.active ≡ level_at node (task_no next)
-        → slot_of slots (task_no next) ≡ None → Kept node jobs t (suc next) (set slots (task_no next) (Some p))
-    kept_admit p lt ready job task level executed active free =
-        let now : t ≤ ready_of next = kept.to_come next (omega arith) lt in
-        let i : ℕ = task_no next in
-        let in_tasks : i < length node.tasks = known next lt in
-        let in_slots : i < length slots = (let c : length slots ≡ length node.tasks = kept.slot_count in omega arith) in
-        let v : IsSoundTask node i = sound.each i in_tasks in
-        let fresh : done t next ≡ 0 = elim (cases_eq (done t next) 0) [
-          | inl z ↦ z
-          | inr nz ↦ (let b : ready_of next < t = began_strictly node jobs t next (omega arith) in absurd (omega arith))
-        ] in
-        let mine : IsPending node jobs t (suc next) i p = record {
-          released = omega arith;
-          task = task;
-          own = ap task_no job;
-          level = level;
-          executed = executed ∙ (sym fresh ∙ ap (done t) (sym job));
-          active =
-              let none_held : held_ceiling node (task_at node.tasks i).sections p.executed ≡ 0 = held_before node 0 (task_at node.tasks i).cost (task_at node.tasks i).sections p.executed v.apart (omega arith) in
-              omega arith;
-          unfinished = (let c : 0 < (task_at node.tasks i).cost = v.takes_time in omega arith);
-        } in
-        record {
-          within = omega arith;
-          admitted = λ j below. elim (cases_eq j next) [
-            | inl e ↦ (let same : ready_of j ≡ ready_of next = ap ready_of e in omega arith)
-            | inr ne ↦ kept.admitted j (omega arith)
-          ];
-          to_come = λ j above below. kept.to_come j (omega arith) below;
-          slot_count = length-set slots i (Some p) ∙ kept.slot_count;
-          pending = λ k q e. elim (cases_eq k i) [
-            | inl same ↦
-                let here : slot_of (set slots i (Some p)) i ≡ Some q = subst (λ x. slot_of (set slots i (Some p)) x ≡ Some q) same e in
-                let is : ◌≡◌ {A = Option Pending} (Some p) (Some q) = sym (get_or-set_same slots i (Some p) None in_slots) ∙ here in
-                let e' : p ≡ q = cc (is) in
-                subst (λ x. IsPending node jobs t (suc next) x q) (sym same) (subst (λ x. IsPending node jobs t (suc next) i x) e' mine)
-            | inr other ↦
-                let was : slot_of slots k ≡ Some q = sym (get_or-set_other slots i k (Some p) None other) ∙ e in
-                let m : IsPending node jobs t next k q = kept.pending k q was in
-                let r : q.job < next = m.released in
-                record { released = omega arith; task = m.task; own = m.own; level = m.level; executed = m.executed; active = m.active; unfinished = m.unfinished }
-          ];
-          complete = λ j below open_. elim (cases_eq j next) [
-            | inl same ↦ (p, subst (λ x. slot_of (set slots i (Some p)) (task_no x) ≡ Some p) (sym same) (get_or-set_same slots i (Some p) None in_slots), job ∙ sym same)
-            | inr ne ↦
-                let was : (q : Pending) × (slot_of slots (task_no j) ≡ Some q) × (q.job ≡ j) = kept.complete j (omega arith) open_ in
-                elim (cases_eq (task_no j) i) [
-                  | inl same ↦ absurd (none-some was.0 (sym free ∙ subst (λ x. slot_of slots x ≡ Some was.0) same was.1))
-                  | inr other ↦ (was.0, get_or-set_other slots i (task_no j) (Some p) None other ∙ was.1, was.2)
-                ]
-          ];
-          no_overrun = λ k below over. elim (cases_eq k next) [
-            | inl same ↦
-                let o : task_no over.0 ≡ task_no next = over.2 ∙ ap task_no same in
-                let b : over.0 < next = omega (arith, over.1) in
-                let r : ready_of k ≡ t = (let s : ready_of k ≡ ready_of next = ap ready_of same in omega arith) in
-                let open_ : done t over.0 < cost_of over.0 = subst (λ x. done x over.0 < cost_of over.0) r over.3 in
-                let was : (q : Pending) × (slot_of slots (task_no over.0) ≡ Some q) × (q.job ≡ over.0) = kept.complete over.0 b open_ in
-                none-some was.0 (sym free ∙ subst (λ x. slot_of slots x ≡ Some was.0) o was.1)
-            | inr ne ↦ kept.no_overrun k (omega arith) over
-          ];
-        }
+  module _ (t : ℕ) (come : ℕ → Bool) (slots : List (Option Pending)) (kept : Kept node jobs t come slots) where
+    -- job n becomes ready now
+    module _ (n : ℕ) (lt : n < length jobs) (fresh : come n ≡ false) (ready : ready_of n ≤ t) (keep : TasksKeepOrder jobs) where
+      at_once : t ≤ ready_of n
+      at_once = kept.to_come n fresh lt
 
-    -- the next job becomes ready now, and its task's slot is taken
-    pub overruns_now : next < length jobs → ready_of next ≤ t → (q : Pending) → slot_of slots (task_no next) ≡ Some q → Overruns node jobs next
-    overruns_now lt ready q e =
-        let now : t ≤ ready_of next = kept.to_come next (omega arith) lt in
-        let m : IsPending node jobs t next (task_no next) q = kept.pending (task_no next) q e in
-        let same : t ≡ ready_of next = omega arith in
-        (q.job, m.released, m.own, subst (λ x. done x q.job < cost_of q.job) same (pending_open t next (task_no next) q m))
+      -- its task's slot is free; then it has come, and the others as before
+      pub kept_admit : (come' : ℕ → Bool) → come' n ≡ true → ((j : ℕ) → j ≢ n → come' j ≡ come j) → (p : Pending) → p.job ≡ n → p.task ≡ task_no n → p.level ≡ level_at node (task_no n) → p.executed ≡ 0 → p.active ≡ level_at node (task_no n)
+          → slot_of slots (task_no n) ≡ None → Kept node jobs t come' (set slots (task_no n) (Some p))
+      kept_admit come' here others p job task level executed active free =
+          let now : t ≤ ready_of n = at_once in
+          let i : ℕ = task_no n in
+          let in_tasks : i < length node.tasks = known n lt in
+          let in_slots : i < length slots = (let c : length slots ≡ length node.tasks = kept.slot_count in omega arith) in
+          let v : IsSoundTask node i = sound.each i in_tasks in
+          let untouched : done t n ≡ 0 = elim (cases_eq (done t n) 0) [
+            | inl z ↦ z
+            | inr nz ↦ (let b : ready_of n < t = began_strictly node jobs t n (omega arith) in absurd (omega arith))
+          ] in
+          let mine : IsPending node jobs t come' i p = record {
+            released = ap come' job ∙ here;
+            task = task;
+            own = ap task_no job;
+            level = level;
+            executed = executed ∙ (sym untouched ∙ ap (done t) (sym job));
+            active =
+                let none_held : held_ceiling node (task_at node.tasks i).sections p.executed ≡ 0 = held_before node 0 (task_at node.tasks i).cost (task_at node.tasks i).sections p.executed v.apart (omega arith) in
+                omega arith;
+            unfinished = (let c : 0 < (task_at node.tasks i).cost = v.takes_time in omega arith);
+          } in
+          record {
+            within = λ j has. elim (cases_eq j n) [
+              | inl e ↦ omega arith
+              | inr ne ↦ kept.within j (sym (others j ne) ∙ has)
+            ];
+            admitted = λ j has. elim (cases_eq j n) [
+              | inl e ↦ (let same : ready_of j ≡ ready_of n = ap ready_of e in omega arith)
+              | inr ne ↦ kept.admitted j (sym (others j ne) ∙ has)
+            ];
+            to_come = λ j not below. elim (cases_eq j n) [
+              | inl e ↦ absurd (true≢false (sym here ∙ (ap come' (sym e) ∙ not)))
+              | inr ne ↦ kept.to_come j (sym (others j ne) ∙ not) below
+            ];
+            slot_count = length-set slots i (Some p) ∙ kept.slot_count;
+            pending = λ k q e. elim (cases_eq k i) [
+              | inl same ↦
+                  let at_i : slot_of (set slots i (Some p)) i ≡ Some q = subst (λ x. slot_of (set slots i (Some p)) x ≡ Some q) same e in
+                  let is : ◌≡◌ {A = Option Pending} (Some p) (Some q) = sym (get_or-set_same slots i (Some p) None in_slots) ∙ at_i in
+                  let e' : p ≡ q = cc (is) in
+                  subst (λ x. IsPending node jobs t come' x q) (sym same) (subst (λ x. IsPending node jobs t come' i x) e' mine)
+              | inr other ↦
+                  let was : slot_of slots k ≡ Some q = sym (get_or-set_other slots i k (Some p) None other) ∙ e in
+                  let m : IsPending node jobs t come k q = kept.pending k q was in
+                  let ne : q.job ≢ n = λ same. other (sym m.own ∙ ap task_no same) in
+                  record { released = others q.job ne ∙ m.released; task = m.task; own = m.own; level = m.level; executed = m.executed; active = m.active; unfinished = m.unfinished }
+            ];
+            complete = λ j has open_. elim (cases_eq j n) [
+              | inl same ↦ (p, subst (λ x. slot_of (set slots i (Some p)) (task_no x) ≡ Some p) (sym same) (get_or-set_same slots i (Some p) None in_slots), job ∙ sym same)
+              | inr ne ↦
+                  let was : (q : Pending) × (slot_of slots (task_no j) ≡ Some q) × (q.job ≡ j) = kept.complete j (sym (others j ne) ∙ has) open_ in
+                  elim (cases_eq (task_no j) i) [
+                    | inl same ↦ absurd (none-some was.0 (sym free ∙ subst (λ x. slot_of slots x ≡ Some was.0) same was.1))
+                    | inr other ↦ (was.0, get_or-set_other slots i (task_no j) (Some p) None other ∙ was.1, was.2)
+                  ]
+            ];
+            no_overrun = λ k has over. elim (cases_eq k n) [
+              | inl same ↦
+                  let o : task_no over.0 ≡ task_no n = over.2 ∙ ap task_no same in
+                  let b : over.0 < n = omega (arith, over.1) in
+                  let earlier : ready_of over.0 < ready_of n = keep over.0 n b lt o in
+                  let came : come over.0 ≡ true = elim (cases_Bool (come over.0)) [
+                    | inl did ↦ did
+                    | inr not ↦ (let later : t ≤ ready_of over.0 = kept.to_come over.0 not (omega arith) in absurd (omega arith))
+                  ] in
+                  let r : ready_of k ≡ t = (let s : ready_of k ≡ ready_of n = ap ready_of same in omega arith) in
+                  let open_ : done t over.0 < cost_of over.0 = subst (λ x. done x over.0 < cost_of over.0) r over.3 in
+                  let was : (q : Pending) × (slot_of slots (task_no over.0) ≡ Some q) × (q.job ≡ over.0) = kept.complete over.0 came open_ in
+                  none-some was.0 (sym free ∙ subst (λ x. slot_of slots x ≡ Some was.0) o was.1)
+              | inr ne ↦ kept.no_overrun k (sym (others k ne) ∙ has) over
+            ];
+          }
 
-    module _ (k : ℕ) (until_next : (j : ℕ) → next ≤ j → j < length jobs → t + k ≤ ready_of j) where
+      -- its task's slot is taken
+      pub overruns_now : (q : Pending) → slot_of slots (task_no n) ≡ Some q → Overruns node jobs n
+      overruns_now q e =
+          let now : t ≤ ready_of n = at_once in
+          let m : IsPending node jobs t come (task_no n) q = kept.pending (task_no n) q e in
+          let came : ready_of q.job ≤ t = kept.admitted q.job m.released in
+          let before : q.job < n = elim (cases_lt q.job n) [
+            | inl lt' ↦ lt'
+            | inr ge ↦ elim (cases_eq q.job n) [
+              | inl same ↦ absurd (true≢false (sym m.released ∙ (ap come same ∙ fresh)))
+              | inr differ ↦ (let after : ready_of n < ready_of q.job = keep n q.job (omega arith) (kept.within q.job m.released) (sym m.own) in absurd (omega arith))
+            ]
+          ] in
+          let same : t ≡ ready_of n = omega arith in
+          (q.job, before, m.own, subst (λ x. done x q.job < cost_of q.job) same (pending_open t come (task_no n) q m))
+
+    module _ (k : ℕ) (until_next : (j : ℕ) → come j ≡ false → j < length jobs → t + k ≤ ready_of j) where
       pub none_between : NoneReadyBetween jobs t (t + k)
-      none_between j lt late = elim (cases_lt j next) [ inl below ↦ (let r : ready_of j ≤ t = kept.admitted j below in absurd (omega arith)) | inr above ↦ until_next j above lt ]
+      none_between j lt late = elim (cases_Bool (come j)) [ inl has ↦ (let r : ready_of j ≤ t = kept.admitted j has in absurd (omega arith)) | inr not ↦ until_next j not lt ]
 
-      -- nothing is pending up to the next release
+      -- nothing is pending up to the next turn
       module _ (now : picked node jobs t ≡ None) where
         pub idle_same : (j : ℕ) → done (t + k) j ≡ done t j
         idle_same = jump.idle_after node jobs t k now none_between k (omega arith)
 
-        pub kept_idle : Kept node jobs (t + k) next slots
+        pub kept_idle : Kept node jobs (t + k) come slots
         kept_idle = record {
           within = kept.within;
           admitted = λ j lt. (let r : ready_of j ≤ t = kept.admitted j lt in omega arith);
           to_come = until_next;
           slot_count = kept.slot_count;
           pending = λ i q e.
-              let m : IsPending node jobs t next i q = kept.pending i q e in
+              let m : IsPending node jobs t come i q = kept.pending i q e in
               record { released = m.released; task = m.task; own = m.own; level = m.level; executed = m.executed ∙ sym (idle_same q.job); active = m.active; unfinished = m.unfinished };
           complete = λ j lt open_. (let s : done (t + k) j ≡ done t j = idle_same j in kept.complete j lt (omega arith));
           no_overrun = kept.no_overrun;
@@ -215,7 +238,7 @@ module _ (node : Node) (jobs : List Job) (sound : IsSound node) (known : (j : �
 
       -- the pending job p is picked, and reaches no boundary before the end of k ticks
       module _ (i : ℕ) (p : Pending) (slot : slot_of slots i ≡ Some p) (now : picked node jobs t ≡ Some p.job) (within : p.executed + k ≤ change_after (task_at node.tasks i).sections p.executed (task_at node.tasks i).cost) where
-        is_p : IsPending node jobs t next i p
+        is_p : IsPending node jobs t come i p
         is_p = kept.pending i p slot
 
         pick_below : p.job < length jobs
@@ -226,15 +249,15 @@ module _ (node : Node) (jobs : List Job) (sound : IsSound node) (known : (j : �
 
         within_t : done t p.job + k ≤ change_after (task_of node jobs p.job).sections (done t p.job) (cost_of p.job)
         within_t =
-            let own : task_no p.job ≡ i = (let m : IsPending node jobs t next i p = is_p in m.own) in
-            let e : p.executed ≡ done t p.job = (let m : IsPending node jobs t next i p = is_p in m.executed) in
+            let own : task_no p.job ≡ i = (let m : IsPending node jobs t come i p = is_p in m.own) in
+            let e : p.executed ≡ done t p.job = (let m : IsPending node jobs t come i p = is_p in m.executed) in
             subst (λ x. x + k ≤ change_after (task_of node jobs p.job).sections x (cost_of p.job)) e
             (subst (λ x. p.executed + k ≤ change_after (task_at node.tasks x).sections p.executed (task_at node.tasks x).cost) (sym own) within)
 
         pub own_then : done (t + k) p.job ≡ p.executed + k
         own_then =
             let a : done (t + k) p.job ≡ done t p.job + k = (jump.after node jobs t k p.job apart now none_between within_t k (omega arith)).0 in
-            let e : p.executed ≡ done t p.job = (let m : IsPending node jobs t next i p = is_p in m.executed) in
+            let e : p.executed ≡ done t p.job = (let m : IsPending node jobs t come i p = is_p in m.executed) in
             omega arith
 
         pub others_then : (j : ℕ) → j ≢ p.job → done (t + k) j ≡ done t j
@@ -245,27 +268,26 @@ module _ (node : Node) (jobs : List Job) (sound : IsSound node) (known : (j : �
 
         in_slots : i < length slots
         in_slots =
-            let own : task_no p.job ≡ i = (let m : IsPending node jobs t next i p = is_p in m.own) in
+            let own : task_no p.job ≡ i = (let m : IsPending node jobs t come i p = is_p in m.own) in
             let c : length slots ≡ length node.tasks = kept.slot_count in
             let l : task_no p.job < length node.tasks = known p.job pick_below in
             omega arith
 
         -- the pending job of another slot is as it was
-        other_pending : (h : ℕ) (q : Pending) → h ≢ i → slot_of slots h ≡ Some q → IsPending node jobs (t + k) next h q
+        other_pending : (h : ℕ) (q : Pending) → h ≢ i → slot_of slots h ≡ Some q → IsPending node jobs (t + k) come h q
         other_pending h q other was =
-            let m : IsPending node jobs t next h q = kept.pending h q was in
-            let mp : IsPending node jobs t next i p = is_p in
+            let m : IsPending node jobs t come h q = kept.pending h q was in
+            let mp : IsPending node jobs t come i p = is_p in
             let ne : q.job ≢ p.job = λ same. other (sym m.own ∙ (ap task_no same ∙ mp.own)) in
             record { released = m.released; task = m.task; own = m.own; level = m.level; executed = m.executed ∙ sym (others_then q.job ne); active = m.active; unfinished = m.unfinished }
 
         -- it isn't finished then
         pub kept_run : (p' : Pending) → p'.job ≡ p.job → p'.task ≡ p.task → p'.level ≡ p.level → p'.executed ≡ p.executed + k → p'.active ≡ active_at node i p'.executed → p.executed + k < (task_at node.tasks i).cost
-            → Kept node jobs (t + k) next (set slots i (Some p'))
+            → Kept node jobs (t + k) come (set slots i (Some p'))
         kept_run p' job task level executed active open_ =
-            let m : IsPending node jobs t next i p = is_p in
-            let r : p.job < next = m.released in
-            let mine : IsPending node jobs (t + k) next i p' = record {
-              released = omega arith;
+            let m : IsPending node jobs t come i p = is_p in
+            let mine : IsPending node jobs (t + k) come i p' = record {
+              released = ap come job ∙ m.released;
               task = task ∙ m.task;
               own = ap task_no job ∙ m.own;
               level = level ∙ m.level;
@@ -283,7 +305,7 @@ module _ (node : Node) (jobs : List Job) (sound : IsSound node) (known : (j : �
                     let here : slot_of (set slots i (Some p')) i ≡ Some q = subst (λ x. slot_of (set slots i (Some p')) x ≡ Some q) same e in
                     let is : ◌≡◌ {A = Option Pending} (Some p') (Some q) = sym (get_or-set_same slots i (Some p') None in_slots) ∙ here in
                     let e' : p' ≡ q = cc (is) in
-                    subst (λ x. IsPending node jobs (t + k) next x q) (sym same) (subst (λ x. IsPending node jobs (t + k) next i x) e' mine)
+                    subst (λ x. IsPending node jobs (t + k) come x q) (sym same) (subst (λ x. IsPending node jobs (t + k) come i x) e' mine)
                 | inr other ↦ other_pending h q other (sym (get_or-set_other slots i h (Some p') None other) ∙ e)
               ];
               complete = λ j lt left. elim (cases_eq j p.job) [
@@ -305,9 +327,9 @@ module _ (node : Node) (jobs : List Job) (sound : IsSound node) (known : (j : �
             }
 
         -- it executes its last ticks
-        pub kept_finish : p.executed + k ≡ (task_at node.tasks i).cost → Kept node jobs (t + k) next (set slots i None)
+        pub kept_finish : p.executed + k ≡ (task_at node.tasks i).cost → Kept node jobs (t + k) come (set slots i None)
         kept_finish full =
-            let m : IsPending node jobs t next i p = is_p in
+            let m : IsPending node jobs t come i p = is_p in
             record {
               within = kept.within;
               admitted = λ j lt. (let r : ready_of j ≤ t = kept.admitted j lt in omega arith);

@@ -18,6 +18,8 @@ pub mod OwnerLaws
 pub mod PriorityLaws
 pub mod MoveLaws
 pub mod ReleaseLaws
+pub mod TurnLaws
+pub mod SortLaws
 pub mod RunLaws
 pub mod AcceptLaws
 pub mod EndLaws

@@ -1,5 +1,5 @@
 -- Each event of a run keeps the lists.
-use Rattle.std.proofs.Common.{ℕ, ◌+◌, ◌<◌, ◌≤◌, ◌≡◌, ◌≢◌, ◌⊎◌, ◌==◌, inl, inr, sym, ap, ◌∙◌, subst, arith, List, [], ◌∷◌, ◌++◌, length, drop, set, replicate, true, false, Option, Some, None, nat_lt, slice_index_or, get_or-set_same, get_or-set_other, length-set}
+use Rattle.std.proofs.Common.{ℕ, ◌+◌, ◌<◌, ◌≤◌, ◌≡◌, ◌≢◌, ◌⊎◌, ◌==◌, inl, inr, sym, ap, ◌∙◌, subst, arith, List, [], ◌∷◌, ◌++◌, length, drop, set, replicate, Bool, true, false, Option, Some, None, nat_lt, slice_index_or, get_or-set_same, get_or-set_other, length-set}
 use Rattle.std.proofs.lemmas.Option.{none-some, same_Some}
 use Rattle.std.proofs.lemmas.Bool.{cases_eq, cases_lt, eq-eqb, ne_eqb, lt-ltb, le-ltb}
 use Rattle.std.proofs.lemmas.List.{get_or-replicate, length-replicate, get_or_past}
@@ -106,14 +106,14 @@ queues_start n m = record {
       | inr ge ↦ (let l : length (replicate n none_of) ≡ n = length-replicate n none_of in get_or_past (replicate n none_of) i None (omega arith))
     ]
 
-module _ (node : Node) (jobs : List Job) (sound : IsSound node) (t next : ℕ) (slots : List (Option Pending)) (kept : Kept node jobs t next slots) (lists : List (List ℕ)) (queues : Queues (λ i. slice_index_or slots i None) (list_at lists)) where
+module _ (node : Node) (jobs : List Job) (sound : IsSound node) (t : ℕ) (come : ℕ → Bool) (slots : List (Option Pending)) (kept : Kept node jobs t come slots) (lists : List (List ℕ)) (queues : Queues (λ i. slice_index_or slots i None) (list_at lists)) where
   abbrev slot_at : ℕ → Option Pending
   slot_at i = slice_index_or slots i None
 
   -- at the priority of task i's own level, other pending jobs have lower own levels
   lower : (i a n k : ℕ) (r : Pending) → i < length node.tasks → level_at node i ≡ a → StandsAt (list_at lists a) n k → slot_at k ≡ Some r → k ≢ i → r.level < a
   lower i a n k r in_tasks own st at_k ne =
-      let m : IsPending node jobs t next k r = kept.pending k r at_k in
+      let m : IsPending node jobs t come k r = kept.pending k r at_k in
       let s : (q : Pending) × (slot_at k ≡ Some q) × (q.active ≡ a) = queues.sound a n k st in
       let one : s.0.active ≡ r.active = ap (λ x. x.active) (pending_same (slot_at k) s.0 r s.1 at_k) in
       let here : s.0.active ≡ a = s.2 in
@@ -128,7 +128,7 @@ module _ (node : Node) (jobs : List Job) (sound : IsSound node) (t next : ℕ) (
         | inr differ ↦ omega arith
       ]
 
-  -- the next job becomes pending
+  -- a job becomes pending
   pub queues_admit : IsNode node → (p : Pending) (i : ℕ) → i < length node.tasks → length lists ≡ length node.tasks + 1 → p.level ≡ level_at node i → p.active ≡ level_at node i → slot_at i ≡ None
       → Queues (λ k. slice_index_or (set slots i (Some p)) k None) (list_at (with_tail lists p.active i))
   queues_admit ok p i in_tasks count level active free =
@@ -161,7 +161,7 @@ module _ (node : Node) (jobs : List Job) (sound : IsSound node) (t next : ℕ) (
       ]
     where
       own : p.level ≡ level_at node i
-      own = (let m : IsPending node jobs t next i p = kept.pending i p at_i in m.level)
+      own = (let m : IsPending node jobs t come i p = kept.pending i p at_i in m.level)
 
       -- nobody stands where a job comes back to its own level
       none_there : q.active < p.active → list_at (without_head lists p.active) q.active ≡ []
@@ -203,7 +203,7 @@ module _ (node : Node) (jobs : List Job) (sound : IsSound node) (t next : ℕ) (
   -- ---- who executes above its own level is alone there
   level_of_slot : (k : ℕ) (r : Pending) → slot_at k ≡ Some r → (r.level ≡ level_at node k) × (r.level ≤ r.active) × (k < length node.tasks)
   level_of_slot k r at_k =
-      let m : IsPending node jobs t next k r = kept.pending k r at_k in
+      let m : IsPending node jobs t come k r = kept.pending k r at_k in
       let level : r.level ≡ level_at node k = m.level in
       let active : r.active ≡ active_at node k r.executed = m.active in (
         level,

@@ -10,8 +10,9 @@ use Rattle.task_sheet.specs.TaskSet.{IsTaskSet}
 use Rattle.task_sheet.specs.Locks.{uses, ceiling_from}
 use Rattle.task_sheet.specs.Indexes.{among}
 use Rattle.task_sheet.specs.Orders.{Stands, AllStand}
+use Rattle.task_sheet.specs.Demand.{limit_of}
 use Rattle.ceiling_kernel.specs.Tick.{Node, level_from, level_at, ceiling}
-use Rattle.ceiling_kernel.specs.Waits.{IsNode}
+use Rattle.ceiling_kernel.specs.Waits.{IsNode, lateness_of}
 use Rattle.ceiling_kernel.specs.Bounds.{above_of, after_of}
 
 -- ---- sections
@@ -232,6 +233,14 @@ after-higher l (x ∷ order) i some once named h =
           ])
     ]
 
+-- ---- how late jobs may be
+-- the limit leaves room in the deadline for the lateness
+late_room : (t : Task) → IsValidSheet t → limit_of t + lateness_of t ≤ t.deadline
+late_room t v = omega (arith, v.jitter)
+
+late_less : (t : Task) → IsValidSheet t → lateness_of t < t.period
+late_less t v = omega (arith, v.jitter, v.deadline_to)
+
 -- ---- a node as the laws need it
 pub record IsSoundTask (node : Node) (i : ℕ) : Type 0 where
   pub level_from_one : 0 < level_at node i
@@ -239,6 +248,9 @@ pub record IsSoundTask (node : Node) (i : ℕ) : Type 0 where
   pub apart : AreApart 0 (task_at node.tasks i).sections (task_at node.tasks i).cost
   pub deadline_within : (task_at node.tasks i).deadline ≤ (task_at node.tasks i).period
   pub period_from_one : 0 < (task_at node.tasks i).period
+  -- its jobs are late by what its limit leaves of the deadline at most, and by less than a period
+  pub late_within : limit_of (task_at node.tasks i) + lateness_of (task_at node.tasks i) ≤ (task_at node.tasks i).deadline
+  pub late_before : lateness_of (task_at node.tasks i) < (task_at node.tasks i).period
 
 pub record IsSound (node : Node) : Type 0 where
   pub each : (i : ℕ) → i < length node.tasks → IsSoundTask node i
@@ -279,6 +291,8 @@ module _ (node : Node) (ok : IsNode node) where
           apart = apart_of 0 (task_at node.tasks i).cost (task_at node.tasks i).sections (omega arith) v.sections;
           deadline_within = v.deadline_to;
           period_from_one = (let p : 1000 ≤ (task_at node.tasks i).period = v.period_from in omega arith);
+          late_within = late_room (task_at node.tasks i) v;
+          late_before = late_less (task_at node.tasks i) v;
         };
     levels_differ = λ i k li lk e. same_level 1 node.order i k (named i li) (named k lk) e;
     users_below = λ i lock u. elim (cases_lt i (length node.tasks)) [

@@ -1,7 +1,7 @@
 -- The steps of a run, over the code's own lists.
-use Rattle.std.proofs.Common.{ℕ, suc, ◌+◌, ◌-◌, ◌<◌, ◌≤◌, ◌≡◌, ◌≢◌, ◌⊎◌, inl, inr, refl, sym, ap, ◌∙◌, subst, arith, cond, List, length, set, get_or, map, replicate, Option, Some, None, true, false, slice_index_or, get_or-set_same, get_or-set_other, length-set}
+use Rattle.std.proofs.Common.{ℕ, suc, ◌+◌, ◌-◌, ◌<◌, ◌≤◌, ◌≡◌, ◌≢◌, ◌⊎◌, inl, inr, refl, sym, ap, ◌∙◌, subst, arith, cond, List, length, set, get_or, map, replicate, Option, Some, None, Bool, true, false, slice_index_or, get_or-set_same, get_or-set_other, length-set}
 use Rattle.std.proofs.lemmas.Option.{none-some}
-use Rattle.std.proofs.lemmas.Bool.{cases_eq, cases_lt, true≢false}
+use Rattle.std.proofs.lemmas.Bool.{cases_eq, cases_Bool, true≢false}
 use Rattle.std.proofs.lemmas.List.{get_or-replicate, length-replicate}
 use Rattle.std.proofs.lemmas.List.Elements.{All-get_or}
 use Rattle.task_sheet.specs.Sheet.{IsValidSheet, no_task, task_at}
@@ -14,13 +14,15 @@ use Rattle.ceiling_kernel.specs.Tick.{Node, Job, job_at, task_of, level_at, exec
 use Rattle.ceiling_kernel.specs.Trace.{with_run, slices_before, finish_before}
 use Rattle.ceiling_kernel.specs.Jumps.{change_after, NoneReadyBetween}
 use Rattle.ceiling_kernel.specs.Waits.{IsNode, Overruns, NoOverrunBy, holds_lock}
-use Rattle.ceiling_kernel.specs.Releases.{task_number, jobs_of, release_at}
+use Rattle.ceiling_kernel.specs.Releases.{task_number, ready_of, jobs_of, release_at}
+use Rattle.ceiling_kernel.specs.Turns.{time_in_turn, job_in_turn, AreTurns, has_come, TasksKeepOrder}
 use Rattle.ceiling_kernel.specs.Runs.{IsOverrun}
 use Rattle.ceiling_kernel.specs.NodeTasks.{IsTaskOf}
 use Rattle.ceiling_kernel.specs.States.{active_at, best_slot, next_change, IsRunnable, IsPending, Kept, AreFinishes}
 use Rattle.ceiling_kernel.specs.Owners.{owner_of, with_owners, AreOwners}
 use Rattle.ceiling_kernel.specs.Lists.{list_at, with_tail, without_head, moved_to, Queues, IsAlone}
 use Rattle.ceiling_kernel.proofs.ReleaseLaws.{finish_first, job_is, jobs_length, place_is, read_at}
+use Rattle.ceiling_kernel.proofs.TurnLaws.{keeps_order, come_of, come_others, next_fresh, next_first, next_time}
 use Rattle.ceiling_kernel.proofs.NodeLaws.{AreApart, IsSoundTask, IsSound, sound}
 use Rattle.ceiling_kernel.proofs.MachineLaws.{picked_is, IsPick}
 use Rattle.ceiling_kernel.proofs.JumpLaws as jump
@@ -33,7 +35,7 @@ use Rattle.ceiling_kernel.proofs.KeptLaws as laws
 use Rattle.ceiling_kernel.proofs.PriorityLaws as priority
 use Rattle.ceiling_kernel.proofs.MoveLaws as move
 
-module _ (node : Node) (rs : List Release) (runnable : IsRunnable node rs) where
+module _ (node : Node) (rs : List Release) (turns : List (ℕ × ℕ)) (runnable : IsRunnable node rs turns) where
   ok : IsNode node
   ok = runnable.of_node
 
@@ -54,8 +56,15 @@ module _ (node : Node) (rs : List Release) (runnable : IsRunnable node rs) where
       let k : task_number node.tasks (release_at rs j) < length node.tasks = runnable.known j lt' in
       omega arith
 
-  ready_is : (j : ℕ) → j < length rs → (job_at jobs j).ready ≡ (release_at rs j).time
+  ready_is : (j : ℕ) → j < length rs → (job_at jobs j).ready ≡ ready_of (release_at rs j)
   ready_is j lt = ap (λ x. x.ready) (job_is node.tasks rs j lt)
+
+  -- the job of a turn is one of the list
+  pub in_list : (n : ℕ) → n < length turns → job_in_turn turns n < length rs
+  in_list n lt =
+      let are : AreTurns jobs turns = runnable.in_turn in
+      let l : length jobs ≡ length rs = jobs_length node.tasks rs in
+      omega (arith, are.known n lt)
 
   valid_cost : (i : ℕ) → i < length node.tasks → (0 < (task_at node.tasks i).cost) × ((task_at node.tasks i).cost ≤ 10000000)
   valid_cost i lt =
@@ -71,9 +80,15 @@ module _ (node : Node) (rs : List Release) (runnable : IsRunnable node rs) where
   pub cost_some : (j : ℕ) → j < length rs → 0 < (task_of node jobs j).cost
   cost_some j lt = (let l : length jobs ≡ length rs = jobs_length node.tasks rs in (valid_cost (task_no j) (known_of j (omega arith))).0)
 
+  -- the kept index of the task whose turn it is
+  pub task_in_turn : (places : List ℕ) (n : ℕ) → places ≡ map (task_number node.tasks) rs → n < length turns → get_or places (job_in_turn turns n) 0 < length node.tasks
+  task_in_turn places n e lt =
+      let i : get_or places (job_in_turn turns n) 0 ≡ task_number node.tasks (release_at rs (job_in_turn turns n)) = place_is node.tasks rs places (job_in_turn turns n) e (in_list n lt) in
+      omega (arith, runnable.known (job_in_turn turns n) (in_list n lt))
+
   -- before the first tick
-  pub kept_start : Kept node jobs 0 0 (replicate (length node.tasks) None)
-  kept_start = laws.kept_start node jobs is_sound known_of
+  pub kept_start : Kept node jobs 0 (has_come turns 0) (replicate (length node.tasks) None)
+  kept_start = laws.kept_start node jobs is_sound known_of (has_come turns 0) (λ j. refl)
 
   pub finishes_start : AreFinishes node rs 0 (replicate (length rs) None)
   finishes_start = record {
@@ -84,54 +99,72 @@ module _ (node : Node) (rs : List Release) (runnable : IsRunnable node rs) where
       none_of : Option ℕ
       none_of = None
 
-  module _ (t next : ℕ) (slots : List (Option Pending)) (kept : Kept node jobs t next slots) where
+  module _ (t next : ℕ) (slots : List (Option Pending)) (kept : Kept node jobs t (has_come turns next) slots) where
+    abbrev come : ℕ → Bool
+    come = has_come turns next
+
     abbrev slot_of : ℕ → Option Pending
     slot_of i = slice_index_or slots i None
 
-    -- ---- the next release
-    module _ (lt : next < length rs) (ready : (release_at rs next).time ≤ t) where
-      next_below : next < length jobs
-      next_below = (let l : length jobs ≡ length rs = jobs_length node.tasks rs in omega arith)
+    -- ---- the next turn
+    module _ (lt : next < length turns) (ready : time_in_turn turns next ≤ t) where
+      abbrev pub turn : ℕ
+      turn = job_in_turn turns next
 
-      next_ready : (job_at jobs next).ready ≤ t
-      next_ready = (let r : (job_at jobs next).ready ≡ (release_at rs next).time = ready_is next lt in omega arith)
+      turn_below : turn < length jobs
+      turn_below = (let are : AreTurns jobs turns = runnable.in_turn in are.known next lt)
 
-      next_task : task_number node.tasks (release_at rs next) ≡ task_no next
-      next_task = sym (ap (λ x. x.task) (job_is node.tasks rs next lt))
+      pub turn_in_list : turn < length rs
+      turn_in_list = in_list next lt
+
+      turn_time : time_in_turn turns next ≡ (job_at jobs turn).ready
+      turn_time = (let are : AreTurns jobs turns = runnable.in_turn in are.timed next lt)
+
+      turn_ready : (job_at jobs turn).ready ≤ t
+      turn_ready = (let r : time_in_turn turns next ≡ (job_at jobs turn).ready = turn_time in omega arith)
+
+      turn_fresh : come turn ≡ false
+      turn_fresh = next_fresh jobs turns runnable.in_turn next lt
+
+      keep : TasksKeepOrder jobs
+      keep = keeps_order node jobs ok runnable.legal
+
+      turn_task : task_number node.tasks (release_at rs turn) ≡ task_no turn
+      turn_task = sym (ap (λ x. x.task) (job_is node.tasks rs turn turn_in_list))
 
       -- what the code reads of its slot
-      pub slot_read : (places : List ℕ) (x : Option Pending) → places ≡ map (task_number node.tasks) rs → x ≡ slice_index_or slots (get_or places next 0) x → slot_of (task_number node.tasks (release_at rs next)) ≡ x
+      pub slot_read : (places : List ℕ) (x : Option Pending) → places ≡ map (task_number node.tasks) rs → x ≡ slice_index_or slots (get_or places turn 0) x → slot_of (task_number node.tasks (release_at rs turn)) ≡ x
       slot_read places x e read =
-          let i : get_or places next 0 ≡ task_number node.tasks (release_at rs next) = place_is node.tasks rs places next e lt in
-          let k : task_number node.tasks (release_at rs next) < length node.tasks = runnable.known next lt in
+          let i : get_or places turn 0 ≡ task_number node.tasks (release_at rs turn) = place_is node.tasks rs places turn e turn_in_list in
+          let k : task_number node.tasks (release_at rs turn) < length node.tasks = runnable.known turn turn_in_list in
           let c : length slots ≡ length node.tasks = kept.slot_count in
-          subst (λ z. slot_of z ≡ x) i (read_at slots (get_or places next 0) x None (omega arith) read)
+          subst (λ z. slot_of z ≡ x) i (read_at slots (get_or places turn 0) x None (omega arith) read)
 
-      pub admit : (p : Pending) → p.job ≡ next → p.task ≡ task_number node.tasks (release_at rs next) → p.level ≡ level_at node (task_number node.tasks (release_at rs next)) → p.executed ≡ 0
-          → p.active ≡ level_at node (task_number node.tasks (release_at rs next)) → slot_of (task_number node.tasks (release_at rs next)) ≡ None
-          → Kept node jobs t (suc next) (set slots (task_number node.tasks (release_at rs next)) (Some p))
+      pub admit : (p : Pending) → p.job ≡ turn → p.task ≡ task_number node.tasks (release_at rs turn) → p.level ≡ level_at node (task_number node.tasks (release_at rs turn)) → p.executed ≡ 0
+          → p.active ≡ level_at node (task_number node.tasks (release_at rs turn)) → slot_of (task_number node.tasks (release_at rs turn)) ≡ None
+          → Kept node jobs t (has_come turns (suc next)) (set slots (task_number node.tasks (release_at rs turn)) (Some p))
       admit p job task level executed active free =
-          subst (λ x. Kept node jobs t (suc next) (set slots x (Some p))) (sym next_task)
-          (laws.kept_admit node jobs is_sound known_of t next slots kept p next_below next_ready job (task ∙ next_task) (level ∙ ap (level_at node) next_task) executed (active ∙ ap (level_at node) next_task)
-          (subst (λ x. slot_of x ≡ None) next_task free))
+          subst (λ x. Kept node jobs t (has_come turns (suc next)) (set slots x (Some p))) (sym turn_task)
+          (laws.kept_admit node jobs is_sound known_of t come slots kept turn turn_below turn_fresh turn_ready keep (has_come turns (suc next)) (come_of turns (suc next) next (omega arith)) (come_others turns next) p job (task ∙ turn_task) (level ∙ ap (level_at node) turn_task) executed (active ∙ ap (level_at node) turn_task)
+          (subst (λ x. slot_of x ≡ None) turn_task free))
 
       -- its task comes to the tail of the list of its own level
-      pub admit_lists : (lists : List (List ℕ)) → Queues (λ k. slice_index_or slots k None) (list_at lists) → length lists ≡ length node.tasks + 1 → (p : Pending) → p.level ≡ level_at node (task_number node.tasks (release_at rs next))
-          → p.active ≡ level_at node (task_number node.tasks (release_at rs next)) → slot_of (task_number node.tasks (release_at rs next)) ≡ None
-          → Queues (λ k. slice_index_or (set slots (task_number node.tasks (release_at rs next)) (Some p)) k None) (list_at (with_tail lists p.active (task_number node.tasks (release_at rs next))))
+      pub admit_lists : (lists : List (List ℕ)) → Queues (λ k. slice_index_or slots k None) (list_at lists) → length lists ≡ length node.tasks + 1 → (p : Pending) → p.level ≡ level_at node (task_number node.tasks (release_at rs turn))
+          → p.active ≡ level_at node (task_number node.tasks (release_at rs turn)) → slot_of (task_number node.tasks (release_at rs turn)) ≡ None
+          → Queues (λ k. slice_index_or (set slots (task_number node.tasks (release_at rs turn)) (Some p)) k None) (list_at (with_tail lists p.active (task_number node.tasks (release_at rs turn))))
       admit_lists lists queues count p level active free =
-          move.queues_admit node jobs is_sound t next slots kept lists queues ok p (task_number node.tasks (release_at rs next)) (runnable.known next lt) count level active free
+          move.queues_admit node jobs is_sound t come slots kept lists queues ok p (task_number node.tasks (release_at rs turn)) (runnable.known turn turn_in_list) count level active free
 
-      pub admit_alone : (lists : List (List ℕ)) → Queues (λ k. slice_index_or slots k None) (list_at lists) → IsAlone slot_of → (p : Pending) → p.level ≡ level_at node (task_number node.tasks (release_at rs next)) → p.active ≡ level_at node (task_number node.tasks (release_at rs next))
-          → IsAlone (λ k. slice_index_or (set slots (task_number node.tasks (release_at rs next)) (Some p)) k None)
-      admit_alone lists queues alone p level active = move.alone_admit node jobs is_sound t next slots kept lists queues alone p (task_number node.tasks (release_at rs next)) (runnable.known next lt) level active
+      pub admit_alone : (lists : List (List ℕ)) → Queues (λ k. slice_index_or slots k None) (list_at lists) → IsAlone slot_of → (p : Pending) → p.level ≡ level_at node (task_number node.tasks (release_at rs turn)) → p.active ≡ level_at node (task_number node.tasks (release_at rs turn))
+          → IsAlone (λ k. slice_index_or (set slots (task_number node.tasks (release_at rs turn)) (Some p)) k None)
+      admit_alone lists queues alone p level active = move.alone_admit node jobs is_sound t come slots kept lists queues alone p (task_number node.tasks (release_at rs turn)) (runnable.known turn turn_in_list) level active
 
       -- it holds no lock yet
-      pub admit_owners : (owner : List ℕ → Option ℕ) → AreOwners node.tasks slot_of owner → (p : Pending) → p.executed ≡ 0 → slot_of (task_number node.tasks (release_at rs next)) ≡ None
-          → AreOwners node.tasks (λ k. slice_index_or (set slots (task_number node.tasks (release_at rs next)) (Some p)) k None) owner
+      pub admit_owners : (owner : List ℕ → Option ℕ) → AreOwners node.tasks slot_of owner → (p : Pending) → p.executed ≡ 0 → slot_of (task_number node.tasks (release_at rs turn)) ≡ None
+          → AreOwners node.tasks (λ k. slice_index_or (set slots (task_number node.tasks (release_at rs turn)) (Some p)) k None) owner
       admit_owners owner are p executed free =
-          let i : ℕ = task_number node.tasks (release_at rs next) in
-          let in_tasks : i < length node.tasks = runnable.known next lt in
+          let i : ℕ = task_number node.tasks (release_at rs turn) in
+          let in_tasks : i < length node.tasks = runnable.known turn turn_in_list in
           let in_slots : i < length slots = (let c : length slots ≡ length node.tasks = kept.slot_count in omega arith) in
           let v : IsSoundTask node i = (let s : IsSound node = is_sound in s.each i in_tasks) in
           let none_held : (lock : List ℕ) → holds_lock (task_at node.tasks i).sections p.executed lock ≡ false =
@@ -141,58 +174,62 @@ module _ (node : Node) (rs : List Release) (runnable : IsRunnable node rs) where
           (λ lock. let h = none_held lock in rw h refl)
           (λ lock k q ne slot mine other. true≢false (sym mine ∙ none_held lock))
 
-      pub overrun : (q : Pending) → slot_of (task_number node.tasks (release_at rs next)) ≡ Some q → (r : Release) → release_at rs next ≡ r → IsOverrun node rs r.name r.time
-      overrun q taken r e =
-          let l : length jobs ≡ length rs = jobs_length node.tasks rs in
-          let over : Overruns node jobs next = laws.overruns_now node jobs is_sound known_of t next slots kept next_below next_ready q (subst (λ x. slot_of x ≡ Some q) next_task taken) in
+      pub overrun : (q : Pending) → slot_of (task_number node.tasks (release_at rs turn)) ≡ Some q → (r : Release) → release_at rs turn ≡ r → (time : ℕ) → time ≡ time_in_turn turns next → IsOverrun node rs r.name time
+      overrun q taken r e time timed =
+          let over : Overruns node jobs turn = laws.overruns_now node jobs is_sound known_of t come slots kept turn turn_below turn_fresh turn_ready keep q (subst (λ x. slot_of x ≡ Some q) turn_task taken) in
           record {
-            place = next;
+            place = turn;
             first = record {
-              is_job = next_below;
+              is_job = turn_below;
               overruns = over;
-              earliest = λ j below other. elim (cases_lt j next) [
-                | inl before ↦ absurd (kept.no_overrun j before other)
-                | inr above ↦
-                    let order : (release_at rs next).time ≤ (release_at rs j).time = runnable.sorted next j above (omega arith) in
-                    let rn : (job_at jobs next).ready ≡ (release_at rs next).time = ready_is next lt in
-                    let rj : (job_at jobs j).ready ≡ (release_at rs j).time = ready_is j (omega arith) in
-                    omega arith
+              earliest = λ j below other. elim (cases_Bool (come j)) [
+                | inl has ↦ absurd (kept.no_overrun j has other)
+                | inr not ↦
+                    let at : time_in_turn turns next ≡ (job_at jobs turn).ready = turn_time in
+                    let ahead : (next < length turns) × (time_in_turn turns next ≤ (job_at jobs j).ready) = next_time jobs turns runnable.in_turn next j not below in
+                    omega (arith, ahead.1)
               ];
-              first = λ j before other. absurd (kept.no_overrun j before other);
+              first = λ j before other. elim (cases_Bool (come j)) [
+                | inl has ↦ absurd (kept.no_overrun j has other)
+                | inr not ↦
+                    let below : j < length jobs = (let b : turn < length jobs = turn_below in omega arith) in
+                    elim (next_first jobs turns runnable.in_turn next j not below) [
+                      | inl same ↦ absurd (omega arith)
+                      | inr after ↦ elim after [ inl less ↦ less | inr tied ↦ absurd (omega (arith, tied.1)) ]
+                    ]
+              ];
             };
             name_is = ap (λ x. x.name) (sym e);
-            time_is = ap (λ x. x.time) (sym e);
+            time_is = timed ∙ (turn_time ∙ ready_is turn turn_in_list);
           }
 
-    -- ---- up to a limit, at which the next release stands at the earliest
-    module _ (limit : ℕ) (after : t < limit) (before_next : next < length rs → limit ≤ (release_at rs next).time) where
-      all_later : (j : ℕ) → next ≤ j → j < length jobs → limit ≤ (job_at jobs j).ready
-      all_later j above lt =
-          let l : length jobs ≡ length rs = jobs_length node.tasks rs in
-          let first : limit ≤ (release_at rs next).time = before_next (omega arith) in
-          let order : (release_at rs next).time ≤ (release_at rs j).time = runnable.sorted next j above (omega arith) in
-          let r : (job_at jobs j).ready ≡ (release_at rs j).time = ready_is j (omega arith) in
-          omega arith
+    -- ---- up to a limit, at which the next turn stands at the earliest
+    module _ (limit : ℕ) (after : t < limit) (before_next : next < length turns → limit ≤ time_in_turn turns next) where
+      all_later : (j : ℕ) → come j ≡ false → j < length jobs → limit ≤ (job_at jobs j).ready
+      all_later j not lt =
+          let ahead : (next < length turns) × (time_in_turn turns next ≤ (job_at jobs j).ready) = next_time jobs turns runnable.in_turn next j not lt in
+          let first : limit ≤ time_in_turn turns next = before_next ahead.0 in
+          omega (arith, ahead.1)
 
-      later : (j : ℕ) → next ≤ j → j < length jobs → t < (job_at jobs j).ready
-      later j above lt = (let l : limit ≤ (job_at jobs j).ready = all_later j above lt in omega arith)
+      later : (j : ℕ) → come j ≡ false → j < length jobs → t < (job_at jobs j).ready
+      later j not lt = (let l : limit ≤ (job_at jobs j).ready = all_later j not lt in omega arith)
 
-      later_by : (k : ℕ) → t + k ≤ limit → (j : ℕ) → next ≤ j → j < length jobs → t + k ≤ (job_at jobs j).ready
-      later_by k le j above lt = (let l : limit ≤ (job_at jobs j).ready = all_later j above lt in omega arith)
+      later_by : (k : ℕ) → t + k ≤ limit → (j : ℕ) → come j ≡ false → j < length jobs → t + k ≤ (job_at jobs j).ready
+      later_by k le j not lt = (let l : limit ≤ (job_at jobs j).ready = all_later j not lt in omega arith)
 
       -- nothing is pending
       module _ (none : best_slot slots None ≡ None) where
         idle_now : picked node jobs t ≡ None
-        idle_now = laws.idle_is node jobs is_sound known_of t next slots kept later none
+        idle_now = laws.idle_is node jobs is_sound known_of t come slots kept later none
 
         to_limit : t + (limit - t) ≡ limit
         to_limit = omega arith
 
-        pub idle_kept : Kept node jobs limit next slots
-        idle_kept = subst (λ x. Kept node jobs x next slots) to_limit (laws.kept_idle node jobs is_sound known_of t next slots kept (limit - t) (later_by (limit - t) (omega arith)) idle_now)
+        pub idle_kept : Kept node jobs limit come slots
+        idle_kept = subst (λ x. Kept node jobs x come slots) to_limit (laws.kept_idle node jobs is_sound known_of t come slots kept (limit - t) (later_by (limit - t) (omega arith)) idle_now)
 
         none_between : NoneReadyBetween jobs t (t + (limit - t))
-        none_between = laws.none_between node jobs is_sound known_of t next slots kept (limit - t) (later_by (limit - t) (omega arith))
+        none_between = laws.none_between node jobs is_sound known_of t come slots kept (limit - t) (later_by (limit - t) (omega arith))
 
         pub idle_slices : slices_before (picked node jobs) limit ≡ slices_before (picked node jobs) t
         idle_slices =
@@ -203,7 +240,7 @@ module _ (node : Node) (rs : List Release) (runnable : IsRunnable node rs) where
         idle_finishes fs are = record {
           count = are.count;
           each = λ j lt.
-              let same : executed_before node jobs (t + (limit - t)) j ≡ executed_before node jobs t j = laws.idle_same node jobs is_sound known_of t next slots kept (limit - t) (later_by (limit - t) (omega arith)) idle_now j in
+              let same : executed_before node jobs (t + (limit - t)) j ≡ executed_before node jobs t j = laws.idle_same node jobs is_sound known_of t come slots kept (limit - t) (later_by (limit - t) (omega arith)) idle_now j in
               let stays : finish_before node jobs (t + (limit - t)) j ≡ finish_before node jobs t j = finish_stays node jobs j t (limit - t) (cost_some j lt) (inl same) in
               are.each j lt ∙ (sym stays ∙ ap (λ x. finish_before node jobs x j) to_limit);
         }
@@ -217,13 +254,13 @@ module _ (node : Node) (rs : List Release) (runnable : IsRunnable node rs) where
         place = (let s : IsBestSlot slots None p = slot_some slots None p best in elim s.from [ inl no_one ↦ absurd (none-some p no_one) | inr found ↦ found ])
 
         pub slot : slot_of p.task ≡ Some p
-        slot = (let m : IsPending node jobs t next place.0 p = kept.pending place.0 p place.1 in subst (λ x. slot_of x ≡ Some p) (sym m.task) place.1)
+        slot = (let m : IsPending node jobs t come place.0 p = kept.pending place.0 p place.1 in subst (λ x. slot_of x ≡ Some p) (sym m.task) place.1)
 
-        is_p : IsPending node jobs t next p.task p
+        is_p : IsPending node jobs t come p.task p
         is_p = kept.pending p.task p slot
 
         picks_now : picked node jobs t ≡ Some p.job
-        picks_now = laws.pick_is node jobs is_sound known_of t next slots kept later p best
+        picks_now = laws.pick_is node jobs is_sound known_of t come slots kept later p best
 
         job_below : p.job < length jobs
         job_below = (let is : IsPick node jobs t p.job = picked_is node jobs t p.job picks_now in is.below)
@@ -232,7 +269,7 @@ module _ (node : Node) (rs : List Release) (runnable : IsRunnable node rs) where
         job_in = (let l : length jobs ≡ length rs = jobs_length node.tasks rs in let b : p.job < length jobs = job_below in omega arith)
 
         pub task_in : p.task < length node.tasks
-        task_in = (let m : IsPending node jobs t next p.task p = is_p in let k : task_no p.job < length node.tasks = known_of p.job job_below in let e : task_no p.job ≡ p.task = m.own in omega arith)
+        task_in = (let m : IsPending node jobs t come p.task p = is_p in let k : task_no p.job < length node.tasks = known_of p.job job_below in let e : task_no p.job ≡ p.task = m.own in omega arith)
 
         pub task_in_slots : p.task < length slots
         task_in_slots = (let c : length slots ≡ length node.tasks = kept.slot_count in let l : p.task < length node.tasks = task_in in omega arith)
@@ -250,7 +287,7 @@ module _ (node : Node) (rs : List Release) (runnable : IsRunnable node rs) where
         finish_lists lists queues = move.queues_finish slots lists queues p p.task task_in_slots best slot
 
         pub finish_alone : (lists : List (List ℕ)) → Queues (λ k. slice_index_or slots k None) (list_at lists) → IsAlone slot_of → IsAlone (λ k. slice_index_or (set slots p.task None) k None)
-        finish_alone lists queues alone = move.alone_finish node jobs is_sound t next slots kept lists queues alone p.task task_in_slots
+        finish_alone lists queues alone = move.alone_finish node jobs is_sound t come slots kept lists queues alone p.task task_in_slots
 
         -- of what is kept of its task
         module _ (x : NodeTask) (is_x : IsTaskOf node p.task x) where
@@ -267,7 +304,7 @@ module _ (node : Node) (rs : List Release) (runnable : IsRunnable node rs) where
 
           pub ahead : (p.executed < next_change x.sections.items p.executed x.cost) × (next_change x.sections.items p.executed x.cost ≤ x.cost)
           ahead =
-              let m : IsPending node jobs t next p.task p = is_p in
+              let m : IsPending node jobs t come p.task p = is_p in
               let b : (p.executed < change_after (task_at node.tasks p.task).sections p.executed cost) × (change_after (task_at node.tasks p.task).sections p.executed cost ≤ cost) = jump.change_above 0 cost (task_at node.tasks p.task).sections p.executed apart m.unfinished in
               let e : next_change x.sections.items p.executed x.cost ≡ change_after (task_at node.tasks p.task).sections p.executed cost = change_is in
               let c : x.cost ≡ cost = is_x.cost in
@@ -280,35 +317,35 @@ module _ (node : Node) (rs : List Release) (runnable : IsRunnable node rs) where
             to_stop : t + (stop - t) ≡ stop
             to_stop = omega arith
 
-            by_stop : (j : ℕ) → next ≤ j → j < length jobs → t + (stop - t) ≤ (job_at jobs j).ready
+            by_stop : (j : ℕ) → come j ≡ false → j < length jobs → t + (stop - t) ≤ (job_at jobs j).ready
             by_stop = later_by (stop - t) (omega arith)
 
             own : executed_before node jobs (t + (stop - t)) p.job ≡ p.executed + (stop - t)
-            own = laws.own_then node jobs is_sound known_of t next slots kept (stop - t) by_stop p.task p slot picks_now within_p
+            own = laws.own_then node jobs is_sound known_of t come slots kept (stop - t) by_stop p.task p slot picks_now within_p
 
             others : (j : ℕ) → j ≢ p.job → executed_before node jobs (t + (stop - t)) j ≡ executed_before node jobs t j
-            others = laws.others_then node jobs is_sound known_of t next slots kept (stop - t) by_stop p.task p slot picks_now within_p
+            others = laws.others_then node jobs is_sound known_of t come slots kept (stop - t) by_stop p.task p slot picks_now within_p
 
             cost_p : (task_of node jobs p.job).cost ≡ cost
-            cost_p = (let m : IsPending node jobs t next p.task p = is_p in ap (λ z. (task_at node.tasks z).cost) m.own)
+            cost_p = (let m : IsPending node jobs t come p.task p = is_p in ap (λ z. (task_at node.tasks z).cost) m.own)
 
             pub run_slices : slices_before (picked node jobs) stop ≡ with_run (slices_before (picked node jobs) t) p.job t stop
             run_slices =
                 let more : t + suc (stop - t - 1) ≡ stop = omega arith in
-                let stays : (d : ℕ) → d < stop - t → picked node jobs (t + d) ≡ Some p.job = laws.picks node jobs is_sound known_of t next slots kept (stop - t) by_stop p.task p slot picks_now within_p in
+                let stays : (d : ℕ) → d < stop - t → picked node jobs (t + d) ≡ Some p.job = laws.picks node jobs is_sound known_of t come slots kept (stop - t) by_stop p.task p slot picks_now within_p in
                 subst (λ y. slices_before (picked node jobs) y ≡ with_run (slices_before (picked node jobs) t) p.job t y) more
                 (jump.slices_run (picked node jobs) t (stop - t - 1) p.job (λ d lt. stays d (omega arith)))
 
             pub run_kept : (p' : Pending) → p'.job ≡ p.job → p'.task ≡ p.task → p'.level ≡ p.level → p'.executed ≡ p.executed + (stop - t) → p'.active ≡ active_at node p.task p'.executed → p.executed + (stop - t) < cost
-                → Kept node jobs stop next (set slots p.task (Some p'))
+                → Kept node jobs stop come (set slots p.task (Some p'))
             run_kept p' job task level executed active open_ =
-                subst (λ y. Kept node jobs y next (set slots p.task (Some p'))) to_stop
-                (laws.kept_run node jobs is_sound known_of t next slots kept (stop - t) by_stop p.task p slot picks_now within_p p' job task level executed active open_)
+                subst (λ y. Kept node jobs y come (set slots p.task (Some p'))) to_stop
+                (laws.kept_run node jobs is_sound known_of t come slots kept (stop - t) by_stop p.task p slot picks_now within_p p' job task level executed active open_)
 
             -- its next active priority
             next_is : (active : ℕ) → active ≡ active_at node p.task (p.executed + (stop - t)) → (active ≡ level_at node p.task) ⊎ (p.active ≤ active)
             next_is active e =
-                let m : IsPending node jobs t next p.task p = is_p in
+                let m : IsPending node jobs t come p.task p = is_p in
                 let was : p.active ≡ active_at node p.task p.executed = m.active in
                 elim (priority.active_next node p.task p.executed (p.executed + (stop - t)) apart (omega arith) within_p) [ inl own_level ↦ inl (e ∙ own_level) | inr more ↦ inr (omega arith) ]
 
@@ -316,16 +353,16 @@ module _ (node : Node) (rs : List Release) (runnable : IsRunnable node rs) where
                 → Queues (λ k. slice_index_or (set slots p.task (Some p')) k None) (list_at (moved_to lists p.active p'.active p.task))
             run_lists lists queues alone count p' level active =
                 let most : active_at node p.task (p.executed + (stop - t)) ≤ length node.tasks = priority.active_within node ok p.task (p.executed + (stop - t)) in
-                move.queues_run node jobs is_sound t next slots kept lists queues alone p p' p.task task_in best slot level (omega arith) (next_is p'.active active)
+                move.queues_run node jobs is_sound t come slots kept lists queues alone p p' p.task task_in best slot level (omega arith) (next_is p'.active active)
 
             pub run_alone : (lists : List (List ℕ)) → Queues (λ k. slice_index_or slots k None) (list_at lists) → IsAlone slot_of → (p' : Pending) → p'.level ≡ p.level → p'.active ≡ active_at node p.task (p.executed + (stop - t))
                 → IsAlone (λ k. slice_index_or (set slots p.task (Some p')) k None)
-            run_alone lists queues alone p' level active = move.alone_run node jobs is_sound t next slots kept lists queues alone p p' p.task task_in best slot level (next_is p'.active active)
+            run_alone lists queues alone p' level active = move.alone_run node jobs is_sound t come slots kept lists queues alone p p' p.task task_in best slot level (next_is p'.active active)
 
             no_overrun_before : (s : ℕ) → s < stop → NoOverrunBy node jobs s
-            no_overrun_before s lt k below ready = elim (cases_lt k next) [
-              | inl admitted ↦ kept.no_overrun k admitted
-              | inr above ↦ (let l : limit ≤ (job_at jobs k).ready = all_later k above below in absurd (omega arith))
+            no_overrun_before s lt k below ready = elim (cases_Bool (come k)) [
+              | inl has ↦ kept.no_overrun k has
+              | inr not ↦ (let l : limit ≤ (job_at jobs k).ready = all_later k not below in absurd (omega arith))
             ]
 
             -- then it takes what it holds
@@ -333,7 +370,7 @@ module _ (node : Node) (rs : List Release) (runnable : IsRunnable node rs) where
                 → AreOwners node.tasks (λ k. slice_index_or (set slots p.task (Some p')) k None)
                 (owner_of node.tasks (with_owners (with_owners owners x.sections.items p.executed None) x.sections.items (p.executed + (stop - t)) (Some p.task)))
             run_owners p' executed owners count are =
-                let m : IsPending node jobs t next p.task p = is_p in
+                let m : IsPending node jobs t come p.task p = is_p in
                 let given : List (Option ℕ) = with_owners owners x.sections.items p.executed None in
                 owners_join node.tasks (λ k. slice_index_or (set slots p.task None) k None) (owner_of node.tasks given) (leave_owners owners count are)
                 (λ k. slice_index_or (set slots p.task (Some p')) k None) (owner_of node.tasks (with_owners given x.sections.items (p.executed + (stop - t)) (Some p.task))) p.task
@@ -343,7 +380,7 @@ module _ (node : Node) (rs : List Release) (runnable : IsRunnable node rs) where
                 ∙ ap (λ e. cond (holds_lock (task_at node.tasks p.task).sections e lock) (Some p.task) (owner_of node.tasks given lock)) (sym executed))
                 (λ lock k q ne at_k mine other.
                 let was : slot_of k ≡ Some q = sym (get_or-set_other slots p.task k None None ne) ∙ at_k in
-                let mq : IsPending node jobs t next k q = kept.pending k q was in
+                let mq : IsPending node jobs t come k q = kept.pending k q was in
                 let differ : q.job ≢ p.job = λ same. ne (sym mq.own ∙ (ap task_no same ∙ m.own)) in
                 let mine_then : executed_before node jobs stop p.job ≡ p'.executed = ap (λ y. executed_before node jobs y p.job) (sym to_stop) ∙ (own ∙ sym executed) in
                 let other_then : executed_before node jobs stop q.job ≡ q.executed = ap (λ y. executed_before node jobs y q.job) (sym to_stop) ∙ (others q.job differ ∙ sym mq.executed) in
@@ -353,10 +390,10 @@ module _ (node : Node) (rs : List Release) (runnable : IsRunnable node rs) where
                 subst (λ e. holds_lock (task_of node jobs q.job).sections e lock ≡ true) (sym other_then) (subst (λ i. holds_lock (task_at node.tasks i).sections q.executed lock ≡ true) (sym mq.own) other) in
                 differ (sym (one_owner node jobs is_sound known_of stop p.job q.job lock no_overrun_before mine_holds other_holds)))
 
-            pub finish_kept : p.executed + (stop - t) ≡ cost → Kept node jobs stop next (set slots p.task None)
+            pub finish_kept : p.executed + (stop - t) ≡ cost → Kept node jobs stop come (set slots p.task None)
             finish_kept full =
-                subst (λ y. Kept node jobs y next (set slots p.task None)) to_stop
-                (laws.kept_finish node jobs is_sound known_of t next slots kept (stop - t) by_stop p.task p slot picks_now within_p full)
+                subst (λ y. Kept node jobs y come (set slots p.task None)) to_stop
+                (laws.kept_finish node jobs is_sound known_of t come slots kept (stop - t) by_stop p.task p slot picks_now within_p full)
 
             -- what is known of another job's finish stays
             other_finish : (j : ℕ) → j < length rs → j ≢ p.job → finish_before node jobs t j ≡ finish_before node jobs stop j
@@ -383,7 +420,7 @@ module _ (node : Node) (rs : List Release) (runnable : IsRunnable node rs) where
                 let last : t + suc (stop - t - 1) ≡ stop = omega arith in
                 let short : executed_before node jobs (t + (stop - t - 1)) p.job < (task_of node jobs p.job).cost =
                 (let o : executed_before node jobs (t + (stop - t - 1)) p.job ≡ p.executed + (stop - t - 1) =
-                laws.own_then node jobs is_sound known_of t next slots kept (stop - t - 1) (later_by (stop - t - 1) (omega arith)) p.task p slot picks_now (let w : p.executed + (stop - t) ≤ change_after (task_at node.tasks p.task).sections p.executed cost = within_p in omega arith) in omega arith) in
+                laws.own_then node jobs is_sound known_of t come slots kept (stop - t - 1) (later_by (stop - t - 1) (omega arith)) p.task p slot picks_now (let w : p.executed + (stop - t) ≤ change_after (task_at node.tasks p.task).sections p.executed cost = within_p in omega arith) in omega arith) in
                 let full_then : (task_of node jobs p.job).cost ≤ executed_before node jobs (t + suc (stop - t - 1)) p.job =
                 (let o : executed_before node jobs (t + (stop - t)) p.job ≡ p.executed + (stop - t) = own in
                 let e : t + (stop - t) ≡ t + suc (stop - t - 1) = omega arith in

@@ -4,6 +4,7 @@ pub mod Waits
 pub mod Jumps
 pub mod Bounds
 pub mod Releases
+pub mod Turns
 pub mod NodeTasks
 pub mod NodeFields
 pub mod Lists

@@ -8,6 +8,7 @@ use Rattle.ceiling_kernel.specs.declared.trace.Release.{Release}
 use Rattle.ceiling_kernel.specs.declared.trace.RunFault.{RunFault}
 use Rattle.ceiling_kernel.specs.declared.trace.RunFault.TheVariants as fault
 use Rattle.ceiling_kernel.specs.Tick.{Job, job_at}
+use Rattle.ceiling_kernel.specs.Waits.{lateness_of}
 
 -- ---- the jobs of a release list
 -- the index of the task with a name
@@ -18,9 +19,9 @@ task_named U name = position (λ t. same_bytes t.name name) U
 abbrev pub task_number : List Task → Release → ℕ
 task_number U r = unwrap_or (task_named U r.name) (length U)
 
--- THE WORD THAT SAYS WHEN A RELEASE IS READY: at its arrival, since releases are not late
+-- THE WORD THAT SAYS WHEN A RELEASE IS READY: so many ticks after its arrival as it is late
 abbrev pub ready_of : Release → ℕ
-ready_of r = r.time
+ready_of r = r.time + r.late
 
 -- the job of a release
 abbrev pub job_of : List Task → Release → Job
@@ -43,13 +44,13 @@ first_where test (suc n) = first_or (first_where test n) (test n) n
 
 -- stands past the end of a list of releases
 abbrev pub no_release : Release
-no_release = record { time = 0; name = [] }
+no_release = record { time = 0; name = []; late = 0 }
 
 -- the release at a place, from 0
 abbrev pub release_at : List Release → ℕ → Release
 release_at rs k = slice_index_or rs k no_release
 
--- its time is below the one before
+-- it arrives before the one before it
 abbrev pub is_unsorted : List Release → ℕ → Bool
 is_unsorted rs zero = false
 is_unsorted rs (suc k) = nat_lt (release_at rs (suc k)).time (release_at rs k).time
@@ -58,15 +59,20 @@ is_unsorted rs (suc k) = nat_lt (release_at rs (suc k)).time (release_at rs k).t
 abbrev pub is_unknown : List Task → List Release → ℕ → Bool
 is_unknown U rs k = is_none (task_named U (release_at rs k).name)
 
--- job k comes less than a period after job j of its task
+-- job k arrives less than a period after job j of its task
 abbrev pub is_soon_job : List Task → List Job → ℕ → ℕ → Bool
 is_soon_job U jobs k j =
     ((job_at jobs j).task == (job_at jobs k).task)
     && nat_lt (job_at jobs k).arrival ((job_at jobs j).arrival + (task_at U (job_at jobs k).task).period)
 
--- it comes less than a period after a job of its task before it
+-- it arrives less than a period after a job of its task before it
 abbrev pub is_too_soon : List Task → List Job → ℕ → Bool
 is_too_soon U jobs k = some_below k (is_soon_job U jobs k)
+
+-- it is later than its task's jobs may be
+abbrev pub is_too_late : List Task → List Release → ℕ → Bool
+is_too_late U rs k =
+    nat_lt (lateness_of (task_at U (task_number U (release_at rs k)))) (release_at rs k).late
 
 -- it is ready at the end or after it
 abbrev pub is_past : ℕ → Release → Bool
@@ -82,8 +88,9 @@ refusal_of U rs until =
     option_or (option_map (λ k. fault.Unsorted (k + 1)) (first_where (is_unsorted rs) (length rs)))
     (option_or (option_map (λ k. fault.UnknownTask (k + 1)) (first_where (is_unknown U rs) (length rs)))
     (option_or (option_map (λ k. fault.TooSoon (k + 1)) (first_where (is_too_soon U (jobs_of U rs)) (length rs)))
+    (option_or (option_map (λ k. fault.TooLate (k + 1)) (first_where (is_too_late U rs) (length rs)))
     (option_or (refuse_if (nat_lt 60000000 until || list_any (is_past until) rs) fault.PastHorizon)
-    (refuse_if (nat_lt 10000 (length rs)) fault.TooMany))))
+    (refuse_if (nat_lt 10000 (length rs)) fault.TooMany)))))
 
 -- ---- how they are found
 -- a fault is want of memory, or the refusal

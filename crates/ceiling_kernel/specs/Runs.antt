@@ -1,6 +1,7 @@
 -- What a run answers: the trace of the tick rule, the first overrun, or the refusal of the release list; and what the
 -- analysis says of it.
 use Rattle.std.specs.Prelude.{◌≡◌, ℕ, ◌+◌, ◌<◌, ◌≤◌, Some, None, Result, Ok, Err, List, [], ◌∷◌, length, slice_index_or}
+use Rattle.task_sheet.specs.Sheet.{task_at}
 use Rattle.ceiling_kernel.specs.declared.trace.Release.{Release}
 use Rattle.ceiling_kernel.specs.declared.trace.JobRecord.{JobRecord}
 use Rattle.ceiling_kernel.specs.declared.trace.Trace.{Trace}
@@ -9,7 +10,7 @@ use Rattle.ceiling_kernel.specs.declared.trace.RunFault.TheVariants as fault
 use Rattle.ceiling_kernel.specs.Tick.{Node, Job, job_at}
 use Rattle.ceiling_kernel.specs.Trace.{slices_of, finish_before}
 use Rattle.ceiling_kernel.specs.Waits.{Overruns, NoOverrun}
-use Rattle.ceiling_kernel.specs.Bounds.{PassesBy}
+use Rattle.ceiling_kernel.specs.Bounds.{PassesBy, response_by}
 use Rattle.ceiling_kernel.specs.Releases.{task_number, ready_of, jobs_of, release_at, refusal_of}
 
 -- job k is the first that overruns the one before it: the earliest, then the first in the list
@@ -19,7 +20,7 @@ pub record IsFirstOverrun (node : Node) (jobs : List Job) (k : ℕ) : Type 0 whe
   pub earliest : (j : ℕ) → j < length jobs → Overruns node jobs j → (job_at jobs k).ready ≤ (job_at jobs j).ready
   pub first : (j : ℕ) → j < k → Overruns node jobs j → (job_at jobs k).ready < (job_at jobs j).ready
 
--- what is recorded of the job at a place in the ticks below a time
+-- what is recorded of the job at a place in the ticks below a time: its arrival, and when it finishes
 abbrev pub record_of : Node → List Job → ℕ → ℕ → Release → JobRecord
 record_of node jobs until j r = record { name = r.name; release = r.time; finish = finish_before node jobs until j }
 
@@ -37,7 +38,7 @@ pub record IsTrace (node : Node) (rs : List Release) (until : ℕ) (trace : Trac
   pub slices : trace.slices.items ≡ slices_of node (jobs_of node.tasks rs) until
   pub jobs : trace.jobs.items ≡ records_from node (jobs_of node.tasks rs) until 0 rs
 
--- an overrun of a release with this name, at this time
+-- an overrun of a release with this name, which becomes ready at this time
 pub record IsOverrun (node : Node) (rs : List Release) (name : List ℕ) (time : ℕ) : Type 0 where
   pub place : ℕ
   pub first : IsFirstOverrun node (jobs_of node.tasks rs) place
@@ -56,12 +57,18 @@ Runs node rs until (Err (fault.Overrun name time)) =
 Runs node rs until (Err e) = refusal_of node.tasks rs until ≡ Some e
 
 -- ---- the bound of the analysis (Audsley et al. 1993)
+-- until when a release of a task that passes by t finishes: its arrival, and the response that t gives the task
+abbrev pub bound_by : Node → Release → ℕ → ℕ
+bound_by node r t = r.time + response_by (task_at node.tasks (task_number node.tasks r)) t
+
 -- each job of a task that passes by t, with that bound within the run, has a finish by then
 abbrev pub MeetsBounds : Node → List Release → ℕ → Trace → Type 0
 MeetsBounds node rs until trace =
     (j t : ℕ) → j < length rs → PassesBy node (task_number node.tasks (release_at rs j)) t
-    → (release_at rs j).time + t ≤ until
-    → (f : ℕ) × ((slice_index_or trace.jobs.items j no_record).finish ≡ Some f) × (f ≤ (release_at rs j).time + t)
+    → bound_by node (release_at rs j) t ≤ until
+    → (f : ℕ)
+    × ((slice_index_or trace.jobs.items j no_record).finish ≡ Some f)
+    × (f ≤ bound_by node (release_at rs j) t)
 
 -- a fault that isn't an overrun
 abbrev pub IsNoOverrun : RunFault → Type 0

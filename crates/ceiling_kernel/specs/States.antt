@@ -1,5 +1,5 @@
 -- What a simulation keeps from event to event: the invariant of the body.
-use Rattle.std.specs.Prelude.{◌≡◌, ℕ, ◌+◌, ◌-◌, ◌<◌, ◌≤◌, max, ◌&&◌, ◌||◌, nat_lt, nat_le, ◌==◌, if◌then◌else◌, Option, Some, None, IfNone, List, [], ◌∷◌, length, slice_index_or, reverse}
+use Rattle.std.specs.Prelude.{◌≡◌, ℕ, ◌+◌, ◌-◌, ◌<◌, ◌≤◌, Bool, true, false, max, ◌&&◌, ◌||◌, nat_lt, nat_le, ◌==◌, if◌then◌else◌, Option, Some, None, IfNone, List, [], ◌∷◌, length, slice_index_or, reverse}
 use Rattle.task_sheet.specs.Sheet.{task_at}
 use Rattle.ceilings.specs.IsTableOf.{locks_of}
 use Rattle.ceiling_kernel.specs.declared.tasks.NodeSection.{NodeSection}
@@ -15,15 +15,17 @@ use Rattle.ceiling_kernel.specs.NodeTasks.{is_within}
 use Rattle.ceiling_kernel.specs.Owners.{owner_of, AreOwners}
 use Rattle.ceiling_kernel.specs.Tick.{Node, Job, job_at, task_of, level_at, held_ceiling, executed_before, picked}
 use Rattle.ceiling_kernel.specs.Trace.{slices_before, finish_before}
-use Rattle.ceiling_kernel.specs.Waits.{IsNode, Overruns}
+use Rattle.ceiling_kernel.specs.Waits.{IsNode, IsLegal, Overruns}
 use Rattle.ceiling_kernel.specs.Releases.{task_number, jobs_of, release_at}
+use Rattle.ceiling_kernel.specs.Turns.{AreTurns, has_come}
 use Rattle.ceiling_kernel.specs.Runs.{IsOverrun}
 
--- releases in order, of tasks of the node
-pub record IsRunnable (node : Node) (rs : List Release) : Type 0 where
+-- releases that are not refused, of tasks of the node, and their turns
+pub record IsRunnable (node : Node) (rs : List Release) (turns : List (ℕ × ℕ)) : Type 0 where
   pub of_node : IsNode node
   pub known : (j : ℕ) → j < length rs → task_number node.tasks (release_at rs j) < length node.tasks
-  pub sorted : (i j : ℕ) → i ≤ j → j < length rs → (release_at rs i).time ≤ (release_at rs j).time
+  pub legal : IsLegal node (jobs_of node.tasks rs)
+  pub in_turn : AreTurns (jobs_of node.tasks rs) turns
 
 -- ---- sections, as they are kept
 -- the highest ceiling that is held after e ticks
@@ -69,9 +71,9 @@ abbrev pub IsTidy : Slices → Type 0
 IsTidy s = IfNone s.current (s.closed.items ≡ [])
 
 -- ---- the state
--- the pending job in the slot of task i, at tick t, with the jobs below `next` released
-pub record IsPending (node : Node) (jobs : List Job) (t next i : ℕ) (p : Pending) : Type 0 where
-  pub released : p.job < next
+-- the pending job in the slot of task i, at tick t, where some jobs have come
+pub record IsPending (node : Node) (jobs : List Job) (t : ℕ) (come : ℕ → Bool) (i : ℕ) (p : Pending) : Type 0 where
+  pub released : come p.job ≡ true
   pub task : p.task ≡ i
   pub own : (job_at jobs p.job).task ≡ i
   pub level : p.level ≡ level_at node i
@@ -79,16 +81,16 @@ pub record IsPending (node : Node) (jobs : List Job) (t next i : ℕ) (p : Pendi
   pub active : p.active ≡ active_at node i p.executed
   pub unfinished : p.executed < (task_at node.tasks i).cost
 
--- at tick t, with the jobs below `next` released, the slot of each task holds its pending job
-pub record Kept (node : Node) (jobs : List Job) (t next : ℕ) (slots : List (Option Pending)) : Type 0 where
-  pub within : next ≤ length jobs
-  pub admitted : (j : ℕ) → j < next → (job_at jobs j).ready ≤ t
-  pub to_come : (j : ℕ) → next ≤ j → j < length jobs → t ≤ (job_at jobs j).ready
+-- at tick t, where those jobs have come, the slot of each task holds its pending job
+pub record Kept (node : Node) (jobs : List Job) (t : ℕ) (come : ℕ → Bool) (slots : List (Option Pending)) : Type 0 where
+  pub within : (j : ℕ) → come j ≡ true → j < length jobs
+  pub admitted : (j : ℕ) → come j ≡ true → (job_at jobs j).ready ≤ t
+  pub to_come : (j : ℕ) → come j ≡ false → j < length jobs → t ≤ (job_at jobs j).ready
   pub slot_count : length slots ≡ length node.tasks
-  pub pending : (i : ℕ) (p : Pending) → slice_index_or slots i None ≡ Some p → IsPending node jobs t next i p
-  pub complete : (j : ℕ) → j < next → executed_before node jobs t j < (task_of node jobs j).cost
+  pub pending : (i : ℕ) (p : Pending) → slice_index_or slots i None ≡ Some p → IsPending node jobs t come i p
+  pub complete : (j : ℕ) → come j ≡ true → executed_before node jobs t j < (task_of node jobs j).cost
       → (p : Pending) × (slice_index_or slots (job_at jobs j).task None ≡ Some p) × (p.job ≡ j)
-  pub no_overrun : (k : ℕ) → k < next → ¬ Overruns node jobs k
+  pub no_overrun : (k : ℕ) → come k ≡ true → ¬ Overruns node jobs k
 
 -- when each job finished, so far
 pub record AreFinishes (node : Node) (rs : List Release) (t : ℕ) (finishes : List (Option ℕ)) : Type 0 where
@@ -96,8 +98,8 @@ pub record AreFinishes (node : Node) (rs : List Release) (t : ℕ) (finishes : L
   pub each : (j : ℕ) → j < length rs → slice_index_or finishes j None ≡ finish_before node (jobs_of node.tasks rs) t j
 
 -- the state is that of the tick rule at its time
-pub record IsRunning (node : Node) (rs : List Release) (s : Simulation) : Type 0 where
-  pub kept : Kept node (jobs_of node.tasks rs) s.now s.next s.slots.items
+pub record IsRunning (node : Node) (rs : List Release) (turns : List (ℕ × ℕ)) (s : Simulation) : Type 0 where
+  pub kept : Kept node (jobs_of node.tasks rs) s.now (has_come turns s.next) s.slots.items
   pub list_count : length s.lists.items ≡ length node.tasks + 1
   pub queues : Queues (λ i. slice_index_or s.slots.items i None) (list_at (listed s.lists.items))
   pub alone : IsAlone (λ i. slice_index_or s.slots.items i None)
@@ -107,15 +109,15 @@ pub record IsRunning (node : Node) (rs : List Release) (s : Simulation) : Type 0
   pub tidy : IsTidy s.slices
   pub finishes : AreFinishes node rs s.now s.finishes.items
 
--- what is still ahead: ticks and releases
-abbrev pub ahead_of : List Release → ℕ → Simulation → ℕ
-ahead_of rs until s = (until - s.now) + (length rs - s.next)
+-- what is still ahead: ticks and turns
+abbrev pub ahead_of : List (ℕ × ℕ) → ℕ → Simulation → ℕ
+ahead_of turns until s = (until - s.now) + (length turns - s.next)
 
 -- one event on: less is ahead
-pub record IsFurther (node : Node) (rs : List Release) (until : ℕ) (old new : Simulation) : Type 0 where
-  pub running : IsRunning node rs new
+pub record IsFurther (node : Node) (rs : List Release) (turns : List (ℕ × ℕ)) (until : ℕ) (old new : Simulation) : Type 0 where
+  pub running : IsRunning node rs turns new
   pub bounded : new.now ≤ until
-  pub less : ahead_of rs until new < ahead_of rs until old
+  pub less : ahead_of turns until new < ahead_of turns until old
 
 -- why a run may stop
 abbrev pub IsStop : Node → List Release → RunFault → Type 0

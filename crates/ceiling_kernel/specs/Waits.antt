@@ -13,9 +13,9 @@ pub record IsNode (node : Node) : Type 0 where
   pub order : IsOrder node.tasks node.order
 
 -- ---- the word that says how late jobs may be
--- how long after its arrival a job of the task becomes ready at the latest
+-- how long after its arrival a job of the task becomes ready at the latest: its release jitter (Audsley et al. 1993)
 abbrev pub lateness_of : Task → ℕ
-lateness_of t = 0
+lateness_of t = t.jitter
 
 -- jobs of the node's tasks, none too late, and those of one task at least its period apart
 pub record IsLegal (node : Node) (jobs : List Job) : Type 0 where

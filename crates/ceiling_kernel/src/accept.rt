@@ -2,7 +2,7 @@
 ghost use Rattle.std.specs.Prelude.{◌≡◌, ◌<◌, ◌≤◌, ◌+◌, ℕ, List, length, map, MatchResult, IfSome, Some, None};
 ghost use Rattle.task_sheet.specs.Sheet.{Task, task_at};
 ghost use Rattle.std.specs.List.{list_any};
-ghost use Rattle.ceiling_kernel.specs.Releases.{task_number, jobs_of, first_where, is_unsorted, is_unknown, is_too_soon, is_past, refusal_of, IsRefusal, IsUnknown, soon_after};
+ghost use Rattle.ceiling_kernel.specs.Releases.{task_number, jobs_of, first_where, is_unsorted, is_unknown, is_too_soon, is_too_late, is_past, refusal_of, IsRefusal, IsUnknown, soon_after};
 ghost use Rattle.std.specs.Option.{ForSome};
 
 use crate::trace::{Release, RunFault};
@@ -15,7 +15,7 @@ const HORIZON: u64 = 60_000_000;
 // The most releases of a run.
 const RELEASE_LIMIT: usize = 10_000;
 
-// The release's time is below the one before.
+// The release arrives before the one before it.
 fn is_unsorted(releases: &[Release], k: usize) -> bool
     requires { k < length releases.now }
     ensures { result ≡ is_unsorted releases.now k }
@@ -23,7 +23,7 @@ fn is_unsorted(releases: &[Release], k: usize) -> bool
     k > 0 && releases[k].time < releases[k - 1].time
 }
 
-// The place, from 0, of the first release whose time is below the one before.
+// The place, from 0, of the first release that arrives before the one before it.
 fn first_unsorted(releases: &[Release]) -> Option<usize>
     ensures first { result ≡ first_where (is_unsorted releases.now) (length releases.now) }
     ensures in_list { IfSome result (λ k. k < length releases.now) }
@@ -64,7 +64,7 @@ fn comes_soon(before: Option<u64>, time: u64, period: u64) -> bool
     }
 }
 
-// The place, from 0, of the first release that comes less than a period after its task's release before.
+// The place, from 0, of the first release that arrives less than a period after its task's release before.
 fn first_too_soon(set: &TaskSet, releases: &[Release], places: &[usize]) -> Option<usize>
     requires sorted { first_where (is_unsorted releases.now) (length releases.now) ≡ None }
     requires known { first_where (is_unknown set.now releases.now) (length releases.now) ≡ None }
@@ -86,11 +86,34 @@ fn first_too_soon(set: &TaskSet, releases: &[Release], places: &[usize]) -> Opti
     None
 }
 
-// Some release stands at the end or after it.
-fn is_past(releases: &[Release], until: u64) -> bool
+// The place, from 0, of the first release that is later than its task's jitter.
+fn first_too_late(set: &TaskSet, releases: &[Release], places: &[usize]) -> Option<usize>
+    requires known { first_where (is_unknown set.now releases.now) (length releases.now) ≡ None }
+    requires places { places.now ≡ map (task_number set.now) releases.now }
+    ensures first { result ≡ first_where (is_too_late set.now releases.now) (length releases.now) }
+    ensures in_list { IfSome result (λ k. k < length releases.now) }
+{
+    let sheets = set.sheets();
+    for k in 0..releases.len() {
+        if sheets[places[k]].jitter() < releases[k].late {
+            return Some(k);
+        }
+    }
+    None
+}
+
+// The release becomes ready at the end or after it.
+fn is_past(release: &Release, until: u64) -> bool
+    ensures { result ≡ is_past until release.now }
+{
+    until <= release.time || until - release.time <= release.late
+}
+
+// Some release does.
+fn some_past(releases: &[Release], until: u64) -> bool
     ensures { result ≡ list_any (is_past until) releases.now }
 {
-    releases.iter().any(|release| until <= release.time)
+    releases.iter().any(|release| is_past(release, until))
 }
 
 // The index of each release's task, where the list isn't refused.
@@ -112,7 +135,10 @@ pub fn accept(
     if let Some(k) = first_too_soon(set, releases, &places) {
         return Err(RunFault::TooSoon { place: k + 1 });
     }
-    if until > HORIZON || is_past(releases, until) {
+    if let Some(k) = first_too_late(set, releases, &places) {
+        return Err(RunFault::TooLate { place: k + 1 });
+    }
+    if until > HORIZON || some_past(releases, until) {
         return Err(RunFault::PastHorizon);
     }
     if releases.len() > RELEASE_LIMIT {

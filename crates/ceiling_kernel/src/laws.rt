@@ -8,7 +8,8 @@ ghost use Rattle.ceiling_kernel.specs.Trace.{slices_of};
 ghost use Rattle.ceiling_kernel.specs.Readings.{PicksFirst, IdlesEmpty, AreLongestRuns, FinishesAreEnds, UnfinishedLack};
 ghost use Rattle.ceiling_kernel.specs.Waits.{IsNode, IsLegal, NobodyWaits, OneOwner, NoOverrun};
 ghost use Rattle.ceiling_kernel.specs.Jumps.{PickStays, IdleStays};
-ghost use Rattle.ceiling_kernel.specs.Bounds.{above_of, after_of, BoundHolds};
+ghost use Rattle.ceiling_kernel.specs.Turns.{TasksKeepOrder};
+ghost use Rattle.ceiling_kernel.specs.Bounds.{above_of, after_of, WindowsHold, ResponsesBound, BoundHolds};
 
 /// The tick rule picks a pending job of greatest active priority, and among equals the one of lower own level; it picks
 /// none only where none is pending.
@@ -42,6 +43,11 @@ pub fn locks_have_one_owner()
     ensures { (node : Node) (jobs : List Job) → IsNode node → IsLegal node jobs → OneOwner node jobs }
 {}
 
+/// Of two jobs of one task, the one that arrives first is ready first: a job is late by less than a period.
+pub fn tasks_keep_order()
+    ensures { (node : Node) (jobs : List Job) → IsNode node → IsLegal node jobs → TasksKeepOrder jobs }
+{}
+
 /// From one event to the next the pick stays; events are that a job becomes ready, or that the job that runs reaches a
 /// boundary of its sections or its end.
 pub fn picks_stay()
@@ -55,8 +61,19 @@ pub fn levels_follow_the_order()
         → among (after_of node.order i) h ≡ above_of node i h }
 {}
 
-/// Each job of a task that passes finishes within its bound, and in a set with a passing order no job overruns the one
-/// before it (Audsley et al. 1993).
+/// In a window of t ticks at most `ceil((t + jitter) / period)` jobs of a task become ready: the number that the analysis
+/// counts (Audsley et al. 1993).
+pub fn windows_hold()
+    ensures { (node : Node) (jobs : List Job) → IsNode node → IsLegal node jobs → WindowsHold node jobs }
+{}
+
+/// The response of the analysis is a bound: its time past the jitter shows that the task passes.
+pub fn responses_bound()
+    ensures { (node : Node) → ResponsesBound node }
+{}
+
+/// Each job of a task that passes finishes within its bound, counted from its arrival, and in a set with a passing order
+/// no job overruns the one before it (Audsley et al. 1993).
 pub fn bound_holds()
     ensures bound { (node : Node) (jobs : List Job) → IsNode node → IsLegal node jobs → BoundHolds node jobs }
     ensures no_overrun { (node : Node) (jobs : List Job) → IsNode node → IsLegal node jobs

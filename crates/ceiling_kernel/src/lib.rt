@@ -11,6 +11,7 @@ mod owners;
 mod run;
 mod tasks;
 mod trace;
+mod turns;
 
 pub use kernel::{Kernel, KernelFault};
 pub use trace::{JobRecord, Release, RunFault, Slice, Trace};

@@ -2,6 +2,7 @@
 ghost use Rattle.std.specs.Prelude.{◌≡◌, ◌<◌, ◌≤◌, ◌+◌, ◌-◌, ℕ, max, List, length, map, IfOk, IfErr, IfSome, None, [], Some, replicate, reverse};
 ghost use Rattle.task_sheet.specs.Sheet.{task_at};
 ghost use Rattle.ceiling_kernel.specs.declared.trace.Release.{Release};
+ghost use Rattle.ceiling_kernel.specs.Turns.{time_in_turn};
 ghost use Rattle.ceiling_kernel.specs.Tick.{Node, job_at};
 ghost use Rattle.ceiling_kernel.specs.Trace.{with_run, finish_before};
 ghost use Rattle.ceiling_kernel.specs.Releases.{task_number, jobs_of, release_at};
@@ -17,10 +18,11 @@ use crate::lists::{drop_first, empty_lists, enqueue, move_first, pick};
 use crate::owners::{is_within, set_owners};
 use crate::tasks::{NodeSection, NodeTask};
 use crate::trace::{JobRecord, Release, RunFault, Slice, Trace};
+use crate::turns::{Agenda, turns_of};
 use std::alloc::{AllocError, Global};
 use std::collections::VecDeque;
 
-/// A job that is released and not finished, with its active priority.
+/// A job that is ready and not finished, with its active priority.
 #[derive(Clone, Copy)]
 pub struct Pending {
     pub job: usize,
@@ -38,7 +40,7 @@ pub struct Slices {
 }
 
 /// The state between two events: a slot for each task's pending job, the lists of the tasks with one, by its active
-/// priority, the owner of each lock, the place of the next release, and when each job finished.
+/// priority, the owner of each lock, the next turn, and when each job finished.
 #[derive(Drop)]
 pub struct Simulation {
     pub now: u64,
@@ -86,16 +88,16 @@ fn active(task: &NodeTask, executed: u64) -> u32
     task.level.max(held(&task.sections, executed))
 }
 
-// Until when the pending jobs run by themselves: the next release, or the end.
-fn limit_of(releases: &[Release], next: usize, now: u64, until: u64) -> u64
+// Until when the pending jobs run by themselves: the next turn, or the end.
+fn limit_of(turns: &[(u64, usize)], next: usize, now: u64, until: u64) -> u64
     requires before { now < until }
-    requires next { next < length releases.now → now < (release_at releases.now next).time }
+    requires next { next < length turns.now → now < time_in_turn turns.now next }
     ensures after { now < result }
     ensures until { result ≤ until }
-    ensures next { next < length releases.now → result ≤ (release_at releases.now next).time }
+    ensures next { next < length turns.now → result ≤ time_in_turn turns.now next }
 {
-    if next < releases.len() {
-        let ready = releases[next].time;
+    if next < turns.len() {
+        let (ready, _) = turns[next];
         if ready < until {
             return ready;
         }
@@ -191,8 +193,8 @@ fn records_of(
 impl Simulation {
     // Before the first tick.
     fn start(alloc: Global, kernel: &Kernel, jobs: usize) -> Result<Simulation, AllocError>
-        ensures { (rs : List Release) → IsRunnable kernel.now rs → length rs ≡ jobs
-            → IfOk result (λ s. IsRunning kernel.now rs s × (s.now ≡ 0)) }
+        ensures { (rs : List Release) (turns : List (ℕ × ℕ)) → IsRunnable kernel.now rs turns → length rs ≡ jobs
+            → IfOk result (λ s. IsRunning kernel.now rs turns s × (s.now ≡ 0)) }
     {
         let count = kernel.tasks().len();
         let slots = all_none(alloc, count)?;
@@ -213,31 +215,25 @@ impl Simulation {
         })
     }
 
-    // The next release becomes pending.
-    fn admit(
-        &mut self,
-        kernel: &Kernel,
-        releases: &[Release],
-        places: &[usize],
-    ) -> Result<(), RunFault>
-        requires runnable { IsRunnable kernel.now releases.now }
-        requires places { places.now ≡ map (task_number kernel.now.tasks) releases.now }
-        requires running { IsRunning kernel.now releases.now self.old }
-        requires next { self.old.next < length releases.now }
-        requires ready { (release_at releases.now self.old.next).time ≤ self.old.now }
-        ensures ok { IfOk result (λ _. IsRunning kernel.now releases.now self.new
+    // The job whose turn it is becomes pending.
+    fn admit(&mut self, kernel: &Kernel, agenda: &Agenda) -> Result<(), RunFault>
+        requires runnable { IsRunnable kernel.now agenda.now.releases.now agenda.now.turns.now }
+        requires tasks { agenda.now.tasks.now ≡ map (task_number kernel.now.tasks) agenda.now.releases.now }
+        requires running { IsRunning kernel.now agenda.now.releases.now agenda.now.turns.now self.old }
+        requires next { self.old.next < length agenda.now.turns.now }
+        requires ready { time_in_turn agenda.now.turns.now self.old.next ≤ self.old.now }
+        ensures ok { IfOk result (λ _. IsRunning kernel.now agenda.now.releases.now agenda.now.turns.now self.new
             × (self.new.now ≡ self.old.now)
             × (self.new.next ≡ self.old.next + 1)) }
-        ensures err { IfErr result (IsStop kernel.now releases.now) }
+        ensures err { IfErr result (IsStop kernel.now agenda.now.releases.now) }
     {
-        let job = self.next;
-        let release = releases[job];
-        let task = places[job];
+        let (ready, job) = agenda.turns[self.next];
+        let task = agenda.tasks[job];
         let level = kernel.tasks()[task].level;
         if self.slots[task].is_some() {
             return Err(RunFault::Overrun {
-                name: release.name,
-                time: release.time,
+                name: agenda.releases[job].name,
+                time: ready,
             });
         }
         enqueue(&mut self.lists, level, task)?;
@@ -248,25 +244,21 @@ impl Simulation {
             executed: 0,
             active: level,
         });
-        self.next = job + 1;
+        self.next += 1;
         Ok(())
     }
 
-    // The pending job that goes first executes up to its next boundary, the next release or the end.
-    fn advance(
-        &mut self,
-        kernel: &Kernel,
-        releases: &[Release],
-        until: u64,
-    ) -> Result<(), AllocError>
-        requires runnable { IsRunnable kernel.now releases.now }
-        requires running { IsRunning kernel.now releases.now self.old }
+    // The pending job that goes first executes up to its next boundary, the next turn or the end.
+    fn advance(&mut self, kernel: &Kernel, agenda: &Agenda, until: u64) -> Result<(), AllocError>
+        requires runnable { IsRunnable kernel.now agenda.now.releases.now agenda.now.turns.now }
+        requires running { IsRunning kernel.now agenda.now.releases.now agenda.now.turns.now self.old }
         requires before { self.old.now < until }
-        requires next { self.old.next < length releases.now
-            → self.old.now < (release_at releases.now self.old.next).time }
-        ensures ok { IfOk result (λ _. IsFurther kernel.now releases.now until self.old self.new) }
+        requires next { self.old.next < length agenda.now.turns.now
+            → self.old.now < time_in_turn agenda.now.turns.now self.old.next }
+        ensures ok { IfOk result
+            (λ _. IsFurther kernel.now agenda.now.releases.now agenda.now.turns.now until self.old self.new) }
     {
-        let limit = limit_of(releases, self.next, self.now, until);
+        let limit = limit_of(agenda.turns, self.next, self.now, until);
         let Some(picked) = pick(&self.slots, &self.lists) else {
             self.now = limit;
             return Ok(());
@@ -302,32 +294,27 @@ impl Simulation {
     }
 
     // One event.
-    fn step(
-        &mut self,
-        kernel: &Kernel,
-        releases: &[Release],
-        places: &[usize],
-        until: u64,
-    ) -> Result<(), RunFault>
-        requires runnable { IsRunnable kernel.now releases.now }
-        requires places { places.now ≡ map (task_number kernel.now.tasks) releases.now }
-        requires running { IsRunning kernel.now releases.now self.old }
+    fn step(&mut self, kernel: &Kernel, agenda: &Agenda, until: u64) -> Result<(), RunFault>
+        requires runnable { IsRunnable kernel.now agenda.now.releases.now agenda.now.turns.now }
+        requires tasks { agenda.now.tasks.now ≡ map (task_number kernel.now.tasks) agenda.now.releases.now }
+        requires running { IsRunning kernel.now agenda.now.releases.now agenda.now.turns.now self.old }
         requires before { self.old.now < until }
-        ensures ok { IfOk result (λ _. IsFurther kernel.now releases.now until self.old self.new) }
-        ensures err { IfErr result (IsStop kernel.now releases.now) }
+        ensures ok { IfOk result
+            (λ _. IsFurther kernel.now agenda.now.releases.now agenda.now.turns.now until self.old self.new) }
+        ensures err { IfErr result (IsStop kernel.now agenda.now.releases.now) }
     {
-        if self.next < releases.len() && releases[self.next].time <= self.now {
-            return self.admit(kernel, releases, places);
+        if self.next < agenda.turns.len() && agenda.turns[self.next].0 <= self.now {
+            return self.admit(kernel, agenda);
         }
-        self.advance(kernel, releases, until)?;
+        self.advance(kernel, agenda, until)?;
         Ok(())
     }
 }
 
 impl<'a> Kernel<'a> {
     /// The trace of the releases in the ticks before `until`, in microseconds. A list of releases is refused before
-    /// anything runs; Overrun names the first release, by time and then in the list, of a task whose job before it
-    /// isn't finished.
+    /// anything runs; Overrun names the first release, by the time at which it becomes ready and then in the list, of a
+    /// task whose job before it isn't finished.
     pub fn run(&self, alloc: Global, releases: &[Release], until: u64) -> Result<Trace, RunFault>
         ensures trace { Runs self.now releases.now until result }
         ensures granted { IfOk result (λ _. EachIsGranted self.now (jobs_of self.now.tasks releases.now)) }
@@ -336,10 +323,16 @@ impl<'a> Kernel<'a> {
         ensures bounds { IfOk result (MeetsBounds self.now releases.now until) }
         ensures no_overrun { IsPassingOrder self.now.tasks self.now.order → IfErr result IsNoOverrun }
     {
-        let places = accept(alloc, self.set(), releases, until)?;
+        let tasks = accept(alloc, self.set(), releases, until)?;
+        let turns = turns_of(alloc, releases)?;
+        let agenda = Agenda {
+            releases,
+            tasks: &tasks,
+            turns: &turns,
+        };
         let mut simulation = Simulation::start(alloc, self, releases.len())?;
         while simulation.now < until {
-            simulation.step(self, releases, &places, until)?;
+            simulation.step(self, &agenda, until)?;
         }
         let jobs = records_of(alloc, releases, &simulation.finishes)?;
         let slices = simulation.slices.close()?;

@@ -5,11 +5,12 @@ ghost use Rattle.ceiling_kernel.specs.declared.trace.RunFault.TheVariants.{OutOf
 use std::alloc::{AllocError, AllocFailed};
 use task_sheet::Name;
 
-/// A job of the task with that name arrives at that time, in microseconds.
+/// A job of the task with that name arrives at that time, and becomes ready so much later; in microseconds.
 #[derive(Clone, Copy, Debug, PartialEq, Eq)]
 pub struct Release {
     pub time: u64,
     pub name: Name,
+    pub late: u64,
 }
 
 /// A longest run of ticks of one job, from `start` up to `stop`, in microseconds. A job is named by its place among the
@@ -21,7 +22,7 @@ pub struct Slice {
     pub stop: u64,
 }
 
-/// A job: its task's name, when it was released, and when it finished, if it did; in microseconds.
+/// A job: its task's name, when it arrived, and when it finished, if it did; in microseconds.
 #[derive(Clone, Copy, Debug, PartialEq, Eq)]
 pub struct JobRecord {
     pub name: Name,
@@ -39,17 +40,19 @@ pub struct Trace {
 /// Why there is no trace. A place is that of a release in the list, from 1; times are in microseconds.
 #[derive(Clone, Copy, Debug, PartialEq, Eq)]
 pub enum RunFault {
-    /// A release stands before the time of the one before it in the list.
+    /// A release arrives before the one before it in the list.
     Unsorted { place: usize },
     /// No task of the set has the release's name.
     UnknownTask { place: usize },
-    /// A release comes less than a period after its task's release before.
+    /// A release arrives less than a period after its task's release before.
     TooSoon { place: usize },
-    /// `until` is above 60,000,000, or a release stands at or after it.
+    /// A release is later than its task's jitter.
+    TooLate { place: usize },
+    /// `until` is above 60,000,000, or a release becomes ready at it or after it.
     PastHorizon,
     /// There are more than 10,000 releases.
     TooMany,
-    /// A task is released at this time, and its job before isn't finished then.
+    /// A job of the task becomes ready at this time, and its job before isn't finished then.
     Overrun { name: Name, time: u64 },
     /// Want of memory.
     OutOfMemory,

@@ -5,23 +5,34 @@ use Rattle.ceiling_kernel.specs.declared.trace.JobRecord.{JobRecord}
 use Rattle.ceiling_kernel.specs.Tick.{picked}
 use Rattle.ceiling_kernel.specs.Trace.{slices_before}
 use Rattle.ceiling_kernel.specs.Releases.{jobs_of}
+use Rattle.ceiling_kernel.specs.Turns.{AreTurns, has_come}
 use Rattle.ceiling_kernel.specs.Runs.{records_from}
 use Rattle.ceiling_kernel.specs.States.{AreFinishes}
-use Rattle.ceiling_kernel.proofs.AcceptLaws.{runnable_from}
-use Rattle.ceiling_kernel.proofs.EndLaws.{no_overrun_then, each_granted, bounded_trace, stop_without}
+use Rattle.ceiling_kernel.proofs.EndLaws.{ready_fits, runnable_from, no_overrun_then, each_granted, bounded_trace, stop_without}
 use Rattle.ceiling_kernel.proofs.kernel.Kernel.run.Goals as goal
 
 pub loop-simulation-init : goal.loop-simulation-init
 loop-simulation-init c =
-    let accepted = rw c.set.ensures.tasks at c.in_ok-places.ensures in
-    let runnable = runnable_from c.args.self.now c.args.releases.now c.args.until c.set.ensures.node accepted.0 in
-    let start = c.in_ok-simulation.ensures c.args.releases.now runnable refl in
+    let accepted = rw c.set.ensures.tasks at c.in_ok-tasks.ensures in
+    let node = c.args.self.now in
+    let rs = c.args.releases.now in
+    let turns = subst (λ x. AreTurns (jobs_of node.tasks rs) x) (sym c.deref-2.ensures.value) (c.in_ok-turns.ensures node.tasks) in
+    let runnable = runnable_from node rs c.deref-2.result.now c.args.until c.set.ensures.node accepted.0 turns in
+    let start = c.in_ok-simulation.ensures rs c.deref-2.result.now runnable refl in
     record { running = start.0; bounded = omega (arith, start.1) }
 
 pub step-requires-clause-runnable : goal.step-requires-clause-runnable
 step-requires-clause-runnable c =
-    let accepted = rw c.set.ensures.tasks at c.in_ok-places.ensures in
-    runnable_from c.args.self.now c.args.releases.now c.args.until c.set.ensures.node accepted.0
+    let node = c.args.self.now in
+    let rs = c.args.releases.now in
+    let accepted = rw c.set.ensures.tasks at c.in_ok-tasks.ensures in
+    let turns = subst (λ x. AreTurns (jobs_of node.tasks rs) x) (sym c.deref-2.ensures.value) (c.in_ok-turns.ensures node.tasks) in
+    runnable_from node rs c.deref-2.result.now c.args.until c.set.ensures.node accepted.0 turns
+
+pub turns_of-requires : goal.turns_of-requires
+turns_of-requires c =
+    let accepted = rw c.set.ensures.tasks at c.in_ok-tasks.ensures in
+    ready_fits c.args.self.now c.args.releases.now c.args.until c.ranges.until.fits accepted.0
 
 pub returns-clause-trace : goal.returns-clause-trace
 returns-clause-trace c =
@@ -29,12 +40,12 @@ returns-clause-trace c =
     let rs = c.args.releases.now in
     let s = c.loop-simulation.simulation in
     let running = c.loop-simulation.invariant.running in
-    let accepted = rw c.set.ensures.tasks at c.in_ok-places.ensures in
+    let accepted = rw c.set.ensures.tasks at c.in_ok-tasks.ensures in
     let past : c.args.until ≤ c.loop-simulation.simulation.now = c.loop-simulation-test.false in
     let ended : c.loop-simulation.simulation.now ≡ c.args.until = omega (arith, past, c.loop-simulation.invariant.bounded) in
-    let finishes = subst (λ x. AreFinishes node rs s.now x) (sym c.deref-2.ensures.value) running.finishes in (
+    let finishes = subst (λ x. AreFinishes node rs s.now x) (sym c.deref-3.ensures.value) running.finishes in (
       accepted.0,
-      no_overrun_then node rs c.args.until s.now s.next s.slots.items accepted.0 running.kept past,
+      no_overrun_then node rs c.args.until s.now (has_come c.deref-2.result.now s.next) s.slots.items accepted.0 running.kept past,
       record {
         slices = c.in_ok-slices.ensures ∙ (ap (λ x. let r : List Slice = reverse x in r) running.slices ∙ ap (λ t. let r : List Slice = reverse (slices_before (picked node (jobs_of node.tasks rs)) t) in r) ended);
         jobs = c.in_ok-jobs.ensures node s.now finishes ∙ ap (λ t. let r : List JobRecord = records_from node (jobs_of node.tasks rs) t 0 rs in r) ended;
@@ -46,8 +57,8 @@ returns-clause-granted c =
     let node = c.args.self.now in
     let rs = c.args.releases.now in
     let s = c.loop-simulation.simulation in
-    let accepted = rw c.set.ensures.tasks at c.in_ok-places.ensures in
-    let none = no_overrun_then node rs c.args.until s.now s.next s.slots.items accepted.0 c.loop-simulation.invariant.running.kept c.loop-simulation-test.false in
+    let accepted = rw c.set.ensures.tasks at c.in_ok-tasks.ensures in
+    let none = no_overrun_then node rs c.args.until s.now (has_come c.deref-2.result.now s.next) s.slots.items accepted.0 c.loop-simulation.invariant.running.kept c.loop-simulation-test.false in
     each_granted node rs c.args.until c.set.ensures.node accepted.0 none
 
 pub returns-clause-bounds : goal.returns-clause-bounds
@@ -56,15 +67,15 @@ returns-clause-bounds c =
     let rs = c.args.releases.now in
     let s = c.loop-simulation.simulation in
     let running = c.loop-simulation.invariant.running in
-    let accepted = rw c.set.ensures.tasks at c.in_ok-places.ensures in
+    let accepted = rw c.set.ensures.tasks at c.in_ok-tasks.ensures in
     let past : c.args.until ≤ c.loop-simulation.simulation.now = c.loop-simulation-test.false in
     let ended : c.loop-simulation.simulation.now ≡ c.args.until = omega (arith, past, c.loop-simulation.invariant.bounded) in
-    let finishes = subst (λ x. AreFinishes node rs s.now x) (sym c.deref-2.ensures.value) running.finishes in
+    let finishes = subst (λ x. AreFinishes node rs s.now x) (sym c.deref-3.ensures.value) running.finishes in
     bounded_trace node rs c.args.until (record { slices = c.in_ok-slices.slices; jobs = c.in_ok-jobs.jobs }) c.set.ensures.node accepted.0
     (c.in_ok-jobs.ensures node s.now finishes ∙ ap (λ t. let r : List JobRecord = records_from node (jobs_of node.tasks rs) t 0 rs in r) ended)
 
 pub returns-in_err-step-clause-no_overrun : goal.returns-in_err-step-clause-no_overrun
 returns-in_err-step-clause-no_overrun c = λ order.
-    let accepted = rw c.set.ensures.tasks at c.in_ok-places.ensures in
+    let accepted = rw c.set.ensures.tasks at c.in_ok-tasks.ensures in
     let p = err_from_is_err_and c.from_residual-in_err-step.result c.from_residual-in_err-step.ensures.1 in
     rw (p.1, p.2) (stop_without c.args.self.now c.args.releases.now c.args.until c.in_err-step.field-0.0 c.set.ensures.node accepted.0 c.in_err-step.ensures.err order)

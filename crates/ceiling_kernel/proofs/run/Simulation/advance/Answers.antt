@@ -15,22 +15,22 @@ use Rattle.ceiling_kernel.proofs.run.Simulation.advance.Goals as goal
 pub returns-in_default : goal.returns-in_default
 returns-in_default c =
     let node = c.args.kernel.now in
-    let rs = c.args.releases.now in
+    let rs = c.args.agenda.now.releases.now in
     let s = c.args.self.now in
     let lim = c.limit_of-limit.ensures in
     let best = rw c.deref.ensures.value at c.in_default.ensures in
     record {
       ok = record {
         running = record {
-          kept = idle_kept node rs c.requires.runnable s.now s.next s.slots.items c.requires.running.kept c.limit_of-limit.result lim.after lim.next (sym best);
+          kept = idle_kept node rs c.args.agenda.now.turns.now c.requires.runnable s.now s.next s.slots.items c.requires.running.kept c.limit_of-limit.result lim.after lim.next (sym best);
           list_count = c.requires.running.list_count;
           queues = c.requires.running.queues;
           alone = c.requires.running.alone;
           lock_count = c.requires.running.lock_count;
           owners = c.requires.running.owners;
-          slices = c.requires.running.slices ∙ sym (idle_slices node rs c.requires.runnable s.now s.next s.slots.items c.requires.running.kept c.limit_of-limit.result lim.after lim.next (sym best));
+          slices = c.requires.running.slices ∙ sym (idle_slices node rs c.args.agenda.now.turns.now c.requires.runnable s.now s.next s.slots.items c.requires.running.kept c.limit_of-limit.result lim.after lim.next (sym best));
           tidy = c.requires.running.tidy;
-          finishes = idle_finishes node rs c.requires.runnable s.now s.next s.slots.items c.requires.running.kept c.limit_of-limit.result lim.after lim.next (sym best) s.finishes.items c.requires.running.finishes;
+          finishes = idle_finishes node rs c.args.agenda.now.turns.now c.requires.runnable s.now s.next s.slots.items c.requires.running.kept c.limit_of-limit.result lim.after lim.next (sym best) s.finishes.items c.requires.running.finishes;
         };
         bounded = lim.until;
         less = omega (arith, lim.after, lim.until);
@@ -42,10 +42,10 @@ in_tasks c =
     let s = c.args.self.now in
     let lim = c.limit_of-limit.ensures in
     let best = rw c.deref.ensures.value at c.in-Some.ensures in
-    task_in c.args.kernel.now c.args.releases.now c.requires.runnable s.now s.next s.slots.items c.requires.running.kept c.limit_of-limit.result lim.after lim.next c.in-Some.picked (sym best)
+    task_in c.args.kernel.now c.args.agenda.now.releases.now c.args.agenda.now.turns.now c.requires.runnable s.now s.next s.slots.items c.requires.running.kept c.limit_of-limit.result lim.after lim.next c.in-Some.picked (sym best)
 
 pub offset_bounds-tasks-picked : goal.offset_bounds-tasks-picked
-offset_bounds-tasks-picked c = omega (arith, in_tasks c, few_tasks c.args.kernel.now c.args.releases.now c.requires.runnable)
+offset_bounds-tasks-picked c = omega (arith, in_tasks c, few_tasks c.args.kernel.now c.args.agenda.now.releases.now c.args.agenda.now.turns.now c.requires.runnable)
 
 pub bounds-tasks-picked : goal.bounds-tasks-picked
 bounds-tasks-picked c = (let count : length c.tasks.result.now ≡ length c.args.kernel.now.tasks = c.tasks.ensures.count in omega (arith, in_tasks c))
@@ -53,27 +53,27 @@ bounds-tasks-picked c = (let count : length c.tasks.result.now ≡ length c.args
 pub stop_at-stop-requires-clause-ahead : goal.stop_at-stop-requires-clause-ahead
 stop_at-stop-requires-clause-ahead c =
     let node = c.args.kernel.now in
-    let rs = c.args.releases.now in
+    let rs = c.args.agenda.now.releases.now in
     let s = c.args.self.now in
     let lim = c.limit_of-limit.ensures in
     let best = rw c.deref.ensures.value at c.in-Some.ensures in
-    let inside = task_in node rs c.requires.runnable s.now s.next s.slots.items c.requires.running.kept c.limit_of-limit.result lim.after lim.next c.in-Some.picked (sym best) in
+    let inside = task_in node rs c.args.agenda.now.turns.now c.requires.runnable s.now s.next s.slots.items c.requires.running.kept c.limit_of-limit.result lim.after lim.next c.in-Some.picked (sym best) in
     let count : length c.tasks.result.now ≡ length node.tasks = c.tasks.ensures.count in
     let task : IsTaskOf node c.in-Some.picked.task c.index-tasks-picked.result = c.tasks.ensures.each c.in-Some.picked.task c.index-tasks-picked.result (omega arith) c.index-tasks-picked.is in
-    (ahead node rs c.requires.runnable s.now s.next s.slots.items c.requires.running.kept c.limit_of-limit.result lim.after lim.next c.in-Some.picked (sym best) c.index-tasks-picked.result task).0
+    (ahead node rs c.args.agenda.now.turns.now c.requires.runnable s.now s.next s.slots.items c.requires.running.kept c.limit_of-limit.result lim.after lim.next c.in-Some.picked (sym best) c.index-tasks-picked.result task).0
 
 pub overflow_add-executed : goal.overflow_add-executed
 overflow_add-executed c =
     let node = c.args.kernel.now in
-    let rs = c.args.releases.now in
+    let rs = c.args.agenda.now.releases.now in
     let s = c.args.self.now in
     let lim = c.limit_of-limit.ensures in
     let best = rw c.deref.ensures.value at c.in-Some.ensures in
-    let inside = task_in node rs c.requires.runnable s.now s.next s.slots.items c.requires.running.kept c.limit_of-limit.result lim.after lim.next c.in-Some.picked (sym best) in
+    let inside = task_in node rs c.args.agenda.now.turns.now c.requires.runnable s.now s.next s.slots.items c.requires.running.kept c.limit_of-limit.result lim.after lim.next c.in-Some.picked (sym best) in
     let count : length c.tasks.result.now ≡ length node.tasks = c.tasks.ensures.count in
     let task : IsTaskOf node c.in-Some.picked.task c.index-tasks-picked.result = c.tasks.ensures.each c.in-Some.picked.task c.index-tasks-picked.result (omega arith) c.index-tasks-picked.is in
-    let most = (ahead node rs c.requires.runnable s.now s.next s.slots.items c.requires.running.kept c.limit_of-limit.result lim.after lim.next c.in-Some.picked (sym best) c.index-tasks-picked.result task).1 in
-    let low = small node rs c.requires.runnable s.now s.next s.slots.items c.requires.running.kept c.limit_of-limit.result lim.after lim.next c.in-Some.picked (sym best) in
+    let most = (ahead node rs c.args.agenda.now.turns.now c.requires.runnable s.now s.next s.slots.items c.requires.running.kept c.limit_of-limit.result lim.after lim.next c.in-Some.picked (sym best) c.index-tasks-picked.result task).1 in
+    let low = small node rs c.args.agenda.now.turns.now c.requires.runnable s.now s.next s.slots.items c.requires.running.kept c.limit_of-limit.result lim.after lim.next c.in-Some.picked (sym best) in
     omega (arith, most, low, task.cost, c.stop_at-stop.ensures.within)
 
 pub index_mut-requires : goal.index_mut-requires
@@ -81,7 +81,7 @@ index_mut-requires c =
     let s = c.args.self.now in
     let lim = c.limit_of-limit.ensures in
     let best = rw c.deref.ensures.value at c.in-Some.ensures in
-    let inside = task_in_slots c.args.kernel.now c.args.releases.now c.requires.runnable s.now s.next s.slots.items c.requires.running.kept c.limit_of-limit.result lim.after lim.next c.in-Some.picked (sym best) in
+    let inside = task_in_slots c.args.kernel.now c.args.agenda.now.releases.now c.args.agenda.now.turns.now c.requires.runnable s.now s.next s.slots.items c.requires.running.kept c.limit_of-limit.result lim.after lim.next c.in-Some.picked (sym best) in
     omega (arith, s.slots.ok.0)
 
 pub index_mut-requires-2 : goal.index_mut-requires-2
@@ -89,7 +89,7 @@ index_mut-requires-2 c =
     let s = c.args.self.now in
     let lim = c.limit_of-limit.ensures in
     let best = rw c.deref.ensures.value at c.in-Some.ensures in
-    let inside = task_in_slots c.args.kernel.now c.args.releases.now c.requires.runnable s.now s.next s.slots.items c.requires.running.kept c.limit_of-limit.result lim.after lim.next c.in-Some.picked (sym best) in
+    let inside = task_in_slots c.args.kernel.now c.args.agenda.now.releases.now c.args.agenda.now.turns.now c.requires.runnable s.now s.next s.slots.items c.requires.running.kept c.limit_of-limit.result lim.after lim.next c.in-Some.picked (sym best) in
     omega (arith, s.slots.ok.0)
 
 pub index_mut-requires-then-executed-task : goal.index_mut-requires-then-executed-task
@@ -97,39 +97,39 @@ index_mut-requires-then-executed-task c =
     let s = c.args.self.now in
     let lim = c.limit_of-limit.ensures in
     let best = rw c.deref.ensures.value at c.in-Some.ensures in
-    let inside = job_in c.args.kernel.now c.args.releases.now c.requires.runnable s.now s.next s.slots.items c.requires.running.kept c.limit_of-limit.result lim.after lim.next c.in-Some.picked (sym best) in
+    let inside = job_in c.args.kernel.now c.args.agenda.now.releases.now c.args.agenda.now.turns.now c.requires.runnable s.now s.next s.slots.items c.requires.running.kept c.limit_of-limit.result lim.after lim.next c.in-Some.picked (sym best) in
     omega (arith, s.finishes.ok.0, c.requires.running.finishes.count)
 
 pub returns-then-executed-task : goal.returns-then-executed-task
 returns-then-executed-task c =
     let node = c.args.kernel.now in
-    let rs = c.args.releases.now in
+    let rs = c.args.agenda.now.releases.now in
     let s = c.args.self.now in
     let p = c.in-Some.picked in
     let lim = c.limit_of-limit.ensures in
     let st = c.stop_at-stop.ensures in
     let best = rw c.deref.ensures.value at c.in-Some.ensures in
-    let inside = task_in node rs c.requires.runnable s.now s.next s.slots.items c.requires.running.kept c.limit_of-limit.result lim.after lim.next p (sym best) in
+    let inside = task_in node rs c.args.agenda.now.turns.now c.requires.runnable s.now s.next s.slots.items c.requires.running.kept c.limit_of-limit.result lim.after lim.next p (sym best) in
     let count : length c.tasks.result.now ≡ length node.tasks = c.tasks.ensures.count in
     let task : IsTaskOf node c.in-Some.picked.task c.index-tasks-picked.result = c.tasks.ensures.each c.in-Some.picked.task c.index-tasks-picked.result (omega arith) c.index-tasks-picked.is in
     let full : c.in-Some.picked.executed + (c.stop_at-stop.result - c.args.self.now.now) ≡ (task_at c.args.kernel.now.tasks c.in-Some.picked.task).cost = c.if-executed-task.true ∙ task.cost in
-    let slices = run_slices node rs c.requires.runnable s.now s.next s.slots.items c.requires.running.kept c.limit_of-limit.result lim.after lim.next p (sym best) c.index-tasks-picked.result task c.stop_at-stop.result st.after st.limit st.within in
+    let slices = run_slices node rs c.args.agenda.now.turns.now c.requires.runnable s.now s.next s.slots.items c.requires.running.kept c.limit_of-limit.result lim.after lim.next p (sym best) c.index-tasks-picked.result task c.stop_at-stop.result st.after st.limit st.within in
     let gives : c.set_owners.new.owners.items ≡ with_owners s.owners.items c.index-tasks-picked.result.sections.items p.executed None =
     rw c.deref-3.ensures.value at c.set_owners.ensures in
     record {
       ok = record {
         running = record {
-          kept = finish_kept node rs c.requires.runnable s.now s.next s.slots.items c.requires.running.kept c.limit_of-limit.result lim.after lim.next p (sym best) c.index-tasks-picked.result task c.stop_at-stop.result st.after st.limit st.within full;
+          kept = finish_kept node rs c.args.agenda.now.turns.now c.requires.runnable s.now s.next s.slots.items c.requires.running.kept c.limit_of-limit.result lim.after lim.next p (sym best) c.index-tasks-picked.result task c.stop_at-stop.result st.after st.limit st.within full;
           list_count = count_kept s.lists.items c.drop_first.new.lists.items p.active (drop 1 (list_at (listed s.lists.items) p.active)) c.drop_first.ensures ∙ c.requires.running.list_count;
           queues = subst (λ x. Queues (λ k. slice_index_or (set s.slots.items p.task None) k None) (list_at x)) (sym c.drop_first.ensures)
-              (finish_lists node rs c.requires.runnable s.now s.next s.slots.items c.requires.running.kept c.limit_of-limit.result lim.after lim.next p (sym best) (listed s.lists.items) c.requires.running.queues);
+              (finish_lists node rs c.args.agenda.now.turns.now c.requires.runnable s.now s.next s.slots.items c.requires.running.kept c.limit_of-limit.result lim.after lim.next p (sym best) (listed s.lists.items) c.requires.running.queues);
           lock_count = ap (λ (xs : List (Option ℕ)). length xs) gives ∙ (with_owners-length s.owners.items c.index-tasks-picked.result.sections.items p.executed None ∙ c.requires.running.lock_count);
           owners = subst (λ x. AreOwners node.tasks (λ k. slice_index_or (set s.slots.items p.task None) k None) (owner_of node.tasks x)) (sym gives)
-              (leave_owners node rs c.requires.runnable s.now s.next s.slots.items c.requires.running.kept c.limit_of-limit.result lim.after lim.next p (sym best) c.index-tasks-picked.result task s.owners.items c.requires.running.lock_count c.requires.running.owners);
-          alone = finish_alone node rs c.requires.runnable s.now s.next s.slots.items c.requires.running.kept c.limit_of-limit.result lim.after lim.next p (sym best) (listed s.lists.items) c.requires.running.queues c.requires.running.alone;
+              (leave_owners node rs c.args.agenda.now.turns.now c.requires.runnable s.now s.next s.slots.items c.requires.running.kept c.limit_of-limit.result lim.after lim.next p (sym best) c.index-tasks-picked.result task s.owners.items c.requires.running.lock_count c.requires.running.owners);
+          alone = finish_alone node rs c.args.agenda.now.turns.now c.requires.runnable s.now s.next s.slots.items c.requires.running.kept c.limit_of-limit.result lim.after lim.next p (sym best) (listed s.lists.items) c.requires.running.queues c.requires.running.alone;
           slices = c.in_ok-add.ensures.run ∙ (ap (λ y. with_run y c.in-Some.picked.job c.args.self.now.now c.stop_at-stop.result) c.requires.running.slices ∙ sym slices);
           tidy = c.in_ok-add.ensures.tidy;
-          finishes = finish_finishes node rs c.requires.runnable s.now s.next s.slots.items c.requires.running.kept c.limit_of-limit.result lim.after lim.next p (sym best) c.index-tasks-picked.result task c.stop_at-stop.result st.after st.limit st.within full s.finishes.items c.requires.running.finishes;
+          finishes = finish_finishes node rs c.args.agenda.now.turns.now c.requires.runnable s.now s.next s.slots.items c.requires.running.kept c.limit_of-limit.result lim.after lim.next p (sym best) c.index-tasks-picked.result task c.stop_at-stop.result st.after st.limit st.within full s.finishes.items c.requires.running.finishes;
         };
         bounded = omega (arith, st.limit, lim.until);
         less = omega (arith, st.limit, lim.until, st.after);
@@ -139,19 +139,19 @@ returns-then-executed-task c =
 pub returns : goal.returns
 returns c =
     let node = c.args.kernel.now in
-    let rs = c.args.releases.now in
+    let rs = c.args.agenda.now.releases.now in
     let s = c.args.self.now in
     let p = c.in-Some.picked in
     let lim = c.limit_of-limit.ensures in
     let st = c.stop_at-stop.ensures in
     let best = rw c.deref.ensures.value at c.in-Some.ensures in
-    let inside = task_in node rs c.requires.runnable s.now s.next s.slots.items c.requires.running.kept c.limit_of-limit.result lim.after lim.next p (sym best) in
+    let inside = task_in node rs c.args.agenda.now.turns.now c.requires.runnable s.now s.next s.slots.items c.requires.running.kept c.limit_of-limit.result lim.after lim.next p (sym best) in
     let count : length c.tasks.result.now ≡ length node.tasks = c.tasks.ensures.count in
     let task : IsTaskOf node c.in-Some.picked.task c.index-tasks-picked.result = c.tasks.ensures.each c.in-Some.picked.task c.index-tasks-picked.result (omega arith) c.index-tasks-picked.is in
-    let most = (ahead node rs c.requires.runnable s.now s.next s.slots.items c.requires.running.kept c.limit_of-limit.result lim.after lim.next p (sym best) c.index-tasks-picked.result task).1 in
+    let most = (ahead node rs c.args.agenda.now.turns.now c.requires.runnable s.now s.next s.slots.items c.requires.running.kept c.limit_of-limit.result lim.after lim.next p (sym best) c.index-tasks-picked.result task).1 in
     let differ : c.in-Some.picked.executed + (c.stop_at-stop.result - c.args.self.now.now) ≢ c.index-tasks-picked.result.cost = c.if-executed-task.false in
     let open_ : c.in-Some.picked.executed + (c.stop_at-stop.result - c.args.self.now.now) < (task_at c.args.kernel.now.tasks c.in-Some.picked.task).cost = omega (arith, most, task.cost, st.within) in
-    let slices = run_slices node rs c.requires.runnable s.now s.next s.slots.items c.requires.running.kept c.limit_of-limit.result lim.after lim.next p (sym best) c.index-tasks-picked.result task c.stop_at-stop.result st.after st.limit st.within in
+    let slices = run_slices node rs c.args.agenda.now.turns.now c.requires.runnable s.now s.next s.slots.items c.requires.running.kept c.limit_of-limit.result lim.after lim.next p (sym best) c.index-tasks-picked.result task c.stop_at-stop.result st.after st.limit st.within in
     let next : Pending = record {
       job = c.in-Some.picked.job;
       task = c.in-Some.picked.task;
@@ -166,20 +166,20 @@ returns c =
     record {
       ok = record {
         running = record {
-          kept = run_kept node rs c.requires.runnable s.now s.next s.slots.items c.requires.running.kept c.limit_of-limit.result lim.after lim.next p (sym best) c.index-tasks-picked.result task c.stop_at-stop.result st.after st.limit st.within
+          kept = run_kept node rs c.args.agenda.now.turns.now c.requires.runnable s.now s.next s.slots.items c.requires.running.kept c.limit_of-limit.result lim.after lim.next p (sym best) c.index-tasks-picked.result task c.stop_at-stop.result st.after st.limit st.within
               next refl refl refl refl (c.active-active.ensures node c.in-Some.picked.task task) open_;
           list_count = count_moved s.lists.items c.move_first.new.lists.items p.active next.active p.task c.in_ok-move_first.ensures ∙ c.requires.running.list_count;
           queues = subst (λ x. Queues (λ k. slice_index_or (set s.slots.items p.task (Some next)) k None) (list_at x)) (sym c.in_ok-move_first.ensures)
-              (run_lists node rs c.requires.runnable s.now s.next s.slots.items c.requires.running.kept c.limit_of-limit.result lim.after lim.next p (sym best) c.index-tasks-picked.result task c.stop_at-stop.result st.after st.limit st.within (listed s.lists.items) c.requires.running.queues c.requires.running.alone (listed_length s.lists.items ∙ c.requires.running.list_count)
+              (run_lists node rs c.args.agenda.now.turns.now c.requires.runnable s.now s.next s.slots.items c.requires.running.kept c.limit_of-limit.result lim.after lim.next p (sym best) c.index-tasks-picked.result task c.stop_at-stop.result st.after st.limit st.within (listed s.lists.items) c.requires.running.queues c.requires.running.alone (listed_length s.lists.items ∙ c.requires.running.list_count)
               next refl (c.active-active.ensures node c.in-Some.picked.task task));
           lock_count = ap (λ (xs : List (Option ℕ)). length xs) takes ∙ (with_owners-length (with_owners s.owners.items c.index-tasks-picked.result.sections.items p.executed None) c.index-tasks-picked.result.sections.items next.executed (Some p.task)
               ∙ (with_owners-length s.owners.items c.index-tasks-picked.result.sections.items p.executed None ∙ c.requires.running.lock_count));
           owners = subst (λ x. AreOwners node.tasks (λ k. slice_index_or (set s.slots.items p.task (Some next)) k None) (owner_of node.tasks x)) (sym takes)
-              (run_owners node rs c.requires.runnable s.now s.next s.slots.items c.requires.running.kept c.limit_of-limit.result lim.after lim.next p (sym best) c.index-tasks-picked.result task c.stop_at-stop.result st.after st.limit st.within next refl s.owners.items c.requires.running.lock_count c.requires.running.owners);
-          alone = run_alone node rs c.requires.runnable s.now s.next s.slots.items c.requires.running.kept c.limit_of-limit.result lim.after lim.next p (sym best) c.index-tasks-picked.result task c.stop_at-stop.result st.after st.limit st.within (listed s.lists.items) c.requires.running.queues c.requires.running.alone next refl (c.active-active.ensures node c.in-Some.picked.task task);
+              (run_owners node rs c.args.agenda.now.turns.now c.requires.runnable s.now s.next s.slots.items c.requires.running.kept c.limit_of-limit.result lim.after lim.next p (sym best) c.index-tasks-picked.result task c.stop_at-stop.result st.after st.limit st.within next refl s.owners.items c.requires.running.lock_count c.requires.running.owners);
+          alone = run_alone node rs c.args.agenda.now.turns.now c.requires.runnable s.now s.next s.slots.items c.requires.running.kept c.limit_of-limit.result lim.after lim.next p (sym best) c.index-tasks-picked.result task c.stop_at-stop.result st.after st.limit st.within (listed s.lists.items) c.requires.running.queues c.requires.running.alone next refl (c.active-active.ensures node c.in-Some.picked.task task);
           slices = c.in_ok-add.ensures.run ∙ (ap (λ y. with_run y c.in-Some.picked.job c.args.self.now.now c.stop_at-stop.result) c.requires.running.slices ∙ sym slices);
           tidy = c.in_ok-add.ensures.tidy;
-          finishes = run_finishes node rs c.requires.runnable s.now s.next s.slots.items c.requires.running.kept c.limit_of-limit.result lim.after lim.next p (sym best) c.index-tasks-picked.result task c.stop_at-stop.result st.after st.limit st.within open_ s.finishes.items c.requires.running.finishes;
+          finishes = run_finishes node rs c.args.agenda.now.turns.now c.requires.runnable s.now s.next s.slots.items c.requires.running.kept c.limit_of-limit.result lim.after lim.next p (sym best) c.index-tasks-picked.result task c.stop_at-stop.result st.after st.limit st.within open_ s.finishes.items c.requires.running.finishes;
         };
         bounded = omega (arith, st.limit, lim.until);
         less = omega (arith, st.limit, lim.until, st.after);
@@ -187,7 +187,7 @@ returns c =
     }
 
 pub pick-requires-clause-few : goal.pick-requires-clause-few
-pick-requires-clause-few c = omega (arith, few_tasks c.args.kernel.now c.args.releases.now c.requires.runnable, c.requires.running.kept.slot_count, c.deref.ensures.len)
+pick-requires-clause-few c = omega (arith, few_tasks c.args.kernel.now c.args.agenda.now.releases.now c.args.agenda.now.turns.now c.requires.runnable, c.requires.running.kept.slot_count, c.deref.ensures.len)
 
 pub pick-requires-clause-queues : goal.pick-requires-clause-queues
 pick-requires-clause-queues c =
@@ -201,7 +201,7 @@ set_owners-requires c =
     let s = c.args.self.now in
     let lim = c.limit_of-limit.ensures in
     let best = rw c.deref.ensures.value at c.in-Some.ensures in
-    let inside = task_in node c.args.releases.now c.requires.runnable s.now s.next s.slots.items c.requires.running.kept c.limit_of-limit.result lim.after lim.next c.in-Some.picked (sym best) in
+    let inside = task_in node c.args.agenda.now.releases.now c.args.agenda.now.turns.now c.requires.runnable s.now s.next s.slots.items c.requires.running.kept c.limit_of-limit.result lim.after lim.next c.in-Some.picked (sym best) in
     let count : length c.tasks.result.now ≡ length node.tasks = c.tasks.ensures.count in
     let task : IsTaskOf node c.in-Some.picked.task c.index-tasks-picked.result = c.tasks.ensures.each c.in-Some.picked.task c.index-tasks-picked.result (omega arith) c.index-tasks-picked.is in
     let few : length (locks_of node.tasks) ≤ vec_len s.owners = omega (arith, s.owners.ok.0, c.requires.running.lock_count) in
@@ -214,7 +214,7 @@ set_owners-requires-2 c =
     let s = c.args.self.now in
     let lim = c.limit_of-limit.ensures in
     let best = rw c.deref.ensures.value at c.in-Some.ensures in
-    let inside = task_in node c.args.releases.now c.requires.runnable s.now s.next s.slots.items c.requires.running.kept c.limit_of-limit.result lim.after lim.next c.in-Some.picked (sym best) in
+    let inside = task_in node c.args.agenda.now.releases.now c.args.agenda.now.turns.now c.requires.runnable s.now s.next s.slots.items c.requires.running.kept c.limit_of-limit.result lim.after lim.next c.in-Some.picked (sym best) in
     let count : length c.tasks.result.now ≡ length node.tasks = c.tasks.ensures.count in
     let task : IsTaskOf node c.in-Some.picked.task c.index-tasks-picked.result = c.tasks.ensures.each c.in-Some.picked.task c.index-tasks-picked.result (omega arith) c.index-tasks-picked.is in
     let gives = rw c.deref-3.ensures.value at c.set_owners.ensures in
@@ -228,7 +228,7 @@ drop_first-requires c =
     let s = c.args.self.now in
     let lim = c.limit_of-limit.ensures in
     let best = rw c.deref.ensures.value at c.in-Some.ensures in
-    let within = list_is c.args.kernel.now c.args.releases.now c.requires.runnable s.now s.next s.slots.items c.requires.running.kept c.limit_of-limit.result lim.after lim.next c.in-Some.picked (sym best) (listed s.lists.items) c.requires.running.queues in
+    let within = list_is c.args.kernel.now c.args.agenda.now.releases.now c.args.agenda.now.turns.now c.requires.runnable s.now s.next s.slots.items c.requires.running.kept c.limit_of-limit.result lim.after lim.next c.in-Some.picked (sym best) (listed s.lists.items) c.requires.running.queues in
     omega (arith, within, listed_length s.lists.items)
 
 pub move_first-requires-clause-old : goal.move_first-requires-clause-old
@@ -236,7 +236,7 @@ move_first-requires-clause-old c =
     let s = c.args.self.now in
     let lim = c.limit_of-limit.ensures in
     let best = rw c.deref.ensures.value at c.in-Some.ensures in
-    let within = list_is c.args.kernel.now c.args.releases.now c.requires.runnable s.now s.next s.slots.items c.requires.running.kept c.limit_of-limit.result lim.after lim.next c.in-Some.picked (sym best) (listed s.lists.items) c.requires.running.queues in
+    let within = list_is c.args.kernel.now c.args.agenda.now.releases.now c.args.agenda.now.turns.now c.requires.runnable s.now s.next s.slots.items c.requires.running.kept c.limit_of-limit.result lim.after lim.next c.in-Some.picked (sym best) (listed s.lists.items) c.requires.running.queues in
     omega (arith, within, listed_length s.lists.items)
 
 pub move_first-requires-clause-new : goal.move_first-requires-clause-new
@@ -245,7 +245,7 @@ move_first-requires-clause-new c =
     let s = c.args.self.now in
     let lim = c.limit_of-limit.ensures in
     let best = rw c.deref.ensures.value at c.in-Some.ensures in
-    let inside = task_in node c.args.releases.now c.requires.runnable s.now s.next s.slots.items c.requires.running.kept c.limit_of-limit.result lim.after lim.next c.in-Some.picked (sym best) in
+    let inside = task_in node c.args.agenda.now.releases.now c.args.agenda.now.turns.now c.requires.runnable s.now s.next s.slots.items c.requires.running.kept c.limit_of-limit.result lim.after lim.next c.in-Some.picked (sym best) in
     let count : length c.tasks.result.now ≡ length node.tasks = c.tasks.ensures.count in
     let task : IsTaskOf node c.in-Some.picked.task c.index-tasks-picked.result = c.tasks.ensures.each c.in-Some.picked.task c.index-tasks-picked.result (omega arith) c.index-tasks-picked.is in
     let executed : ℕ = c.in-Some.picked.executed + (c.stop_at-stop.result - c.args.self.now.now) in
