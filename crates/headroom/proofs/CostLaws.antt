@@ -1,20 +1,21 @@
--- Less cost: the same blocking, no more demand, and the same orders.
-use Rattle.std.proofs.Common.{◌≡◌, ℕ, ◌+◌, ◌<◌, ◌≤◌, Bool, inl, inr, cond, ◌&&◌, List, [], ◌∷◌, length, get_or, refl, sym, ◌∙◌, ap, subst, arith}
+-- Less cost and jitter: the same blocking, no more demand, no shorter limit, and the same orders.
+use Rattle.std.proofs.Common.{◌≡◌, ℕ, ◌+◌, ◌<◌, ◌≤◌, Bool, inl, inr, cond, ◌&&◌, List, [], ◌∷◌, length, get_or, slice_set, refl, sym, ◌∙◌, ap, subst, arith}
 use Rattle.std.proofs.Math.Path.{fun_ext}
 use Rattle.std.proofs.Math.ListN.{get_or-eq_default}
-use Rattle.std.proofs.Math.Nat.{mul-le-mul_left}
+use Rattle.std.proofs.Math.Nat.{mul-le-mul}
 use Rattle.std.specs.List.{list_any, AllByRecursion}
 use Rattle.std.proofs.lemmas.List.Elements.{recursion_from_All, All-from_recursion}
 use Rattle.std.proofs.lemmas.Bool.{cases_Bool, cases_eq, cases_lt}
 use Rattle.std.proofs.lemmas.List.{get_or-set_same, get_or-set_other, length-set}
-use Rattle.task_sheet.specs.Sheet.{CriticalSection, Task, AreSections, IsValidSheet, no_task, task_at}
+use Rattle.task_sheet.specs.Sheet.{CriticalSection, Task, with_jitter, AreSections, IsValidSheet, no_task, task_at}
 use Rattle.task_sheet.specs.Indexes.{Indexes, with_index, some_below, greatest_below, below, among}
 use Rattle.task_sheet.specs.Locks.{names_lock}
-use Rattle.task_sheet.specs.Demand.{greatest_of, blocking_of, demand_of, interference_of, Passes}
-use Rattle.task_sheet.specs.Orders.{AllStand, IsPassingOrder, IsFeasible}
+use Rattle.task_sheet.specs.Demand.{limit_of, greatest_of, blocking_of, demand_of, releases_within, interference_of, Passes}
+use Rattle.task_sheet.specs.Orders.{must_outrank, is_bound, Stands, AllStand, IsPassingOrder, IsFeasible}
 use Rattle.task_sheet.proofs.Below.{sum_below-le}
+use Rattle.task_sheet.proofs.Releases.{div_ceil-mono}
 use Rattle.ceilings.specs.Holds.{longest_outside}
-use Rattle.headroom.specs.Costs.{with_cost, IsLighter, AreLighter, costed}
+use Rattle.headroom.specs.Costs.{with_cost, IsLighter, AreLighter, costed, delayed}
 
 -- ---- blocking speaks of sections alone
 abbrev sections_of : List Task → ℕ → List CriticalSection
@@ -41,17 +42,16 @@ module _ (V U : List Task) (light : AreLighter V U) where
   blocking-lighter i H =
       let X = with_index H i in
       blocking-longest V i H
-      ∙ longest-same V U X light.count (λ k. ap (λ (t : Task). t.sections) (light.each k).2)
+      ∙ longest-same V U X light.count (λ k. ap (λ (t : Task). t.sections) (light.each k).same)
       ∙ sym (blocking-longest U i H)
 
-  cost-lighter : (k : ℕ) → (task_at V k).cost ≤ (task_at U k).cost
-  cost-lighter k = omega (arith, ap (λ (t : Task). t.cost) (light.each k).2, (light.each k).1)
+  releases-lighter : (k t : ℕ) → releases_within (task_at V k) t ≤ releases_within (task_at U k) t
+  releases-lighter k t =
+      rw (ap (λ (x : Task). x.period) (light.each k).same)
+      (div_ceil-mono (t + (task_at V k).jitter) (t + (task_at U k).jitter) (task_at U k).period (omega (arith, (light.each k).jitter)))
 
   interference-lighter : (k t : ℕ) → interference_of (task_at V k) t ≤ interference_of (task_at U k) t
-  interference-lighter k t =
-      let cost = (light.each k).0 in
-      let is : interference_of (task_at V k) t ≡ interference_of (with_cost (task_at U k) cost) t = ap (λ (x : Task). interference_of x t) (light.each k).2 in
-      rw is (mul-le-mul_left _ (light.each k).1)
+  interference-lighter k t = mul-le-mul (releases-lighter k t) (light.each k).cost
 
   term-lighter : (H : Indexes) (t k : ℕ) → cond (H k) (interference_of (task_at V k) t) 0 ≤ cond (H k) (interference_of (task_at U k) t) 0
   term-lighter H t k = elim (cases_Bool (H k)) [
@@ -63,16 +63,33 @@ module _ (V U : List Task) (light : AreLighter V U) where
   unfolding demand_of
   demand-lighter i H t =
       let terms = sum_below-le (length U) (λ k. cond (H k) (interference_of (task_at V k) t) 0) (λ k. cond (H k) (interference_of (task_at U k) t) 0) (λ k _. term-lighter H t k) in
-      rw light.count (omega (arith, terms, blocking-lighter i H, cost-lighter i))
+      rw light.count (omega (arith, terms, blocking-lighter i H, (light.each i).cost))
+
+  pub limit-lighter : (i : ℕ) → limit_of (task_at U i) ≤ limit_of (task_at V i)
+  limit-lighter i = omega (arith, ap (λ (t : Task). t.deadline) (light.each i).same, (light.each i).jitter)
 
   pub Passes-lighter : (i : ℕ) (H : Indexes) → Passes U i H → Passes V i H
   Passes-lighter i H passes =
-      let limit = ap (λ (t : Task). t.deadline) (light.each i).2 in
-      (passes.0, passes.1, omega (arith, limit, passes.2), omega (arith, demand-lighter i H passes.0, passes.3))
+      (passes.0, passes.1, omega (arith, limit-lighter i, passes.2), omega (arith, demand-lighter i H passes.0, passes.3))
+
+  names-lighter : (k : ℕ) → ((task_at V k).name ≡ (task_at U k).name) × ((task_at V k).outranks ≡ (task_at U k).outranks)
+  names-lighter k = (ap (λ (t : Task). t.name) (light.each k).same, ap (λ (t : Task). t.outranks) (light.each k).same)
+
+  must_outrank-lighter : (i k : ℕ) → must_outrank V i k ≡ must_outrank U i k
+  must_outrank-lighter i k = rw ((names-lighter k).0, (names-lighter i).1) refl
+
+  is_bound-lighter : (i : ℕ) (H : Indexes) → is_bound V i H ≡ is_bound U i H
+  unfolding is_bound
+  is_bound-lighter i H =
+      ap (λ n. some_below n (λ k. H k && must_outrank V i k)) light.count
+      ∙ ap (λ (p : ℕ → Bool). some_below (length U) (λ k. H k && p k)) (fun_ext (must_outrank-lighter i))
+
+  pub Stands-lighter : (i : ℕ) (H : Indexes) → Stands U i H → Stands V i H
+  Stands-lighter i H stands = (Passes-lighter i H stands.0, is_bound-lighter i H ∙ stands.1)
 
   AllStand-lighter : (order : List ℕ) → AllStand U order → AllStand V order
   AllStand-lighter [] all = tt
-  AllStand-lighter (i ∷ above) all = (Passes-lighter i (among above) all.0, AllStand-lighter above all.1)
+  AllStand-lighter (i ∷ above) all = (Stands-lighter i (among above) all.0, AllStand-lighter above all.1)
 
   pub IsPassingOrder-lighter : (order : List ℕ) → IsPassingOrder U order → IsPassingOrder V order
   IsPassingOrder-lighter order passing = record {
@@ -83,40 +100,47 @@ module _ (V U : List Task) (light : AreLighter V U) where
   pub IsFeasible-lighter : IsFeasible U → IsFeasible V
   IsFeasible-lighter feasible = (feasible.0, IsPassingOrder-lighter feasible.0 feasible.1)
 
--- ---- one task's cost
+-- ---- one task alone
+-- a set in which task i takes the place of another
+abbrev placed : List Task → ℕ → Task → List Task
+placed U i x = slice_set U i x
+
 -- at another index a set is as it was, and past the end there is no task
-pub costed-other : (U : List Task) (i cost k : ℕ) → (k ≡ i → ⊥) → task_at (costed U i cost) k ≡ task_at U k
-costed-other U i cost k ne = get_or-set_other U i k (with_cost (task_at U i) cost) no_task ne
+pub placed-other : (U : List Task) (i : ℕ) (x : Task) (k : ℕ) → (k ≡ i → ⊥) → task_at (placed U i x) k ≡ task_at U k
+placed-other U i x k ne = get_or-set_other U i k x no_task ne
 
-pub costed-same : (U : List Task) (i cost : ℕ) → i < length U → task_at (costed U i cost) i ≡ with_cost (task_at U i) cost
-costed-same U i cost lt = get_or-set_same U i (with_cost (task_at U i) cost) no_task lt
+pub placed-same : (U : List Task) (i : ℕ) (x : Task) → i < length U → task_at (placed U i x) i ≡ x
+placed-same U i x lt = get_or-set_same U i x no_task lt
 
--- past the end of a set there is no task
-costed-outside : (U : List Task) (i cost : ℕ) → length U ≤ i → task_at (costed U i cost) i ≡ task_at U i
-costed-outside U i cost past =
-    get_or-eq_default (costed U i cost) no_task (omega (arith, length-set U i (with_cost (task_at U i) cost))) ∙ sym (get_or-eq_default U no_task past)
+placed-outside : (U : List Task) (i : ℕ) (x : Task) → length U ≤ i → task_at (placed U i x) i ≡ task_at U i
+placed-outside U i x past = get_or-eq_default (placed U i x) no_task (omega (arith, length-set U i x)) ∙ sym (get_or-eq_default U no_task past)
 
--- a task at which both sets are as before
+-- a task is lighter than itself
 lighter-same : (x low high : Task) → low ≡ x → high ≡ x → IsLighter low high
-lighter-same x low high e f = (high.cost, omega arith, e ∙ sym f)
+lighter-same x low high e f = rw (e, f) record { cost = omega arith; jitter = omega arith; same = refl }
 
-lighter-both : (x low high : Task) (less more : ℕ) → less ≤ more → low ≡ with_cost x less → high ≡ with_cost x more → IsLighter low high
-lighter-both x low high less more le e f = (less, omega (arith, ap (λ (t : Task). t.cost) f), e ∙ ap (λ (t : Task). with_cost t less) (sym f))
-
-costed-at : (U : List Task) (i low high : ℕ) → low ≤ high → IsLighter (task_at (costed U i low) i) (task_at (costed U i high) i)
-costed-at U i low high le = elim (cases_lt i (length U)) [
-  | inr past ↦ lighter-same (task_at U i) _ _ (costed-outside U i low past) (costed-outside U i high past)
-  | inl lt ↦ lighter-both (task_at U i) _ _ low high le (costed-same U i low lt) (costed-same U i high lt)
+placed-at : (U : List Task) (i : ℕ) (low high : Task) → IsLighter low high → IsLighter (task_at (placed U i low) i) (task_at (placed U i high) i)
+placed-at U i low high le = elim (cases_lt i (length U)) [
+  | inr past ↦ lighter-same (task_at U i) _ _ (placed-outside U i low past) (placed-outside U i high past)
+  | inl lt ↦ rw (placed-same U i low lt, placed-same U i high lt) le
 ]
 
-pub AreLighter-costed : (U : List Task) (i low high : ℕ) → low ≤ high → AreLighter (costed U i low) (costed U i high)
-AreLighter-costed U i low high le = record {
-  count = length-set U i _ ∙ sym (length-set U i _);
+AreLighter-placed : (U : List Task) (i : ℕ) (low high : Task) → IsLighter low high → AreLighter (placed U i low) (placed U i high)
+AreLighter-placed U i low high le = record {
+  count = length-set U i low ∙ sym (length-set U i high);
   each = λ k. elim (cases_eq k i) [
-    | inr ne ↦ lighter-same (task_at U k) _ _ (costed-other U i low k ne) (costed-other U i high k ne)
-    | inl e ↦ subst (λ j. IsLighter (task_at (costed U i low) j) (task_at (costed U i high) j)) (sym e) (costed-at U i low high le)
+    | inr ne ↦ lighter-same (task_at U k) _ _ (placed-other U i low k ne) (placed-other U i high k ne)
+    | inl e ↦ subst (λ j. IsLighter (task_at (placed U i low) j) (task_at (placed U i high) j)) (sym e) (placed-at U i low high le)
   ];
 }
+
+pub AreLighter-costed : (U : List Task) (i low high : ℕ) → low ≤ high → AreLighter (costed U i low) (costed U i high)
+AreLighter-costed U i low high le =
+    AreLighter-placed U i (with_cost (task_at U i) low) (with_cost (task_at U i) high) record { cost = le; jitter = omega arith; same = refl }
+
+pub AreLighter-delayed : (U : List Task) (i low high : ℕ) → low ≤ high → AreLighter (delayed U i low) (delayed U i high)
+AreLighter-delayed U i low high le =
+    AreLighter-placed U i (with_jitter (task_at U i) low) (with_jitter (task_at U i) high) record { cost = omega arith; jitter = le; same = refl }
 
 -- ---- the costs that a sheet may have
 -- sections that end within a cost stand within it
@@ -158,6 +182,8 @@ may_cost t cost valid from to ends = record {
   cost_to = to;
   few = valid.few;
   sections = sections-within 0 t.cost cost t.sections valid.sections (recursion_from_All (λ (s : CriticalSection). s.at + s.len ≤ cost) t.sections (λ k d lt. ends k d lt));
+  jitter = valid.jitter;
+  outranked = valid.outranked;
 }
 
 -- and each cost between one that it may have and its period
@@ -175,3 +201,7 @@ item_within t cost items i x valid same lt is =
 -- less cost of one task keeps an order
 pub IsFeasible-less : (U : List Task) (i low high : ℕ) → low ≤ high → IsFeasible (costed U i high) → IsFeasible (costed U i low)
 IsFeasible-less U i low high le = IsFeasible-lighter (costed U i low) (costed U i high) (AreLighter-costed U i low high le)
+
+-- and so does less jitter
+pub IsFeasible-earlier : (U : List Task) (i low high : ℕ) → low ≤ high → IsFeasible (delayed U i high) → IsFeasible (delayed U i low)
+IsFeasible-earlier U i low high le = IsFeasible-lighter (delayed U i low) (delayed U i high) (AreLighter-delayed U i low high le)

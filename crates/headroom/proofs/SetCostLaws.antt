@@ -1,7 +1,7 @@
 -- A set with another cost of one task has the same ranks and the same locks.
 use Rattle.std.proofs.Common.{◌≡◌, ◌↔◌, ℕ, zero, suc, inl, inr, ◌+◌, ◌<◌, ◌≤◌, false, nat_lt, Option, None, List, [], ◌∷◌, ◌++◌, length, Less, refl, sym, ◌∙◌, ap, subst, arith, flat_map}
 use Rattle.std.proofs.lemmas.Bool.{cases_lt, le-ltb}
-use Rattle.task_sheet.specs.Orders.{IsFeasible}
+use Rattle.task_sheet.specs.Orders.{must_outrank, IsFeasible}
 use Rattle.task_sheet.proofs.TaskLaws.{valid_at}
 use Rattle.headroom.proofs.CostLaws.{IsFeasible-less, longest-same}
 use Rattle.std.specs.List.{AllByRecursion, list_any}
@@ -48,6 +48,25 @@ sections-costed (y ∷ ys) zero cost (suc k) = refl
 sections-costed (y ∷ ys) (suc i) cost zero = refl
 sections-costed (y ∷ ys) (suc i) cost (suc k) = sections-costed ys i cost k
 
+-- ---- tasks above which a task must stand
+name-costed : (U : List Task) (i cost k : ℕ) → (task_at (costed U i cost) k).name ≡ (task_at U k).name
+name-costed [] i cost k = refl
+name-costed (y ∷ ys) zero cost zero = refl
+name-costed (y ∷ ys) zero cost (suc k) = refl
+name-costed (y ∷ ys) (suc i) cost zero = refl
+name-costed (y ∷ ys) (suc i) cost (suc k) = name-costed ys i cost k
+
+outranks-costed : (U : List Task) (i cost k : ℕ) → (task_at (costed U i cost) k).outranks ≡ (task_at U k).outranks
+outranks-costed [] i cost k = refl
+outranks-costed (y ∷ ys) zero cost zero = refl
+outranks-costed (y ∷ ys) zero cost (suc k) = refl
+outranks-costed (y ∷ ys) (suc i) cost zero = refl
+outranks-costed (y ∷ ys) (suc i) cost (suc k) = outranks-costed ys i cost k
+
+must_outrank-costed : (U : List Task) (j cost i k : ℕ) → must_outrank (costed U j cost) i k ≡ must_outrank U i k
+must_outrank-costed U j cost i k = rw (name-costed U j cost k, outranks-costed U j cost i) refl
+
+-- ---- the names of locks
 names-costed : (U : List Task) (i cost : ℕ) → names_in (costed U i cost) ≡ names_in U
 names-costed [] i cost = refl
 names-costed (y ∷ ys) zero cost = refl
@@ -69,6 +88,9 @@ IsTableOf-costed U i cost table is = record {
   few = few-costed U i cost is.few;
   users = AreUsersOf-costed U i cost table.users is.users;
   holds = λ members. is.holds members ∙ sym (longest-same (costed U i cost) U (indexes_of members) (length-set U i (with_cost (task_at U i) cost)) (sections-costed U i cost));
+  outranked = λ j k lt within.
+      let count = length-set U i (with_cost (task_at U i) cost) in
+      is.outranked j k (omega (arith, lt, count)) (omega (arith, within, count)) ∙ sym (must_outrank-costed U i cost j k);
 }
 
 -- ---- names: the sheets with another cost are no fault

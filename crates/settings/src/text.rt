@@ -2,11 +2,12 @@
 ghost use Rattle.std.specs.Prelude.{◌≡◌, ◌++◌, ◌<◌, ◌≤◌, ℕ, List, length, slice_get, Some, All, OnOk, IfOk, string_bytes};
 ghost use Rattle.task_sheet.specs.Sheet.{Task, task_at};
 ghost use Rattle.task_sheet.specs.Locks.{ceiling_of};
-ghost use Rattle.task_sheet.specs.Verdicts.{order_of};
+ghost use Rattle.task_sheet.specs.Orders.{IsOrder};
 ghost use Rattle.ceilings.specs.IsTableOf.{IsTableOf, locks_of};
+ghost use Rattle.assignment.specs.Placings.{tasks_of_places};
 ghost use Rattle.settings.specs.Settings.{mutex_line, mutex_lines, settings_lines, thread_line, thread_lines};
 
-use assignment::{Assignment, LevelRecord};
+use assignment::Place;
 use ceilings::LockTable;
 use std::alloc::{AllocError, Global};
 use task_sheet::{Name, TaskSet};
@@ -92,24 +93,23 @@ fn push_mutexes(text: &mut String, table: &LockTable, order: &[usize]) -> Result
 }
 
 // The indexes of the tasks, the lowest level first.
-fn order_of(alloc: Global, levels: &[LevelRecord]) -> Result<Vec<usize>, AllocError>
-    ensures { IfOk result (λ order. order.items ≡ order_of levels.now) }
+fn order_of(alloc: Global, places: &[Place]) -> Result<Vec<usize>, AllocError>
+    ensures { IfOk result (λ order. order.items ≡ tasks_of_places places.now) }
 {
-    let mut order = Vec::with_capacity(alloc, levels.len())?;
-    for level in levels {
-        order.push(level.task)?;
+    let mut order = Vec::with_capacity(alloc, places.len())?;
+    for place in places {
+        order.push(place.task)?;
     }
     Ok(order)
 }
 
-/// The lines that say what a node is set to for the best order of a set: the level of each task's thread, and the
-/// ceiling of each lock's mutex. The error is want of memory.
-pub fn settings_text(alloc: Global, assignment: &Assignment) -> Result<String, AllocError>
-    ensures { IfOk result (λ text. string_bytes text
-        ≡ settings_lines assignment.now.set (order_of assignment.now.levels)) }
+/// The lines that say what a node is set to for an order of a set, its places the lowest first: the level of each
+/// task's thread, and the ceiling of each lock's mutex. The error is want of memory.
+pub fn settings_text(alloc: Global, set: &TaskSet, places: &[Place]) -> Result<String, AllocError>
+    requires { IsOrder set.now (tasks_of_places places.now) }
+    ensures { IfOk result (λ text. string_bytes text ≡ settings_lines set.now (tasks_of_places places.now)) }
 {
-    let set = assignment.set();
-    let order = order_of(alloc, assignment.levels())?;
+    let order = order_of(alloc, places)?;
     let table = LockTable::new(alloc, set)?;
     let mut text = String::new(alloc);
     push_threads(&mut text, set, &order)?;
