@@ -36,7 +36,7 @@ workers_rule = record (input_rule (codes "WORKERS")) { parser = Some (Unsigned 1
 abbrev pub rush_app : App
 rush_app = with_rule (one_app (codes "rush") (codes "SCRIPT")) workers_rule
 
--- `admit SET`, `certify SET`, `check SET CERT` and `simulate SET RELEASES`
+-- the program with `admit SET`, `certify SET`, `check SET CERT` and `simulate SET RELEASES`
 abbrev pub first_app : App
 first_app =
     with_subcommand
@@ -47,7 +47,7 @@ first_app =
     (pair_app (codes "check") (codes "CERT")).top)
     (pair_app (codes "simulate") (codes "RELEASES")).top
 
--- these, `headroom SET`, `settings SET`, `play SCRIPT` and `rush SCRIPT WORKERS`
+-- the whole program: with `headroom SET`, `settings SET`, `play SCRIPT` and `rush SCRIPT WORKERS`, too
 abbrev pub desk_app : App
 desk_app =
     with_subcommand

@@ -240,7 +240,7 @@ fn with_pair<'a>(
     with_command(above, command)
 }
 
-// The commands that answer on a task set and print or check a certificate, or simulate it.
+// The program with its first four commands.
 fn first_commands<'a>(alloc: Global) -> Result<Command<'a>, AllocError>
     ensures app { IfOk result (λ c. app_of c ≡ first_app) }
     ensures local { IfOk result (λ c. (fields_of c).has_globals ≡ false) }
@@ -259,6 +259,7 @@ fn first_commands<'a>(alloc: Global) -> Result<Command<'a>, AllocError>
     )
 }
 
+// The program with all its commands.
 fn desk_command<'a>(alloc: Global) -> Result<Command<'a>, AllocError>
     ensures app { IfOk result (λ c. app_of c ≡ desk_app) }
     ensures local { IfOk result (λ c. (fields_of c).has_globals ≡ false) }

@@ -40,7 +40,7 @@ fn run<T: Threads + Wait + Sync>(rt: &HostRuntime, threads: &T) -> Status {
     // written.
     let _folder = fs::open(rt, "/");
     match read_words(rt.alloc(), &texts) {
-        Ok(call) => run_call(threads, rt.alloc(), call, &Process { rt }, &mut output),
+        Ok(call) => run_call(threads, rt.alloc(), call, &Process { rt }, &mut output).status,
         Err(fault) => refuse_words(&fault, &mut output, &mut errors),
     }
 }
@@ -80,6 +80,9 @@ impl<'a> Opens for Process<'a> {
 
     // No contract can say what a file has.
     ghost bytes = { λ _ _. None };
+
+    // Nor which it does not open.
+    ghost may_refuse = { λ _ _. Unit {0} };
 
     fn open(&self, input: Input<'_>) -> Result<Source, NotOpened> {
         match input {

@@ -1,15 +1,16 @@
 -- What was read of an input.
-use Rattle.std.specs.Prelude.{◌≡◌, ◌⊎◌, ℕ, ◌+◌, ◌<◌, ◌≤◌, true, List, length, Option, IfSome}
+use Rattle.std.specs.Prelude.{◌≡◌, ◌⊎◌, ℕ, ◌+◌, ◌^◌, ◌<◌, ◌≤◌, true, List, length, Option, IfSome}
 use Rattle.streams.specs.Watching.{WatchedData}
+use Rattle.streams.specs.declared.input.TheConstants.{INPUT_LIMIT, TURN_LIMIT}
 
 -- the bytes are all that a reader had, where it says what it has, and no more than an input may have
 pub record IsReadFrom (known : Option (List ℕ)) (bytes : List ℕ) : Type 0 where
   pub whole : IfSome known (λ all. bytes ≡ all)
-  pub within : length bytes ≤ 16777216
+  pub within : length bytes ≤ INPUT_LIMIT
 
 -- the reader had more than an input may have
 abbrev pub IsTooLong : Option (List ℕ) → Type 0
-IsTooLong known = IfSome known (λ all. 16777216 < length all)
+IsTooLong known = IfSome known (λ all. INPUT_LIMIT < length all)
 
 -- a read has failed or was interrupted
 abbrev pub IsDisturbed : {T : Type 0} → WatchedData T → Type 0
@@ -17,4 +18,8 @@ IsDisturbed w = (w.has_failed ≡ true) ⊎ (w.was_interrupted ≡ true)
 
 -- an input is read in at most 33,554,432 reads
 abbrev pub IsWithinTurns : {T : Type 0} → WatchedData T → WatchedData T → Type 0
-IsWithinTurns old new = new.reads ≤ old.reads + 33554432
+IsWithinTurns old new = new.reads ≤ old.reads + TURN_LIMIT
+
+-- all these reads were made, where the counter has room for them
+abbrev pub AreTurnsSpent : {T : Type 0} → WatchedData T → WatchedData T → Type 0
+AreTurnsSpent old new = old.reads + TURN_LIMIT < 2 ^ 64 → new.reads ≡ old.reads + TURN_LIMIT

@@ -2,6 +2,7 @@
 ghost use Rattle.std.specs.Prelude.{◌≡◌, ◌++◌, ◌+◌, ◌<◌, ◌≤◌, [], length, IsErr, OnOk, OnErr, true};
 ghost use Rattle.std.specs.Io.KnownBytes.{Appends};
 ghost use Rattle.streams.specs.Sending.{Sends};
+ghost use Rattle.streams.specs.declared.held.TheConstants.{ROOM};
 
 use crate::watched::{Watched, WriteFailed};
 use std::io::Write;
@@ -19,12 +20,13 @@ pub struct Held {
 
 impl Model for Held {
     ghost use Rattle.std.specs.Prelude.{ℕ, List, take, ◌≤◌};
+    ghost use Rattle.streams.specs.declared.held.TheConstants.{ROOM};
 
     ghost Value = { List ℕ };
 
     ghost view = { λ h. take h.len h.bytes };
 
-    ghost invariant = { λ h. h.len ≤ 4096 };
+    ghost invariant = { λ h. h.len ≤ ROOM };
 }
 
 impl Held {
@@ -39,7 +41,7 @@ impl Held {
     }
 
     fn has_room(&self, count: usize) -> bool
-        ensures { result ≡ true → length self.now + count ≤ 4096 }
+        ensures { result ≡ true → length self.now + count ≤ ROOM }
     {
         self.len <= ROOM && count <= ROOM - self.len
     }
@@ -57,7 +59,7 @@ impl Held {
     }
 
     fn push(&mut self, text: &[u8])
-        requires { length self.old + length text.now ≤ 4096 }
+        requires { length self.old + length text.now ≤ ROOM }
         ensures { self.new ≡ self.old ++ text.now }
     {
         let end = self.len + text.len();

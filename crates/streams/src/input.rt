@@ -1,6 +1,8 @@
 //! Reading inputs whole.
-ghost use Rattle.std.specs.Prelude.{◌≡◌, ◌⊎◌, ◌+◌, ◌^◌, ◌<◌, ℕ, List, length, Some, true, false, Err, IfOk};
-ghost use Rattle.streams.specs.Inputs.{IsDisturbed, IsReadFrom, IsTooLong, IsWithinTurns};
+ghost use Rattle.std.specs.Prelude.{◌≡◌, ◌≢◌, ◌⊎◌, ◌<◌, ℕ, List, [], length, Some, true, false, Err, IfOk};
+ghost use Rattle.std.specs.Io.KnownBytes.{IsAtEnd};
+ghost use Rattle.streams.specs.Inputs.{AreTurnsSpent, IsDisturbed, IsReadFrom, IsTooLong, IsWithinTurns};
+ghost use Rattle.streams.specs.declared.input.TheConstants.{INPUT_LIMIT};
 
 use crate::watched::{ReadFault, Watched};
 use std::alloc::Global;
@@ -35,7 +37,8 @@ pub fn read_input<R: Read + Drop>(
     ensures answered { reader.old.has_failed ≡ false → reader.new.has_failed ≡ true
         → result ≡ Err InputFault.ReadFailed }
     ensures tried_again { result ≡ Err InputFault.ReadFailed → reader.new.has_failed ≡ false
-        → reader.old.reads + 33554432 < 2 ^ 64 → reader.new.reads ≡ reader.old.reads + 33554432 }
+        → AreTurnsSpent reader.old reader.new }
+    ensures ended { IfOk result (λ _. IsAtEnd (R.remaining reader.new.inner)) }
     ensures turns { IsWithinTurns reader.old reader.new }
 {
     let mut bytes = Vec::new(alloc);
@@ -58,8 +61,8 @@ pub fn read_input<R: Read + Drop>(
     Err(InputFault::ReadFailed)
 }
 
-/// Reads all that two readers have, the first one first: where it is too long, or a read of it failed, nothing is read
-/// of the second.
+/// Reads all that two readers have, the first one first: where it is too long, where a read of it failed or where its
+/// turns were spent before its end, nothing is read of the second.
 pub fn read_both<R: Read + Drop, S: Read + Drop>(
     alloc: Global,
     first: &mut Watched<R>,
@@ -73,8 +76,13 @@ pub fn read_both<R: Read + Drop, S: Read + Drop>(
     ensures answered { first.old.has_failed ≡ false → second.old.has_failed ≡ false
         → (first.new.has_failed ≡ true) ⊎ (second.new.has_failed ≡ true)
         → result ≡ Err InputFault.ReadFailed }
+    ensures tried_again { result ≡ Err InputFault.ReadFailed
+        → first.new.has_failed ≡ false → second.new.has_failed ≡ false
+        → AreTurnsSpent first.old first.new ⊎ AreTurnsSpent second.old second.new }
     ensures turns { IsWithinTurns first.old first.new × IsWithinTurns second.old second.new }
-    ensures first_too_long { (all : List ℕ) → R.remaining first.old.inner ≡ Some all → 16777216 < length all
+    ensures first_too_long { (all : List ℕ) → R.remaining first.old.inner ≡ Some all → INPUT_LIMIT < length all
+        → second.new ≡ second.old }
+    ensures first_left { (rest : List ℕ) → R.remaining first.new.inner ≡ Some rest → rest ≢ []
         → second.new ≡ second.old }
     ensures first_failed { first.old.has_failed ≡ false → first.new.has_failed ≡ true → second.new ≡ second.old }
 {
