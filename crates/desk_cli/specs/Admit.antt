@@ -1,9 +1,13 @@
 -- What `desk admit` answers and prints.
 use Rattle.std.specs.Prelude.{◌≡◌, ℕ, List, Option, Result, Ok, Err}
 use Rattle.std.specs.Io.KnownBytes.{Appends}
+use Rattle.task_sheet.specs.Sheet.{Task}
 use Rattle.task_sheet.specs.ReadsSet.{ReadsSet}
 use Rattle.task_sheet.specs.Verdicts.{IsVerdictOf}
+use Rattle.assignment.specs.Placings.{IsPlacingOf}
 use Rattle.assignment.specs.Verdict.{set_of, verdict_of}
+use Rattle.assignment.specs.declared.placing.Placing.{Placing}
+use Rattle.assignment.specs.declared.placing.Placing.TheVariants.{Best, Stuck}
 use Rattle.assignment.specs.declared.verdict.Verdict.{Verdict}
 use Rattle.assignment.specs.declared.verdict.Verdict.TheVariants.{Admitted, Infeasible}
 use Rattle.streams.specs.Inputs.{IsReadFrom, IsTooLong}
@@ -27,10 +31,21 @@ Admits known (Err (refusal.Input input.OutOfMemory)) = Unit {0}
 Admits known (Err refusal.OutOfMemory) = Unit {0}
 Admits known _ = ⊥
 
+-- the same, where the answer is a set with its placing
+abbrev pub Places : Option (List ℕ) → Result (List Task × Placing) Refusal → Type 0
+Places known (Ok placed) =
+    (bytes : List ℕ) × IsReadFrom known bytes × ReadsSet bytes (Ok placed.0) × IsPlacingOf placed.0 placed.1
+Places known (Err r) = Admits known (Err r)
+
 -- the exit status of a verdict
 abbrev pub verdict_status : Verdict → Status
 verdict_status (Admitted a) = status.Done
 verdict_status (Infeasible o) = status.Infeasible
+
+-- the exit status of a placing
+abbrev pub placing_status : Placing → Status
+placing_status (Best places) = status.Done
+placing_status (Stuck left) = status.Infeasible
 
 -- what is printed of an answer, where a verdict has some lines
 abbrev pub said : (Verdict → List ℕ) → Result Verdict Refusal → List ℕ

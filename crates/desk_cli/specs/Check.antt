@@ -4,7 +4,7 @@ use Rattle.std.specs.Io.KnownBytes.{Appends}
 use Rattle.task_sheet.specs.Sheet.{Task}
 use Rattle.task_sheet.specs.Orders.{IsBest, IsFeasible}
 use Rattle.task_sheet.specs.ReadsSet.{ReadsSet}
-use Rattle.certificate.specs.Body.{Body}
+use Rattle.certificate.specs.Body.{Cert}
 use Rattle.certificate.specs.Lines.{Fails, certificate_in}
 use Rattle.cert_checker.specs.Naming.{IsReady}
 use Rattle.cert_checker.specs.Faults.{check_fault}
@@ -20,20 +20,20 @@ use Rattle.desk_cli.specs.declared.status.Status.{Status}
 use Rattle.desk_cli.specs.declared.status.Status.TheVariants as status
 
 -- the order of the certificate is the best, or no order passes
-abbrev pub Shows : List Task → Body → Checked → Type 0
-Shows U c Best = IsBest U (order_in U c)
+abbrev pub Shows : List Task → Cert → Checked → Type 0
+Shows U c Best = IsBest U (order_in U c.body)
 Shows U c NoOrder = ¬ IsFeasible U
 
 -- the answer on the bytes of a set and of a certificate
 abbrev pub ChecksBytes : List ℕ → List ℕ → Result Checked Refusal → Type 0
 ChecksBytes bytes text (Ok kind) =
-    (U : List Task) × (c : Body) × ReadsSet bytes (Ok U) × (certificate_in text ≡ Ok c) × IsReady U c
-    × (kind ≡ kind_of c) × Shows U c kind
+    (U : List Task) × (c : Cert) × ReadsSet bytes (Ok U) × (certificate_in text ≡ Ok c) × IsReady U c
+    × (kind ≡ kind_of c.body) × Shows U c kind
 ChecksBytes bytes text (Err (refusal.Set fault)) = ReadsSet bytes (Err fault)
 ChecksBytes bytes text (Err (refusal.Certificate fault)) =
     (U : List Task) × ReadsSet bytes (Ok U) × Fails fault (certificate_in text)
 ChecksBytes bytes text (Err (refusal.Check fault)) =
-    (U : List Task) × (c : Body) × ReadsSet bytes (Ok U) × (certificate_in text ≡ Ok c) × (check_fault U c ≡ Some fault)
+    (U : List Task) × (c : Cert) × ReadsSet bytes (Ok U) × (certificate_in text ≡ Ok c) × (check_fault U c ≡ Some fault)
 ChecksBytes bytes text (Err refusal.OutOfMemory) = Unit {0}
 ChecksBytes bytes text _ = ⊥
 

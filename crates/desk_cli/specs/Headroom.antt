@@ -3,7 +3,11 @@ use Rattle.std.specs.Prelude.{◌≡◌, ◌⊎◌, ℕ, zero, suc, ◌<◌, Lis
 use Rattle.std.specs.Fmt.{decimal}
 use Rattle.std.specs.Io.KnownBytes.{Appends}
 use Rattle.task_sheet.specs.Sheet.{Task, task_at}
-use Rattle.assignment.specs.Verdict.{set_of}
+use Rattle.task_sheet.specs.Indexes.{indexes_of, listed_below}
+use Rattle.task_sheet.specs.Verdicts.{tasks_of, IsVerdictOf}
+use Rattle.assignment.specs.Verdict.{set_of, verdict_of}
+use Rattle.assignment.specs.declared.placing.Placing.{Placing}
+use Rattle.assignment.specs.declared.placing.Placing.TheVariants.{Best, Stuck}
 use Rattle.assignment.specs.declared.verdict.Verdict.{Verdict}
 use Rattle.assignment.specs.declared.verdict.Verdict.TheVariants.{Admitted, Infeasible}
 use Rattle.headroom.specs.Costs.{AnswersHeadroom}
@@ -48,13 +52,24 @@ Lists U done text s = ListsAll U done text s ⊎ ListsSome U text s
 -- the first line of a verdict: how many levels its order has, or the tasks of its obstruction
 abbrev pub first_line : Verdict → List ℕ
 first_line (Admitted a) = codes "admitted " ++ decimal (length a.levels) ++ codes "\n"
-first_line (Infeasible o) = infeasible_line o.set o.members
+first_line (Infeasible o) = infeasible_line o.set (tasks_of o.members)
+
+-- the same of a placing
+abbrev pub placing_first : List Task → Placing → List ℕ
+placing_first U (Best places) = codes "admitted " ++ decimal (length places.items) ++ codes "\n"
+placing_first U (Stuck left) = infeasible_line U (listed_below (length U) (indexes_of left))
 
 -- what an answer prints, and its status
 abbrev pub Tells : Result Verdict Refusal → List ℕ → Status → Type 0
 Tells (Ok v) text s =
     (rest : List ℕ) × (text ≡ first_line v ++ rest) × Lists (set_of v) (verdict_status v) rest s
 Tells (Err r) text s = (text ≡ refusal_line r) × (s ≡ status_of r)
+
+-- the answer is a verdict on the set, or want of memory
+abbrev pub TellsPlaced : List Task → Result Verdict Refusal → Type 0
+TellsPlaced U (Ok v) = (set_of v ≡ U) × IsVerdictOf (set_of v) (verdict_of v)
+TellsPlaced U (Err refusal.OutOfMemory) = Unit {0}
+TellsPlaced U (Err _) = ⊥
 
 -- an answer on what the reader had is printed after what the writer held, with its status
 abbrev pub SaysHeadroom : Option (List ℕ) → Option (List ℕ) → Option (List ℕ) → Status → Type 0

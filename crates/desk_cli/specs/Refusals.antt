@@ -4,6 +4,8 @@ use Rattle.std.specs.Prelude.{ℕ, List, ◌++◌, codes}
 use Rattle.std.specs.Fmt.{decimal}
 use Rattle.task_sheet.specs.declared.sheet.SheetCause.{SheetCause}
 use Rattle.task_sheet.specs.declared.sheet.SheetCause.TheVariants as cause
+use Rattle.task_sheet.specs.declared.sheet.OutranksCause.{OutranksCause}
+use Rattle.task_sheet.specs.declared.sheet.OutranksCause.TheVariants as outranks
 use Rattle.task_sheet.specs.declared.keys.Key.{Key}
 use Rattle.task_sheet.specs.Tree.{word_of}
 use Rattle.task_sheet.specs.declared.read.SetFault.{SetFault}
@@ -75,6 +77,12 @@ lone_cause_words (cause.LenZero section) = at_task (codes "LenZero") section
 lone_cause_words (cause.Overlap section) = at_task (codes "Overlap") section
 lone_cause_words (cause.SectionPastCost section) = at_task (codes "SectionPastCost") section
 
+-- the fault of the names of tasks above which a task must stand
+abbrev pub outranks_words : OutranksCause → List ℕ
+outranks_words outranks.TooManyOutranks = codes "TooManyOutranks"
+outranks_words outranks.OutranksTwice = codes "OutranksTwice"
+outranks_words outranks.OutranksSelf = codes "OutranksSelf"
+
 -- the fault of a document
 abbrev pub fault_words : SetFault → List ℕ
 fault_words fault.Syntax = codes "Syntax"
@@ -83,6 +91,8 @@ fault_words (fault.MissingKey task section key) = at_key (codes "MissingKey") ta
 fault_words (fault.WrongKind task section key) = at_key (codes "WrongKind") task section key
 fault_words (fault.BadName task section) = at_section (codes "BadName") task section
 fault_words (fault.Sheet task cause) = cause_words task cause
+fault_words (fault.BadJitter task) = at_task (codes "BadJitter") task
+fault_words (fault.Outranks task cause) = at_task (outranks_words cause) task
 fault_words (fault.SameName task) = at_task (codes "SameName") task
 fault_words fault.TooManyTasks = codes "TooManyTasks"
 fault_words fault.OutOfMemory = codes "OutOfMemory"
@@ -97,6 +107,7 @@ certificate_words text.OutOfMemory = codes "OutOfMemory"
 
 -- what a certificate fails to show
 abbrev pub check_words : CheckFault → List ℕ
+check_words check.WrongVersion = codes "WrongVersion"
 check_words (check.WrongTasks level) = at_task (codes "WrongTasks") level
 check_words (check.BadPass level) = at_task (codes "BadPass") level
 check_words (check.BadChain level name) = at_name (codes "BadChain") level name
@@ -113,6 +124,7 @@ abbrev pub run_words : RunFault → List ℕ
 run_words (run.Unsorted place) = at_task (codes "Unsorted") place
 run_words (run.UnknownTask place) = at_task (codes "UnknownTask") place
 run_words (run.TooSoon place) = at_task (codes "TooSoon") place
+run_words (run.TooLate place) = at_task (codes "TooLate") place
 run_words run.PastHorizon = codes "PastHorizon"
 run_words run.TooMany = codes "TooMany"
 run_words (run.Overrun name time) = codes "Overrun " ++ name ++ codes " " ++ decimal time
@@ -122,6 +134,8 @@ run_words run.OutOfMemory = codes "OutOfMemory"
 abbrev pub script_words : ScriptFault → List ℕ
 script_words (script.BadLine number) = at_task (codes "BadLine") number
 script_words (script.Sheet number cause) = codes "line " ++ decimal number ++ codes " " ++ lone_cause_words cause
+script_words (script.BadJitter number) = codes "line " ++ decimal number ++ codes " BadJitter"
+script_words (script.Outranks number cause) = codes "line " ++ decimal number ++ codes " " ++ outranks_words cause
 script_words script.OutOfMemory = codes "OutOfMemory"
 
 -- why lines were not run to the end of all teams

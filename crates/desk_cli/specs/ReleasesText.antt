@@ -11,18 +11,25 @@ until_in (word ∷ []) = None
 until_in (word ∷ number ∷ []) = if bytes_eq word (codes "until") then number_in number else None
 until_in (word ∷ number ∷ more ∷ rest) = None
 
--- a release, where its first word is a number and its second a name
-abbrev pub release_at : Option ℕ → Option (List ℕ) → Option Release
-release_at None name = None
-release_at (Some time) None = None
-release_at (Some time) (Some name) = Some (record { time = time; name = name })
+-- a release, where the words for its time, its name and how late it is are a number, a name and a number
+abbrev pub release_at : Option ℕ → Option (List ℕ) → Option ℕ → Option Release
+release_at None name late = None
+release_at (Some time) None late = None
+release_at (Some time) (Some name) None = None
+release_at (Some time) (Some name) (Some late) = Some (record { time = time; name = name; late = late })
 
--- the release of a line `TIME NAME`
+-- how late a release is, by the word that may follow its name
+abbrev pub late_in : Option (List ℕ) → Option ℕ
+late_in None = Some 0
+late_in (Some word) = number_in word
+
+-- the release of a line `TIME NAME`, which isn't late, or `TIME NAME LATE`
 abbrev pub release_in : List (List ℕ) → Option Release
 release_in [] = None
 release_in (time ∷ []) = None
-release_in (time ∷ name ∷ []) = release_at (number_in time) (name_in name)
-release_in (time ∷ name ∷ more ∷ rest) = None
+release_in (time ∷ name ∷ []) = release_at (number_in time) (name_in name) (late_in None)
+release_in (time ∷ name ∷ late ∷ []) = release_at (number_in time) (name_in name) (late_in (Some late))
+release_in (time ∷ name ∷ late ∷ more ∷ rest) = None
 
 -- these, and then the releases that are found; a faulty line stays the fault
 abbrev pub before : List Release → Result (List Release) ℕ → Result (List Release) ℕ

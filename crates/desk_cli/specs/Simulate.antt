@@ -1,9 +1,11 @@
 -- What `desk simulate` answers and prints.
-use Rattle.std.specs.Prelude.{◌≡◌, ◌⊎◌, ℕ, List, map, Option, Result, Ok, Err}
+use Rattle.std.specs.Prelude.{◌≡◌, ◌⊎◌, ℕ, List, length, Option, Result, Ok, Err}
 use Rattle.std.specs.Io.KnownBytes.{Appends}
 use Rattle.task_sheet.specs.Sheet.{Task}
 use Rattle.task_sheet.specs.ReadsSet.{ReadsSet}
-use Rattle.task_sheet.specs.Verdicts.{LevelData, IsBestOrder, IsStuck}
+use Rattle.task_sheet.specs.Indexes.{indexes_of, listed_below}
+use Rattle.task_sheet.specs.Levels.{IsGreatestObstruction}
+use Rattle.task_sheet.specs.Orders.{IsBest}
 use Rattle.ceiling_kernel.specs.Tick.{node_in}
 use Rattle.ceiling_kernel.specs.Runs.{Runs}
 use Rattle.ceiling_kernel.specs.declared.trace.Release.{Release}
@@ -22,30 +24,30 @@ use Rattle.desk_cli.specs.declared.simulation.Simulated.TheVariants.{Infeasible,
 use Rattle.desk_cli.specs.declared.status.Status.{Status}
 use Rattle.desk_cli.specs.declared.status.Status.TheVariants as status
 
--- the kernel's answer on the tasks at their levels
-abbrev pub RunsOrder : List Task → List LevelData → List Release → ℕ → Result Trace Refusal → Type 0
-RunsOrder U levels rs until (Ok trace) = Runs (node_in U (map (λ l. l.task) levels)) rs until (Ok trace)
-RunsOrder U levels rs until (Err (refusal.Run fault)) = Runs (node_in U (map (λ l. l.task) levels)) rs until (Err fault)
-RunsOrder U levels rs until (Err refusal.OutOfMemory) = Unit {0}
-RunsOrder U levels rs until _ = ⊥
+-- the kernel's answer on the tasks in an order
+abbrev pub RunsOrder : List Task → List ℕ → List Release → ℕ → Result Trace Refusal → Type 0
+RunsOrder U order rs until (Ok trace) = Runs (node_in U order) rs until (Ok trace)
+RunsOrder U order rs until (Err (refusal.Run fault)) = Runs (node_in U order) rs until (Err fault)
+RunsOrder U order rs until (Err refusal.OutOfMemory) = Unit {0}
+RunsOrder U order rs until _ = ⊥
 
 -- the bytes say a set with a best order, and a release list
-pub record IsRun (bytes text : List ℕ) (U : List Task) (levels : List LevelData) (until : ℕ)
+pub record IsRun (bytes text : List ℕ) (U : List Task) (order : List ℕ) (until : ℕ)
     (rs : List Release) : Type 0 where
   pub set : ReadsSet bytes (Ok U)
-  pub order : IsBestOrder U levels
+  pub best : IsBest U order
   pub releases : list_in text ≡ Ok (until, rs)
 
 -- the run's answer, in the best order
 abbrev pub RunsBest : List ℕ → List ℕ → Result Trace Refusal → Type 0
-RunsBest bytes text r = (U : List Task) × (levels : List LevelData) × (until : ℕ) × (rs : List Release)
-    × IsRun bytes text U levels until rs × RunsOrder U levels rs until r
+RunsBest bytes text r = (U : List Task) × (order : List ℕ) × (until : ℕ) × (rs : List Release)
+    × IsRun bytes text U order until rs × RunsOrder U order rs until r
 
 -- the answer on the bytes of a set and of a release list
 abbrev pub SimulatesBytes : List ℕ → List ℕ → Result Simulated Refusal → Type 0
 SimulatesBytes bytes text (Ok (Ran trace)) = RunsBest bytes text (Ok trace)
-SimulatesBytes bytes text (Ok (Infeasible o)) =
-    ReadsSet bytes (Ok o.set) × IsStuck o.set o.members
+SimulatesBytes bytes text (Ok (Infeasible U left)) =
+    ReadsSet bytes (Ok U) × IsGreatestObstruction U (indexes_of left)
     × ((until : ℕ) × (rs : List Release) × (list_in text ≡ Ok (until, rs)))
 SimulatesBytes bytes text (Err (refusal.Set fault)) = ReadsSet bytes (Err fault)
 SimulatesBytes bytes text (Err (refusal.Text fault)) =
@@ -70,13 +72,13 @@ Simulates set releases answer = SimulatesRead set releases answer
 -- what is printed of an answer
 abbrev pub simulated_said : Result Simulated Refusal → List ℕ
 simulated_said (Ok (Ran trace)) = trace_lines trace
-simulated_said (Ok (Infeasible o)) = infeasible_line o.set o.members
+simulated_said (Ok (Infeasible U left)) = infeasible_line U (listed_below (length U) (indexes_of left))
 simulated_said (Err r) = refusal_line r
 
 -- the exit status of an answer
 abbrev pub simulated_status : Result Simulated Refusal → Status
 simulated_status (Ok (Ran trace)) = status.Done
-simulated_status (Ok (Infeasible o)) = status.Infeasible
+simulated_status (Ok (Infeasible U left)) = status.Infeasible
 simulated_status (Err r) = status_of r
 
 -- an answer on what the readers had is printed after what the writer held, and the status is the answer's

@@ -1,19 +1,20 @@
 //! `desk admit`.
 ghost use Rattle.std.specs.Prelude.{◌≡◌, ◌⊎◌, true, false, Err, Result};
 ghost use Rattle.std.specs.Io.KnownBytes.{Appends};
-ghost use Rattle.desk_cli.specs.Admit.{Admits, Says, lines_of, verdict_status};
+ghost use Rattle.desk_cli.specs.Admit.{Admits, Places, Says, lines_of, placing_status, verdict_status};
 ghost use Rattle.streams.specs.Inputs.{IsDisturbed, IsWithinTurns};
 
-use crate::answer::verdict_text;
+use crate::answer::placing_text;
 use crate::output::{print, refuse};
 use crate::refusal::Refusal;
 use crate::status::Status;
-use assignment::{Verdict, assign};
+use assignment::{Placing, Verdict, assign, place_all};
+use ceilings::LockTable;
 use std::alloc::Global;
 use std::io::{Read, Write};
 use std::sync::Arc;
 use streams::{InputFault, Watched, read_input};
-use task_sheet::read_set;
+use task_sheet::{TaskSet, read_set};
 
 // The verdict of the set that the reader has, or why there is none.
 pub(crate) fn decide<R: Read + Drop>(
@@ -32,12 +33,39 @@ pub(crate) fn decide<R: Read + Drop>(
     Ok(verdict)
 }
 
+// The set that the reader has, and what becomes of its tasks, with nothing that shows it; or why there is none.
+pub(crate) fn place<R: Read + Drop>(
+    alloc: Global,
+    set: &mut Watched<R>,
+) -> Result<(TaskSet, Placing), Refusal>
+    ensures answer { Places (R.remaining set.old.inner) result }
+    ensures failed { result ≡ Err (Refusal.Input InputFault.ReadFailed) → IsDisturbed set.new }
+    ensures answered { set.old.has_failed ≡ false → set.new.has_failed ≡ true
+        → result ≡ Err (Refusal.Input InputFault.ReadFailed) }
+    ensures turns { IsWithinTurns set.old set.new }
+{
+    let bytes = read_input(alloc, set)?;
+    let tasks = read_set(alloc, &bytes)?;
+    let table = LockTable::new(alloc, &tasks)?;
+    let placing = place_all(alloc, &tasks, &table)?;
+    Ok((tasks, placing))
+}
+
 pub(crate) fn status_of(verdict: &Verdict) -> Status
     ensures { result ≡ verdict_status verdict.now }
 {
     match verdict {
         Verdict::Admitted(_) => Status::Done,
         Verdict::Infeasible(_) => Status::Infeasible,
+    }
+}
+
+pub(crate) fn placing_status(placing: &Placing) -> Status
+    ensures { result ≡ placing_status placing.now }
+{
+    match placing {
+        Placing::Best(_) => Status::Done,
+        Placing::Stuck(_) => Status::Infeasible,
     }
 }
 
@@ -57,9 +85,9 @@ pub fn admit<R: Read + Drop, W: Write + Drop>(
         → result ≡ Status.InputOrOutputFailed }
     ensures turns { IsWithinTurns set.old set.new }
 {
-    match decide(alloc, set) {
-        Ok(verdict) => match verdict_text(alloc, &verdict) {
-            Ok(text) => print(text.as_bytes(), status_of(&verdict), output),
+    match place(alloc, set) {
+        Ok((tasks, placing)) => match placing_text(alloc, &tasks, &placing) {
+            Ok(text) => print(text.as_bytes(), placing_status(&placing), output),
             Err(_) => refuse(Refusal::OutOfMemory, output),
         },
         Err(refusal) => refuse(refusal, output),

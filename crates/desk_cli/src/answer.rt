@@ -1,12 +1,12 @@
 //! The lines of a verdict.
 ghost use Rattle.std.specs.Prelude.{◌≡◌, ◌++◌, ◌<◌, ◌≤◌, length, OnOk, IfOk, string_bytes};
 ghost use Rattle.task_sheet.specs.Sheet.{task_at};
-ghost use Rattle.assignment.specs.Verdict.{set_of, verdict_of};
-ghost use Rattle.desk_cli.specs.Lines.{admitted_lines, infeasible_line, level_line, named, verdict_lines};
+ghost use Rattle.task_sheet.specs.Indexes.{indexes_of, listed_below};
+ghost use Rattle.desk_cli.specs.Lines.{admitted_lines, infeasible_line, level_line, named, placing_lines};
 
-use assignment::{Assignment, LevelRecord, Obstruction, Verdict};
+use assignment::{Place, Placing};
 use std::alloc::{AllocError, Global};
-use task_sheet::TaskSet;
+use task_sheet::{Members, TaskSet};
 
 // The name of the task at an index; nothing past the end of the set.
 fn push_name(text: &mut String, set: &TaskSet, task: usize) -> Result<(), AllocError>
@@ -26,26 +26,24 @@ fn push_level(
     text: &mut String,
     set: &TaskSet,
     number: usize,
-    level: &LevelRecord,
+    place: &Place,
 ) -> Result<(), AllocError>
-    ensures { OnOk result (string_bytes text.new ≡ string_bytes text.old ++ level_line set.now number level.now) }
+    ensures { OnOk result (string_bytes text.new ≡ string_bytes text.old ++ level_line set.now number place.now) }
 {
-    let response = level.response;
+    let response = place.response;
     write!(text, "{number} ")?;
-    push_name(text, set, level.task)?;
+    push_name(text, set, place.task)?;
     writeln!(text, " {response}")
 }
 
 // The lines of an order, the lowest level first.
-fn admitted_text(alloc: Global, assignment: &Assignment) -> Result<String, AllocError>
-    ensures { IfOk result (λ text. string_bytes text ≡ admitted_lines assignment.now.set assignment.now.levels) }
+fn admitted_text(alloc: Global, set: &TaskSet, places: &[Place]) -> Result<String, AllocError>
+    ensures { IfOk result (λ text. string_bytes text ≡ admitted_lines set.now places.now) }
 {
-    let set = assignment.set();
-    let levels = assignment.levels();
-    let count = levels.len();
+    let count = places.len();
     let mut text = format!(in alloc; "admitted {count}\n")?;
-    for (i, level) in levels.iter().enumerate() {
-        push_level(&mut text, set, i + 1, level)?;
+    for (i, place) in places.iter().enumerate() {
+        push_level(&mut text, set, i + 1, place)?;
     }
     Ok(text)
 }
@@ -53,26 +51,33 @@ fn admitted_text(alloc: Global, assignment: &Assignment) -> Result<String, Alloc
 // The line of an obstruction.
 pub(crate) fn infeasible_text(
     alloc: Global,
-    obstruction: &Obstruction,
+    set: &TaskSet,
+    members: Members,
 ) -> Result<String, AllocError>
-    ensures { IfOk result (λ text. string_bytes text ≡ infeasible_line obstruction.now.set obstruction.now.members) }
+    ensures { IfOk result (λ text. string_bytes text
+        ≡ infeasible_line set.now (listed_below (length set.now) (indexes_of members))) }
 {
-    let set = obstruction.set();
     let mut text = String::from_str(alloc, "infeasible")?;
-    for member in obstruction.members() {
-        text.push_str(" ")?;
-        push_name(&mut text, set, member.task)?;
+    for task in 0..set.len() {
+        if members.has(task) {
+            text.push_str(" ")?;
+            push_name(&mut text, set, task)?;
+        }
     }
     text.push_str("\n")?;
     Ok(text)
 }
 
-// The lines that say a verdict.
-pub(crate) fn verdict_text(alloc: Global, verdict: &Verdict) -> Result<String, AllocError>
-    ensures { IfOk result (λ text. string_bytes text ≡ verdict_lines (set_of verdict.now) (verdict_of verdict.now)) }
+// The lines that say a placing of a set.
+pub(crate) fn placing_text(
+    alloc: Global,
+    set: &TaskSet,
+    placing: &Placing,
+) -> Result<String, AllocError>
+    ensures { IfOk result (λ text. string_bytes text ≡ placing_lines set.now placing.now) }
 {
-    match verdict {
-        Verdict::Admitted(assignment) => admitted_text(alloc, assignment),
-        Verdict::Infeasible(obstruction) => infeasible_text(alloc, obstruction),
+    match placing {
+        Placing::Best(places) => admitted_text(alloc, set, places),
+        Placing::Stuck(members) => infeasible_text(alloc, set, *members),
     }
 }

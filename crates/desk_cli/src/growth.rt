@@ -1,19 +1,20 @@
 //! `desk headroom`.
 ghost use Rattle.std.specs.Prelude.{◌≡◌, ◌≢◌, ◌⊎◌, ℕ, List, length, Result, Ok, Err, true, false, IfOk, OnOk, OnErr, string_bytes};
 ghost use Rattle.std.specs.Io.KnownBytes.{Appends};
+ghost use Rattle.task_sheet.specs.TaskSet.{IsTaskSet};
 ghost use Rattle.ceilings.specs.IsTableOf.{IsTableOf};
-ghost use Rattle.assignment.specs.Verdict.{set_of};
+ghost use Rattle.assignment.specs.Placings.{IsPlacingOf};
 ghost use Rattle.assignment.specs.declared.verdict.Verdict.{Verdict};
 ghost use Rattle.desk_cli.specs.declared.refusal.Refusal.{Refusal};
-ghost use Rattle.desk_cli.specs.Headroom.{Lists, SaysHeadroom, Tells, first_line, headroom_line};
+ghost use Rattle.desk_cli.specs.Headroom.{Lists, SaysHeadroom, Tells, TellsPlaced, headroom_line, placing_first};
 ghost use Rattle.streams.specs.Inputs.{IsDisturbed, IsWithinTurns};
 
-use crate::admission::{decide, status_of};
+use crate::admission::{place, placing_status};
 use crate::answer::infeasible_text;
 use crate::output::refuse;
 use crate::refusal::Refusal;
 use crate::status::Status;
-use assignment::Verdict;
+use assignment::Placing;
 use ceilings::LockTable;
 use headroom::headroom;
 use std::alloc::{AllocError, Global};
@@ -21,26 +22,30 @@ use std::io::{Read, Write};
 use streams::{Watched, WriteFailed};
 use task_sheet::{Sheet, TaskSet};
 
-// The first line of a verdict.
-fn first_text(alloc: Global, verdict: &Verdict) -> Result<String, AllocError>
-    ensures { IfOk result (λ text. string_bytes text ≡ first_line verdict.now) }
+// The first line of a placing.
+fn first_text(alloc: Global, set: &TaskSet, placing: &Placing) -> Result<String, AllocError>
+    ensures { IfOk result (λ text. string_bytes text ≡ placing_first set.now placing.now) }
 {
-    match verdict {
-        Verdict::Admitted(assignment) => {
-            let count = assignment.levels().len();
+    match placing {
+        Placing::Best(places) => {
+            let count = places.len();
             format!(in alloc; "admitted {count}\n")
         }
-        Verdict::Infeasible(obstruction) => infeasible_text(alloc, obstruction),
+        Placing::Stuck(members) => infeasible_text(alloc, set, *members),
     }
 }
 
 // What is made before the first line is printed: the table of the set's locks, and the line.
-fn make_ready(alloc: Global, verdict: &Verdict) -> Result<(LockTable, String), AllocError>
-    ensures table { IfOk result (λ both. IsTableOf (set_of verdict.now) both.0) }
-    ensures first { IfOk result (λ both. string_bytes both.1 ≡ first_line verdict.now) }
+fn make_ready(
+    alloc: Global,
+    set: &TaskSet,
+    placing: &Placing,
+) -> Result<(LockTable, String), AllocError>
+    ensures table { IfOk result (λ both. IsTableOf set.now both.0) }
+    ensures first { IfOk result (λ both. string_bytes both.1 ≡ placing_first set.now placing.now) }
 {
-    let table = LockTable::new(alloc, verdict.set())?;
-    let first = first_text(alloc, verdict)?;
+    let table = LockTable::new(alloc, set)?;
+    let first = first_text(alloc, set, placing)?;
     Ok((table, first))
 }
 
@@ -91,27 +96,30 @@ fn print_tasks<W: Write + Drop>(
     whole
 }
 
-// Prints the first line of a verdict and the line of each task, or that memory was wanting before the first.
-fn print_verdict<W: Write + Drop>(
+// Prints the first line of a placing and the line of each task, or that memory was wanting before the first.
+fn print_placing<W: Write + Drop>(
     alloc: Global,
-    verdict: &Verdict,
+    set: &TaskSet,
+    placing: &Placing,
     output: &mut Watched<W>,
 ) -> Status
+    requires kept { IsTaskSet set.now }
+    requires placing { IsPlacingOf set.now placing.now }
     ensures printed { output.new.has_failed ≡ false → (answer : Result Verdict Refusal) × (text : List ℕ)
-        × ((answer ≡ Ok verdict.now) ⊎ (answer ≡ Err Refusal.OutOfMemory)) × Tells answer text result
+        × TellsPlaced set.now answer × Tells answer text result
         × Appends (W.contents output.old.inner) (W.contents output.new.inner) text }
     ensures failed { result ≡ Status.InputOrOutputFailed → output.new.has_failed ≡ true }
     ensures unwritten { output.old.has_failed ≡ false → output.new.has_failed ≡ true
         → result ≡ Status.InputOrOutputFailed }
 {
-    let (table, first) = match make_ready(alloc, verdict) {
+    let (table, first) = match make_ready(alloc, set, placing) {
         Ok(both) => both,
         Err(_) => return refuse(Refusal::OutOfMemory, output),
     };
     if output.write(first.as_bytes()).is_err() {
         return Status::InputOrOutputFailed;
     }
-    print_tasks(alloc, verdict.set(), &table, status_of(verdict), output)
+    print_tasks(alloc, set, &table, placing_status(placing), output)
 }
 
 /// `desk headroom`: reads a task set, and prints the first line of its verdict, and then for each task by rank its cost
@@ -130,8 +138,8 @@ pub fn print_headroom<R: Read + Drop, W: Write + Drop>(
         → result ≡ Status.InputOrOutputFailed }
     ensures turns { IsWithinTurns set.old set.new }
 {
-    match decide(alloc, set) {
-        Ok(verdict) => print_verdict(alloc, &verdict, output),
+    match place(alloc, set) {
+        Ok((tasks, placing)) => print_placing(alloc, &tasks, &placing, output),
         Err(refusal) => refuse(refusal, output),
     }
 }

@@ -1,27 +1,30 @@
 //! `desk settings`.
 ghost use Rattle.std.specs.Prelude.{◌≡◌, ◌⊎◌, true, false, IfOk, string_bytes};
+ghost use Rattle.assignment.specs.Placings.{IsPlacingOf};
 ghost use Rattle.desk_cli.specs.Admit.{Says};
 ghost use Rattle.streams.specs.Inputs.{IsDisturbed, IsWithinTurns};
-ghost use Rattle.desk_cli.specs.Settings.{settings_of};
+ghost use Rattle.desk_cli.specs.Settings.{placing_settings, settings_of};
 
-use crate::admission::{decide, status_of};
+use crate::admission::{place, placing_status};
 use crate::answer::infeasible_text;
 use crate::output::{print, refuse};
 use crate::refusal::Refusal;
 use crate::status::Status;
-use assignment::Verdict;
+use assignment::Placing;
 use settings::settings_text;
 use std::alloc::{AllocError, Global};
 use std::io::{Read, Write};
 use streams::Watched;
+use task_sheet::TaskSet;
 
-// The lines of a verdict's settings.
-fn node_text(alloc: Global, verdict: &Verdict) -> Result<String, AllocError>
-    ensures { IfOk result (λ text. string_bytes text ≡ settings_of verdict.now) }
+// The lines of a placing's settings.
+fn node_text(alloc: Global, set: &TaskSet, placing: &Placing) -> Result<String, AllocError>
+    requires { IsPlacingOf set.now placing.now }
+    ensures { IfOk result (λ text. string_bytes text ≡ placing_settings set.now placing.now) }
 {
-    match verdict {
-        Verdict::Admitted(assignment) => settings_text(alloc, assignment),
-        Verdict::Infeasible(obstruction) => infeasible_text(alloc, obstruction),
+    match placing {
+        Placing::Best(places) => settings_text(alloc, set, places),
+        Placing::Stuck(members) => infeasible_text(alloc, set, *members),
     }
 }
 
@@ -42,9 +45,9 @@ pub fn print_settings<R: Read + Drop, W: Write + Drop>(
         → result ≡ Status.InputOrOutputFailed }
     ensures turns { IsWithinTurns set.old set.new }
 {
-    match decide(alloc, set) {
-        Ok(verdict) => match node_text(alloc, &verdict) {
-            Ok(text) => print(text.as_bytes(), status_of(&verdict), output),
+    match place(alloc, set) {
+        Ok((tasks, placing)) => match node_text(alloc, &tasks, &placing) {
+            Ok(text) => print(text.as_bytes(), placing_status(&placing), output),
             Err(_) => refuse(Refusal::OutOfMemory, output),
         },
         Err(refusal) => refuse(refusal, output),

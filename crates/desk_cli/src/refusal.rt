@@ -2,7 +2,7 @@
 ghost use Rattle.std.specs.Prelude.{◌≡◌, Some};
 ghost use Rattle.std.specs.Fmt.{DisplaysOnOk};
 ghost use Rattle.desk_cli.specs.declared.refusal.Refusal.TheVariants.{Certificate, Check, Input, OutOfMemory, Run, Rush, Script, Set, Text};
-ghost use Rattle.desk_cli.specs.Refusals.{cause_words, certificate_words, check_words, fault_words, lone_cause_words, refusal_line, run_words, rush_words, script_words, status_of, text_words, words_of};
+ghost use Rattle.desk_cli.specs.Refusals.{cause_words, certificate_words, check_words, fault_words, lone_cause_words, outranks_words, refusal_line, run_words, rush_words, script_words, status_of, text_words, words_of};
 
 use crate::releases::TextFault;
 use crate::status::Status;
@@ -14,7 +14,7 @@ use scripts::ScriptFault;
 use std::alloc::{AllocError, AllocFailed};
 use std::fmt;
 use streams::InputFault;
-use task_sheet::{SetFault, SheetCause};
+use task_sheet::{OutranksCause, SetFault, SheetCause};
 
 /// Why a command was refused. Its `Display` is the line that the command prints.
 #[derive(Clone, Copy)]
@@ -191,6 +191,17 @@ fn write_lone_cause<W: fmt::Write>(cause: SheetCause, f: &mut fmt::Formatter<W>)
     }
 }
 
+// The name of the fault of names of tasks above which a task must stand.
+fn outranks_name(cause: OutranksCause) -> &'static str
+    ensures { result.now ≡ outranks_words cause }
+{
+    match cause {
+        OutranksCause::TooManyOutranks => "TooManyOutranks",
+        OutranksCause::OutranksTwice => "OutranksTwice",
+        OutranksCause::OutranksSelf => "OutranksSelf",
+    }
+}
+
 // The name of a script's fault, with its line.
 fn write_script_fault<W: fmt::Write>(fault: ScriptFault, f: &mut fmt::Formatter<W>) -> fmt::Result
     ensures { DisplaysOnOk W.write_str_gives f.old result (Some (script_words fault)) f.new }
@@ -200,6 +211,11 @@ fn write_script_fault<W: fmt::Write>(fault: ScriptFault, f: &mut fmt::Formatter<
         ScriptFault::Sheet { line, cause } => {
             write!(f, "line {line} ")?;
             write_lone_cause(cause, f)
+        }
+        ScriptFault::BadJitter { line } => write!(f, "line {line} BadJitter"),
+        ScriptFault::Outranks { line, cause } => {
+            let name = outranks_name(cause);
+            write!(f, "line {line} {name}")
         }
         ScriptFault::OutOfMemory => f.write_str("OutOfMemory"),
     }
@@ -222,6 +238,11 @@ fn write_fault<W: fmt::Write>(fault: SetFault, f: &mut fmt::Formatter<W>) -> fmt
         }
         SetFault::BadName { task, section } => write!(f, "BadName {task} {section}"),
         SetFault::Sheet { task, cause } => write_cause(task, cause, f),
+        SetFault::BadJitter { task } => write!(f, "BadJitter {task}"),
+        SetFault::Outranks { task, cause } => {
+            let name = outranks_name(cause);
+            write!(f, "{name} {task}")
+        }
         SetFault::SameName { task } => write!(f, "SameName {task}"),
         SetFault::TooManyTasks => f.write_str("TooManyTasks"),
         SetFault::OutOfMemory => f.write_str("OutOfMemory"),
@@ -249,6 +270,7 @@ fn write_check_fault<W: fmt::Write>(fault: CheckFault, f: &mut fmt::Formatter<W>
     ensures { DisplaysOnOk W.write_str_gives f.old result (Some (check_words fault)) f.new }
 {
     match fault {
+        CheckFault::WrongVersion => f.write_str("WrongVersion"),
         CheckFault::WrongTasks { level } => write!(f, "WrongTasks {level}"),
         CheckFault::BadPass { level } => write!(f, "BadPass {level}"),
         CheckFault::BadChain { level, name } => write!(f, "BadChain {level} {name}"),
@@ -275,6 +297,7 @@ fn write_run_fault<W: fmt::Write>(fault: RunFault, f: &mut fmt::Formatter<W>) ->
         RunFault::Unsorted { place } => write!(f, "Unsorted {place}"),
         RunFault::UnknownTask { place } => write!(f, "UnknownTask {place}"),
         RunFault::TooSoon { place } => write!(f, "TooSoon {place}"),
+        RunFault::TooLate { place } => write!(f, "TooLate {place}"),
         RunFault::PastHorizon => f.write_str("PastHorizon"),
         RunFault::TooMany => f.write_str("TooMany"),
         RunFault::Overrun { name, time } => write!(f, "Overrun {name} {time}"),

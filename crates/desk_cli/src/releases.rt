@@ -1,8 +1,8 @@
-//! Release lists as text: `until N`, and then a line `TIME NAME` for each release.
-ghost use Rattle.std.specs.Prelude.{◌≡◌, Ok, MatchResult};
+//! Release lists as text: `until N`, and then a line `TIME NAME` or `TIME NAME LATE` for each release.
+ghost use Rattle.std.specs.Prelude.{◌≡◌, Ok, MatchResult, option_map};
 ghost use Rattle.lines.specs.Lines.{kept_from, lines_of};
 ghost use Rattle.lines.specs.Words.{words};
-ghost use Rattle.desk_cli.specs.ReleasesText.{list_in, release_in, releases_from, until_in};
+ghost use Rattle.desk_cli.specs.ReleasesText.{late_in, list_in, release_in, releases_from, until_in};
 ghost use Rattle.desk_cli.specs.TextFaults.{IsFault};
 ghost use Rattle.desk_cli.specs.declared.releases.TextFault.TheVariants.{OutOfMemory};
 
@@ -41,19 +41,31 @@ fn until_of(line: &[u8]) -> Option<u64>
     }
 }
 
-// The release of a line `TIME NAME`.
+// How late a release is, by the word that may follow its name.
+fn late_of(word: Option<&[u8]>) -> Option<u64>
+    ensures { result ≡ late_in (option_map (λ w. w.now) word.entry) }
+{
+    match word {
+        Some(word) => number_of(word),
+        None => Some(0),
+    }
+}
+
+// The release of a line `TIME NAME` or `TIME NAME LATE`.
 fn release_of(line: &[u8]) -> Option<Release>
     ensures { result ≡ release_in (words line.now) }
 {
     let mut words = Words::of(line);
     let time = words.next()?;
     let name = words.next()?;
+    let late = words.next();
     match words.next() {
         Some(_more) => None,
         None => {
             let time = number_of(time)?;
             let name = name_of(name)?;
-            Some(Release { time, name })
+            let late = late_of(late)?;
+            Some(Release { time, name, late })
         }
     }
 }

@@ -1,5 +1,7 @@
 //! `desk simulate`.
-ghost use Rattle.std.specs.Prelude.{◌≡◌, ◌⊎◌, ◌<◌, ℕ, List, length, map, Some, true, false, Err, IfOk};
+ghost use Rattle.std.specs.Prelude.{◌≡◌, ◌⊎◌, ◌<◌, ℕ, List, length, Some, true, false, Err, IfOk};
+ghost use Rattle.task_sheet.specs.Orders.{IsBest};
+ghost use Rattle.assignment.specs.Placings.{tasks_of_places};
 ghost use Rattle.desk_cli.specs.Simulate.{RunsOrder, SaysSimulated, Simulates, SimulatesBytes};
 ghost use Rattle.streams.specs.Inputs.{IsDisturbed, IsWithinTurns};
 
@@ -9,30 +11,30 @@ use crate::refusal::Refusal;
 use crate::releases::read_releases;
 use crate::status::Status;
 use crate::tracing::trace_text;
-use assignment::{Assignment, Obstruction, Verdict, assign};
+use assignment::{Place, Placing, place_all};
 use ceiling_kernel::{Kernel, KernelFault, Release, Trace};
+use ceilings::LockTable;
 use std::alloc::{AllocError, Global};
 use std::io::{Read, Write};
-use std::sync::Arc;
 use streams::{InputFault, Watched, read_both};
-use task_sheet::read_set;
+use task_sheet::{Members, TaskSet, read_set};
 
 /// What a simulation answers.
 #[derive(Drop)]
 pub enum Simulated {
-    /// No order of the set passes, and nothing was run.
-    Infeasible(Obstruction),
+    /// No order of the set passes, and nothing was run: the members of the greatest obstruction.
+    Infeasible(TaskSet, Members),
     /// What happened.
     Ran(Trace),
 }
 
 // The indexes of the tasks, the lowest level first.
-fn order_of(alloc: Global, assignment: &Assignment) -> Result<Vec<usize>, AllocError>
-    ensures { IfOk result (λ order. order.items ≡ map (λ l. l.task) assignment.now.levels) }
+fn order_of(alloc: Global, places: &[Place]) -> Result<Vec<usize>, AllocError>
+    ensures { IfOk result (λ order. order.items ≡ tasks_of_places places.now) }
 {
-    let mut order = Vec::new(alloc);
-    for level in assignment.levels() {
-        order.push(level.task)?;
+    let mut order = Vec::with_capacity(alloc, places.len())?;
+    for place in places {
+        order.push(place.task)?;
     }
     Ok(order)
 }
@@ -40,14 +42,16 @@ fn order_of(alloc: Global, assignment: &Assignment) -> Result<Vec<usize>, AllocE
 // Runs the tasks at the levels of their best order.
 fn run(
     alloc: Global,
-    assignment: &Assignment,
+    set: &TaskSet,
+    places: &[Place],
     until: u64,
     releases: &[Release],
 ) -> Result<Trace, Refusal>
-    ensures { RunsOrder assignment.now.set assignment.now.levels releases.now until result }
+    requires { IsBest set.now (tasks_of_places places.now) }
+    ensures { RunsOrder set.now (tasks_of_places places.now) releases.now until result }
 {
-    let order = order_of(alloc, assignment)?;
-    let kernel = match Kernel::new(alloc, assignment.set(), &order) {
+    let order = order_of(alloc, places)?;
+    let kernel = match Kernel::new(alloc, set, &order) {
         Ok(kernel) => kernel,
         Err(KernelFault::OutOfMemory) => return Err(Refusal::OutOfMemory),
         Err(KernelFault::WrongOrder) => unreachable!(),
@@ -62,10 +66,11 @@ fn simulate_bytes(alloc: Global, bytes: &[u8], text: &[u8]) -> Result<Simulated,
 {
     let tasks = read_set(alloc, bytes)?;
     let (until, releases) = read_releases(alloc, text)?;
-    match assign(alloc, Arc::new(alloc, tasks)?)? {
-        Verdict::Infeasible(obstruction) => Ok(Simulated::Infeasible(obstruction)),
-        Verdict::Admitted(assignment) => {
-            let trace = run(alloc, &assignment, until, &releases)?;
+    let table = LockTable::new(alloc, &tasks)?;
+    match place_all(alloc, &tasks, &table)? {
+        Placing::Stuck(members) => Ok(Simulated::Infeasible(tasks, members)),
+        Placing::Best(places) => {
+            let trace = run(alloc, &tasks, &places, until, &releases)?;
             Ok(Simulated::Ran(trace))
         }
     }
@@ -121,7 +126,7 @@ pub fn simulate<R: Read + Drop, S: Read + Drop, W: Write + Drop>(
             Ok(text) => print(text.as_bytes(), Status::Done, output),
             Err(_) => refuse(Refusal::OutOfMemory, output),
         },
-        Ok(Simulated::Infeasible(obstruction)) => match infeasible_text(alloc, &obstruction) {
+        Ok(Simulated::Infeasible(tasks, members)) => match infeasible_text(alloc, &tasks, members) {
             Ok(text) => print(text.as_bytes(), Status::Infeasible, output),
             Err(_) => refuse(Refusal::OutOfMemory, output),
         },

@@ -4,4 +4,4 @@ use Rattle.desk_cli.proofs.answer.admitted_text.Given as goal
 
 abbrev pub invariant-loop-i : goal.invariant-loop-i
 invariant-loop-i l =
-    string_bytes l.text ++ level_lines l.fn.assignment.set (l.i + 1) (drop l.i l.levels) ≡ admitted_lines l.fn.assignment.set l.fn.assignment.levels
+    string_bytes l.text ++ level_lines l.set (l.i + 1) (drop l.i l.places) ≡ admitted_lines l.set l.places

@@ -1,5 +1,5 @@
 use Rattle.std.proofs.Common.{◌≡◌, ◌++◌, map, drop}
 use Rattle.desk_cli.proofs.simulation.order_of.Given as goal
 
-abbrev pub invariant-loop-level : goal.invariant-loop-level
-invariant-loop-level l = l.order.items ++ map (λ x. x.task) (drop l.level-index l.level-items) ≡ map (λ x. x.task) l.assignment.levels
+abbrev pub invariant-loop-place : goal.invariant-loop-place
+invariant-loop-place l = l.order.items ++ map (λ x. x.task) (drop l.place-index l.places) ≡ map (λ x. x.task) l.places

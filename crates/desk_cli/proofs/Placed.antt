@@ -1,0 +1,61 @@
+-- A placing of a set says what the set's verdict says: the same lines, and the same status.
+use Rattle.std.proofs.Common.{◌≡◌, ◌++◌, ◌∙◌, ℕ, List, [], ◌∷◌, length, codes, refl, sym, ap}
+use Rattle.std.specs.Fmt.{decimal}
+use Rattle.std.proofs.lemmas.List.{length-map}
+use Rattle.task_sheet.specs.Sheet.{Task}
+use Rattle.task_sheet.specs.TaskSet.{IsTaskSet}
+use Rattle.task_sheet.specs.Verdicts.{LevelData, VerdictData, IsVerdictOf, order_of}
+use Rattle.task_sheet.specs.Verdicts as data_of
+use Rattle.task_sheet.proofs.TaskLaws.{AllTasks-from_set}
+use Rattle.assignment.specs.Places.{PlaceData}
+use Rattle.assignment.specs.Placings.{IsPlacingOf, SaysSame, places_of, tasks_of_places}
+use Rattle.assignment.specs.Verdict.{set_of, verdict_of}
+use Rattle.assignment.specs.declared.placing.Placing.{Placing}
+use Rattle.assignment.specs.declared.placing.Placing.TheVariants.{Best, Stuck}
+use Rattle.assignment.specs.declared.verdict.Verdict.{Verdict}
+use Rattle.assignment.specs.declared.verdict.Verdict.TheVariants.{Admitted, Infeasible}
+use Rattle.assignment.proofs.VerdictPlacings.{some_verdict_says}
+use Rattle.settings.specs.Settings.{settings_lines}
+use Rattle.desk_cli.specs.Admit.{lines_of, placing_status, verdict_status}
+use Rattle.desk_cli.specs.Headroom.{first_line, placing_first}
+use Rattle.desk_cli.specs.Lines.{admitted_lines, infeasible_line, placing_lines}
+use Rattle.desk_cli.specs.Settings.{placing_settings, settings_of}
+
+-- the verdict is one on the set, and says the same
+pub record IsSaidBy (U : List Task) (p : Placing) (v : Verdict) : Type 0 where
+  pub set : set_of v ≡ U
+  pub verdict : IsVerdictOf (set_of v) (verdict_of v)
+  pub lines : lines_of v ≡ placing_lines U p
+  pub settings : settings_of v ≡ placing_settings U p
+  pub first : first_line v ≡ placing_first U p
+  pub status : verdict_status v ≡ placing_status p
+
+tasks_of_levels : (levels : List LevelData) → tasks_of_places (places_of levels) ≡ order_of levels
+tasks_of_levels [] = refl
+tasks_of_levels (l ∷ levels) = ap (λ tasks. l.task ∷ tasks) (tasks_of_levels levels)
+
+length_of_levels : (levels : List LevelData) → length (places_of levels) ≡ length levels
+length_of_levels levels = length-map levels (λ (l : LevelData). let p : PlaceData = record { task = l.task; response = l.response } in p)
+
+pub said_by : (U : List Task) → IsTaskSet U → (p : Placing) → IsPlacingOf U p → (v : Verdict) × IsSaidBy U p v
+said_by U kept p placing =
+    let found = some_verdict_says U (AllTasks-from_set U kept) p placing in
+    by found.0 p found.1 found.2
+  where
+    by : (v : VerdictData) (p : Placing) → IsVerdictOf U v → SaysSame U v p → (w : Verdict) × IsSaidBy U p w
+    by (data_of.Admitted levels) (Best places) verdict same = (
+      Admitted (record { set = U; levels = levels }),
+      record {
+        set = refl;
+        verdict = verdict;
+        lines = ap (λ ps. admitted_lines U ps) (sym same);
+        settings = ap (λ tasks. settings_lines U tasks) (sym (ap tasks_of_places same ∙ tasks_of_levels levels));
+        first = ap (λ (n : ℕ). codes "admitted " ++ decimal n ++ codes "\n") (sym (ap (λ (ps : List PlaceData). length ps) same ∙ length_of_levels levels));
+        status = refl;
+      },
+    )
+    by (data_of.Infeasible members) (Stuck left) verdict same =
+        let line = ap (λ tasks. infeasible_line U tasks) same in
+        (Infeasible (record { set = U; members = members }), record { set = refl; verdict = verdict; lines = line; settings = line; first = line; status = refl })
+    by (data_of.Admitted levels) (Stuck left) verdict same = absurd same
+    by (data_of.Infeasible members) (Best places) verdict same = absurd same
