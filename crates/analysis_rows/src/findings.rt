@@ -4,7 +4,7 @@ ghost use Rattle.std.specs.FinSet.{len};
 ghost use Rattle.task_sheet.specs.Indexes.{IsPart, indexes_of};
 ghost use Rattle.task_sheet.specs.Orders.{all_of};
 
-use assignment::{Closed, Finding, Level, LevelRecord, TakeFault};
+use assignment::{Closed, Finding, Level, LevelRecord, Reason, TakeFault};
 use example_sets::{THREE_TASKS, THREE_TASKS_TOO_TIGHT, shared_set};
 use std::alloc::Global;
 use std::process::Abort;
@@ -86,13 +86,21 @@ fn findings_that_pass(rt: HostRuntime) -> Result<(), Fail> {
     Ok(())
 }
 
+// Whether a reason is this chain.
+fn is_chain(reason: &Reason, chain: &[u64]) -> bool {
+    match reason {
+        Reason::Chain(numbers) => numbers.as_slice() == chain,
+        Reason::Over(_) => false,
+    }
+}
+
 // Whether a level closed to a task with this response, and with these failures: tasks and their chains.
 fn is_record(level: &LevelRecord, task: usize, response: u64, fails: &[(usize, &[u64])]) -> bool {
     level.task == task
         && level.response == response
         && level.fails.len() == fails.len()
         && level.fails.iter().zip(fails).all(|(failure, (task, chain))| {
-            failure.task == *task && failure.chain.as_slice() == *chain
+            failure.task == *task && is_chain(&failure.reason, *chain)
         })
 }
 

@@ -56,7 +56,7 @@ fn response_of(
 // An example, a task of it, the tasks above it, whether it passes, and its evaluations.
 type Row = (&'static str, usize, &'static [usize], bool, usize);
 
-const ROWS: [Row; 10] = [
+const ROWS: [Row; 17] = [
     (example_sets::FILLS_ITS_PERIOD, 0, &[], true, 2),
     (example_sets::DEMAND_OF_THE_DEADLINE, 0, &[1], true, 2),
     (example_sets::COST_PAST_THE_DEADLINE, 0, &[], false, 1),
@@ -64,6 +64,13 @@ const ROWS: [Row; 10] = [
     (example_sets::THREE_TASKS, 1, &[0, 2], false, 2),
     (example_sets::THREE_TASKS, 2, &[0, 1], true, 5),
     (example_sets::THREE_TASKS, 0, &[1], true, 2),
+    (example_sets::THREE_TASKS_LATE, 0, &[1], true, 2),
+    (example_sets::THREE_TASKS_LATE, 1, &[], true, 2),
+    (example_sets::THREE_TASKS_LATE, 2, &[0, 1], true, 4),
+    (example_sets::THREE_TASKS_TOO_LATE, 0, &[1, 2], false, 1),
+    (example_sets::THREE_TASKS_TOO_LATE, 0, &[1], false, 1),
+    (example_sets::THREE_TASKS_TOO_LATE, 1, &[0, 2], false, 2),
+    (example_sets::THREE_TASKS_TOO_LATE, 2, &[0, 1], false, 4),
     (example_sets::THREE_TASKS_TOO_TIGHT, 2, &[0, 1], false, 4),
     (example_sets::SHARED_LOCK, 0, &[1, 2], true, 3),
     (example_sets::BLOCKED_OUT, 0, &[], false, 1),
@@ -121,38 +128,46 @@ fn blocking_of_the_shared_lock(rt: HostRuntime) -> Result<(), Fail> {
     Ok(())
 }
 
-// The demand of the first task of a document in a window, with these above it.
+// The demand of a task of a document in a window, with these above it.
 fn demand_in(
     rt: &impl Abort,
     alloc: Global,
     document: &str,
+    task: usize,
     above: &[usize],
     time: u64,
 ) -> Result<u64, Fail> {
     let set = set_of(alloc, document)?;
     let table = LockTable::new(alloc, &set)?;
     let above = members_of(rt, above);
-    assert!(rt; set.len() > 0);
+    assert!(rt; task < set.len());
     assert!(rt; time <= 20001);
-    Ok(demand(&set, &table, 0, above, time))
+    Ok(demand(&set, &table, task, above, time))
 }
 
-// A document, the tasks above its first, a window and the first task's demand in it: the exchange with equality, with y
-// below x and above it, and the demand of the deadline above the deadline.
-const DEMANDS: [(&str, &[usize], u64, u64); 7] = [
-    (example_sets::EXCHANGE_WITH_EQUALITY, &[], 1, 3000),
-    (example_sets::EXCHANGE_WITH_EQUALITY, &[], 20000, 3000),
-    (example_sets::EXCHANGE_WITH_EQUALITY, &[], 20001, 3000),
-    (example_sets::EXCHANGE_WITH_EQUALITY, &[1], 1, 3000),
-    (example_sets::EXCHANGE_WITH_EQUALITY, &[1], 20000, 3000),
-    (example_sets::EXCHANGE_WITH_EQUALITY, &[1], 20001, 5000),
-    (example_sets::DEMAND_OF_THE_DEADLINE, &[1], 11000, 14000),
+// A document, a task of it, the tasks above that one, a window and the task's demand in it: the exchange with equality,
+// with y below x and above it; the demand of the deadline above the deadline; a's jitter, which brings a job more where
+// a stands above, and none where it stands below.
+const DEMANDS: [(&str, usize, &[usize], u64, u64); 13] = [
+    (example_sets::EXCHANGE_WITH_EQUALITY, 0, &[], 1, 3000),
+    (example_sets::EXCHANGE_WITH_EQUALITY, 0, &[], 20000, 3000),
+    (example_sets::EXCHANGE_WITH_EQUALITY, 0, &[], 20001, 3000),
+    (example_sets::EXCHANGE_WITH_EQUALITY, 0, &[1], 1, 3000),
+    (example_sets::EXCHANGE_WITH_EQUALITY, 0, &[1], 20000, 3000),
+    (example_sets::EXCHANGE_WITH_EQUALITY, 0, &[1], 20001, 5000),
+    (example_sets::DEMAND_OF_THE_DEADLINE, 0, &[1], 11000, 14000),
+    (example_sets::THREE_TASKS_LATE, 2, &[0, 1], 6000, 11000),
+    (example_sets::THREE_TASKS_LATE, 2, &[0, 1], 6001, 14000),
+    (example_sets::THREE_TASKS_LATE, 2, &[0, 1], 20000, 20000),
+    (example_sets::THREE_TASKS_LATE, 2, &[0, 1], 20001, 23000),
+    (example_sets::THREE_TASKS_LATE, 0, &[1], 12000, 6000),
+    (example_sets::THREE_TASKS_LATE, 0, &[1], 12001, 9000),
 ];
 
 #[test]
 fn demands_of_the_examples(rt: HostRuntime) -> Result<(), Fail> {
-    for (document, above, time, want) in &DEMANDS {
-        let found = demand_in(&rt, rt.alloc(), *document, *above, *time)?;
+    for (document, task, above, time, want) in &DEMANDS {
+        let found = demand_in(&rt, rt.alloc(), *document, *task, *above, *time)?;
         assert_eq!(rt; found, *want);
     }
     Ok(())

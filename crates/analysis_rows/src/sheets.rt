@@ -3,7 +3,8 @@ use example_sets::{name, set_of};
 use std::alloc::Global;
 use std::test::Fail;
 use task_sheet::{
-    Name, Section, SetFault, Sheet, SheetCause, TaskSet, WithCause, WithoutFault, read_set,
+    Key, Name, OutranksCause, Section, SetFault, Sheet, SheetCause, TaskSet, WithCause,
+    WithoutFault, read_set,
 };
 
 // Why these values are no sheet.
@@ -37,6 +38,26 @@ fn limits_of_a_sheet(rt: HostRuntime) -> Result<(), Fail> {
     ] {
         let sections = Vec::new(rt.alloc());
         assert_eq!(rt; fault_of(weight, period, deadline, cost, sections)?, want);
+    }
+    Ok(())
+}
+
+// The jitter of the sheet (7000, 7000, 3000) that is asked for this one; none where it is refused.
+fn jittered(alloc: Global, jitter: u64) -> Result<Option<u64>, Fail> {
+    let sheet = match Sheet::new(name("a")?, 0, 7000, 7000, 3000, Vec::new(alloc)) {
+        Ok(sheet) => sheet,
+        Err(_) => return Ok(None),
+    };
+    Ok(match sheet.jittered(jitter) {
+        Ok(sheet) => Some(sheet.jitter()),
+        Err(_) => None,
+    })
+}
+
+#[test]
+fn limits_of_jitter(rt: HostRuntime) -> Result<(), Fail> {
+    for (jitter, want) in [(0, Some(0)), (6999, Some(6999)), (7000, None)] {
+        assert_eq!(rt; jittered(rt.alloc(), jitter)?, want);
     }
     Ok(())
 }
@@ -117,6 +138,113 @@ fn limits_of_sections(rt: HostRuntime) -> Result<(), Fail> {
     Ok(())
 }
 
+// The most names that a task may have to stand above, and one more.
+const EIGHT: [&str; 8] = ["b", "c", "d", "e", "f", "g", "h", "i"];
+
+const NINE: [&str; 9] = ["b", "c", "d", "e", "f", "g", "h", "i", "a"];
+
+// Names above which a task a would have to stand, and why it can't.
+const OUTRANKED: [(&[&str], Option<OutranksCause>); 6] = [
+    (&[], None),
+    (&EIGHT, None),
+    (&NINE, Some(OutranksCause::TooManyOutranks)),
+    (&["b", "c", "b", "a"], Some(OutranksCause::OutranksTwice)),
+    (&["b", "a"], Some(OutranksCause::OutranksSelf)),
+    (&["z"], None),
+];
+
+// Why a task a can't have to stand above tasks of these names.
+fn outranks_fault(alloc: Global, words: &[&str]) -> Result<Option<OutranksCause>, Fail> {
+    let sheet = Sheet::new(name("a")?, 0, 10000, 10000, 5000, Vec::new(alloc));
+    let sheet = sheet.ok().ok_or("refused")?;
+    let found = match sheet.outranking(names_of(alloc, words)?) {
+        Ok(_) => None,
+        Err(fault) => Some(fault.cause),
+    };
+    Ok(found)
+}
+
+#[test]
+fn limits_of_outranked_names(rt: HostRuntime) -> Result<(), Fail> {
+    for (words, want) in &OUTRANKED {
+        assert_eq!(rt; outranks_fault(rt.alloc(), *words)?, *want);
+    }
+    Ok(())
+}
+
+// What follows the cost of a task a, and why the document is no set.
+const LINES: [(&str, SetFault); 7] = [
+    (
+        "outranks = 'b'",
+        SetFault::WrongKind {
+            task: 1,
+            section: 0,
+            key: Key::Outranks,
+        },
+    ),
+    (
+        "outranks = ['b', 1], section = 0",
+        SetFault::WrongKind {
+            task: 1,
+            section: 0,
+            key: Key::Section,
+        },
+    ),
+    (
+        "outranks = ['b', '1']",
+        SetFault::BadName {
+            task: 1,
+            section: 0,
+        },
+    ),
+    (
+        "outranks = ['1'], section = [{ locks = ['2'], at = 0, len = 0 }]",
+        SetFault::BadName {
+            task: 1,
+            section: 1,
+        },
+    ),
+    (
+        "outranks = ['a'], weight = 1001",
+        SetFault::Sheet {
+            task: 1,
+            cause: SheetCause::BadWeight,
+        },
+    ),
+    (
+        "outranks = ['a']",
+        SetFault::Outranks {
+            task: 1,
+            cause: OutranksCause::OutranksSelf,
+        },
+    ),
+    (
+        "outrank = ['a']",
+        SetFault::UnknownKey {
+            task: 1,
+            section: 0,
+        },
+    ),
+];
+
+// Why a document is no set whose task a has this line.
+fn refusal_with(alloc: Global, line: &str) -> Result<Option<SetFault>, Fail> {
+    let mut document = String::new(alloc);
+    write!(
+        document,
+        "task = [{{ name = 'a', period = 10000, deadline = 10000, cost = 5000, {line} }}]"
+    )?;
+    Ok(refusal_of(alloc, document.as_bytes()))
+}
+
+#[test]
+fn refused_outranked_names(rt: HostRuntime) -> Result<(), Fail> {
+    for (line, want) in &LINES {
+        assert_eq!(rt; refusal_with(rt.alloc(), *line)?, Some(*want), "at {line}");
+    }
+    Ok(())
+}
+
 // A document of so many tasks that are alike but for their names.
 fn alike(alloc: Global, count: u64) -> Result<String, Fail> {
     let mut document = String::new(alloc);
@@ -153,6 +281,33 @@ fn one_task_more(rt: HostRuntime) -> Result<(), Fail> {
     let refused = refusal_of(rt.alloc(), document.as_bytes());
     assert_eq!(rt; refused, Some(SetFault::TooManyTasks));
     Ok(())
+}
+
+const LATE: &[u8] = b"
+task = [
+    { name = 'a', period = 7000, deadline = 7000, cost = 3000, jitter = 6999 },
+    { name = 'b', period = 7000, deadline = 7000, cost = 3000, jitter = 7000 },
+]
+";
+
+const NEGATIVE: &[u8] = b"
+task = [ { name = 'a', period = 7000, deadline = 7000, cost = 3000, jitter = -1, section = 1 } ]
+";
+
+#[test]
+fn refused_jitter(rt: HostRuntime) {
+    assert_eq!(rt;
+        refusal_of(rt.alloc(), LATE),
+        Some(SetFault::BadJitter { task: 2 })
+    );
+    assert_eq!(rt;
+        refusal_of(rt.alloc(), NEGATIVE),
+        Some(SetFault::WrongKind {
+            task: 1,
+            section: 0,
+            key: Key::Section
+        })
+    );
 }
 
 const PAIR: &[u8] = b"

@@ -1,7 +1,7 @@
 //! Verdicts, whole: each level with its response and the chains of those of smaller rank, or each member with its
 //! chain.
 use crate::sheets::without_hi;
-use assignment::{Failure, LevelRecord, Verdict, assign};
+use assignment::{Failure, LevelRecord, Reason, Verdict, assign};
 use example_sets::shared_set;
 use std::alloc::{AllocError, Global};
 use std::sync::Arc;
@@ -19,14 +19,27 @@ fn push_name(text: &mut String, set: &TaskSet, task: usize) -> Result<(), AllocE
     }
 }
 
-// The name of a task and the numbers of its chain.
+// The numbers of a chain, or the task above which one must stand.
+fn push_reason(text: &mut String, set: &TaskSet, reason: &Reason) -> Result<(), AllocError> {
+    match reason {
+        Reason::Chain(numbers) => {
+            for number in numbers {
+                write!(text, ",{number}")?;
+            }
+            Ok(())
+        }
+        Reason::Over(other) => {
+            write!(text, " over ")?;
+            push_name(text, set, *other)
+        }
+    }
+}
+
+// The name of a task and its reason.
 fn push_failure(text: &mut String, set: &TaskSet, failure: &Failure) -> Result<(), AllocError> {
     write!(text, " ")?;
     push_name(text, set, failure.task)?;
-    for number in &failure.chain {
-        write!(text, ",{number}")?;
-    }
-    Ok(())
+    push_reason(text, set, &failure.reason)
 }
 
 fn push_failures(text: &mut String, set: &TaskSet, failures: &[Failure]) -> Result<(), AllocError> {
@@ -45,7 +58,8 @@ fn push_level(text: &mut String, set: &TaskSet, level: &LevelRecord) -> Result<(
     write!(text, ";")
 }
 
-/// A verdict in a line: each level as `NAME RESPONSE FAILURES;`, or `none FAILURES`, a failure as `NAME,NUMBER,..`.
+/// A verdict in a line: each level as `NAME RESPONSE FAILURES;`, or `none FAILURES`, a failure as
+/// `NAME,NUMBER,..` or `NAME over OTHER`.
 pub fn line_of(alloc: Global, verdict: &Verdict) -> Result<String, AllocError> {
     let mut text = String::new(alloc);
     match verdict {
@@ -75,7 +89,7 @@ fn verdict_at(alloc: Global, document: &str) -> Result<String, Fail> {
 }
 
 // A document and its verdict.
-const VERDICTS: [(&str, &str); 11] = [
+const VERDICTS: [(&str, &str); 13] = [
     ("", ""),
     (example_sets::FILLS_ITS_PERIOD, "x 1000;"),
     (example_sets::DEMAND_OF_THE_DEADLINE, "p 9000;q 5000;"),
@@ -84,6 +98,14 @@ const VERDICTS: [(&str, &str); 11] = [
     (
         example_sets::THREE_TASKS,
         "c 20000 a,1,11000 b,1,11000,14000;a 6000;b 3000;",
+    ),
+    (
+        example_sets::THREE_TASKS_LATE,
+        "c 20000 a,1,11000 b,1,11000,14000;a 7000;b 3000;",
+    ),
+    (
+        example_sets::THREE_TASKS_TOO_LATE,
+        "none a,1,11000 b,1,11000,14000 c,1,11000,14000,20000,23000",
     ),
     (
         example_sets::THREE_TASKS_WEIGHTED,
@@ -104,6 +126,46 @@ const VERDICTS: [(&str, &str); 11] = [
 #[test]
 fn verdicts_of_the_examples(rt: HostRuntime) -> Result<(), Fail> {
     for (document, want) in &VERDICTS {
+        let line = verdict_at(rt.alloc(), *document)?;
+        assert_eq!(rt; line.as_str(), *want, "at {document}");
+    }
+    Ok(())
+}
+
+// A document with tasks that must be outranked, and its verdict.
+const BOUND_VERDICTS: [(&str, &str); 7] = [
+    (
+        example_sets::A_OVER_B,
+        "c 20000 a over b b,1,11000,14000;b 6000 a over b;a 3000;",
+    ),
+    (
+        example_sets::A_LATE_OVER_B,
+        "c 20000 a over b b,1,11000,14000;b 6000 a over b;a 4000;",
+    ),
+    (
+        example_sets::C_OVER_A,
+        "none a,1,11000 b,1,11000,14000 c over a",
+    ),
+    (example_sets::A_OVER_B_OVER_A, "none a over b b over a"),
+    (
+        example_sets::A_OVER_Z,
+        "c 20000 a,1,11000 b,1,11000,14000;a 6000;b 3000;",
+    ),
+    (
+        example_sets::OWN_ORDER,
+        "log 100000 brake over steer camera over map;map 58000 brake over steer camera over map;\
+         camera 16000 brake over steer;steer 2500 brake over steer;brake 500;",
+    ),
+    (
+        example_sets::OWN_ORDER_TOO_TIGHT,
+        "none brake over steer camera over map log,1,52500,77500,84000,96500,100000 map over log \
+         steer over camera",
+    ),
+];
+
+#[test]
+fn verdicts_of_bound_tasks(rt: HostRuntime) -> Result<(), Fail> {
+    for (document, want) in &BOUND_VERDICTS {
         let line = verdict_at(rt.alloc(), *document)?;
         assert_eq!(rt; line.as_str(), *want, "at {document}");
     }

@@ -9,6 +9,7 @@ use std::test::Fail;
 // Why a certificate was refused.
 fn push_fault(line: &mut String, fault: CheckFault) -> Result<(), AllocError> {
     match fault {
+        CheckFault::WrongVersion => write!(line, "WrongVersion"),
         CheckFault::WrongTasks { level } => write!(line, "WrongTasks {level}"),
         CheckFault::BadPass { level } => write!(line, "BadPass {level}"),
         CheckFault::BadChain { level, name } => write!(line, "BadChain {level} {name}"),
@@ -112,12 +113,106 @@ fn other_peoples_certificates(rt: HostRuntime) -> Result<(), Fail> {
     Ok(())
 }
 
+// A set, a certificate without its last line, and what the checker says of it.
+const BOUND: [(&str, &str, &str); 10] = [
+    (
+        example_sets::A_OVER_B,
+        "desk-certificate 2\nbest 3\nlevel 1 c 20000\nfails a over b\nfails b 1 11000 14000\nlevel 2 b 6000\nfails a over b\nlevel 3 a 3000\n",
+        "best",
+    ),
+    (
+        example_sets::A_OVER_B,
+        "desk-certificate 2\nbest 3\nlevel 1 c 20000\nfails a 1 11000\nfails b 1 11000 14000\nlevel 2 b 6000\nfails a over b\nlevel 3 a 3000\n",
+        "best",
+    ),
+    (
+        example_sets::A_OVER_B,
+        "desk-certificate 2\nbest 3\nlevel 1 c 20000\nfails a over b\nfails b 1 11000 14000\nlevel 2 a 6000\nlevel 3 b 3000\n",
+        "BadPass 2",
+    ),
+    (
+        example_sets::A_OVER_B,
+        "desk-certificate 2\nbest 3\nlevel 1 c 20000\nfails a over c\nfails b 1 11000 14000\nlevel 2 b 6000\nfails a over b\nlevel 3 a 3000\n",
+        "BadChain 1 a",
+    ),
+    (
+        example_sets::A_OVER_B,
+        "desk-certificate 2\nbest 3\nlevel 1 c 20000\nfails a over z\nfails b 1 11000 14000\nlevel 2 b 6000\nfails a over b\nlevel 3 a 3000\n",
+        "BadChain 1 a",
+    ),
+    (
+        example_sets::A_OVER_B,
+        "desk-certificate 1\nbest 3\nlevel 1 c 20000\nfails a 1 11000\nfails b 1 11000 14000\nlevel 2 b 6000\nfails a 1 11000\nlevel 3 a 3000\n",
+        "WrongVersion",
+    ),
+    (
+        example_sets::A_OVER_B_OVER_A,
+        "desk-certificate 2\nnone 2\nmember a over b\nmember b over a\n",
+        "no order",
+    ),
+    (
+        example_sets::A_OVER_B_OVER_A,
+        "desk-certificate 2\nnone 1\nmember a over b\n",
+        "BadChain 0 a",
+    ),
+    (
+        example_sets::A_OVER_Z,
+        "desk-certificate 1\nbest 3\nlevel 1 c 20000\nfails a 1 11000\nfails b 1 11000 14000\nlevel 2 a 6000\nlevel 3 b 3000\n",
+        "best",
+    ),
+    (
+        example_sets::THREE_TASKS,
+        "desk-certificate 2\nbest 3\nlevel 1 c 20000\nfails a 1 11000\nfails b 1 11000 14000\nlevel 2 a 6000\nlevel 3 b 3000\n",
+        "best",
+    ),
+];
+
+#[test]
+fn certificates_of_bound_tasks(rt: HostRuntime) -> Result<(), Fail> {
+    for (document, head, want) in BOUND {
+        let text = format!(in rt.alloc(); "{head}end\n")?;
+        let said = checked(rt.alloc(), document, text.as_str())?;
+        assert_eq!(rt; said.as_str(), want, "at {head}");
+    }
+    Ok(())
+}
+
+// A set, the version of the certificate of the three tasks, and what the checker says of it.
+const VERSIONS: [(&str, &str, &str); 6] = [
+    (example_sets::THREE_TASKS, "1", "best"),
+    (example_sets::THREE_TASKS, "2", "best"),
+    (example_sets::THREE_TASKS_LATE, "1", "WrongVersion"),
+    (example_sets::THREE_TASKS_LATE, "2", "best"),
+    (example_sets::THREE_TASKS_TOO_LATE, "1", "WrongVersion"),
+    (example_sets::THREE_TASKS_TOO_LATE, "2", "BadPass 1"),
+];
+
+#[test]
+fn versions_of_certificates(rt: HostRuntime) -> Result<(), Fail> {
+    let (_, body, _) = OTHER_PEOPLES[0];
+    for (document, version, want) in VERSIONS {
+        let text = format!(in rt.alloc(); "desk-certificate {version}\n{body}end\n")?;
+        let said = checked(rt.alloc(), document, text.as_str())?;
+        assert_eq!(rt; said.as_str(), want, "at {version}");
+    }
+    Ok(())
+}
+
 #[test]
 fn own_certificates_are_accepted(rt: HostRuntime) -> Result<(), Fail> {
     for (document, want) in [
         (example_sets::THREE_TASKS, "best"),
+        (example_sets::THREE_TASKS_LATE, "best"),
+        (example_sets::THREE_TASKS_TOO_LATE, "no order"),
         (example_sets::SHARED_LOCK, "best"),
         (example_sets::BLOCKED_OUT, "no order"),
+        (example_sets::A_OVER_B, "best"),
+        (example_sets::A_LATE_OVER_B, "best"),
+        (example_sets::C_OVER_A, "no order"),
+        (example_sets::A_OVER_B_OVER_A, "no order"),
+        (example_sets::A_OVER_Z, "best"),
+        (example_sets::OWN_ORDER, "best"),
+        (example_sets::OWN_ORDER_TOO_TIGHT, "no order"),
         ("", "best"),
     ] {
         let text = certified(rt.alloc(), document)?;

@@ -16,9 +16,69 @@ level 3 b 3000
 end
 ";
 
+const THREE_TASKS_LATE: &str = "desk-certificate 2
+best 3
+level 1 c 20000
+fails a 1 11000
+fails b 1 11000 14000
+level 2 a 6000
+level 3 b 3000
+end
+";
+
 const BLOCKED_OUT: &str = "desk-certificate 1
 none 1
 member hi 1 4500
+end
+";
+
+const A_OVER_B: &str = "desk-certificate 2
+best 3
+level 1 c 20000
+fails a over b
+fails b 1 11000 14000
+level 2 b 6000
+fails a over b
+level 3 a 3000
+end
+";
+
+const C_OVER_A: &str = "desk-certificate 2
+none 3
+member a 1 11000
+member b 1 11000 14000
+member c over a
+end
+";
+
+const A_OVER_B_OVER_A: &str = "desk-certificate 2
+none 2
+member a over b
+member b over a
+end
+";
+
+const THREE_TASKS_TOO_LATE: &str = "desk-certificate 2
+none 3
+member a 1 11000
+member b 1 11000 14000
+member c 1 11000 14000 20000 23000
+end
+";
+
+const OWN_ORDER: &str = "desk-certificate 2
+best 5
+level 1 log 100000
+fails brake over steer
+fails camera over map
+level 2 map 58000
+fails brake over steer
+fails camera over map
+level 3 camera 16000
+fails brake over steer
+level 4 steer 2500
+fails brake over steer
+level 5 brake 500
 end
 ";
 
@@ -41,7 +101,19 @@ pub fn certified(alloc: Global, document: &str) -> Result<String, Fail> {
 fn own_certificates(rt: HostRuntime) -> Result<(), Fail> {
     for (document, want, length) in [
         (example_sets::THREE_TASKS, THREE_TASKS, 114),
+        (example_sets::THREE_TASKS_LATE, THREE_TASKS_LATE, 114),
         (example_sets::BLOCKED_OUT, BLOCKED_OUT, 47),
+        (example_sets::A_OVER_B, A_OVER_B, 128),
+        (example_sets::A_LATE_OVER_B, A_OVER_B, 128),
+        (example_sets::C_OVER_A, C_OVER_A, 86),
+        (example_sets::A_OVER_B_OVER_A, A_OVER_B_OVER_A, 62),
+        (
+            example_sets::THREE_TASKS_TOO_LATE,
+            THREE_TASKS_TOO_LATE,
+            105,
+        ),
+        (example_sets::OWN_ORDER, OWN_ORDER, 261),
+        (example_sets::A_OVER_Z, THREE_TASKS, 114),
         ("", EMPTY_SET, 30),
     ] {
         let text = certified(rt.alloc(), document)?;
@@ -77,7 +149,17 @@ fn one_byte_more_is_trailing(rt: HostRuntime) -> Result<(), Fail> {
     Ok(())
 }
 
-const FAULTY: [(&str, CertFault); 8] = [
+#[test]
+fn a_task_may_have_the_name_over(rt: HostRuntime) {
+    for text in [
+        "desk-certificate 2\nnone 1\nmember over over over\nend\n",
+        "desk-certificate 2\nbest 1\nlevel 1 over 1\nfails over over over\nend\n",
+    ] {
+        assert_eq!(rt; fault_of(rt.alloc(), text.as_bytes()), None, "at {text}");
+    }
+}
+
+const FAULTY: [(&str, CertFault); 12] = [
     ("desk-certificate 3\n", CertFault::BadHead),
     (
         "desk-certificate 1\nbest 33\n",
@@ -104,6 +186,22 @@ const FAULTY: [(&str, CertFault); 8] = [
         CertFault::BadLine { line: 3 },
     ),
     ("desk-certificate 1\r\nbest 0\nend\n", CertFault::BadHead),
+    (
+        "desk-certificate 1\nnone 1\nmember a over b\nend\n",
+        CertFault::BadLine { line: 3 },
+    ),
+    (
+        "desk-certificate 1\nbest 1\nlevel 1 c 20000\nfails a over b\nend\n",
+        CertFault::BadLine { line: 4 },
+    ),
+    (
+        "desk-certificate 2\nnone 1\nmember a over b c\nend\n",
+        CertFault::BadLine { line: 3 },
+    ),
+    (
+        "desk-certificate 2\nnone 1\nmember a over 1\nend\n",
+        CertFault::BadLine { line: 3 },
+    ),
 ];
 
 #[test]

@@ -67,6 +67,46 @@ fn a_run_answers_each_event(rt: HostRuntime) -> Result<(), Fail> {
     Ok(())
 }
 
+// The sheet, late by a jitter and above another task.
+fn bound(alloc: Global, sheet: Sheet, jitter: u64, other: &str) -> Result<Sheet, Fail> {
+    let mut names = Vec::new(alloc);
+    names.push(Name::read(other.as_bytes()).ok().ok_or("name")?)?;
+    let late = sheet.jittered(jitter).ok().ok_or("jitter")?;
+    Ok(late.outranking(names).ok().ok_or("names")?)
+}
+
+// Team 1 commits a, which may be late by 1000 and must stand above b; then team 2 commits b, which isn't there before.
+fn a_over_b(alloc: Global) -> Result<Vec<Event>, Fail> {
+    let mut events = Vec::new(alloc);
+    let a = bound(alloc, sheet(alloc, "a", 7_000, 3_000)?, 1_000, "b")?;
+    let b = sheet(alloc, "b", 12_000, 3_000)?;
+    for (team, draft, sheet) in [(1, 1, a), (2, 2, b)] {
+        events.push(open(team)?)?;
+        events.push(Event::Put { draft, sheet })?;
+        events.push(Event::Commit { draft })?;
+    }
+    Ok(events)
+}
+
+// The task and the response of each level of the book, the lowest first.
+fn levels_of(alloc: Global, core: &Core) -> Result<Vec<(usize, u64)>, Fail> {
+    let mut levels = Vec::new(alloc);
+    for level in core.book().state().assignment().levels() {
+        levels.push((level.task, level.response))?;
+    }
+    Ok(levels)
+}
+
+#[test]
+fn a_name_that_comes_later_binds(rt: HostRuntime) -> Result<(), Fail> {
+    let words = ["opened", "done", "decided", "opened", "done", "decided"];
+    let (core, replies) = run(rt.alloc(), a_over_b(rt.alloc())?)?;
+    said(&rt, &replies, &words);
+    let levels = levels_of(rt.alloc(), &core)?;
+    assert!(rt; levels.as_slice() == [(1, 6_000), (0, 4_000)].as_slice());
+    Ok(())
+}
+
 // Puts the task a into draft 1 of a new core.
 fn with_a(alloc: Global) -> Result<Core, Fail> {
     let mut core = Core::new(alloc)?;

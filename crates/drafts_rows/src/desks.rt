@@ -1,10 +1,11 @@
 //! Books, drafts and their answers, as the examples have them.
-use assignment::Failure;
+use assignment::{Failure, Reason};
 use drafts::{
-    Book, Decision, Draft, EditCause, EditRefusal, Entry, Proposal, PutFault, Refusal, SettleFault,
-    Settled, Team, propose,
+    Book, Decision, Draft, EditCause, EditRefusal, Entry, NodeState, Proposal, PutFault, Refusal,
+    SettleFault, Settled, Team, propose,
 };
 use std::alloc::{AllocError, Global};
+use std::sync::Arc;
 use std::test::Fail;
 use task_sheet::{Name, Sheet, TaskSet};
 
@@ -77,6 +78,28 @@ pub fn open_with(
     Ok(draft)
 }
 
+// A draft on the present state that puts a sheet.
+fn open_put(alloc: Global, book: &Book, number: u64, sheet: Sheet) -> Result<Draft, Fail> {
+    let mut draft = open(alloc, book, number)?;
+    draft.put(sheet).ok().ok_or("a put")?;
+    Ok(draft)
+}
+
+/// A draft on the present state that puts a (7000, 7000, 3000), with this jitter and above b.
+pub fn open_bound(alloc: Global, book: &Book, number: u64, jitter: u64) -> Result<Draft, Fail> {
+    let sheet = Sheet::new(name("a")?, 0, 7000, 7000, 3000, Vec::new(alloc))?;
+    let mut names = Vec::new(alloc);
+    names.push(name("b")?)?;
+    let sheet = sheet.jittered(jitter)?.outranking(names)?;
+    open_put(alloc, book, number, sheet)
+}
+
+/// A draft on the present state that puts b (12000, 12000, 3000).
+pub fn open_below(alloc: Global, book: &Book, number: u64) -> Result<Draft, Fail> {
+    let sheet = Sheet::new(name("b")?, 0, 12000, 12000, 3000, Vec::new(alloc))?;
+    open_put(alloc, book, number, sheet)
+}
+
 /// A draft on the present state with puts of that many names, each of cost 1.
 pub fn open_full(alloc: Global, book: &Book, number: u64, count: u64) -> Result<Draft, Fail> {
     let mut draft = open(alloc, book, number)?;
@@ -99,10 +122,15 @@ fn push_failure(text: &mut String, set: &TaskSet, failure: &Failure) -> Result<(
         let name = sheet.name();
         write!(text, " {name}")?;
     }
-    for number in &failure.chain {
-        write!(text, ",{number}")?;
+    match &failure.reason {
+        Reason::Chain(numbers) => {
+            for number in numbers {
+                write!(text, ",{number}")?;
+            }
+            Ok(())
+        }
+        Reason::Over(other) => write!(text, " over {other}"),
     }
-    Ok(())
 }
 
 // A refusal, in words.
@@ -134,6 +162,23 @@ pub fn push_decision(text: &mut String, place: usize, entry: &Entry) -> Result<(
     }
 }
 
+// Adds why a proposal is not settled, and gives its draft back.
+fn handed_back(text: &mut String, why: &str, proposal: Proposal) -> Result<Option<Draft>, Fail> {
+    write!(text, "{why}; ")?;
+    Ok(Some(proposal.into_draft()))
+}
+
+// Adds the fresh version, and gives a proposal's draft back on that state.
+fn moved_on(
+    text: &mut String,
+    fresh: Arc<NodeState>,
+    proposal: Proposal,
+) -> Result<Option<Draft>, Fail> {
+    let version = fresh.version();
+    write!(text, "stale {version}; ")?;
+    Ok(Some(proposal.into_draft().rebase(fresh)))
+}
+
 /// Settles a proposal and adds what is answered. A proposal that is not settled gives its draft back, which is then on
 /// the fresh state where it was stale.
 pub fn settle(
@@ -143,23 +188,13 @@ pub fn settle(
     text: &mut String,
 ) -> Result<Option<Draft>, Fail> {
     match book.settle(alloc, proposal) {
-        Ok(Settled::Stale { fresh, proposal }) => {
-            let version = fresh.version();
-            write!(text, "stale {version}; ")?;
-            Ok(Some(proposal.into_draft().rebase(fresh)))
-        }
+        Ok(Settled::Stale { fresh, proposal }) => moved_on(text, fresh, proposal),
         Ok(Settled::Decided { place, entry }) => {
             push_decision(text, place, &entry)?;
             Ok(None)
         }
-        Err(SettleFault::Stranger { proposal }) => {
-            write!(text, "stranger; ")?;
-            Ok(Some(proposal.into_draft()))
-        }
-        Err(SettleFault::OutOfMemory { proposal }) => {
-            write!(text, "OutOfMemory; ")?;
-            Ok(Some(proposal.into_draft()))
-        }
+        Err(SettleFault::Stranger { proposal }) => handed_back(text, "stranger", proposal),
+        Err(SettleFault::OutOfMemory { proposal }) => handed_back(text, "OutOfMemory", proposal),
     }
 }
 

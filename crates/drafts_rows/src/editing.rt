@@ -4,10 +4,18 @@ use drafts::{Book, Draft};
 use std::alloc::Global;
 use std::test::Fail;
 
+// A full draft and its copy.
+fn full_drafts(alloc: Global) -> Result<(Draft, Draft), Fail> {
+    let book = Book::new(alloc)?;
+    let draft = open_full(alloc, &book, 1, 64)?;
+    let copy = draft.copy(alloc)?;
+    Ok((draft, copy))
+}
+
 // What a full draft answers to a new name and to one that it has.
-fn two_puts(alloc: Global, draft: &mut Draft) -> Result<String, Fail> {
-    let new = put(alloc, draft, "another", 1)?;
-    let known = put(alloc, draft, "t7", 2)?;
+fn two_puts(alloc: Global, mut draft: Draft) -> Result<String, Fail> {
+    let new = put(alloc, &mut draft, "another", 1)?;
+    let known = put(alloc, &mut draft, "t7", 2)?;
     let len = draft.len();
     let text = format!(in alloc; "{new} {known} {len}")?;
     Ok(text)
@@ -16,12 +24,10 @@ fn two_puts(alloc: Global, draft: &mut Draft) -> Result<String, Fail> {
 #[test]
 fn a_full_draft_and_its_copy(rt: HostRuntime) -> Result<(), Fail> {
     let alloc = rt.alloc();
-    let book = Book::new(alloc)?;
-    let mut draft = open_full(alloc, &book, 1, 64)?;
-    let mut copy = draft.copy(alloc)?;
-    let found = two_puts(alloc, &mut draft)?;
+    let (draft, copy) = full_drafts(alloc)?;
+    let found = two_puts(alloc, draft)?;
     assert_eq!(rt; found.as_str(), "DraftFull done 64");
-    let found = two_puts(alloc, &mut copy)?;
+    let found = two_puts(alloc, copy)?;
     assert_eq!(rt; found.as_str(), "DraftFull done 64");
     Ok(())
 }
@@ -34,14 +40,19 @@ fn push_view(text: &mut String, draft: &Draft, of: &str) -> Result<(), Fail> {
     Ok(())
 }
 
-// Team 1 holds a and b, team 2 holds c. Team 1's draft puts d, removes it, a, and what isn't its own.
+// What the draft answers to a remove, and what it shows then.
+fn push_removal(text: &mut String, draft: &mut Draft, of: &str) -> Result<(), Fail> {
+    let word = remove(draft, of)?;
+    write!(text, "{of} {word} ")?;
+    push_view(text, draft, of)
+}
+
+// Team 1 holds a, team 2 holds c. Team 1's draft puts d, removes it, a, and what isn't its own.
 fn removals(alloc: Global) -> Result<String, Fail> {
     let mut text = String::new(alloc);
     let mut draft = draft_beside(alloc)?;
     for of in ["d", "a", "a", "c", "e"] {
-        let word = remove(&mut draft, of)?;
-        write!(text, "{of} {word} ")?;
-        push_view(&mut text, &draft, of)?;
+        push_removal(&mut text, &mut draft, of)?;
     }
     Ok(text)
 }
@@ -67,17 +78,28 @@ fn removals_in_their_order(rt: HostRuntime) -> Result<(), Fail> {
     Ok(())
 }
 
-// Team 1's draft puts a on an empty book, where team 2 then commits a.
-fn rebased(alloc: Global) -> Result<String, Fail> {
-    let mut text = String::new(alloc);
+// Team 1's draft puts a on an empty book, where team 2 then commits a; the draft on the state after it.
+fn draft_of_a_foreign_name(alloc: Global, text: &mut String) -> Result<Draft, Fail> {
     let mut book = Book::new(alloc)?;
     let draft = open_with(alloc, &book, 1, "a", 1000)?;
     let other = open_with(alloc, &book, 2, "a", 2000)?;
-    commit(alloc, &mut book, other, &mut text)?;
-    let mut draft = draft.rebase(book.snapshot()?);
-    let again = put(alloc, &mut draft, "a", 1000)?;
-    let gone = remove(&mut draft, "a")?;
+    commit(alloc, &mut book, other, text)?;
+    Ok(draft.rebase(book.snapshot()?))
+}
+
+// What a draft answers to a put and to a remove of a.
+fn push_edits(alloc: Global, text: &mut String, draft: &mut Draft) -> Result<(), Fail> {
+    let again = put(alloc, draft, "a", 1000)?;
+    let gone = remove(draft, "a")?;
     write!(text, "{again} {gone} ")?;
+    Ok(())
+}
+
+// What the draft of a foreign name answers to both, and what it shows then.
+fn rebased(alloc: Global) -> Result<String, Fail> {
+    let mut text = String::new(alloc);
+    let mut draft = draft_of_a_foreign_name(alloc, &mut text)?;
+    push_edits(alloc, &mut text, &mut draft)?;
     push_view(&mut text, &draft, "a")?;
     Ok(text)
 }
@@ -89,9 +111,10 @@ fn after_a_rebase_onto_a_foreign_name(rt: HostRuntime) -> Result<(), Fail> {
     Ok(())
 }
 
-// Which of the first four indexes hold tasks of each of two teams.
-fn holders(alloc: Global, draft: &Draft) -> Result<String, Fail> {
+// Which of the first four indexes hold tasks of each of three teams, where team 1 holds a and team 2 holds c.
+fn holders(alloc: Global) -> Result<String, Fail> {
     let mut text = String::new(alloc);
+    let draft = draft_beside(alloc)?;
     for number in [1, 2, 3] {
         let members = draft.base().tasks_of(crate::desks::team(number)?);
         for index in 0..4 {
@@ -105,9 +128,7 @@ fn holders(alloc: Global, draft: &Draft) -> Result<String, Fail> {
 
 #[test]
 fn tasks_of_each_team(rt: HostRuntime) -> Result<(), Fail> {
-    let alloc = rt.alloc();
-    let draft = draft_beside(alloc)?;
-    let found = holders(alloc, &draft)?;
+    let found = holders(rt.alloc())?;
     assert_eq!(rt; found.as_str(), "1:0 2:1 ");
     Ok(())
 }

@@ -1,7 +1,7 @@
 //! Verdicts that are brought to drafts.
 use crate::desks::{name, open_with, sheet};
 use assignment::{Verdict, assign};
-use drafts::{Book, VerdictFault, propose_with};
+use drafts::{Book, Draft, VerdictFault, propose_with};
 use std::alloc::Global;
 use std::sync::Arc;
 use std::test::Fail;
@@ -18,26 +18,30 @@ fn verdict_on(alloc: Global, names: &[&str]) -> Result<Verdict, Fail> {
     Ok(verdict)
 }
 
-// What becomes of a draft that puts a and the verdict on these names.
-fn brought(alloc: Global, names: &[&str]) -> Result<&'static str, Fail> {
-    let book = Book::new(alloc)?;
-    let draft = open_with(alloc, &book, 1, "a", 1000)?;
-    let verdict = verdict_on(alloc, names)?;
+// The word for what becomes of a draft and a verdict.
+fn word(alloc: Global, draft: Draft, verdict: Verdict) -> &'static str {
     match propose_with(alloc, draft, verdict) {
-        Ok(_) => Ok("proposal"),
+        Ok(_) => "proposal",
         Err(
             VerdictFault::Stranger {
                 draft: _,
                 verdict: _,
             },
-        ) => Ok("stranger"),
+        ) => "stranger",
         Err(
             VerdictFault::OutOfMemory {
                 draft: _,
                 verdict: _,
             },
-        ) => Ok("OutOfMemory"),
+        ) => "OutOfMemory",
     }
+}
+
+// What becomes of a draft that puts a and the verdict on these names.
+fn brought(alloc: Global, names: &[&str]) -> Result<&'static str, Fail> {
+    let book = Book::new(alloc)?;
+    let draft = open_with(alloc, &book, 1, "a", 1000)?;
+    Ok(word(alloc, draft, verdict_on(alloc, names)?))
 }
 
 #[test]

@@ -1,20 +1,46 @@
 //! Commits: what is answered, and what the book is then.
-use crate::desks::{commit, open, open_full, open_with, proposed, push_book, put, remove, settle};
-use drafts::Book;
+use crate::desks::{
+    commit, name, open, open_below, open_bound, open_full, open_with, proposed, push_book, remove,
+    settle, team,
+};
+use drafts::{Book, Draft, Proposal};
 use std::alloc::Global;
 use std::test::Fail;
+use task_sheet::Members;
+
+// Proposals of two teams on the present state, of a and b.
+fn proposals(alloc: Global, book: &Book, cost: u64) -> Result<(Proposal, Proposal), Fail> {
+    let first = proposed(alloc, open_with(alloc, book, 1, "a", cost)?)?;
+    let second = proposed(alloc, open_with(alloc, book, 2, "b", cost)?)?;
+    Ok((first, second))
+}
+
+// Settles a proposal, and again on the fresh state where it was stale.
+fn settle_again(
+    alloc: Global,
+    book: &mut Book,
+    proposal: Proposal,
+    text: &mut String,
+) -> Result<(), Fail> {
+    if let Some(draft) = settle(alloc, book, proposal, text)? {
+        let again = proposed(alloc, draft)?;
+        let _ = settle(alloc, book, again, text)?;
+    }
+    Ok(())
+}
 
 // Two teams open at version 0 and put a and b; their proposals are settled, the later one again after it was stale.
+fn settle_both(alloc: Global, book: &mut Book, cost: u64, text: &mut String) -> Result<(), Fail> {
+    let (first, second) = proposals(alloc, book, cost)?;
+    let _ = settle(alloc, book, first, text)?;
+    settle_again(alloc, book, second, text)
+}
+
+// What is answered to both, and what the book is then.
 fn two_teams(alloc: Global, cost: u64) -> Result<String, Fail> {
     let mut text = String::new(alloc);
     let mut book = Book::new(alloc)?;
-    let first = proposed(alloc, open_with(alloc, &book, 1, "a", cost)?)?;
-    let second = proposed(alloc, open_with(alloc, &book, 2, "b", cost)?)?;
-    let _ = settle(alloc, &mut book, first, &mut text)?;
-    if let Some(draft) = settle(alloc, &mut book, second, &mut text)? {
-        let again = proposed(alloc, draft)?;
-        let _ = settle(alloc, &mut book, again, &mut text)?;
-    }
+    settle_both(alloc, &mut book, cost, &mut text)?;
     push_book(&mut text, &book)?;
     Ok(text)
 }
@@ -37,17 +63,82 @@ fn two_teams_collide_or_fit(rt: HostRuntime) -> Result<(), Fail> {
     Ok(())
 }
 
-// Two teams open at version 0 and put the same name; both commit at once. Then team 2 asks to remove it.
+// Team 1 puts a (7000, 7000, 3000), with this jitter and above b; then team 2 puts b (12000, 12000, 3000).
+fn a_over_b(alloc: Global, jitter: u64) -> Result<String, Fail> {
+    let mut text = String::new(alloc);
+    let mut book = Book::new(alloc)?;
+    let first = open_bound(alloc, &book, 1, jitter)?;
+    commit(alloc, &mut book, first, &mut text)?;
+    let second = open_below(alloc, &book, 2)?;
+    commit(alloc, &mut book, second, &mut text)?;
+    push_book(&mut text, &book)?;
+    Ok(text)
+}
+
+#[test]
+fn a_name_that_comes_later_binds(rt: HostRuntime) -> Result<(), Fail> {
+    for (jitter, want) in [
+        (
+            0,
+            "1 admitted 1; 2 admitted 2; version 2 of 2 b 6000 a 3000",
+        ),
+        (
+            1000,
+            "1 admitted 1; 2 admitted 2; version 2 of 2 b 6000 a 4000",
+        ),
+    ] {
+        let found = a_over_b(rt.alloc(), jitter)?;
+        assert_eq!(rt; found.as_str(), want);
+    }
+    Ok(())
+}
+
+// What a copy of the state says after commits of two teams: its version, and each team's tasks by their indexes.
+fn copied(alloc: Global) -> Result<(u64, Members, Members), Fail> {
+    let mut text = String::new(alloc);
+    let mut book = Book::new(alloc)?;
+    for (number, task) in [(1, "a"), (2, "b")] {
+        let draft = open_with(alloc, &book, number, task, 1000)?;
+        commit(alloc, &mut book, draft, &mut text)?;
+    }
+    let state = book.state().copy(alloc)?;
+    Ok((
+        state.version(),
+        state.tasks_of(team(1)?),
+        state.tasks_of(team(2)?),
+    ))
+}
+
+#[test]
+fn a_copy_of_a_state_says_the_same(rt: HostRuntime) -> Result<(), Fail> {
+    let (version, first, second) = copied(rt.alloc())?;
+    assert_eq!(rt; version, 2);
+    assert!(rt; first == Members::empty().with(0) && second == Members::empty().with(1));
+    Ok(())
+}
+
+// Two teams open at version 0 and put the same name; both commit at once.
+fn commit_one_name(alloc: Global, book: &mut Book, text: &mut String) -> Result<(), Fail> {
+    let first = open_with(alloc, book, 1, "a", 1000)?;
+    let second = open_with(alloc, book, 2, "a", 2000)?;
+    commit(alloc, book, first, text)?;
+    commit(alloc, book, second, text)
+}
+
+// What a new draft of team 2 answers to a remove of that name.
+fn push_removal(alloc: Global, book: &Book, text: &mut String) -> Result<(), Fail> {
+    let mut draft = open(alloc, book, 2)?;
+    let word = remove(&mut draft, "a")?;
+    write!(text, "{word}; ")?;
+    Ok(())
+}
+
+// What is answered to both commits and to the remove, and what the book is then.
 fn one_name(alloc: Global) -> Result<String, Fail> {
     let mut text = String::new(alloc);
     let mut book = Book::new(alloc)?;
-    let first = open_with(alloc, &book, 1, "a", 1000)?;
-    let second = open_with(alloc, &book, 2, "a", 2000)?;
-    commit(alloc, &mut book, first, &mut text)?;
-    commit(alloc, &mut book, second, &mut text)?;
-    let mut third = open(alloc, &book, 2)?;
-    let word = remove(&mut third, "a")?;
-    write!(text, "{word}; ")?;
+    commit_one_name(alloc, &mut book, &mut text)?;
+    push_removal(alloc, &book, &mut text)?;
     push_book(&mut text, &book)?;
     Ok(text)
 }
@@ -71,26 +162,34 @@ fn book_with(alloc: Global, name: &str) -> Result<Book, Fail> {
     Ok(book)
 }
 
-// A proposal that puts c on a book with b, settled in another book.
-fn from_another(alloc: Global, book: &mut Book) -> Result<String, Fail> {
-    let mut text = String::new(alloc);
+// A proposal that puts c on a book with b.
+fn stranger(alloc: Global) -> Result<Proposal, Fail> {
     let other = book_with(alloc, "b")?;
-    let proposal = proposed(alloc, open_with(alloc, &other, 1, "c", 1000)?)?;
-    let back = settle(alloc, book, proposal, &mut text)?;
+    proposed(alloc, open_with(alloc, &other, 1, "c", 1000)?)
+}
+
+// That proposal settled in another book: what is answered, and how many changes come back.
+fn push_stranger(alloc: Global, text: &mut String, book: &mut Book) -> Result<(), Fail> {
+    let back = settle(alloc, book, stranger(alloc)?, text)?;
     let changes = back.map_or(0, |draft| draft.len());
     write!(text, "{changes} back; ")?;
-    push_book(&mut text, book)?;
+    Ok(())
+}
+
+// That, and what the other book is then.
+fn from_another(alloc: Global, mut book: Book) -> Result<String, Fail> {
+    let mut text = String::new(alloc);
+    push_stranger(alloc, &mut text, &mut book)?;
+    push_book(&mut text, &book)?;
     Ok(text)
 }
 
 #[test]
 fn a_proposal_from_another_book(rt: HostRuntime) -> Result<(), Fail> {
     let alloc = rt.alloc();
-    let mut with_a = book_with(alloc, "a")?;
-    let found = from_another(alloc, &mut with_a)?;
+    let found = from_another(alloc, book_with(alloc, "a")?)?;
     assert_eq!(rt; found.as_str(), "stranger; 1 back; version 1 of 1 a 1000");
-    let mut new = Book::new(alloc)?;
-    let found = from_another(alloc, &mut new)?;
+    let found = from_another(alloc, Book::new(alloc)?)?;
     assert_eq!(rt; found.as_str(), "stranger; 1 back; version 0 of 0");
     Ok(())
 }
@@ -121,18 +220,30 @@ fn empty_and_full_drafts(rt: HostRuntime) -> Result<(), Fail> {
     Ok(())
 }
 
-// A draft opened at version 0, after three commits of another team.
+// Team 2 commits b three times, each time with another cost.
+fn commit_thrice(alloc: Global, book: &mut Book, text: &mut String) -> Result<(), Fail> {
+    for cost in [1000, 1100, 1200] {
+        let draft = open_with(alloc, book, 2, "b", cost)?;
+        commit(alloc, book, draft, text)?;
+    }
+    Ok(())
+}
+
+// The version that a draft is on, and whether it shows b.
+fn push_base(text: &mut String, draft: &Draft) -> Result<(), Fail> {
+    let version = draft.base_version();
+    let sees = draft.view(name("b")?).is_some();
+    write!(text, "base {version} sees b: {sees}; ")?;
+    Ok(())
+}
+
+// A draft opened at version 0, after three commits of another team; and what the book is then.
 fn old_snapshot(alloc: Global) -> Result<String, Fail> {
     let mut text = String::new(alloc);
     let mut book = Book::new(alloc)?;
     let old = open(alloc, &book, 1)?;
-    for cost in [1000, 1100, 1200] {
-        let draft = open_with(alloc, &book, 2, "b", cost)?;
-        commit(alloc, &mut book, draft, &mut text)?;
-    }
-    let version = old.base_version();
-    let sees = old.view(crate::desks::name("b")?).is_some();
-    write!(text, "base {version} sees b: {sees}; ")?;
+    commit_thrice(alloc, &mut book, &mut text)?;
+    push_base(&mut text, &old)?;
     push_book(&mut text, &book)?;
     Ok(text)
 }

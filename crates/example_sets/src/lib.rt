@@ -44,6 +44,174 @@ deadline = 100000
 cost = 1000
 ";
 
+/// The three tasks below, where a must stand above b.
+pub const A_OVER_B: &str = "
+[[task]]
+name = 'a'
+period = 7000
+deadline = 7000
+cost = 3000
+outranks = ['b']
+[[task]]
+name = 'b'
+period = 12000
+deadline = 12000
+cost = 3000
+[[task]]
+name = 'c'
+period = 20000
+deadline = 20000
+cost = 5000
+";
+
+/// The same, where a has jitter too.
+pub const A_LATE_OVER_B: &str = "
+[[task]]
+name = 'a'
+period = 7000
+deadline = 7000
+cost = 3000
+jitter = 1000
+outranks = ['b']
+[[task]]
+name = 'b'
+period = 12000
+deadline = 12000
+cost = 3000
+[[task]]
+name = 'c'
+period = 20000
+deadline = 20000
+cost = 5000
+";
+
+/// The three tasks, where c must stand above a.
+pub const C_OVER_A: &str = "
+[[task]]
+name = 'a'
+period = 7000
+deadline = 7000
+cost = 3000
+[[task]]
+name = 'b'
+period = 12000
+deadline = 12000
+cost = 3000
+[[task]]
+name = 'c'
+period = 20000
+deadline = 20000
+cost = 5000
+outranks = ['a']
+";
+
+/// The three tasks, where a and b must stand above each other.
+pub const A_OVER_B_OVER_A: &str = "
+[[task]]
+name = 'a'
+period = 7000
+deadline = 7000
+cost = 3000
+outranks = ['b']
+[[task]]
+name = 'b'
+period = 12000
+deadline = 12000
+cost = 3000
+outranks = ['a']
+[[task]]
+name = 'c'
+period = 20000
+deadline = 20000
+cost = 5000
+";
+
+/// The three tasks, where a names a task that isn't there.
+pub const A_OVER_Z: &str = "
+[[task]]
+name = 'a'
+period = 7000
+deadline = 7000
+cost = 3000
+outranks = ['z']
+[[task]]
+name = 'b'
+period = 12000
+deadline = 12000
+cost = 3000
+[[task]]
+name = 'c'
+period = 20000
+deadline = 20000
+cost = 5000
+";
+
+/// An order of one's own: each task must stand above the next, and log meets its bound exactly.
+pub const OWN_ORDER: &str = "
+[[task]]
+name = 'brake'
+period = 5000
+deadline = 5000
+cost = 500
+outranks = ['steer']
+[[task]]
+name = 'steer'
+period = 10000
+deadline = 10000
+cost = 2000
+outranks = ['camera']
+[[task]]
+name = 'camera'
+period = 40000
+deadline = 40000
+cost = 10000
+outranks = ['map']
+[[task]]
+name = 'map'
+period = 100000
+deadline = 100000
+cost = 20000
+outranks = ['log']
+[[task]]
+name = 'log'
+period = 200000
+deadline = 100000
+cost = 20000
+";
+
+/// The same, where log has a tick less: the order doesn't pass.
+pub const OWN_ORDER_TOO_TIGHT: &str = "
+[[task]]
+name = 'brake'
+period = 5000
+deadline = 5000
+cost = 500
+outranks = ['steer']
+[[task]]
+name = 'steer'
+period = 10000
+deadline = 10000
+cost = 2000
+outranks = ['camera']
+[[task]]
+name = 'camera'
+period = 40000
+deadline = 40000
+cost = 10000
+outranks = ['map']
+[[task]]
+name = 'map'
+period = 100000
+deadline = 100000
+cost = 20000
+outranks = ['log']
+[[task]]
+name = 'log'
+period = 200000
+deadline = 99999
+cost = 20000
+";
+
 /// Three tasks, of which c alone passes at the lowest level.
 pub const THREE_TASKS: &str = "
 [[task]]
@@ -63,7 +231,47 @@ deadline = 20000
 cost = 5000
 ";
 
-/// The same, where a is wanted higher than b.
+/// The same, where a may become ready late: a and c meet their bounds exactly.
+pub const THREE_TASKS_LATE: &str = "
+[[task]]
+name = 'a'
+period = 7000
+deadline = 7000
+cost = 3000
+jitter = 1000
+[[task]]
+name = 'b'
+period = 12000
+deadline = 12000
+cost = 3000
+[[task]]
+name = 'c'
+period = 20000
+deadline = 20000
+cost = 5000
+";
+
+/// The same, later by a tick: no order passes.
+pub const THREE_TASKS_TOO_LATE: &str = "
+[[task]]
+name = 'a'
+period = 7000
+deadline = 7000
+cost = 3000
+jitter = 1001
+[[task]]
+name = 'b'
+period = 12000
+deadline = 12000
+cost = 3000
+[[task]]
+name = 'c'
+period = 20000
+deadline = 20000
+cost = 5000
+";
+
+/// The same three tasks without jitter, where a is wanted higher than b.
 pub const THREE_TASKS_WEIGHTED: &str = "
 [[task]]
 name = 'a'

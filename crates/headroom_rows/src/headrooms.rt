@@ -78,6 +78,8 @@ fn headrooms_by_hand(rt: HostRuntime) -> Result<(), Fail> {
         (ADMITTED, "750;1400;"),
         (TOO_MUCH, "250;1400;"),
         (TOO_LATE, "-;200;"),
+        (example_sets::C_OVER_A, "2000;-;3000;"),
+        (example_sets::A_OVER_B_OVER_A, "-;-;-;"),
     ] {
         let set = set_of(rt.alloc(), document)?;
         let line = line_of(rt.alloc(), &set)?;
@@ -90,7 +92,10 @@ fn headrooms_by_hand(rt: HostRuntime) -> Result<(), Fail> {
 fn headrooms_of_the_examples(rt: HostRuntime) -> Result<(), Fail> {
     for (document, want) in [
         (example_sets::THREE_TASKS, "3000;3000;5000;"),
+        (example_sets::THREE_TASKS_LATE, "3000;3000;5000;"),
+        (example_sets::THREE_TASKS_TOO_LATE, "2999;2999;4999;"),
         (example_sets::THREE_TASKS_TOO_TIGHT, "2666;2500;4000;"),
+        (example_sets::A_OVER_B, "3000;3000;5000;"),
         (example_sets::SHARED_LOCK, "80000;14000;6000;"),
         (example_sets::BLOCKED_OUT, "1900;-;"),
     ] {

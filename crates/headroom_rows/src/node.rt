@@ -1,5 +1,6 @@
 //! What a node is set to.
-use assignment::{Verdict, assign};
+use assignment::{Placing, place_all};
+use ceilings::LockTable;
 use example_sets::shared_set;
 use settings::settings_text;
 use std::alloc::Global;
@@ -7,9 +8,11 @@ use std::test::Fail;
 
 // The settings of a document's set, or `none` where no order passes.
 fn settings_of(alloc: Global, document: &str) -> Result<String, Fail> {
-    match assign(alloc, shared_set(alloc, document)?)? {
-        Verdict::Admitted(assignment) => Ok(settings_text(alloc, &assignment)?),
-        Verdict::Infeasible(_) => Ok(String::from_str(alloc, "none")?),
+    let set = shared_set(alloc, document)?;
+    let table = LockTable::new(alloc, &set)?;
+    match place_all(alloc, &set, &table)? {
+        Placing::Best(places) => Ok(settings_text(alloc, &set, &places)?),
+        Placing::Stuck(_) => Ok(String::from_str(alloc, "none")?),
     }
 }
 
@@ -25,7 +28,16 @@ fn settings_of_the_examples(rt: HostRuntime) -> Result<(), Fail> {
             example_sets::THREE_TASKS,
             "thread c 1\nthread a 2\nthread b 3\n",
         ),
+        (
+            example_sets::THREE_TASKS_LATE,
+            "thread c 1\nthread a 2\nthread b 3\n",
+        ),
+        (
+            example_sets::A_OVER_B,
+            "thread c 1\nthread b 2\nthread a 3\n",
+        ),
         (example_sets::BLOCKED_OUT, "none"),
+        (example_sets::C_OVER_A, "none"),
     ] {
         let text = settings_of(rt.alloc(), document)?;
         assert_eq!(rt; text.as_str(), want);

@@ -4,13 +4,14 @@ use example_sets::{name, set_of};
 use std::alloc::{AllocError, Global};
 use std::test::Fail;
 
-// The releases of a list, each a time and a task's name.
-fn releases_of(alloc: Global, list: &[(u64, &str)]) -> Result<Vec<Release>, Fail> {
+// The releases of a list, each a time, a task's name, and how late it is.
+fn releases_of(alloc: Global, list: &[(u64, &str, u64)]) -> Result<Vec<Release>, Fail> {
     let mut releases = Vec::new(alloc);
-    for (time, task) in list {
+    for (time, task, late) in list {
         releases.push(Release {
             time: *time,
             name: name(*task)?,
+            late: *late,
         })?;
     }
     Ok(releases)
@@ -22,6 +23,7 @@ fn push_fault(line: &mut String, fault: RunFault) -> Result<(), AllocError> {
         RunFault::Unsorted { place } => write!(line, "Unsorted {place}"),
         RunFault::UnknownTask { place } => write!(line, "UnknownTask {place}"),
         RunFault::TooSoon { place } => write!(line, "TooSoon {place}"),
+        RunFault::TooLate { place } => write!(line, "TooLate {place}"),
         RunFault::PastHorizon => write!(line, "PastHorizon"),
         RunFault::TooMany => write!(line, "TooMany"),
         RunFault::Overrun { name, time } => write!(line, "Overrun {name} {time}"),
@@ -65,7 +67,7 @@ fn run_of(
     alloc: Global,
     document: &str,
     order: &[usize],
-    list: &[(u64, &str)],
+    list: &[(u64, &str, u64)],
     until: u64,
 ) -> Result<String, Fail> {
     let set = set_of(alloc, document)?;
@@ -103,63 +105,85 @@ deadline = 1000
 cost = 400
 ";
 
+// x below y, which both come every 1000 and up to 300 late.
+const LATE_OVERRUN: &str = "
+[[task]]
+name = 'x'
+period = 1000
+deadline = 1000
+cost = 600
+jitter = 300
+[[task]]
+name = 'y'
+period = 1000
+deadline = 1000
+cost = 600
+jitter = 300
+";
+
 // An example, an order of it, its releases, and until when it runs; then what comes of it.
 type Row = (
     &'static str,
     &'static [usize],
-    &'static [(u64, &'static str)],
+    &'static [(u64, &'static str, u64)],
     u64,
     &'static str,
 );
 
-const ROWS: [Row; 16] = [
+const ROWS: [Row; 22] = [
     (
         example_sets::BLOCKED_OUT_REPAIRED,
         &[1, 0],
-        &[(0, "lo"), (1001, "hi")],
+        &[(0, "lo", 0), (1001, "hi", 0)],
         20000,
         "0 3500 0;3500 5500 1;5500 12000 0; 12000 5500",
     ),
     (
         example_sets::BLOCKED_OUT_REPAIRED,
         &[1, 0],
-        &[(0, "lo"), (1000, "hi")],
+        &[(0, "lo", 0), (1000, "hi", 0)],
         20000,
         "0 1000 0;1000 3000 1;3000 12000 0; 12000 3000",
     ),
-    (ONE, &[0], &[(0, "x"), (9999, "x")], 20000, "TooSoon 2"),
     (
         ONE,
         &[0],
-        &[(0, "x"), (10000, "x")],
+        &[(0, "x", 0), (9999, "x", 0)],
+        20000,
+        "TooSoon 2",
+    ),
+    (
+        ONE,
+        &[0],
+        &[(0, "x", 0), (10000, "x", 0)],
         20000,
         "0 1000 0;10000 11000 1; 1000 11000",
     ),
     (
         OVERRUN,
         &[0, 1],
-        &[(0, "x"), (0, "y"), (1000, "x"), (1000, "y")],
+        &[(0, "x", 0), (0, "y", 0), (1000, "x", 0), (1000, "y", 0)],
         2000,
         "Overrun x 1000",
     ),
     (
         NO_OVERRUN,
         &[0, 1],
-        &[(0, "x"), (0, "y"), (1000, "x"), (1000, "y")],
+        &[(0, "x", 0), (0, "y", 0), (1000, "x", 0), (1000, "y", 0)],
         2000,
         "0 400 1;400 1000 0;1000 1400 3;1400 2000 2; 1000 400 2000 1400",
     ),
     (
         OVERRUN,
         &[0, 1],
-        &[(0, "x"), (0, "y")],
+        &[(0, "x", 0), (0, "y", 0)],
         1000,
         "0 600 1;600 1000 0; - 600",
     ),
     (
         example_sets::SHARED_LOCK,
         &[0, 1, 2],
-        &[(0, "lo"), (200, "mid"), (300, "hi")],
+        &[(0, "lo", 0), (200, "mid", 0), (300, "hi", 0)],
         100000,
         "0 4100 0;4100 5100 2;5100 7100 1;7100 23000 0; 23000 7100 5100",
     ),
@@ -167,51 +191,106 @@ const ROWS: [Row; 16] = [
     (
         example_sets::BLOCKED_OUT_REPAIRED,
         &[1, 0],
-        &[(0, "lo")],
+        &[(0, "lo", 0)],
         60_000_001,
         "PastHorizon",
     ),
     (
         example_sets::BLOCKED_OUT_REPAIRED,
         &[1, 0],
-        &[(20000, "lo")],
+        &[(20000, "lo", 0)],
         20000,
         "PastHorizon",
     ),
     (
         example_sets::BLOCKED_OUT_REPAIRED,
         &[1, 0],
-        &[(0, "z")],
+        &[(0, "z", 0)],
         20000,
         "UnknownTask 1",
     ),
     (
         example_sets::BLOCKED_OUT_REPAIRED,
         &[1, 0],
-        &[(5, "lo"), (4, "z")],
+        &[(5, "lo", 0), (4, "z", 0)],
         20000,
         "Unsorted 2",
     ),
     (
         example_sets::BLOCKED_OUT_REPAIRED,
         &[1, 0],
-        &[(4, "lo"), (5, "z")],
+        &[(4, "lo", 0), (5, "z", 0)],
         4,
         "UnknownTask 2",
     ),
     (
         example_sets::BLOCKED_OUT_REPAIRED,
         &[1, 0],
-        &[(4, "lo"), (5, "lo")],
+        &[(4, "lo", 0), (5, "lo", 0)],
         4,
         "TooSoon 2",
     ),
     (
         example_sets::BLOCKED_OUT_REPAIRED,
         &[0, 1],
-        &[(0, "lo"), (1000, "hi")],
+        &[(0, "lo", 0), (1000, "hi", 0)],
         20000,
         "0 10000 0;10000 12000 1; 10000 12000",
+    ),
+    (
+        example_sets::THREE_TASKS_LATE,
+        &[2, 0, 1],
+        &[
+            (0, "a", 1000),
+            (1000, "b", 0),
+            (1000, "c", 0),
+            (7000, "a", 0),
+            (13000, "b", 0),
+            (14000, "a", 0),
+        ],
+        22000,
+        "1000 4000 1;4000 7000 0;7000 10000 3;10000 13000 2;13000 16000 4;16000 19000 5;19000 21000 2; \
+         7000 4000 21000 10000 16000 19000",
+    ),
+    (
+        example_sets::THREE_TASKS_LATE,
+        &[2, 0, 1],
+        &[(0, "a", 1001), (1000, "b", 0)],
+        22000,
+        "TooLate 1",
+    ),
+    (
+        LATE_OVERRUN,
+        &[0, 1],
+        &[
+            (0, "x", 300),
+            (0, "y", 0),
+            (1000, "x", 200),
+            (1000, "y", 100),
+        ],
+        2000,
+        "Overrun x 1200",
+    ),
+    (
+        LATE_OVERRUN,
+        &[0, 1],
+        &[(0, "x", 300), (200, "y", 0)],
+        300,
+        "PastHorizon",
+    ),
+    (
+        LATE_OVERRUN,
+        &[0, 1],
+        &[(0, "x", 300), (200, "y", 0)],
+        1400,
+        "200 800 1;800 1400 0; 1400 800",
+    ),
+    (
+        LATE_OVERRUN,
+        &[0, 1],
+        &[(0, "x", 301), (999, "x", 0)],
+        400,
+        "TooSoon 2",
     ),
 ];
 
@@ -244,6 +323,7 @@ fn long_run(alloc: Global, count: u64) -> Result<Result<Trace, RunFault>, Fail> 
         releases.push(Release {
             time: place.saturating_mul(1000),
             name: name("x")?,
+            late: 0,
         })?;
     }
     Ok(kernel.run(alloc, &releases, 20_000_000))
@@ -255,5 +335,44 @@ fn ten_thousand_releases_and_one_more(rt: HostRuntime) -> Result<(), Fail> {
     assert_eq!(rt; trace.slices.len(), 10_000);
     let refused = long_run(rt.alloc(), 10_001)?;
     assert!(rt; matches!(&refused, Err(RunFault::TooMany)));
+    Ok(())
+}
+
+// How long after its arrival a job finished.
+fn response_of(trace: &Trace, job: usize) -> Option<u64> {
+    let record = trace.jobs.get(job)?;
+    record.finish?.checked_sub(record.release)
+}
+
+// The responses of mid and of hi in the set that shares a lock, where both arrive that long after lo.
+fn responses_at(
+    alloc: Global,
+    kernel: &Kernel,
+    offset: u64,
+) -> Result<(Option<u64>, Option<u64>), Fail> {
+    let releases = releases_of(
+        alloc,
+        &[(0, "lo", 0), (offset, "mid", 0), (offset, "hi", 0)],
+    )?;
+    let trace = kernel.run(alloc, &releases, 100_000).ok().ok_or("refused")?;
+    Ok((response_of(&trace, 1), response_of(&trace, 2)))
+}
+
+#[test]
+fn every_offset(rt: HostRuntime) -> Result<(), Fail> {
+    let set = set_of(rt.alloc(), example_sets::SHARED_LOCK)?;
+    let kernel = Kernel::new(rt.alloc(), &set, &[0, 1, 2])
+        .ok()
+        .ok_or("a wrong order")?;
+    let mut most = (Some(0), Some(0));
+    for offset in 0..5001 {
+        let (mid, hi) = responses_at(rt.alloc(), &kernel, offset)?;
+        most = (most.0.max(mid), most.1.max(hi));
+    }
+    assert_eq!(rt; most, (Some(6999), Some(4999)));
+    let at_most = responses_at(rt.alloc(), &kernel, 101)?;
+    assert_eq!(rt; at_most, (Some(6999), Some(4999)));
+    let before = responses_at(rt.alloc(), &kernel, 100)?;
+    assert_eq!(rt; before.1, Some(1000));
     Ok(())
 }

@@ -1,7 +1,7 @@
 //! Opening and closing desks.
 ghost use Rattle.std.specs.Prelude.{◌≡◌};
 
-use crate::desks::{Pair, committed, drafted, two_teams};
+use crate::desks::{Pair, close, committed, drafted, two_teams, with};
 use book_lock::{CloseCause, Desk, NewFault, Pass};
 use std::alloc::Global;
 use std::marker::Brand;
@@ -50,32 +50,13 @@ fn close_alone<L: Ledger>(
     desk: Desk<L>,
     pass: Pass<L>,
 ) -> Result<(u64, Desk<L>, Vec<Pass<L>>), Fail> {
-    let mut passes = Vec::new(alloc);
-    if passes.push(pass).is_err() {
-        return Err("memory")?;
-    }
+    let passes = with(Vec::new(alloc), pass)?;
     let Err(fault) = desk.close(passes) else {
         return Err("a fault")?;
     };
     match fault.cause {
         CloseCause::MissingPass { team } => Ok((team, fault.desk, fault.passes)),
         CloseCause::ReceiptMismatch { team: _ } => Err("a missing pass")?,
-    }
-}
-
-// The length of the log, closed with one pass more.
-fn close_with<L: Ledger>(
-    desk: Desk<L>,
-    passes: Vec<Pass<L>>,
-    pass: Pass<L>,
-) -> Result<usize, Fail> {
-    let mut passes = passes;
-    if passes.push(pass).is_err() {
-        return Err("memory")?;
-    }
-    match desk.close(passes) {
-        Ok(closing) => Ok(closing.log.len()),
-        Err(_) => Err("a closed desk")?,
     }
 }
 
@@ -95,7 +76,8 @@ fn closed_on<L: Ledger, R: Threads + Wait>(
     } = two_teams::<L>(alloc, blank)?;
     commit_once(rt, alloc, &desk, &mut first)?;
     let (team, desk, passes) = close_alone(alloc, desk, first)?;
-    Ok((team, close_with(desk, passes, second)?))
+    let closing = close(desk, with(passes, second)?)?;
+    Ok((team, closing.log.len()))
 }
 
 fn closed<R: Threads + Wait>(rt: &R, alloc: Global) -> Result<(u64, usize), Fail> {

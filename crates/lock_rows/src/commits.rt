@@ -1,7 +1,7 @@
 //! What a commit refuses, a refused receipt, and a commit during an analysis.
 ghost use Rattle.std.specs.Prelude.{◌≡◌};
 
-use crate::desks::{Pair, closed, committed, drafted, said, two_teams};
+use crate::desks::{Pair, closed, commit_both, draft_both, said, two_teams};
 use crate::gates::{HoldingGate, ShutGate, wait_for};
 use book_lock::{CommitCause, Desk, Pass};
 use candidate_workers::OpenGate;
@@ -16,20 +16,13 @@ use std::thread;
 use std::thread::Threads;
 use task_sheet::Name;
 
-// Both teams put a, and team 1's commit comes first.
-fn commit_one_name<L: Ledger, R: Threads + Wait>(
-    rt: &R,
-    alloc: Global,
-    two: &mut Pair<L>,
-) -> Result<(), Fail> {
-    let first = drafted(rt, alloc, &two.desk, &two.first, "a", 1000)?;
-    let second = drafted(rt, alloc, &two.desk, &two.second, "a", 2000)?;
-    let _ = committed(rt, alloc, &two.desk, &mut two.first, first)?;
-    let _ = committed(rt, alloc, &two.desk, &mut two.second, second)?;
-    Ok(())
+// What the first receipt says, the count of the pass and the number of its tasks.
+fn told_by<L: Ledger>(pass: &Pass<L>) -> Result<((u64, u64), usize, usize), Fail> {
+    let receipt = pass.receipts().first().ok_or("a receipt")?;
+    Ok((said(&receipt.entry), pass.count(), pass.tasks().len()))
 }
 
-// What team 2's receipt says then, its count and the number of its tasks.
+// Both teams put a, and team 1's commit comes first: what team 2's pass tells then.
 fn refused_on<L: Ledger, R: Threads + Wait>(
     rt: &R,
     alloc: Global,
@@ -38,13 +31,8 @@ fn refused_on<L: Ledger, R: Threads + Wait>(
     requires { (blank.name ≡ L.name) × (blank.parts ≡ L.parts) × (L.parts ≡ 8) }
 {
     let mut two = two_teams::<L>(alloc, blank)?;
-    commit_one_name(rt, alloc, &mut two)?;
-    let receipt = two.second.receipts().first().ok_or("a receipt")?;
-    Ok((
-        said(&receipt.entry),
-        two.second.count(),
-        two.second.tasks().len(),
-    ))
+    let _ = commit_both(rt, alloc, &mut two, ("a", 1000), ("a", 2000))?;
+    told_by(&two.second)
 }
 
 fn refused<R: Threads + Wait>(rt: &R, alloc: Global) -> Result<((u64, u64), usize, usize), Fail> {
@@ -95,17 +83,27 @@ fn cause_of<L: Ledger, R: Threads + Wait>(
     }
 }
 
+// Why the pass's own draft isn't decided without workers, and then with a gate that shuts it out; and the draft.
+fn own_causes<L: Ledger, R: Threads + Wait>(
+    rt: &R,
+    alloc: Global,
+    two: &mut Pair<L>,
+    draft: Draft,
+) -> Result<(u64, u64, Draft), Fail> {
+    let (workers, draft) = cause_of(rt, alloc, two, draft, 0, false)?;
+    let (shut, draft) = cause_of(rt, alloc, two, draft, 1, true)?;
+    Ok((workers, shut, draft))
+}
+
 // The causes of three commits that are refused, and how many changes the drafts that came back have.
 fn three_causes<L: Ledger, R: Threads + Wait>(
     rt: &R,
     alloc: Global,
     two: &mut Pair<L>,
 ) -> Result<((u64, u64, u64), usize), Fail> {
-    let other = drafted(rt, alloc, &two.desk, &two.first, "b", 6000)?;
-    let own = drafted(rt, alloc, &two.desk, &two.second, "a", 6000)?;
+    let (other, own) = draft_both(rt, alloc, two, ("b", 6000), ("a", 6000))?;
     let (team, other) = cause_of(rt, alloc, two, other, 0, false)?;
-    let (workers, own) = cause_of(rt, alloc, two, own, 0, false)?;
-    let (shut, own) = cause_of(rt, alloc, two, own, 1, true)?;
+    let (workers, shut, own) = own_causes(rt, alloc, two, own)?;
     Ok(((team, workers, shut), other.len() + own.len()))
 }
 
@@ -171,7 +169,35 @@ fn commit_during<L: Ledger, R: Threads + Wait>(
     (place, pass)
 }
 
-// The places of team 1 and of team 2, which commits while team 1's gate holds a question.
+// The places of team 1's draft and of team 2's, which commits while team 1's gate holds a question; and both teams.
+fn commit_at_once<L: Ledger + Send + Sync, R: Threads + Wait + Sync>(
+    rt: &R,
+    alloc: Global,
+    two: Pair<L>,
+    one: Draft,
+    other: Draft,
+    gate: &HoldingGate,
+) -> (usize, usize, Pair<L>) {
+    let Pair {
+        desk,
+        first,
+        second,
+    } = two;
+    let lent = &desk;
+    let ((first_place, first), (second_place, second)) = thread::join(
+        rt,
+        move || commit_held(rt, alloc, lent, first, one, gate),
+        move || commit_during(rt, alloc, lent, second, other, gate),
+    );
+    let two = Pair {
+        desk,
+        first,
+        second,
+    };
+    (first_place, second_place, two)
+}
+
+// The places of a and b, committed so; then the desk is closed.
 fn during_on<L: Ledger + Send + Sync, R: Threads + Wait + Sync>(
     rt: &R,
     alloc: Global,
@@ -179,28 +205,13 @@ fn during_on<L: Ledger + Send + Sync, R: Threads + Wait + Sync>(
 ) -> Result<(usize, usize), Fail>
     requires { (blank.name ≡ L.name) × (blank.parts ≡ L.parts) × (L.parts ≡ 8) }
 {
-    let Pair {
-        desk,
-        first,
-        second,
-    } = two_teams::<L>(alloc, blank)?;
-    let one = drafted(rt, alloc, &desk, &first, "a", 4000)?;
-    let other = drafted(rt, alloc, &desk, &second, "b", 4000)?;
+    let two = two_teams::<L>(alloc, blank)?;
+    let (one, other) = draft_both(rt, alloc, &two, ("a", 4000), ("b", 4000))?;
     let gate = HoldingGate {
         asked: AtomicBool::new(false),
         goes_on: AtomicBool::new(false),
     };
-    let (lent, held) = (&desk, &gate);
-    let ((first_place, first), (second_place, second)) = thread::join(
-        rt,
-        move || commit_held(rt, alloc, lent, first, one, held),
-        move || commit_during(rt, alloc, lent, second, other, held),
-    );
-    let two = Pair {
-        desk,
-        first,
-        second,
-    };
+    let (first_place, second_place, two) = commit_at_once(rt, alloc, two, one, other, &gate);
     let _ = closed(alloc, two)?;
     Ok((first_place, second_place))
 }

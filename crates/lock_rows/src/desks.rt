@@ -35,16 +35,26 @@ pub fn two_teams<L: Ledger>(alloc: Global, blank: Blank) -> Result<Pair<L>, Fail
     })
 }
 
-/// Closes the desk with both passes.
-pub fn closed<L: Ledger>(alloc: Global, two: Pair<L>) -> Result<Closing, Fail> {
-    let mut passes = Vec::new(alloc);
-    if passes.push(two.first).is_err() || passes.push(two.second).is_err() {
+/// The passes, and one more behind them.
+pub fn with<L: Ledger>(mut passes: Vec<Pass<L>>, pass: Pass<L>) -> Result<Vec<Pass<L>>, Fail> {
+    if passes.push(pass).is_err() {
         return Err("memory")?;
     }
-    match two.desk.close(passes) {
+    Ok(passes)
+}
+
+/// Closes the desk with these passes.
+pub fn close<L: Ledger>(desk: Desk<L>, passes: Vec<Pass<L>>) -> Result<Closing, Fail> {
+    match desk.close(passes) {
         Ok(closing) => Ok(closing),
         Err(_) => Err("a closed desk")?,
     }
+}
+
+/// Closes the desk with both passes.
+pub fn closed<L: Ledger>(alloc: Global, two: Pair<L>) -> Result<Closing, Fail> {
+    let passes = with(with(Vec::new(alloc), two.first)?, two.second)?;
+    close(two.desk, passes)
 }
 
 /// The name of this text.
@@ -104,6 +114,35 @@ pub fn committed<L: Ledger, R: Threads + Wait>(
         Ok(place) => Ok(place),
         Err(_) => Err("a decision")?,
     }
+}
+
+/// Drafts of both teams on the present state, of which each puts one task of this name and cost.
+pub fn draft_both<L: Ledger, R: Wait>(
+    rt: &R,
+    alloc: Global,
+    two: &Pair<L>,
+    first: (&str, u64),
+    second: (&str, u64),
+) -> Result<(Draft, Draft), Fail> {
+    let one = drafted(rt, alloc, &two.desk, &two.first, first.0, first.1)?;
+    let other = drafted(rt, alloc, &two.desk, &two.second, second.0, second.1)?;
+    Ok((one, other))
+}
+
+/// The places of such drafts, once team 1 has committed, and then team 2.
+pub fn commit_both<L: Ledger, R: Threads + Wait>(
+    rt: &R,
+    alloc: Global,
+    two: &mut Pair<L>,
+    first: (&str, u64),
+    second: (&str, u64),
+) -> Result<(usize, usize), Fail> {
+    let (one, other) = draft_both(rt, alloc, two, first, second)?;
+    let place = committed(rt, alloc, &two.desk, &mut two.first, one)?;
+    Ok((
+        place,
+        committed(rt, alloc, &two.desk, &mut two.second, other)?,
+    ))
 }
 
 /// What an entry says: the version where it is admitted, 100 where it is refused, 200 where it is infeasible; the team

@@ -82,6 +82,36 @@ fn what_is_left<L: Ledger>(
     })
 }
 
+// The place of team 1's draft, 0 where there is none, which team 2's commits overtake; and both teams.
+fn commit_at_once<L: Ledger + Send + Sync, R: Threads + Wait + Sync>(
+    rt: &R,
+    alloc: Global,
+    two: Pair<L>,
+    draft: Draft,
+    gate: &CountingGate,
+) -> Result<(usize, Pair<L>), Fail> {
+    let Pair {
+        desk,
+        first,
+        second,
+    } = two;
+    let lent = &desk;
+    let ((place, first), second) = thread::join(
+        rt,
+        move || commit_counted(rt, alloc, lent, first, draft, gate),
+        move || commit_thrice(rt, alloc, lent, second, gate),
+    );
+    let second = second?;
+    Ok((
+        place,
+        Pair {
+            desk,
+            first,
+            second,
+        },
+    ))
+}
+
 fn overtaken_on<L: Ledger + Send + Sync, R: Threads + Wait + Sync>(
     rt: &R,
     alloc: Global,
@@ -89,29 +119,15 @@ fn overtaken_on<L: Ledger + Send + Sync, R: Threads + Wait + Sync>(
 ) -> Result<Found, Fail>
     requires { (blank.name ≡ L.name) × (blank.parts ≡ L.parts) × (L.parts ≡ 8) }
 {
-    let Pair {
-        desk,
-        first,
-        second,
-    } = two_teams::<L>(alloc, blank)?;
-    let draft = drafted(rt, alloc, &desk, &first, "a", 1000)?;
+    let two = two_teams::<L>(alloc, blank)?;
+    let draft = drafted(rt, alloc, &two.desk, &two.first, "a", 1000)?;
     let gate = CountingGate {
         other: name("b")?,
         shown: AtomicU64::new(0),
         made: AtomicU64::new(0),
         past: AtomicBool::new(false),
     };
-    let (lent, held) = (&desk, &gate);
-    let ((place, first), second) = thread::join(
-        rt,
-        move || commit_counted(rt, alloc, lent, first, draft, held),
-        move || commit_thrice(rt, alloc, lent, second, held),
-    );
-    let two = Pair {
-        desk,
-        first,
-        second: second?,
-    };
+    let (place, two) = commit_at_once(rt, alloc, two, draft, &gate)?;
     what_is_left(alloc, two, place, &gate)
 }
 

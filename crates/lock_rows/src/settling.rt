@@ -1,9 +1,12 @@
 //! Two teams collide, and two teams fit.
 ghost use Rattle.std.specs.Prelude.{◌≡◌};
 
-use crate::desks::{Pair, closed, committed, drafted, name, opened, response, said, two_teams};
-use book_lock::{Closing, Outcome};
-use drafts::{Proposal, propose};
+use crate::desks::{
+    Pair, closed, commit_both, committed, draft_both, drafted, name, opened, response, said,
+    two_teams,
+};
+use book_lock::{Closing, Desk, Outcome, Pass};
+use drafts::{Draft, Proposal, propose};
 use std::alloc::Global;
 use std::marker::Brand;
 use std::sync::Wait;
@@ -39,21 +42,7 @@ fn told_by(closing: &Closing) -> Result<Told, Fail> {
     })
 }
 
-// Both teams open on version 0, and put a and b of this cost; then team 1 commits, and team 2.
-fn commit_both<L: Ledger, R: Threads + Wait>(
-    rt: &R,
-    alloc: Global,
-    two: &mut Pair<L>,
-    cost: u64,
-) -> Result<(usize, usize), Fail> {
-    let first = drafted(rt, alloc, &two.desk, &two.first, "a", cost)?;
-    let second = drafted(rt, alloc, &two.desk, &two.second, "b", cost)?;
-    let one = committed(rt, alloc, &two.desk, &mut two.first, first)?;
-    let other = committed(rt, alloc, &two.desk, &mut two.second, second)?;
-    Ok((one, other))
-}
-
-// The places of both commits, and what the closed desk says.
+// Both teams open on version 0, and put a and b of this cost: the places of both commits, and what the closed desk says.
 fn both_on<L: Ledger, R: Threads + Wait>(
     rt: &R,
     alloc: Global,
@@ -63,7 +52,7 @@ fn both_on<L: Ledger, R: Threads + Wait>(
     requires { (blank.name ≡ L.name) × (blank.parts ≡ L.parts) × (L.parts ≡ 8) }
 {
     let mut two = two_teams::<L>(alloc, blank)?;
-    let places = commit_both(rt, alloc, &mut two, cost)?;
+    let places = commit_both(rt, alloc, &mut two, ("a", cost), ("b", cost))?;
     let closing = closed(alloc, two)?;
     Ok((places, told_by(&closing)?))
 }
@@ -94,6 +83,14 @@ fn two_teams_fit(rt: HostRuntime) -> Result<(), Fail> {
     Ok(())
 }
 
+// The cost of a task as the draft shows it; 0 where it shows none.
+fn cost_in(draft: &Draft, text: &str) -> Result<u64, Fail> {
+    match draft.view(name(text)?) {
+        Some(sheet) => Ok(sheet.cost()),
+        None => Ok(0),
+    }
+}
+
 // After two teams fit, team 1 opens again: the base's version, the cost of a as the draft shows it, and whether a can
 // be removed.
 fn opened_again<L: Ledger, R: Threads + Wait>(
@@ -104,14 +101,11 @@ fn opened_again<L: Ledger, R: Threads + Wait>(
     requires { (blank.name ≡ L.name) × (blank.parts ≡ L.parts) × (L.parts ≡ 8) }
 {
     let mut two = two_teams::<L>(alloc, blank)?;
-    let _ = commit_both(rt, alloc, &mut two, 4000)?;
+    let _ = commit_both(rt, alloc, &mut two, ("a", 4000), ("b", 4000))?;
     let mut draft = opened(rt, alloc, &two.desk, &two.first)?;
-    let a = name("a")?;
-    let cost = match draft.view(a) {
-        Some(sheet) => sheet.cost(),
-        None => 0,
-    };
-    Ok((draft.base_version(), cost, draft.remove(a).is_ok()))
+    let cost = cost_in(&draft, "a")?;
+    let version = draft.base_version();
+    Ok((version, cost, draft.remove(name("a")?).is_ok()))
 }
 
 fn again<R: Threads + Wait>(rt: &R, alloc: Global) -> Result<(u64, u64, bool), Fail> {
@@ -125,35 +119,90 @@ fn a_team_opens_again(rt: HostRuntime) -> Result<(), Fail> {
     Ok(())
 }
 
+// After team 1's commit team 2, which has no task yet, opens: the base's version.
+fn opened_late<L: Ledger, R: Threads + Wait>(
+    rt: &R,
+    alloc: Global,
+    blank: Blank,
+) -> Result<u64, Fail>
+    requires { (blank.name ≡ L.name) × (blank.parts ≡ L.parts) × (L.parts ≡ 8) }
+{
+    let mut two = two_teams::<L>(alloc, blank)?;
+    let first = drafted(rt, alloc, &two.desk, &two.first, "a", 4000)?;
+    let _ = committed(rt, alloc, &two.desk, &mut two.first, first)?;
+    Ok(opened(rt, alloc, &two.desk, &two.second)?.base_version())
+}
+
+fn late<R: Threads + Wait>(rt: &R, alloc: Global) -> Result<u64, Fail> {
+    opened_late::<Brand, R>(rt, alloc, Blank::new(8))
+}
+
+#[test]
+fn a_team_opens_late(rt: HostRuntime) -> Result<(), Fail> {
+    let version = late(&rt, rt.alloc())?;
+    assert!(rt; version == 1);
+    Ok(())
+}
+
+fn proposed(alloc: Global, draft: Draft) -> Result<Proposal, Fail> {
+    match propose(alloc, draft) {
+        Ok(proposal) => Ok(proposal),
+        Err(_) => Err("a proposal")?,
+    }
+}
+
 // Proposals of both teams on version 0, of a and b.
 fn proposals<L: Ledger, R: Threads + Wait>(
     rt: &R,
     alloc: Global,
     two: &Pair<L>,
 ) -> Result<(Proposal, Proposal), Fail> {
-    let first = drafted(rt, alloc, &two.desk, &two.first, "a", 6000)?;
-    let second = drafted(rt, alloc, &two.desk, &two.second, "b", 6000)?;
-    match (propose(alloc, first), propose(alloc, second)) {
-        (Ok(first), Ok(second)) => Ok((first, second)),
-        _ => Err("proposals")?,
+    let (first, second) = draft_both(rt, alloc, two, ("a", 6000), ("b", 6000))?;
+    Ok((proposed(alloc, first)?, proposed(alloc, second)?))
+}
+
+// What becomes of a proposal.
+fn outcome_of<L: Ledger, R: Wait>(
+    rt: &R,
+    alloc: Global,
+    desk: &Desk<L>,
+    pass: &mut Pass<L>,
+    proposal: Proposal,
+) -> Result<Outcome, Fail> {
+    match desk.settle(rt, alloc, pass, proposal) {
+        Ok(outcome) => Ok(outcome),
+        Err(_) => Err("an outcome")?,
     }
 }
 
-// The place of the first, and the fresh version of the second.
+// The place of a proposal that is decided.
+fn place_of(outcome: &Outcome) -> Option<usize> {
+    match outcome {
+        Outcome::Decided { place } => Some(*place),
+        Outcome::Stale { .. } => None,
+    }
+}
+
+// The version of the fresh state, where a proposal is stale, and the response of a in it.
+fn fresh_in(outcome: &Outcome) -> Result<Option<(u64, u64)>, Fail> {
+    match outcome {
+        Outcome::Decided { .. } => Ok(None),
+        Outcome::Stale { fresh, .. } => Ok(Some((fresh.version(), response(fresh, "a")?))),
+    }
+}
+
+// The place of the first, where it is decided, and what the fresh state of the second says, where it is stale.
 fn settle_both<L: Ledger, R: Threads + Wait>(
     rt: &R,
     alloc: Global,
     two: &mut Pair<L>,
     first: Proposal,
     second: Proposal,
-) -> Result<(usize, u64), Fail> {
-    let Ok(Outcome::Decided { place }) = two.desk.settle(rt, alloc, &mut two.first, first) else {
-        return Err("a decision")?;
-    };
-    match two.desk.settle(rt, alloc, &mut two.second, second) {
-        Ok(Outcome::Stale { fresh, proposal: _ }) => Ok((place, fresh.version())),
-        _ => Err("a stale proposal")?,
-    }
+) -> Result<(Option<usize>, Option<(u64, u64)>), Fail> {
+    let one = outcome_of(rt, alloc, &two.desk, &mut two.first, first)?;
+    let place = place_of(&one);
+    let other = outcome_of(rt, alloc, &two.desk, &mut two.second, second)?;
+    Ok((place, fresh_in(&other)?))
 }
 
 // What both settle, and the length of the log.
@@ -161,22 +210,25 @@ fn settled_on<L: Ledger, R: Threads + Wait>(
     rt: &R,
     alloc: Global,
     blank: Blank,
-) -> Result<(usize, u64, usize), Fail>
+) -> Result<(Option<usize>, Option<(u64, u64)>, usize), Fail>
     requires { (blank.name ≡ L.name) × (blank.parts ≡ L.parts) × (L.parts ≡ 8) }
 {
     let mut two = two_teams::<L>(alloc, blank)?;
     let (first, second) = proposals(rt, alloc, &two)?;
-    let (place, version) = settle_both(rt, alloc, &mut two, first, second)?;
-    Ok((place, version, closed(alloc, two)?.log.len()))
+    let (place, fresh) = settle_both(rt, alloc, &mut two, first, second)?;
+    Ok((place, fresh, closed(alloc, two)?.log.len()))
 }
 
-fn settled<R: Threads + Wait>(rt: &R, alloc: Global) -> Result<(usize, u64, usize), Fail> {
+fn settled<R: Threads + Wait>(
+    rt: &R,
+    alloc: Global,
+) -> Result<(Option<usize>, Option<(u64, u64)>, usize), Fail> {
     settled_on::<Brand, R>(rt, alloc, Blank::new(8))
 }
 
 #[test]
 fn a_stale_proposal(rt: HostRuntime) -> Result<(), Fail> {
     let found = settled(&rt, rt.alloc())?;
-    assert!(rt; found == (1, 1, 1));
+    assert!(rt; found == (Some(1), Some((1, 6000)), 1));
     Ok(())
 }

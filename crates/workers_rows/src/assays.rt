@@ -2,15 +2,15 @@
 ghost use Rattle.std.specs.Prelude.{◌≡◌, false, IfErr};
 ghost use Rattle.candidate_workers.specs.Faults.{is_shut};
 
-use crate::gates::{MeetingGate, ShutOne};
+use crate::gates::{CrowdGate, OnceGate, ShutOne};
 use crate::sets::{lowest_level, three_levels};
 use assignment::Verdict;
 use candidate_workers::{AssayFault, Crew, OpenGate, assay, share_out};
 use ceilings::LockTable;
-use example_sets::{THREE_TASKS, shared_set};
+use example_sets::{A_OVER_B, THREE_TASKS, THREE_TASKS_LATE, shared_set};
 use std::alloc::Global;
 use std::process::Abort;
-use std::sync::atomic::AtomicBool;
+use std::sync::atomic::{AtomicU64, Ordering};
 use std::sync::{Arc, Wait};
 use std::test::*;
 use std::thread::Threads;
@@ -45,16 +45,41 @@ fn lowest_crew<R: Threads + Wait + Abort>(
     Ok(crew)
 }
 
+// The levels of a document's set by so many workers.
+fn levels_by<R: Threads + Wait>(
+    rt: &R,
+    alloc: Global,
+    document: &str,
+    workers: usize,
+) -> Result<Option<[(usize, u64); 3]>, Fail> {
+    match assay_openly(rt, alloc, shared_set(alloc, document)?, workers) {
+        Ok(verdict) => Ok(three_levels(&verdict)),
+        Err(_) => Ok(None),
+    }
+}
+
+// A document of three tasks, and its levels.
+const LEVELS: [(&str, Option<[(usize, u64); 3]>); 3] = [
+    (THREE_TASKS, BEST),
+    (THREE_TASKS_LATE, Some([(2, 20000), (0, 7000), (1, 3000)])),
+    (A_OVER_B, Some([(2, 20000), (1, 6000), (0, 3000)])),
+];
+
 #[test]
 fn numbers_of_workers(rt: HostRuntime) -> Result<(), Fail> {
     let alloc = rt.alloc();
     for workers in [1usize, 2, 8] {
-        let Ok(verdict) = assay_openly(&rt, alloc, shared_set(alloc, THREE_TASKS)?, workers) else {
-            return Err("a verdict")?;
-        };
-        let found = three_levels(&verdict);
-        assert!(rt; found == BEST);
+        for (document, want) in &LEVELS {
+            let found = levels_by(&rt, alloc, *document, workers)?;
+            assert!(rt; found == *want);
+        }
     }
+    Ok(())
+}
+
+#[test]
+fn too_few_or_too_many_workers(rt: HostRuntime) -> Result<(), Fail> {
+    let alloc = rt.alloc();
     for workers in [0usize, 9] {
         let answer = assay_openly(&rt, alloc, shared_set(alloc, THREE_TASKS)?, workers);
         assert!(rt; matches!(answer, Err(AssayFault::BadWorkers)));
@@ -66,13 +91,14 @@ fn numbers_of_workers(rt: HostRuntime) -> Result<(), Fail> {
 fn shut_out<R: Threads + Wait>(
     rt: &R,
     alloc: Global,
+    document: &str,
     workers: usize,
     task: usize,
 ) -> Result<Option<usize>, Fail> {
     let answer = assay(
         rt,
         alloc,
-        shared_set(alloc, THREE_TASKS)?,
+        shared_set(alloc, document)?,
         workers,
         &ShutOne { task },
     );
@@ -87,7 +113,7 @@ fn one_task_is_shut_out(rt: HostRuntime) -> Result<(), Fail> {
     let alloc = rt.alloc();
     for workers in [1usize, 2, 8] {
         for task in [0usize, 1, 2] {
-            let found = shut_out(&rt, alloc, workers, task)?;
+            let found = shut_out(&rt, alloc, THREE_TASKS, workers, task)?;
             assert!(rt; found == Some(task));
         }
     }
@@ -95,17 +121,65 @@ fn one_task_is_shut_out(rt: HostRuntime) -> Result<(), Fail> {
 }
 
 #[test]
+fn a_bound_task_is_asked_too(rt: HostRuntime) -> Result<(), Fail> {
+    let alloc = rt.alloc();
+    for workers in [1usize, 2, 8] {
+        let found = shut_out(&rt, alloc, A_OVER_B, workers, 0)?;
+        assert!(rt; found == Some(0));
+    }
+    Ok(())
+}
+
+// The order by so many workers, where this many questions of the lowest level have to be at the gate at the same time.
+fn crowded<R: Threads + Wait>(
+    rt: &R,
+    alloc: Global,
+    workers: usize,
+    wanted: u64,
+) -> Result<Option<[(usize, u64); 3]>, Fail> {
+    let gate = CrowdGate {
+        wanted,
+        came: AtomicU64::new(0),
+    };
+    match assay(rt, alloc, shared_set(alloc, THREE_TASKS)?, workers, &gate) {
+        Ok(verdict) => Ok(three_levels(&verdict)),
+        Err(_) => Ok(None),
+    }
+}
+
+#[test]
 fn workers_at_the_same_time(rt: HostRuntime) -> Result<(), Fail> {
     let alloc = rt.alloc();
-    let gate = MeetingGate {
-        first: AtomicBool::new(false),
-        second: AtomicBool::new(false),
+    for (workers, wanted) in [(1usize, 1u64), (2, 2), (3, 3), (8, 3)] {
+        let found = crowded(&rt, alloc, workers, wanted)?;
+        assert!(rt; found == BEST);
+    }
+    for (workers, wanted) in [(1usize, 2u64), (2, 3), (8, 4)] {
+        let found = crowded(&rt, alloc, workers, wanted)?;
+        assert!(rt; found == None);
+    }
+    Ok(())
+}
+
+// How many questions so many workers ask, each once.
+fn questions_asked<R: Threads + Wait>(rt: &R, alloc: Global, workers: usize) -> Result<u64, Fail> {
+    let gate = OnceGate {
+        asked: AtomicU64::new(0),
+        each: AtomicU64::new(0),
     };
-    let Ok(verdict) = assay(&rt, alloc, shared_set(alloc, THREE_TASKS)?, 2, &gate) else {
-        return Err("a verdict")?;
-    };
-    let found = three_levels(&verdict);
-    assert!(rt; found == BEST);
+    match assay(rt, alloc, shared_set(alloc, THREE_TASKS)?, workers, &gate) {
+        Ok(_) => Ok(gate.asked.load(Ordering::SeqCst)),
+        Err(_) => Err("a verdict")?,
+    }
+}
+
+#[test]
+fn each_question_once(rt: HostRuntime) -> Result<(), Fail> {
+    let alloc = rt.alloc();
+    for (workers, most) in [(1usize, 5u64), (2, 6), (8, 6)] {
+        let asked = questions_asked(&rt, alloc, workers)?;
+        assert!(rt; 5 <= asked && asked <= most);
+    }
     Ok(())
 }
 
@@ -114,6 +188,7 @@ fn draws_of_a_crew(rt: HostRuntime) -> Result<(), Fail> {
     let alloc = rt.alloc();
     for (workers, fewest, most) in [(1usize, 3u64, 3u64), (2, 3, 4), (8, 3, 10)] {
         let crew = lowest_crew(&rt, alloc, workers)?;
+        assert!(rt; crew.handed.len() == workers);
         let Some(claimed) = &crew.claimed else {
             return Err("an end")?;
         };

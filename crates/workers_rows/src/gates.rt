@@ -1,7 +1,7 @@
 //! Gates of the examples.
 use assignment::Question;
 use candidate_workers::Gate;
-use std::sync::atomic::{AtomicBool, Ordering};
+use std::sync::atomic::{AtomicU64, Ordering};
 use std::thread;
 
 /// Shuts one task out.
@@ -25,18 +25,17 @@ impl Gate for ShutOne {
     }
 }
 
-/// Where two tasks stand above, it holds the question on the first task until that on the second has come, and the
-/// other way round.
+/// Holds each question with two tasks above until so many of them have come.
 #[derive(Drop)]
-pub struct MeetingGate {
-    pub first: AtomicBool,
-    pub second: AtomicBool,
+pub struct CrowdGate {
+    pub wanted: u64,
+    pub came: AtomicU64,
 }
 
-// Whether the flag was raised within 1,000,000 turns, at each of which another thread may run.
-fn is_raised(flag: &AtomicBool) -> bool {
+// Whether the number comes to be at least this within 1,000,000 turns, at each of which another thread may run.
+fn is_reached(number: &AtomicU64, least: u64) -> bool {
     for _ in 0..1_000_000u32 {
-        if flag.load(Ordering::SeqCst) {
+        if number.load(Ordering::SeqCst) >= least {
             return true;
         }
         thread::yield_now();
@@ -44,7 +43,7 @@ fn is_raised(flag: &AtomicBool) -> bool {
     false
 }
 
-impl Gate for MeetingGate {
+impl Gate for CrowdGate {
     ghost may_shut = { λ gate question. Unit {0} };
 
     ghost always_shuts = { λ gate question. ⊥ };
@@ -52,16 +51,39 @@ impl Gate for MeetingGate {
     ghost among = { λ gate question never. absurd never };
 
     fn pass(&self, question: &Question) -> bool {
-        match (question.task(), question.above().len()) {
-            (0, 2) => {
-                self.first.store(true, Ordering::SeqCst);
-                is_raised(&self.second)
-            }
-            (1, 2) => {
-                self.second.store(true, Ordering::SeqCst);
-                is_raised(&self.first)
-            }
-            _ => true,
+        if question.above().len() < 2 {
+            return true;
         }
+        self.came.fetch_add(1, Ordering::SeqCst);
+        is_reached(&self.came, self.wanted)
+    }
+}
+
+/// Of a set of three tasks it lets each question pass once.
+#[derive(Drop)]
+pub struct OnceGate {
+    /// How many questions came.
+    pub asked: AtomicU64,
+    /// How often each came, as a digit of its own.
+    pub each: AtomicU64,
+}
+
+impl Gate for OnceGate {
+    ghost may_shut = { λ gate question. Unit {0} };
+
+    ghost always_shuts = { λ gate question. ⊥ };
+
+    ghost among = { λ gate question never. absurd never };
+
+    fn pass(&self, question: &Question) -> bool {
+        self.asked.fetch_add(1, Ordering::SeqCst);
+        let task = question.task();
+        let above = question.above().len();
+        if task > 2 || above > 2 {
+            return false;
+        }
+        let digit = 12 * task + 4 * above;
+        let before = self.each.fetch_add(1 << digit, Ordering::SeqCst);
+        (before >> digit) % 16 == 0
     }
 }
