@@ -160,10 +160,7 @@ UnknownKey: a key that the format hasn't
   $ document 'task = []\nx = 1'
   refused: UnknownKey 0 0
   [4]
-  $ more 'jitter = 1'
-  refused: UnknownKey 1 0
-  [4]
-  $ more 'outranks = []'
+  $ more 'offset = 1'
   refused: UnknownKey 1 0
   [4]
   $ sections "{ locks = ['m'], at = 0, len = 1, x = 1 }"
@@ -382,4 +379,59 @@ The first faulty task comes first, and its own faults before SameName:
   [4]
   $ document "task = [{ $a }, { name = 'a', period = 10000, deadline = 10000, cost = 0 }]"
   refused: CostZero 2
+  [4]
+
+Tasks that must be outranked
+----------------------------
+
+  $ more 'outranks = []'
+  admitted 1
+  1 a 5000
+  $ more "outranks = ['z']"
+  admitted 1
+  1 a 5000
+  $ more "outranks = 'z'"
+  refused: WrongKind 1 0 outranks
+  [4]
+  $ more "outranks = ['z', 1]"
+  refused: WrongKind 1 0 outranks
+  [4]
+  $ more "outranks = ['z', '1']"
+  refused: BadName 1 0
+  [4]
+  $ more "outranks = ['z', 'y', 'z', 'a']"
+  refused: OutranksTwice 1
+  [4]
+  $ more "outranks = ['z', 'a']"
+  refused: OutranksSelf 1
+  [4]
+  $ more "outranks = ['b', 'c', 'd', 'e', 'f', 'g', 'h', 'i']"
+  admitted 1
+  1 a 5000
+  $ more "outranks = ['b', 'c', 'd', 'e', 'f', 'g', 'h', 'i', 'b']"
+  refused: TooManyOutranks 1
+  [4]
+
+Names of locks come before them, whatever is wrong with both:
+
+  $ more "outranks = ['1'], section = [{ locks = ['2'], at = 0, len = 1 }]"
+  refused: BadName 1 1
+  [4]
+
+A task's jitter, which is checked before these:
+
+  $ more 'jitter = 0'
+  admitted 1
+  1 a 5000
+  $ more 'jitter = 1'
+  admitted 1
+  1 a 5001
+  $ more "jitter = 'z', outranks = 'z'"
+  refused: WrongKind 1 0 jitter
+  [4]
+  $ more "jitter = 10000, outranks = ['a']"
+  refused: BadJitter 1
+  [4]
+  $ document "task = [{ name = 'a', period = 10000, deadline = 0, cost = 5000, jitter = 0, outranks = ['a'] }]"
+  refused: DeadlineZero 1
   [4]
