@@ -9,7 +9,12 @@ use Rattle.assignment.specs.declared.climb.Climb.TheInside.{Inside}
 
 -- what callers see of a climb
 abbrev pub climb_of : Inside → ClimbState
-climb_of a = record { set = a.set.value; levels = a.levels.items; left = a.left; stuck = is_some a.members }
+climb_of a = record {
+  set = a.set.value;
+  levels = a.levels.items;
+  left = a.left;
+  stuck = is_some a.members;
+}
 
 -- the levels so far are right, and there is room for those to come
 pub record IsKept (a : Inside) : Type 0 where

@@ -10,13 +10,18 @@ use Rattle.assignment.specs.declared.climb.ClimbFault.TheVariants.{Stranger, Not
 use Rattle.assignment.specs.declared.climb.Unfinished.{Unfinished}
 
 -- a level is closed, or refused, and then the climb is unchanged and the level is handed back
-abbrev pub ClosesLevel : ClimbState → LevelState → ClimbState → Result (Unit {0}) ClimbFault → Type 0
-ClosesLevel old level new (Ok done) = IsNext old level × IsDecided level × (IsPlaced old new ⊎ IsEnded old new)
-ClosesLevel old level new (Err (Stranger back)) = (¬ IsNext old level) × (back ≡ level) × (new ≡ old)
-ClosesLevel old level new (Err (NotAll back)) = IsNext old level × (¬ IsDecided level) × (back ≡ level) × (new ≡ old)
+abbrev pub ClosesLevel : ClimbState → LevelState → ClimbState → Result (Unit {0}) ClimbFault
+    → Type 0
+ClosesLevel old level new (Ok done) = IsNext old level × IsDecided level
+    × (IsPlaced old new ⊎ IsEnded old new)
+ClosesLevel old level new (Err (Stranger back)) = (¬ IsNext old level) × (back ≡ level)
+    × (new ≡ old)
+ClosesLevel old level new (Err (NotAll back)) = IsNext old level × (¬ IsDecided level)
+    × (back ≡ level) × (new ≡ old)
 
 -- the verdict of the set, or the climb is handed back
 abbrev pub Finishes : ClimbState → Result Verdict Unfinished → Type 0
 Finishes climb (Ok verdict) =
-    (¬ IsUnfinished climb) × (set_of verdict ≡ climb.set) × IsVerdictOf climb.set (verdict_of verdict)
+    (¬ IsUnfinished climb) × (set_of verdict ≡ climb.set)
+    × IsVerdictOf climb.set (verdict_of verdict)
 Finishes climb (Err fault) = IsUnfinished climb × (fault.climb ≡ climb)

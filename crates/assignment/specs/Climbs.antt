@@ -9,8 +9,8 @@ use Rattle.task_sheet.specs.Levels.{IsChosen, NoneStands, left_after, AllChosen}
 use Rattle.task_sheet.specs.Verdicts.{LevelData, order_of, IsLevel, AllLevels}
 use Rattle.assignment.specs.Levels.{LevelState}
 
--- a set, its levels that are closed, from the lowest up, its tasks that are not yet placed, and whether none of these
--- may stand below the others
+-- a set, its levels that are closed, from the lowest up, its tasks that are not yet placed, and
+-- whether none of these may stand below the others
 pub record ClimbState : Type 0 where
   pub set : List Task
   pub levels : List LevelData
@@ -51,7 +51,10 @@ pub record IsUnfinished (c : ClimbState) : Type 0 where
   pub goes_on : c.stuck ≡ false
 
 -- the levels are closed from the lowest up, and these tasks are left
-pub record IsClimbing (U : List Task) (left : FinSet nat_cmp) (levels : List LevelData) : Type 0 where
+pub record IsClimbing
+    (U : List Task)
+    (left : FinSet nat_cmp)
+    (levels : List LevelData) : Type 0 where
   pub chosen : AllChosen U (all_of U) (order_of levels)
   pub each : AllLevels U (all_of U) levels
   pub rest : indexes_of left ≡ left_after (all_of U) (order_of levels)

@@ -12,7 +12,8 @@ use Rattle.assignment.specs.declared.outcome.Outcome.{Outcome}
 use Rattle.assignment.specs.declared.outcome.Outcome.TheVariants.{Pass, Fail}
 use Rattle.assignment.specs.Questions.{QuestionData}
 
--- a set, the tasks of it that are left, which are the candidates, and those of them that have no finding yet
+-- a set, the tasks of it that are left, which are the candidates, and those of them that have no
+-- finding yet
 pub record LevelState : Type 0 where
   pub set : List Task
   pub left : FinSet nat_cmp
@@ -28,7 +29,8 @@ pub record IsAsked (l : LevelState) (q : QuestionData) : Type 0 where
 abbrev pub with_finding : LevelState → ℕ → LevelState
 with_finding l task = record { set = l.set; left = l.left; missing = remove l.missing task }
 
--- a candidate with a finding by which it may stand below the others, while each one of smaller rank has a finding too
+-- a candidate with a finding by which it may stand below the others, while each one of smaller rank
+-- has a finding too
 pub record IsLeastFound (l : LevelState) (i : ℕ) : Type 0 where
   pub candidate : IsTrue (contains l.left i)
   pub found : IsFalse (contains l.missing i)
@@ -37,7 +39,8 @@ pub record IsLeastFound (l : LevelState) (i : ℕ) : Type 0 where
 
 -- all candidates have a finding, or enough of them
 abbrev pub IsDecided : LevelState → Type 0
-IsDecided l = ((j : ℕ) → IsTrue (contains l.left j) → IsFalse (contains l.missing j)) ⊎ ((i : ℕ) × IsLeastFound l i)
+IsDecided l = ((j : ℕ) → IsTrue (contains l.left j) → IsFalse (contains l.missing j))
+    ⊎ ((i : ℕ) × IsLeastFound l i)
 
 -- none of the tasks L may stand below the others of them; the failure of each, by rank
 pub record IsObstructed (U : List Task) (L : Indexes) (fails : List FailureData) : Type 0 where
@@ -63,9 +66,11 @@ pub record AreRight (U : List Task) (L : Indexes) (answers : List (Option Outcom
 -- the candidates that have no answer
 abbrev pub AreMissing : FinSet nat_cmp → FinSet nat_cmp → List (Option Outcome) → Type 0
 AreMissing left missing answers =
-    (k : ℕ) → contains missing k ≡ (contains left k && not (is_some (slice_index_or answers k None)))
+    (k : ℕ) → contains missing k
+    ≡ (contains left k && not (is_some (slice_index_or answers k None)))
 
--- the answers are enough: each candidate has one, but for those of greater rank than one that may stand
+-- the answers are enough: each candidate has one, but for those of greater rank than one that may
+-- stand
 abbrev pub IsEnough : List Task → Indexes → List (Option Outcome) → Type 0
 IsEnough U L answers =
     (k : ℕ) → IsTrue (L k) → ((j : ℕ) → j < k → IsTrue (L j) → ¬ Stands U j (without_index L j))

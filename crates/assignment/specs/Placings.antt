@@ -1,4 +1,5 @@
--- The best order with its responses, or the greatest obstruction, without what shows them (Audsley 1991).
+-- The best order with its responses, or the greatest obstruction, without what shows them (Audsley
+-- 1991).
 use Rattle.std.specs.Prelude.{◌≡◌, ℕ, List, [], ◌∷◌, length, map}
 use Rattle.task_sheet.specs.Sheet.{Task}
 use Rattle.task_sheet.specs.Indexes.{Indexes, indexes_of, without_index, listed_below}
@@ -18,7 +19,8 @@ tasks_of_places places = map (λ p. p.task) places
 abbrev pub AllRespond : List Task → Indexes → List PlaceData → Type 0
 AllRespond U L [] = Unit {0}
 AllRespond U L (p ∷ places) =
-    IsResponseOf U p.task (without_index L p.task) p.response × AllRespond U (without_index L p.task) places
+    IsResponseOf U p.task (without_index L p.task) p.response
+    × AllRespond U (without_index L p.task) places
 
 -- the best order, each task with its response
 pub record IsBestPlacing (U : List Task) (places : List PlaceData) : Type 0 where
@@ -34,8 +36,10 @@ IsPlacingOf U (Stuck members) = IsGreatestObstruction U (indexes_of members)
 abbrev pub places_of : List LevelData → List PlaceData
 places_of levels = map (λ l. record { task = l.task; response = l.response }) levels
 
--- a placing says what a verdict on the set says, without what shows it: the order with its responses, or the members
+-- a placing says what a verdict on the set says, without what shows it: the order with its
+-- responses, or the members
 abbrev pub SaysSame : List Task → VerdictData → Placing → Type 0
 SaysSame U (Admitted levels) (Best places) = places.items ≡ places_of levels
-SaysSame U (Infeasible members) (Stuck left) = tasks_of members ≡ listed_below (length U) (indexes_of left)
+SaysSame U (Infeasible members) (Stuck left) = tasks_of members
+    ≡ listed_below (length U) (indexes_of left)
 SaysSame U _ _ = ⊥

@@ -11,6 +11,8 @@ abbrev pub IsTaken : LevelState → FindingData → LevelState → Result (Unit 
 IsTaken old finding new (Ok done) =
     IsAsked old finding.question × IsTrue (contains old.missing finding.question.task)
     × (new ≡ with_finding old finding.question.task)
-IsTaken old finding new (Err (Stranger back)) = (¬ IsAsked old finding.question) × (back ≡ finding) × (new ≡ old)
+IsTaken old finding new (Err (Stranger back)) = (¬ IsAsked old finding.question) × (back ≡ finding)
+    × (new ≡ old)
 IsTaken old finding new (Err (Twice back)) =
-    IsAsked old finding.question × IsFalse (contains old.missing finding.question.task) × (back ≡ finding) × (new ≡ old)
+    IsAsked old finding.question × IsFalse (contains old.missing finding.question.task)
+    × (back ≡ finding) × (new ≡ old)

@@ -62,7 +62,12 @@ impl Climb {
     /// A climb with all tasks of the set left. The error is want of memory; nothing else of the climb takes memory.
     pub fn start(alloc: Global, set: Arc<TaskSet>) -> Result<Climb, AllocError>
         ensures { IfOk result (λ climb. climb
-            ≡ record { set = set.value; levels = []; left = all_below (length set.value); stuck = false }) }
+            ≡ record {
+              set = set.value;
+              levels = [];
+              left = all_below (length set.value);
+              stuck = false;
+            }) }
     {
         let left = Members::all(set.sheets().len());
         let levels = Vec::with_capacity(alloc, left.len())?;

@@ -139,7 +139,8 @@ impl Level {
     pub fn start(alloc: Global, set: Arc<TaskSet>, left: Members) -> Result<Level, AllocError>
         requires part { IsPart (indexes_of left) (all_of set.value) }
         requires some { 0 < len left }
-        ensures { IfOk result (λ level. level ≡ record { set = set.value; left = left; missing = left }) }
+        ensures { IfOk result
+            (λ level. level ≡ record { set = set.value; left = left; missing = left }) }
     {
         let count = set.sheets().len();
         let answers = unanswered(alloc, count)?;
@@ -171,7 +172,8 @@ impl Level {
 
     /// The candidate at a place by rank, counted from 0.
     pub fn candidate(&self, place: usize) -> Option<usize>
-        ensures { result ≡ slice_get (listed_below (length self.now.set) (indexes_of self.now.left)) place }
+        ensures { result
+            ≡ slice_get (listed_below (length self.now.set) (indexes_of self.now.left)) place }
     {
         let mut before = 0;
         for task in 0..self.set.len() {

@@ -13,9 +13,9 @@ mod verdict;
 
 pub use assigning::assign;
 pub use climb::{Climb, ClimbFault, Unfinished};
-pub use feasibility::is_feasible;
+pub use feasibility::{is_feasible, standing};
 pub use level::{Closed, Level, NotAll, TakeFault};
-pub use outcome::{Outcome, Reason};
+pub use outcome::{Outcome, Reason, least_over};
 pub use placing::{Place, Placing, place_all};
 pub use question::{AnswerFault, Finding, Question};
 pub use verdict::{Assignment, Failure, LevelRecord, Obstruction, Verdict};

@@ -56,12 +56,7 @@ pub(crate) fn is_bound(set: &TaskSet, table: &LockTable, task: usize, above: Mem
 }
 
 /// Of these that a task must stand above, the one of least rank. The table is that of the set.
-pub(crate) fn least_over(
-    set: &TaskSet,
-    table: &LockTable,
-    task: usize,
-    above: Members,
-) -> Option<usize>
+pub fn least_over(set: &TaskSet, table: &LockTable, task: usize, above: Members) -> Option<usize>
     requires table { IsTableOf set.now table.now }
     requires task { task < length set.now }
     ensures none { IfNone result (IsFalse (is_bound set.now task (indexes_of above))) }

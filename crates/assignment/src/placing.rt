@@ -46,7 +46,8 @@ fn response_below(set: &TaskSet, table: &LockTable, task: usize, above: Members)
     requires table { IsTableOf set.now table.now }
     requires task { task < length set.now }
     requires part { IsPart (indexes_of above) (all_of set.now) }
-    ensures some { IfSome result (λ response. IsResponseOf set.now task (indexes_of above) response) }
+    ensures some { IfSome result
+        (λ response. IsResponseOf set.now task (indexes_of above) response) }
     ensures stands { IfSome result (λ _. Stands set.now task (indexes_of above)) }
     ensures none { IfNone result (¬ Stands set.now task (indexes_of above)) }
 {
@@ -62,7 +63,8 @@ fn lowest(set: &TaskSet, table: &LockTable, left: Members) -> Option<Place>
     requires part { IsPart (indexes_of left) (all_of set.now) }
     ensures chosen { IfSome result (λ place. IsChosen set.now (indexes_of left) place.task) }
     ensures response { IfSome result (λ place.
-        IsResponseOf set.now place.task (without_index (indexes_of left) place.task) place.response) }
+        IsResponseOf set.now place.task (without_index (indexes_of left) place.task)
+        place.response) }
     ensures none { IfNone result (NoneStands set.now (indexes_of left)) }
 {
     for task in 0..set.len() {

@@ -34,7 +34,8 @@ impl Model for Question {
 
     ghost view = { λ q. record { set = q.set.value; above = q.above; task = q.task } };
 
-    ghost invariant = { λ q. IsQuestion (record { set = q.set.value; above = q.above; task = q.task }) };
+    ghost invariant = { λ q. IsQuestion
+        (record { set = q.set.value; above = q.above; task = q.task }) };
 }
 
 /// A question with its answer: the response in microseconds, or the reason why the task may not stand there: the full
@@ -158,7 +159,8 @@ fn answer_to(alloc: Global, question: &Question, table: &LockTable) -> Result<Ou
 // Whether the right answer to a question lets its task stand there.
 fn lets_pass(question: &Question, answer: &Outcome) -> bool
     requires { IsRight question.now answer.now }
-    ensures { IsTrue result ↔ Stands question.now.set question.now.task (indexes_of question.now.above) }
+    ensures { IsTrue result
+        ↔ Stands question.now.set question.now.task (indexes_of question.now.above) }
 {
     // The set is valid: the proof has it from its sheets.
     let _ = question.set().sheets();
@@ -187,7 +189,8 @@ impl Finding {
     /// Whether the task may stand there: the answer is a response.
     pub fn passes(&self) -> bool
         ensures { IsTrue result
-            ↔ Stands self.now.question.set self.now.question.task (indexes_of self.now.question.above) }
+            ↔ Stands self.now.question.set self.now.question.task
+            (indexes_of self.now.question.above) }
     {
         lets_pass(&self.question, &self.answer)
     }

@@ -52,7 +52,7 @@ module _ (U : List Task) (table : Table) (is_table : AreUsersOf U table) (member
   abbrev member_uses : List ℕ → ℕ → Bool
   member_uses lock k = indexes_of members k && uses (task_at U k) lock
 
-  meet_is : (lock : List ℕ) → meet (indexes_of (users_in table lock)) (indexes_of members) ≡ some_below (length U) (member_uses lock)
+  pub meet_is : (lock : List ℕ) → meet (indexes_of (users_in table lock)) (indexes_of members) ≡ some_below (length U) (member_uses lock)
   unfolding meet
   meet_is lock =
       some_below-congr 32 (λ k. indexes_of (users_in table lock) k && indexes_of members k) (member_uses lock)

@@ -35,10 +35,12 @@ longest_of holds members = greatest_of (λ h. if is_reached members h then h.len
 abbrev pub longest_from : set.FinSet nat_cmp → TaskHoldsData → ℕ
 longest_from members t = if indexes_of members t.task then 0 else longest_of t.holds members
 
--- the length of the longest section, of a task that is no member, that the members reach, by what the tasks hold
+-- the length of the longest section, of a task that is no member, that the members reach, by what
+-- the tasks hold
 abbrev pub longest_held : List TaskHoldsData → set.FinSet nat_cmp → ℕ
 longest_held tasks members = greatest_of (longest_from members) tasks
 
 -- the longest section, of a task outside X, that the tasks X reach; 0 if there is none
 abbrev pub longest_outside : List Task → Indexes → ℕ
-longest_outside U X = greatest_below (length U) (λ k. if X k then 0 else longest_reached U X (task_at U k))
+longest_outside U X =
+    greatest_below (length U) (λ k. if X k then 0 else longest_reached U X (task_at U k))

@@ -22,12 +22,14 @@ users_in table lock = unwrap_or (lookup (same_bytes lock) table) set.empty
 
 -- some member uses one of the locks
 abbrev pub some_uses : Table → set.FinSet nat_cmp → List (List ℕ) → Bool
-some_uses table members locks = list_any (λ lock. meet (indexes_of (users_in table lock)) (indexes_of members)) locks
+some_uses table members locks =
+    list_any (λ lock. meet (indexes_of (users_in table lock)) (indexes_of members)) locks
 
 -- ---- how a table grows
 -- the lock with one user more
 abbrev pub with_user : ℕ → Table → List ℕ → Table
-with_user index table lock = insert_entry same_bytes table lock (set.insert (users_in table lock) index)
+with_user index table lock =
+    insert_entry same_bytes table lock (set.insert (users_in table lock) index)
 
 -- the locks of a section, each with one user more
 abbrev pub with_section : ℕ → Table → CriticalSection → Table

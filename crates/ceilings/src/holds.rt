@@ -3,6 +3,7 @@ ghost use Rattle.std.specs.Prelude.{◌≡◌, ◌<◌, ◌≤◌, ℕ, List, le
 ghost use Rattle.std.specs.Ordering.{nat_cmp};
 ghost use Rattle.std.specs.FinSet.{FinSet};
 ghost use Rattle.task_sheet.specs.Sheet.{Task};
+ghost use Rattle.task_sheet.specs.declared.set.TheConstants.{TASK_LIMIT};
 ghost use Rattle.task_sheet.specs.Indexes.{indexes_of};
 ghost use Rattle.task_sheet.specs.Locks.{reaches};
 ghost use Rattle.task_sheet.specs.Demand.{longest_reached};
@@ -59,6 +60,7 @@ impl Model for TaskHolds {
     ghost use Rattle.std.specs.Coded.{codes};
     ghost use Rattle.task_sheet.specs.contracts.members.Members as members;
     ghost use Rattle.ceilings.specs.Holds.{TaskHoldsData, longest_of};
+    ghost use Rattle.task_sheet.specs.declared.set.TheConstants.{TASK_LIMIT};
 
     ghost Value = { TaskHoldsData };
 
@@ -66,14 +68,14 @@ impl Model for TaskHolds {
 
     ghost view = { λ t. record { task = t.task; holds = t.holds.items } };
 
-    ghost invariant = { λ t. (t.task < 32)
+    ghost invariant = { λ t. (t.task < TASK_LIMIT)
         × ((members : FinSet nat_cmp) → longest_of t.holds.items members ≤ t.longest) };
 }
 
 impl TaskHolds {
     // What the sections of the task at an index hold.
     fn new(task: usize, holds: Vec<Hold>) -> TaskHolds
-        requires { task < 32 }
+        requires { task < TASK_LIMIT }
         ensures { result ≡ record { task = task; holds = holds.items } }
     {
         let longest = longest_len(&holds);
@@ -140,7 +142,8 @@ fn hold_section(
 
 // What the sections of a task hold.
 fn hold_task(alloc: Global, users: &LockUsers, sheet: &Sheet) -> Result<Vec<Hold>, AllocError>
-    ensures { IfOk result (λ holds. (U : List Task) → AreUsersOf U users.now → (members : FinSet nat_cmp)
+    ensures { IfOk result
+        (λ holds. (U : List Task) → AreUsersOf U users.now → (members : FinSet nat_cmp)
         → longest_of holds.items members ≡ longest_reached U (indexes_of members) sheet.now) }
 {
     let mut holds = Vec::new(alloc);

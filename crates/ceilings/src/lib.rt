@@ -4,6 +4,7 @@
 
 ghost use Rattle.std.specs.Prelude.{◌≡◌, ◌<◌, ◌≤◌, ℕ, List, length, position, slice_get, All, IfOk};
 ghost use Rattle.task_sheet.specs.Sheet.{Task, same_bytes, task_at};
+ghost use Rattle.task_sheet.specs.declared.set.TheConstants.{TASK_LIMIT};
 ghost use Rattle.task_sheet.specs.Indexes.{indexes_of};
 ghost use Rattle.task_sheet.specs.Locks.{uses, reaches, ceiling_of};
 ghost use Rattle.task_sheet.specs.Orders.{must_outrank};
@@ -40,7 +41,11 @@ impl Model for LockTable {
 
     ghost coded = { Prim.hlevel (codes, members.the_row.coded) };
 
-    ghost view = { λ t. record { users = t.users; holds = t.holds.items; outranked = t.outranked } };
+    ghost view = { λ t. record {
+      users = t.users;
+      holds = t.holds.items;
+      outranked = t.outranked;
+    } };
 }
 
 impl LockTable {
@@ -94,21 +99,23 @@ impl LockTable {
     /// Whether some member uses one of the section's locks.
     pub fn reaches(&self, section: &Section, members: Members) -> bool
         ensures noted { result ≡ some_uses self.now.users members section.now.locks }
-        ensures reaches { (U : List Task) → IsTableOf U self.now → result ≡ reaches U (indexes_of members) section.now }
+        ensures reaches { (U : List Task) → IsTableOf U self.now
+            → result ≡ reaches U (indexes_of members) section.now }
     {
         self.users.reaches(section, members)
     }
 
     /// The length of the longest section, of a task that is no member, that the members reach; 0 if there is none.
     pub fn longest_outside(&self, members: Members) -> u64
-        ensures { (U : List Task) → IsTableOf U self.now → result ≡ longest_outside U (indexes_of members) }
+        ensures { (U : List Task) → IsTableOf U self.now
+            → result ≡ longest_outside U (indexes_of members) }
     {
         longest_held(&self.holds, members)
     }
 
     /// The tasks of the set above which the task at an index must stand.
     pub fn outranked(&self, task: usize) -> Members
-        requires { task < 32 }
+        requires { task < TASK_LIMIT }
         ensures { (U : List Task) → IsTableOf U self.now → task < length U → (k : ℕ) → k < length U
             → indexes_of result k ≡ must_outrank U task k }
     {
@@ -118,8 +125,8 @@ impl LockTable {
     /// The ceiling of a lock where the tasks stand in this order, lowest first: the level, from 1, of its highest user;
     /// none for a lock that nobody names.
     pub fn ceiling(&self, lock: Name, order: &[usize]) -> Option<u32>
-        requires within { All (λ index. index < 32) order.now }
-        requires few { length order.now ≤ 32 }
+        requires within { All (λ index. index < TASK_LIMIT) order.now }
+        requires few { length order.now ≤ TASK_LIMIT }
         ensures { (U : List Task) → IsTableOf U self.now → result ≡ ceiling_of U order.now lock }
     {
         self.users.ceiling(lock, order)

@@ -17,7 +17,8 @@ fn has(names: &[Name], own: Name) -> bool
 // The tasks of a set that are named.
 fn named(set: &TaskSet, names: &[Name]) -> Members
     ensures { (k : ℕ) → k < length set.now
-        → indexes_of result k ≡ list_any (λ name. same_bytes name (task_at set.now k).name) names.now }
+        → indexes_of result k
+        ≡ list_any (λ name. same_bytes name (task_at set.now k).name) names.now }
 {
     let mut found = Members::empty();
     for (index, sheet) in set.sheets().iter().enumerate() {

@@ -1,6 +1,7 @@
 //! The users of locks.
 ghost use Rattle.std.specs.Prelude.{◌≡◌, ◌<◌, ◌≤◌, ℕ, List, length, position, slice_get, All, IfOk, OnOk};
 ghost use Rattle.task_sheet.specs.Sheet.{Task, same_bytes, task_at};
+ghost use Rattle.task_sheet.specs.declared.set.TheConstants.{TASK_LIMIT};
 ghost use Rattle.task_sheet.specs.Indexes.{indexes_of};
 ghost use Rattle.task_sheet.specs.Locks.{uses, reaches, ceiling_of};
 ghost use Rattle.ceilings.specs.Table.{locks_in, users_in, some_uses, with_user, with_section, with_task};
@@ -45,7 +46,7 @@ impl LockUsers {
 
     // Notes the task at an index as a user of the locks of its sections.
     fn note_task(&mut self, index: usize, sheet: &Sheet) -> Result<(), AllocError>
-        requires { index < 32 }
+        requires { index < TASK_LIMIT }
         ensures { OnOk result (self.new ≡ with_task index self.old sheet.now) }
     {
         for section in sheet.sections() {
@@ -56,7 +57,7 @@ impl LockUsers {
 
     // Notes the task at an index as a user of the section's locks.
     fn note_section(&mut self, index: usize, section: &Section) -> Result<(), AllocError>
-        requires { index < 32 }
+        requires { index < TASK_LIMIT }
         ensures { OnOk result (self.new ≡ with_section index self.old section.now) }
     {
         for lock in &section.locks {
@@ -67,7 +68,7 @@ impl LockUsers {
 
     // Notes the task at an index as a user of the lock.
     fn note_user(&mut self, index: usize, lock: Name) -> Result<(), AllocError>
-        requires { index < 32 }
+        requires { index < TASK_LIMIT }
         ensures { OnOk result (self.new ≡ with_user index self.old lock) }
     {
         let users = self.users(lock).with(index);
@@ -107,7 +108,8 @@ impl LockUsers {
     /// The lock at a place in the order of first sight, from 0; none past the last.
     pub(crate) fn lock_at(&self, place: usize) -> Option<Name>
         ensures noted { result ≡ slice_get (locks_in self.now) place }
-        ensures first_sight { (U : List Task) → AreUsersOf U self.now → result ≡ slice_get (locks_of U) place }
+        ensures first_sight { (U : List Task) → AreUsersOf U self.now
+            → result ≡ slice_get (locks_of U) place }
     {
         match self.users.get_index(place) {
             Some((lock, _)) => Some(*lock),
@@ -134,8 +136,8 @@ impl LockUsers {
     /// The ceiling of a lock where the tasks stand in this order, lowest first: the level, from 1, of its highest user;
     /// none for a lock that nobody names.
     pub(crate) fn ceiling(&self, lock: Name, order: &[usize]) -> Option<u32>
-        requires within { All (λ index. index < 32) order.now }
-        requires few { length order.now ≤ 32 }
+        requires within { All (λ index. index < TASK_LIMIT) order.now }
+        requires few { length order.now ≤ TASK_LIMIT }
         ensures { (U : List Task) → AreUsersOf U self.now → result ≡ ceiling_of U order.now lock }
     {
         let users = self.users(lock);

@@ -22,7 +22,8 @@ fails_named U fails = map (fail_named U) fails
 
 -- a level, by its tasks' names
 abbrev pub level_named : List Task → LevelData → Level
-level_named U l = record { name = (task_at U l.task).name; time = time_of U l; fails = fails_named U l.fails }
+level_named U l =
+    record { name = (task_at U l.task).name; time = time_of U l; fails = fails_named U l.fails }
 
 -- levels, by their tasks' names
 abbrev pub levels_named : List Task → List LevelData → List Level

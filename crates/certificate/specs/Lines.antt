@@ -24,7 +24,8 @@ at_place p = record { parts = parts p.rest.now; line = p.line }
 
 infixl 10 ◌>>=◌
 -- goes on where there is no fault
-abbrev pub ◌>>=◌ : {A B : Type 0} → Result A CertFault → (A → Result B CertFault) → Result B CertFault
+abbrev pub ◌>>=◌ : {A B : Type 0} → Result A CertFault → (A → Result B CertFault)
+    → Result B CertFault
 (Ok x) >>= f = f x
 (Err e) >>= f = Err e
 
@@ -76,7 +77,8 @@ is_over xs = length (join_with_byte 10 xs) == 0
 unfoldable pub end_at : At → Result (Unit {0}) CertFault
 end_at a = do
   x ← line_at a
-  if bytes_eq x.0 (codes "end") then (if is_over x.1.parts then Ok tt else Err Trailing) else Err (BadLine a.line)
+  if bytes_eq x.0 (codes "end") then (if is_over x.1.parts then Ok tt else Err Trailing)
+      else Err (BadLine a.line)
 
 -- the number, if it is at most 32
 abbrev pub at_most_32 : Option ℕ → Option ℕ
@@ -163,7 +165,8 @@ body_case v None None a = Err (BadLine 2)
 unfoldable pub body_at : CertVersion → At → Result Body CertFault
 body_at v a = do
   second ← line_at a
-  body_case v (count_in (codes "best") (words second.0)) (count_in (codes "none") (words second.0)) second.1
+  body_case v (count_in (codes "best") (words second.0))
+      (count_in (codes "none") (words second.0)) second.1
 
 -- the version that a first line names
 abbrev pub version_in : List ℕ → Option CertVersion

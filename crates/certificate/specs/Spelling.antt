@@ -30,7 +30,8 @@ level_line k l = codes "level " ++ decimal k ++ 32 ∷ l.name ++ 32 ∷ decimal 
 -- the levels from k up
 abbrev pub level_lines : ℕ → List Level → List ℕ
 level_lines k [] = []
-level_lines k (l ∷ ls) = level_line k l ++ (fail_lines (codes "fails") l.fails ++ level_lines (k + 1) ls)
+level_lines k (l ∷ ls) =
+    level_line k l ++ (fail_lines (codes "fails") l.fails ++ level_lines (k + 1) ls)
 
 -- the first line without its end
 abbrev pub head_text : CertVersion → List ℕ
@@ -47,9 +48,11 @@ count_line word n = word ++ 32 ∷ decimal n ++ 10 ∷ []
 
 -- what follows the first line
 abbrev pub body_text : Body → List ℕ
-body_text (Best levels) = count_line (codes "best") (length levels) ++ (level_lines 1 levels ++ codes "end\n")
+body_text (Best levels) =
+    count_line (codes "best") (length levels) ++ (level_lines 1 levels ++ codes "end\n")
 body_text (NoOrder members) =
-    count_line (codes "none") (length members) ++ (fail_lines (codes "member") members ++ codes "end\n")
+    count_line (codes "none") (length members)
+    ++ (fail_lines (codes "member") members ++ codes "end\n")
 
 -- the bytes of a certificate
 abbrev pub spelling : Cert → List ℕ

@@ -28,7 +28,8 @@ numbers_in (w ∷ ws) = do
 abbrev pub over_in : List (List ℕ) → Option Reason
 over_in [] = None
 over_in (w ∷ []) = None
-over_in (w ∷ name ∷ []) = if bytes_eq w (codes "over") && is_name name then Some (Over name) else None
+over_in (w ∷ name ∷ []) =
+    if bytes_eq w (codes "over") && is_name name then Some (Over name) else None
 over_in (w ∷ name ∷ x ∷ xs) = None
 
 -- the same, from version 2 on

@@ -42,7 +42,8 @@ impl Certificate {
     /// The certificate of a verdict: its numbers and reasons, with the names of the tasks, of the version that serves the
     /// set. The error is want of memory.
     pub fn of(alloc: Global, verdict: &Verdict) -> Result<Certificate, AllocError>
-        ensures { IfOk result (λ c. c ≡ certificate_of (set_of verdict.now) (verdict_of verdict.now)) }
+        ensures { IfOk result (λ c. c ≡ certificate_of (set_of verdict.now)
+            (verdict_of verdict.now)) }
     {
         let set = verdict.set();
         // Its contract says that the set is one of at most 32 valid sheets.
@@ -67,7 +68,7 @@ impl Certificate {
         &self.body
     }
 
-    /// Writes the spelling, through a buffer of 4096 bytes. The error comes where the writer fails, or has failed:
+    /// Writes the spelling, through a buffer of 65,536 bytes. The error comes where the writer fails, or has failed:
     /// how much of the spelling went out is then open.
     pub fn write<W: Write + Drop>(&self, out: &mut Watched<W>) -> Result<(), WriteFailed>
         ensures written { OnOk result
@@ -85,7 +86,8 @@ impl Certificate {
 /// or want of memory.
 pub fn read(alloc: Global, bytes: &[u8]) -> Result<Certificate, CertFault>
     ensures found { IfOk result (λ c. (bytes.now ≡ spelling c) × HasSpelling c) }
-    ensures only { (c : Cert) → HasSpelling c → bytes.now ≡ spelling c → Gives (λ x. x) result (Ok c) }
+    ensures only { (c : Cert) → HasSpelling c → bytes.now ≡ spelling c
+        → Gives (λ x. x) result (Ok c) }
     ensures exact { Gives (λ c. c) result (certificate_in bytes.now) }
 {
     match certificate_in(alloc, bytes) {

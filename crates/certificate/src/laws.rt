@@ -7,7 +7,8 @@ ghost use Rattle.certificate.specs.declared.fault.CertFault.TheVariants.{Trailin
 
 /// No spelling is a proper prefix of another, and certificates with one spelling are equal.
 pub fn no_spelling_is_a_prefix()
-    ensures { (b c : Cert) (rest : List ℕ) → HasSpelling b → HasSpelling c → spelling c ≡ spelling b ++ rest
+    ensures { (b c : Cert) (rest : List ℕ) → HasSpelling b → HasSpelling c
+        → spelling c ≡ spelling b ++ rest
         → (rest ≡ []) × (b ≡ c) }
 {}
 

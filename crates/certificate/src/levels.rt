@@ -89,7 +89,8 @@ pub fn levels<'a>(
     at: Place<'a>,
 ) -> Result<(Vec<CertLevel>, Place<'a>), CertFault>
     requires { count ≤ 32 }
-    ensures { Gives (λ x. (x.0.items, at_place x.1)) result (levels_at version count 1 (at_place at.entry)) }
+    ensures { Gives (λ x. (x.0.items, at_place x.1)) result
+        (levels_at version count 1 (at_place at.entry)) }
 {
     let mut levels = Vec::new(alloc);
     let mut at = at;

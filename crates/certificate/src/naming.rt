@@ -104,7 +104,8 @@ fn stuck_named(alloc: Global, stuck: &Obstruction) -> Result<Vec<CertFail>, Allo
 
 /// What the certificate of a verdict says.
 pub fn body_of(alloc: Global, verdict: &Verdict) -> Result<CertBody, AllocError>
-    ensures { IfOk result (λ body. body_of body ≡ body_named (set_of verdict.now) (verdict_of verdict.now)) }
+    ensures { IfOk result (λ body. body_of body
+        ≡ body_named (set_of verdict.now) (verdict_of verdict.now)) }
 {
     match verdict {
         Verdict::Admitted(best) => Ok(CertBody::Best(best_named(alloc, best)?)),

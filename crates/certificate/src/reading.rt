@@ -42,7 +42,8 @@ pub fn members<'a>(
     count: u64,
     at: Place<'a>,
 ) -> Result<(Vec<CertFail>, Place<'a>), CertFault>
-    ensures { Gives (λ x. (x.0.items, at_place x.1)) result (members_at version count (at_place at.entry)) }
+    ensures { Gives (λ x. (x.0.items, at_place x.1)) result
+        (members_at version count (at_place at.entry)) }
 {
     let mut members = Vec::new(alloc);
     let mut at = at;

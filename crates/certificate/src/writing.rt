@@ -23,7 +23,8 @@ fn put_number<W: Write + Drop>(
     out: &mut Watched<W>,
 ) -> Result<(), WriteFailed>
     ensures sent { OnOk result
-        (Sends (W.contents out.old.inner) held.old (W.contents out.new.inner) held.new (decimal number)) }
+        (Sends (W.contents out.old.inner) held.old (W.contents out.new.inner) held.new
+        (decimal number)) }
     ensures ok { OnOk result (out.new.has_failed ≡ out.old.has_failed) }
     ensures failed { OnErr result (out.new.has_failed ≡ true) }
 {
@@ -37,7 +38,8 @@ fn put_name<W: Write + Drop>(
     held: &mut Held,
     out: &mut Watched<W>,
 ) -> Result<(), WriteFailed>
-    ensures sent { OnOk result (Sends (W.contents out.old.inner) held.old (W.contents out.new.inner) held.new name) }
+    ensures sent { OnOk result (Sends (W.contents out.old.inner) held.old
+        (W.contents out.new.inner) held.new name) }
     ensures ok { OnOk result (out.new.has_failed ≡ out.old.has_failed) }
     ensures failed { OnErr result (out.new.has_failed ≡ true) }
 {
@@ -51,7 +53,8 @@ fn put_numbers<W: Write + Drop>(
     out: &mut Watched<W>,
 ) -> Result<(), WriteFailed>
     ensures sent { OnOk result
-        (Sends (W.contents out.old.inner) held.old (W.contents out.new.inner) held.new (numbers_text numbers.now)) }
+        (Sends (W.contents out.old.inner) held.old (W.contents out.new.inner) held.new
+        (numbers_text numbers.now)) }
     ensures ok { OnOk result (out.new.has_failed ≡ out.old.has_failed) }
     ensures failed { OnErr result (out.new.has_failed ≡ true) }
 {
@@ -162,7 +165,8 @@ fn put_level<W: Write + Drop>(
     out: &mut Watched<W>,
 ) -> Result<(), WriteFailed>
     ensures sent { OnOk result
-        (Sends (W.contents out.old.inner) held.old (W.contents out.new.inner) held.new (level_line k level.now)) }
+        (Sends (W.contents out.old.inner) held.old (W.contents out.new.inner) held.new
+        (level_line k level.now)) }
     ensures ok { OnOk result (out.new.has_failed ≡ out.old.has_failed) }
     ensures failed { OnErr result (out.new.has_failed ≡ true) }
 {
@@ -177,7 +181,8 @@ fn put_levels<W: Write + Drop>(
     out: &mut Watched<W>,
 ) -> Result<(), WriteFailed>
     ensures sent { OnOk result
-        (Sends (W.contents out.old.inner) held.old (W.contents out.new.inner) held.new (level_lines 1 levels.now)) }
+        (Sends (W.contents out.old.inner) held.old (W.contents out.new.inner) held.new
+        (level_lines 1 levels.now)) }
     ensures ok { OnOk result (out.new.has_failed ≡ out.old.has_failed) }
     ensures failed { OnErr result (out.new.has_failed ≡ true) }
 {
@@ -196,7 +201,8 @@ fn put_count<W: Write + Drop>(
     out: &mut Watched<W>,
 ) -> Result<(), WriteFailed>
     ensures sent { OnOk result
-        (Sends (W.contents out.old.inner) held.old (W.contents out.new.inner) held.new (count_line word.now count)) }
+        (Sends (W.contents out.old.inner) held.old (W.contents out.new.inner) held.new
+        (count_line word.now count)) }
     ensures ok { OnOk result (out.new.has_failed ≡ out.old.has_failed) }
     ensures failed { OnErr result (out.new.has_failed ≡ true) }
 {
@@ -212,8 +218,10 @@ fn put_best<W: Write + Drop>(
     held: &mut Held,
     out: &mut Watched<W>,
 ) -> Result<(), WriteFailed>
-    ensures sent { OnOk result (Sends (W.contents out.old.inner) held.old (W.contents out.new.inner) held.new
-        (count_line (codes "best") (length levels.now) ++ (level_lines 1 levels.now ++ codes "end\n"))) }
+    ensures sent { OnOk result (Sends (W.contents out.old.inner) held.old
+        (W.contents out.new.inner) held.new
+        (count_line (codes "best") (length levels.now)
+        ++ (level_lines 1 levels.now ++ codes "end\n"))) }
     ensures ok { OnOk result (out.new.has_failed ≡ out.old.has_failed) }
     ensures failed { OnErr result (out.new.has_failed ≡ true) }
 {
@@ -228,7 +236,8 @@ fn put_none<W: Write + Drop>(
     held: &mut Held,
     out: &mut Watched<W>,
 ) -> Result<(), WriteFailed>
-    ensures sent { OnOk result (Sends (W.contents out.old.inner) held.old (W.contents out.new.inner) held.new
+    ensures sent { OnOk result (Sends (W.contents out.old.inner) held.old
+        (W.contents out.new.inner) held.new
         (count_line (codes "none") (length members.now)
         ++ (fail_lines (codes "member") members.now ++ codes "end\n"))) }
     ensures ok { OnOk result (out.new.has_failed ≡ out.old.has_failed) }
@@ -246,7 +255,8 @@ fn put_body<W: Write + Drop>(
     out: &mut Watched<W>,
 ) -> Result<(), WriteFailed>
     ensures sent { OnOk result
-        (Sends (W.contents out.old.inner) held.old (W.contents out.new.inner) held.new (body_text (body_of body.now))) }
+        (Sends (W.contents out.old.inner) held.old (W.contents out.new.inner) held.new
+        (body_text (body_of body.now))) }
     ensures ok { OnOk result (out.new.has_failed ≡ out.old.has_failed) }
     ensures failed { OnErr result (out.new.has_failed ≡ true) }
 {
@@ -263,7 +273,8 @@ fn put_head<W: Write + Drop>(
     out: &mut Watched<W>,
 ) -> Result<(), WriteFailed>
     ensures sent { OnOk result
-        (Sends (W.contents out.old.inner) held.old (W.contents out.new.inner) held.new (head_line version)) }
+        (Sends (W.contents out.old.inner) held.old (W.contents out.new.inner) held.new
+        (head_line version)) }
     ensures ok { OnOk result (out.new.has_failed ≡ out.old.has_failed) }
     ensures failed { OnErr result (out.new.has_failed ≡ true) }
 {
@@ -281,7 +292,8 @@ pub fn put_certificate<W: Write + Drop>(
     out: &mut Watched<W>,
 ) -> Result<(), WriteFailed>
     ensures sent { let c : Cert = record { version = version; body = body_of body.now } in OnOk result
-        (Sends (W.contents out.old.inner) held.old (W.contents out.new.inner) held.new (spelling c)) }
+        (Sends (W.contents out.old.inner) held.old (W.contents out.new.inner) held.new
+        (spelling c)) }
     ensures ok { OnOk result (out.new.has_failed ≡ out.old.has_failed) }
     ensures failed { OnErr result (out.new.has_failed ≡ true) }
 {

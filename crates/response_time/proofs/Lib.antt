@@ -1,3 +1,4 @@
 pub mod Shares
 pub mod LeastWindows
 pub mod FirstCovers
+pub mod Walks

@@ -4,7 +4,7 @@ use Rattle.std.proofs.Math.ListN.{set}
 use Rattle.std.proofs.lemmas.Bool.{cases_lt}
 use Rattle.std.proofs.lemmas.List.{take_more, take_more_set, drop_more, get_or_at, length-map, length-take}
 use Rattle.std.proofs.lemmas.List.Edits.{map_over_more}
-use Rattle.std.proofs.lemmas.List.Elements.{All-map}
+use Rattle.std.proofs.lemmas.List.Elements.{All-map, All-push}
 use Rattle.std.proofs.lemmas.List.Sums.{sum_by-cons, sum_by_push}
 use Rattle.std.proofs.lemmas.Grind.{div_ceil_times}
 use Rattle.std.proofs.Math.Nat.{mul-le-mul_left, mul-le-mul_right}
@@ -56,17 +56,21 @@ further p before time pos le =
     ceil_unique (n + k) (div_ceil time p) p time (omega (arith, rest.0)) bound whole.0 whole.1
 
 module _ (before time : ℕ) (le : before ≤ time) where
+  -- what is left of the window past the jobs that are counted
+  rest : (s : ShareData) → IsCountedTo before s → time - s.due ≡ time + s.jitter - div_ceil (before + s.jitter) s.period * s.period
+  rest s h = omega (arith, h.all)
+
   pub IsCountedTo-further : (s : ShareData) → IsCountedTo before s → IsCountedTo time (counted_to time s)
   IsCountedTo-further s h = record {
     some = h.some;
     short = h.short;
     late = h.late;
     within = h.within;
-    all = rw (h.all, ← further s.period (before + s.jitter) (time + s.jitter) h.some (omega arith)) (omega arith);
+    all = rw (rest s h, ← further s.period (before + s.jitter) (time + s.jitter) h.some (omega arith)) (omega (arith, h.all));
   }
 
   pub share_within-further : (s : ShareData) → IsCountedTo before s → share_within before s + further_work time s ≡ share_within time s
-  share_within-further s h = rw (h.all, ← further s.period (before + s.jitter) (time + s.jitter) h.some (omega arith)) (omega arith)
+  share_within-further s h = rw (rest s h, ← further s.period (before + s.jitter) (time + s.jitter) h.some (omega arith)) (omega arith)
 
   pub sum-further : (shares : List ShareData) → All (IsCountedTo before) shares
       → sum_by (share_within before) shares + sum_by (further_work time) shares ≡ sum_by (share_within time) shares
@@ -90,22 +94,27 @@ sum-fits before time (s ∷ shares) le h =
     let rest = sum-fits before time shares le (λ k d lt. h (suc k) d (omega arith)) in
     rw (sum_by-cons (share_within time) s shares) (omega arith)
 
--- where no job is counted yet, the first window's are
-pub IsCountedTo-first : (s : ShareData) (time : ℕ) → IsShare s → s.end ≡ 0 → IsCountedTo time (counted_to time s)
-IsCountedTo-first s time h none =
-    let whole : time + s.jitter - s.end ≡ time + s.jitter = omega (arith, none) in
+-- up to the window within which no further job is released a share takes the same
+pub share_within-still : (s : ShareData) (first time : ℕ) → IsCountedTo first s → first ≤ time → time ≤ s.due → share_within time s ≡ share_within first s
+share_within-still s first time h le short =
+    let n = div_ceil (first + s.jitter) s.period in
+    let m = div_ceil (time + s.jitter) s.period in
+    let start = div_ceil_times (first + s.jitter) s.period h.some in
+    let end = div_ceil_times (time + s.jitter) s.period h.some in
+    ap (λ k. k * s.cost) (ceil_unique m n s.period (time + s.jitter) end.0 end.1 (omega (arith, h.all, short)) (omega (arith, start.1, le)))
+
+-- a share that is counted to a window, of so many jobs
+pub IsCountedTo-of : (s : ShareData) (time jobs : ℕ) → IsShare s → jobs ≡ div_ceil (time + s.jitter) s.period → s.due ≡ jobs * s.period - s.jitter → IsCountedTo time s
+IsCountedTo-of s time jobs h is due =
+    let up = (div_ceil_times (time + s.jitter) s.period h.some).0 in
+    let same : jobs * s.period ≡ div_ceil (time + s.jitter) s.period * s.period = ap (λ n. n * s.period) is in
     record {
       some = h.some;
       short = h.short;
       late = h.late;
       within = h.within;
-      all = rw (whole, none) (omega arith);
+      all = omega (arith, up, same, due);
     }
-
-pub share_within-first : (s : ShareData) (time : ℕ) → s.end ≡ 0 → further_work time s ≡ share_within time s
-share_within-first s time none =
-    let whole : time + s.jitter - s.end ≡ time + s.jitter = omega (arith, none) in
-    rw whole refl
 
 pub IsCarried-further : (w v : WorkloadData) → IsCarried w → w.time ≤ v.time → v.always ≡ w.always → v.shares ≡ map (counted_to v.time) w.shares
     → v.total ≡ w.total + sum_by (further_work v.time) w.shares → IsCarried v
@@ -127,3 +136,12 @@ share_counted time old shares i s lt h is =
       map_over_more (counted_to time) old shares i s lt h is,
       rw (take_more old i s lt, ← read) (sum_by_push (further_work time) (take i old) s),
     )
+
+-- one share more is carried
+pub IsCarried-added : (always time total work i : ℕ) (shares : List ShareData) (s : ShareData) → i < length shares
+    → IsCarried record { always = always; shares = take i shares; time = time; total = total } → IsCountedTo time s → work ≡ share_within time s
+    → IsCarried record { always = always; shares = take (i + 1) (set shares i s); time = time; total = total + work }
+IsCarried-added always time total work i shares s lt h counted is = record {
+  counted = rw (take_more_set shares i s lt) (All-push (IsCountedTo time) (take i shares) s h.counted counted);
+  total = omega (arith, h.total, is, share_added time shares i s lt);
+}

@@ -1,25 +1,28 @@
--- The demand of a task in a window, from its parts, and how it is carried from a window to a longer one.
+-- The demand of a task in a window, from its parts, and how it is carried from a window to a longer
+-- one.
 use Rattle.std.specs.Prelude.{◌≡◌, ℕ, ◌+◌, ◌-◌, ◌*◌, ◌<◌, ◌≤◌, List, All, sum_by}
 use Rattle.std.specs.Int.{div_ceil}
 use Rattle.task_sheet.specs.Demand.{jobs_within}
+use Rattle.response_time.specs.declared.workload.TheConstants.{WINDOW_LIMIT}
 
--- how often a task above comes, how late at most, what it takes each time, and the end of the last period whose job is
--- counted
+-- how often a task above comes, how late at most, what it takes each time, and the longest window
+-- within which no job is released but those that are counted
 pub record ShareData : Type 0 where
   pub period : ℕ
   pub jitter : ℕ
   pub cost : ℕ
-  pub end : ℕ
+  pub due : ℕ
 
 -- within the limits of a sheet, and of the windows that serve a task
 pub record IsShare (s : ShareData) : Type 0 where
   pub some : 0 < s.period
-  pub short : s.period ≤ 10000000
+  pub short : s.period ≤ WINDOW_LIMIT
   pub late : s.jitter ≤ s.period
   pub within : s.cost ≤ s.period
-  pub reach : s.end ≤ 30000000
+  pub reach : s.due ≤ 3 * WINDOW_LIMIT
 
--- what is executed once, the cost and the blocking, the shares of the tasks above, and the demand in the last window
+-- what is executed once, the shares of the tasks above that release more and more, and the demand
+-- in the last window
 pub record WorkloadData : Type 0 where
   pub always : ℕ
   pub shares : List ShareData
@@ -37,7 +40,7 @@ work_within time w = w.always + sum_by (share_within time) w.shares
 -- ---- from a window to a longer one
 -- how many jobs of a share are released within the window after those that are counted
 abbrev pub further_jobs : ℕ → ShareData → ℕ
-further_jobs time s = div_ceil (time + s.jitter - s.end) s.period
+further_jobs time s = div_ceil (time - s.due) s.period
 
 -- what they take
 abbrev pub further_work : ℕ → ShareData → ℕ
@@ -49,16 +52,16 @@ counted_to time s = record {
   period = s.period;
   jitter = s.jitter;
   cost = s.cost;
-  end = s.end + further_jobs time s * s.period;
+  due = s.due + further_jobs time s * s.period;
 }
 
 -- the jobs within the window are counted, and no other; the share is within the limits of a sheet
 pub record IsCountedTo (time : ℕ) (s : ShareData) : Type 0 where
   pub some : 0 < s.period
-  pub short : s.period ≤ 10000000
+  pub short : s.period ≤ WINDOW_LIMIT
   pub late : s.jitter ≤ s.period
   pub within : s.cost ≤ s.period
-  pub all : s.end ≡ jobs_within s.period s.jitter time * s.period
+  pub all : s.due + s.jitter ≡ jobs_within s.period s.jitter time * s.period
 
 -- the demand is that of the last window
 pub record IsCarried (w : WorkloadData) : Type 0 where

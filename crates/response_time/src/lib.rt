@@ -5,6 +5,7 @@
 ghost use Rattle.std.specs.Prelude.{◌≡◌, ◌≤◌, ◌<◌, ◌↔◌, ℕ, List, length, IsTrue, IfOk, IfSome, IfNone};
 ghost use Rattle.task_sheet.specs.Sheet.{task_at};
 ghost use Rattle.task_sheet.specs.TaskSet.{IsTaskSet};
+ghost use Rattle.response_time.specs.declared.workload.TheConstants.{WINDOW_LIMIT};
 ghost use Rattle.task_sheet.specs.Indexes.{indexes_of};
 ghost use Rattle.task_sheet.specs.Responses.{IsTrail};
 ghost use Rattle.task_sheet.specs.Demand.{demand_of, limit_of, IsResponseOf, Passes, evaluation_bound};
@@ -41,7 +42,7 @@ fn limit_of(set: &TaskSet, task: usize) -> u64
     requires { task < length set.now }
     ensures is { result ≡ limit_of (task_at set.now task) }
     ensures some { 0 < result }
-    ensures short { result ≤ 10000000 }
+    ensures short { result ≤ WINDOW_LIMIT }
     ensures kept { IsTaskSet set.now }
 {
     set.sheets()[task].limit()
@@ -51,7 +52,7 @@ fn limit_of(set: &TaskSet, task: usize) -> u64
 fn jitter_of(set: &TaskSet, task: usize) -> u64
     requires { task < length set.now }
     ensures is { result ≡ (task_at set.now task).jitter }
-    ensures short { result ≤ 10000000 }
+    ensures short { result ≤ WINDOW_LIMIT }
 {
     set.sheets()[task].jitter()
 }
@@ -61,10 +62,10 @@ fn jitter_of(set: &TaskSet, task: usize) -> u64
 pub fn demand(set: &TaskSet, table: &LockTable, task: usize, above: Members, time: u64) -> u64
     requires table { IsTableOf set.now table.now }
     requires task { task < length set.now }
-    requires time { time ≤ 10000000 }
+    requires time { time ≤ WINDOW_LIMIT }
     ensures { result ≡ demand_of set.now task (indexes_of above) time }
 {
-    Workload::new(set, table, task, above).advance(time)
+    Workload::new(set, table, task, above, time, time).advance(time)
 }
 
 /// The response of a task with these above it, in microseconds from the arrival; none where it does not pass
@@ -84,8 +85,8 @@ pub fn response_in_time(
     ensures passes { IfSome result (λ _. Passes set.now task (indexes_of above)) }
     ensures none { IfNone result (¬ Passes set.now task (indexes_of above)) }
 {
-    let mut work = Workload::new(set, table, task, above);
     let limit = limit_of(set, task);
+    let mut work = Workload::new(set, table, task, above, 1, limit);
     let mut window = work.first_window(limit);
     while window <= limit {
         let next = work.advance(window);
@@ -122,13 +123,15 @@ pub fn respond(
     ensures answer { IfOk result (λ r.
         IsAnswer set.now task (indexes_of above) r.answer) }
     ensures evaluations { IfOk result (λ r. (trail : List ℕ)
-        × IsTrail (demand_of set.now task (indexes_of above)) (limit_of (task_at set.now task)) trail
+        × IsTrail (demand_of set.now task (indexes_of above)) (limit_of (task_at set.now task))
+        trail
         × (r.evaluations ≡ length trail)) }
     ensures bound { IfOk result (λ r.
-        r.evaluations ≤ evaluation_bound set.now (indexes_of above) (limit_of (task_at set.now task))) }
+        r.evaluations
+        ≤ evaluation_bound set.now (indexes_of above) (limit_of (task_at set.now task))) }
 {
-    let mut work = Workload::new(set, table, task, above);
     let limit = limit_of(set, task);
+    let mut work = Workload::new(set, table, task, above, 1, limit);
     let mut numbers = Vec::new(alloc);
     let mut time = 1;
     while time <= limit {

@@ -55,7 +55,7 @@ AllChosen-best U order chosen none =
     }
 
 -- ---- two orders of one set are the same, or one is better
-compare_orders : (L : Indexes) (xs ys : List ℕ) → IsOrderOf L xs → IsOrderOf L ys → (xs ≡ ys) ⊎ (IsBetter xs ys ⊎ IsBetter ys xs)
+pub compare_orders : (L : Indexes) (xs ys : List ℕ) → IsOrderOf L xs → IsOrderOf L ys → (xs ≡ ys) ⊎ (IsBetter xs ys ⊎ IsBetter ys xs)
 compare_orders L [] [] first second = inl refl
 compare_orders L [] (y ∷ ys) first second =
     absurd (omega (arith, first y, cond-true {A = ℕ} (L y) 1 0 (IsOrderOf-head L y ys second)))

@@ -1,17 +1,18 @@
 -- Sheets and the first that repeats a name; sheets sorted by rank are a set.
-use Rattle.std.proofs.Common.{◌≡◌, ℕ, suc, ◌+◌, ◌<◌, ◌≤◌, Bool, true, false, cond, ◌||◌, List, [], ◌∷◌, ◌++◌, length, get_or, take, drop, Some, None, Ordering, Less, Equal, Greater, refl, sym, ◌∙◌, ap, subst, arith, not, length-append}
+use Rattle.std.proofs.Common.{◌≡◌, ℕ, suc, ◌+◌, ◌<◌, ◌≤◌, Bool, true, false, cond, ◌||◌, List, [], ◌∷◌, ◌++◌, length, get_or, take, drop, Option, Some, None, Ordering, Less, Equal, Greater, refl, sym, ◌∙◌, ap, subst, arith, not, length-append}
 use Rattle.std.specs.List.{list_any, filter, AllByRecursion, All}
 use Rattle.std.specs.List.Sorted.{IsPermutation, IsSortedBy, IsStrictlySortedBy}
 use Rattle.std.specs.Ordering.{nat_cmp, is_lt, is_eq, ordering_then, ordering_reverse}
 use Rattle.std.specs.Cmp.{IsTotalOrder, IsStrictWeakOrder, then_total, on_total, nat_cmp_total}
 use Rattle.std.specs.Cmp.Lexicographic.{slice_cmp, nat_list_cmp_total, nat_list_eq_equiv, texts_ties}
-use Rattle.std.proofs.lemmas.Bool.{false≢true, or_parts}
+use Rattle.std.proofs.lemmas.Bool.{false≢true, le-ltb, or_parts}
 use Rattle.std.proofs.lemmas.List.{append-nil, drop_more, take_more}
 use Rattle.std.proofs.lemmas.List.Folds.{list_any-append}
 use Rattle.std.proofs.lemmas.List.Elements.{recursion_from_All, All-push, All-filter, filter_more}
 use Rattle.std.proofs.lemmas.List.Sorted.{All-permutation, length_permutation, IsPermutation-sym, IsPermutation-trans, ranks_by, sorted_far}
 use Rattle.task_sheet.specs.Sheet.{Task, IsValidSheet, same_bytes}
 use Rattle.task_sheet.specs.TaskSet.{first_repeat, has_name, others_of, same_name, rank_cmp, AreDistinct, IsTaskSet, IsByRank}
+use Rattle.task_sheet.specs.SheetsFault.{set_cause, sheets_fault}
 use Rattle.task_sheet.proofs.Distinct.{AreDistinct-permutation}
 use Rattle.task_sheet.proofs.Unique.{sorted_unique}
 use Rattle.std.proofs.lemmas.List.Kept.{IsStrictlySortedBy-filter}
@@ -125,6 +126,29 @@ no_repeat seen place (x ∷ xs) h =
 
 pub distinct_new : (xs : List Task) → first_repeat [] 1 xs ≡ None → AreDistinct same_name xs
 distinct_new xs h = (no_repeat [] 1 xs h).1
+
+-- ---- distinct names repeat none
+
+none_seen : (xs : List Task) → Unseen [] xs
+none_seen [] = tt
+none_seen (x ∷ xs) = (refl, none_seen xs)
+
+unseen_more : (seen : List Task) (x : Task) (xs : List Task) → Unseen seen xs → AllByRecursion (λ y. same_name x y ≡ false) xs → Unseen (seen ++ x ∷ []) xs
+unseen_more seen x [] unseen apart = tt
+unseen_more seen x (y ∷ ys) unseen apart = (
+  list_any-append (λ (z : Task). same_bytes z.name y.name) seen (x ∷ []) ∙ rw unseen.0 (rw apart.0 refl),
+  unseen_more seen x ys unseen.1 apart.1,
+)
+
+never_repeats : (seen : List Task) (place : ℕ) (xs : List Task) → Unseen seen xs → AreDistinct same_name xs → first_repeat seen place xs ≡ None
+never_repeats seen place [] unseen distinct = refl
+never_repeats seen place (x ∷ xs) unseen distinct =
+    rw unseen.0 (never_repeats (seen ++ x ∷ []) (place + 1) xs (unseen_more seen x xs unseen.1 distinct.0) distinct.1)
+
+-- so many sheets of distinct names have no fault
+pub no_fault : (xs : List Task) → AreDistinct same_name xs → length xs ≤ 32 → sheets_fault xs ≡ None
+no_fault xs distinct few =
+    ap (λ (o : Option ℕ). set_cause o xs) (never_repeats [] 1 xs (none_seen xs) distinct) ∙ rw (le-ltb 32 (length xs) few) refl
 
 -- ---- the set of some sheets
 

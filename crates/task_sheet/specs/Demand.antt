@@ -36,7 +36,8 @@ longest_reached U X t = greatest_of (λ s. if reaches U X s then s.len else 0) t
 -- the longest section of a task outside H and other than i that H with i reaches; 0 if there is none
 unfoldable pub blocking_of : List Task → ℕ → Indexes → ℕ
 blocking_of U i H =
-    greatest_below (length U) (λ k. if with_index H i k then 0 else longest_reached U (with_index H i) (task_at U k))
+    greatest_below (length U) (λ k. if with_index H i k then 0
+    else longest_reached U (with_index H i) (task_at U k))
 
 -- a section that can block: one of a task outside H and other than i, reached by H with i
 pub record Blocks (U : List Task) (i : ℕ) (H : Indexes) (s : CriticalSection) : Type 0 where
@@ -53,7 +54,8 @@ interference_of t time = releases_within t time * t.cost
 
 -- what the jobs of the tasks H can execute in a window
 abbrev pub interference_within : List Task → Indexes → ℕ → ℕ
-interference_within U H time = sum_below (length U) (λ h. if H h then interference_of (task_at U h) time else 0)
+interference_within U H time =
+    sum_below (length U) (λ h. if H h then interference_of (task_at U h) time else 0)
 
 -- cost, blocking, and the interference of the tasks above
 unfoldable pub demand_of : List Task → ℕ → Indexes → ℕ → ℕ
@@ -71,7 +73,8 @@ Passes U i H = Covers (demand_of U i H) (limit_of (task_at U i))
 
 -- the same as a test
 unfoldable pub does_pass : List Task → ℕ → Indexes → Bool
-does_pass U i H = some_below (limit_of (task_at U i) + 1) (λ t. nat_le 1 t && nat_le (demand_of U i H t) t)
+does_pass U i H =
+    some_below (limit_of (task_at U i) + 1) (λ t. nat_le 1 t && nat_le (demand_of U i H t) t)
 
 -- two more than how often the tasks of H are released at most within the limit, beyond the releases within the first
 -- tick

@@ -25,7 +25,8 @@ reaches U X s = some_below (length U) (λ k. X k && shares_lock (task_at U k) s)
 abbrev pub ceiling_from : ℕ → List Task → List ℕ → List ℕ → Option ℕ
 ceiling_from level U [] lock = None
 ceiling_from level U (i ∷ order) lock =
-    option_or (ceiling_from (level + 1) U order lock) (if uses (task_at U i) lock then Some level else None)
+    option_or (ceiling_from (level + 1) U order lock)
+    (if uses (task_at U i) lock then Some level else None)
 
 -- the ceiling of a lock in an order, lowest first: the level of its highest user, from 1
 abbrev pub ceiling_of : List Task → List ℕ → List ℕ → Option ℕ
@@ -35,4 +36,5 @@ ceiling_of U order lock = ceiling_from 1 U order lock
 pub record IsHighestUser (U : List Task) (order : List ℕ) (lock : List ℕ) (place : ℕ) : Type 0 where
   pub in_order : place < length order
   pub user : uses (task_at U (slice_index order place)) lock ≡ true
-  pub none_above : (k : ℕ) → place < k → k < length order → uses (task_at U (slice_index order k)) lock ≡ false
+  pub none_above : (k : ℕ) → place < k → k < length order
+      → uses (task_at U (slice_index order k)) lock ≡ false

@@ -30,7 +30,8 @@ time_of U level = past_jitter (task_at U level.task) level.response
 pub record IsReadyLevel (U : List Task) (L : Indexes) (level : LevelData) : Type 0 where
   pub positive : 1 ≤ time_of U level
   pub within : time_of U level ≤ limit_of (task_at U level.task)
-  pub covers : demand_of U level.task (without_index L level.task) (time_of U level) ≤ time_of U level
+  pub covers : demand_of U level.task (without_index L level.task)
+      (time_of U level) ≤ time_of U level
   pub unbound : IsFalse (is_bound U level.task (without_index L level.task))
   pub lesser : tasks_of level.fails ≡ listed_below level.task L
   pub refuted : AllRefuted U L level.fails
@@ -38,7 +39,8 @@ pub record IsReadyLevel (U : List Task) (L : Indexes) (level : LevelData) : Type
 -- each level is ready, from the lowest up
 abbrev pub AllReady : List Task → Indexes → List LevelData → Type 0
 AllReady U L [] = Unit {0}
-AllReady U L (level ∷ levels) = IsReadyLevel U L level × AllReady U (without_index L level.task) levels
+AllReady U L (level ∷ levels) =
+    IsReadyLevel U L level × AllReady U (without_index L level.task) levels
 
 -- an order, each of whose levels is ready
 pub record IsReadyOrder (U : List Task) (levels : List LevelData) : Type 0 where

@@ -22,7 +22,8 @@ pub record Task : Type 0 where
   pub outranks : List (List ℕ)
 
 -- the task of these values, without jitter, which names no task above which it must stand
-abbrev pub task_of : (name : List ℕ) (weight period deadline cost : ℕ) (sections : List CriticalSection) → Task
+abbrev pub task_of : (name : List ℕ) (weight period deadline cost : ℕ)
+    (sections : List CriticalSection) → Task
 task_of name weight period deadline cost sections =
     record {
       name = name;
@@ -42,6 +43,10 @@ with_jitter s jitter = record s { jitter = jitter }
 -- the same task with these names of tasks above which it must stand
 abbrev pub outranking : Task → List (List ℕ) → Task
 outranking s names = record s { outranks = names }
+
+-- the same task with this weight
+abbrev pub weighing : Task → ℕ → Task
+weighing s weight = record s { weight = weight }
 
 -- the bytes are the same, as a test
 abbrev pub same_bytes : List ℕ → List ℕ → Bool

@@ -13,9 +13,13 @@ section_equiv = and_equiv (on_equiv (λ s. s.locks) (lists_equiv nat_list_eq_equ
     (and_equiv (on_equiv (λ s. s.at) nat_eq_equiv) (on_equiv (λ s. s.len) nat_eq_equiv))
 
 sheet_equiv : IsEquivalence same_sheet
-sheet_equiv = and_equiv (on_equiv (λ s. s.name) nat_list_eq_equiv) (and_equiv (on_equiv (λ s. s.weight) nat_eq_equiv)
-    (and_equiv (on_equiv (λ s. s.period) nat_eq_equiv) (and_equiv (on_equiv (λ s. s.deadline) nat_eq_equiv)
-    (and_equiv (on_equiv (λ s. s.cost) nat_eq_equiv) (and_equiv (on_equiv (λ s. s.jitter) nat_eq_equiv)
+sheet_equiv =
+    and_equiv (on_equiv (λ s. s.name) nat_list_eq_equiv)
+    (and_equiv (on_equiv (λ s. s.weight) nat_eq_equiv)
+    (and_equiv (on_equiv (λ s. s.period) nat_eq_equiv)
+    (and_equiv (on_equiv (λ s. s.deadline) nat_eq_equiv)
+    (and_equiv (on_equiv (λ s. s.cost) nat_eq_equiv)
+    (and_equiv (on_equiv (λ s. s.jitter) nat_eq_equiv)
     (and_equiv (on_equiv (λ s. s.sections) (lists_equiv section_equiv))
     (on_equiv (λ s. s.outranks) (lists_equiv nat_list_eq_equiv))))))))
 
@@ -28,7 +32,8 @@ same_sheet_laws = partial_equiv_from_equiv sheet_equiv
 -- an equivalence whose answer true gives equality decides equality
 decides : {X : Type 0} (E : X → X → Bool) → IsEquivalence E → (x y : X) → (E x y ≡ true → x ≡ y)
     → Decides (E x y) (x ≡ y)
-decides {X} E e x y same = let P : X → Type 0 = λ z. E x z ≡ true in (same, λ q. subst P q (e.refl x))
+decides {X} E e x y same = let P : X → Type 0 =
+    λ z. E x z ≡ true in (same, λ q. subst P q (e.refl x))
 
 pub same_section-Decides : (x y : CriticalSection) → Decides (same_section x y) (x ≡ y)
 same_section-Decides x y = decides same_section section_equiv x y (λ h.

@@ -38,11 +38,13 @@ numbers_fault weight period deadline cost =
 
 -- the first fault of the list of sections
 abbrev pub list_fault : (cost : ℕ) → List CriticalSection → Option SheetCause
-list_fault cost xs = if nat_lt 8 (length xs) then Some cause.TooManySections else sections_fault 1 0 cost xs
+list_fault cost xs =
+    if nat_lt 8 (length xs) then Some cause.TooManySections else sections_fault 1 0 cost xs
 
 -- the first reason why the values are no sheet
 abbrev pub sheet_fault : Task → Option SheetCause
-sheet_fault s = option_or (numbers_fault s.weight s.period s.deadline s.cost) (list_fault s.cost s.sections)
+sheet_fault s =
+    option_or (numbers_fault s.weight s.period s.deadline s.cost) (list_fault s.cost s.sections)
 
 -- the first reason why the task of a name can't be one that must stand above the tasks of these names
 abbrev pub outranks_fault : (own : List ℕ) → List (List ℕ) → Option OutranksCause

@@ -29,7 +29,9 @@ root_keys = key.Task ∷ []
 
 -- the keys of a task's table
 abbrev pub task_keys : List Key
-task_keys = key.Name ∷ key.Weight ∷ key.Period ∷ key.Deadline ∷ key.Cost ∷ key.Section ∷ key.Jitter ∷ key.Outranks ∷ []
+task_keys =
+    key.Name ∷ key.Weight ∷ key.Period ∷ key.Deadline ∷ key.Cost ∷ key.Section ∷ key.Jitter
+    ∷ key.Outranks ∷ []
 
 -- those that it needs
 abbrev pub needed_keys : List Key

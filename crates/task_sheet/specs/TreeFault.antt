@@ -48,13 +48,15 @@ section_tables_fault task place (ms ∷ more) =
 -- the place of the first section with a lock whose name is no name, where the first stands at a place
 abbrev pub bad_section : ℕ → List CriticalSection → Option ℕ
 bad_section place [] = None
-bad_section place (x ∷ xs) = if list_all is_name x.locks then bad_section (place + 1) xs else Some place
+bad_section place (x ∷ xs) =
+    if list_all is_name x.locks then bad_section (place + 1) xs else Some place
 
 -- where the first name is no name: 0 for the task's own, the section's place for a lock's, and 0 for that of a task
 -- that it must outrank
 abbrev pub bad_name : Task → Option ℕ
 bad_name s =
-    if is_name s.name then option_or (bad_section 1 s.sections) (if list_all is_name s.outranks then None else Some 0)
+    if is_name s.name then option_or (bad_section 1 s.sections)
+    (if list_all is_name s.outranks then None else Some 0)
     else Some 0
 
 -- the kinds of a task's own values
@@ -67,7 +69,8 @@ kinds_fault task ms = first (
     ∷ unless (is_some (number_at key.Cost ms)) (fault.WrongKind task 0 key.Cost)
     ∷ unless (is_some (tables_at key.Section ms)) (fault.WrongKind task 0 key.Section)
     ∷ unless (is_some (number_or_zero (value_at key.Jitter ms))) (fault.WrongKind task 0 key.Jitter)
-    ∷ unless (is_some (strings_or_none (value_at key.Outranks ms))) (fault.WrongKind task 0 key.Outranks)
+    ∷ unless (is_some (strings_or_none (value_at key.Outranks ms)))
+    (fault.WrongKind task 0 key.Outranks)
     ∷ [])
 
 -- a task's keys, the kinds of its values, its sections, its names, and then what `Sheet::new`, `Sheet::jittered` and

@@ -45,7 +45,8 @@ pub record IsLeastOver (U : List Task) (i : ℕ) (H : Indexes) (k : ℕ) : Type 
 
 -- why task i may not stand below H: where it is bound in H, the least-ranked task that binds it, else its full chain
 abbrev pub IsReason : List Task → ℕ → Indexes → ReasonData → Type 0
-IsReason U i H (Chain numbers) = IsFalse (is_bound U i H) × IsFullChain (demand_of U i H) (limit_of (task_at U i)) numbers
+IsReason U i H (Chain numbers) =
+    IsFalse (is_bound U i H) × IsFullChain (demand_of U i H) (limit_of (task_at U i)) numbers
 IsReason U i H (Over other) = IsLeastOver U i H other
 
 -- the task fails below the others of L, for its reason

@@ -22,7 +22,8 @@ pub fn valid_set_qualifies()
 
 /// In whatever order sheets are given, they have one list by rank at most.
 pub fn set_by_rank_is_one()
-    ensures { (xs ys first second : List Task) → IsPermutation xs ys → IsByRank xs first → IsByRank ys second
+    ensures { (xs ys first second : List Task) → IsPermutation xs ys → IsByRank xs first
+        → IsByRank ys second
         → first ≡ second }
 {}
 
@@ -57,7 +58,8 @@ pub fn exchange()
 
 /// Within the longest period, the demand of a valid set is under 1000 seconds.
 pub fn demand_fits()
-    ensures { (U : List Task) (i : ℕ) (H : Indexes) (t : ℕ) → IsTaskSet U → i < length U → t ≤ 10000000
+    ensures { (U : List Task) (i : ℕ) (H : Indexes) (t : ℕ) → IsTaskSet U → i < length U
+        → t ≤ 10000000
         → demand_of U i H t < 1000000000 }
 {}
 
@@ -75,7 +77,8 @@ pub fn response_is_least()
 /// Without jitter the words of the analysis are the plain ones: a task is released once a period at most, its limit is
 /// its deadline, and its response is the least positive time that is its own demand (Joseph, Pandya 1986).
 pub fn no_jitter_is_plain()
-    ensures releases { (t : Task) (time : ℕ) → t.jitter ≡ 0 → releases_within t time ≡ div_ceil time t.period }
+    ensures releases { (t : Task) (time : ℕ) → t.jitter ≡ 0
+        → releases_within t time ≡ div_ceil time t.period }
     ensures limit { (t : Task) → t.jitter ≡ 0 → limit_of t ≡ t.deadline }
     ensures response { (U : List Task) (i : ℕ) (H : Indexes) (r : ℕ) → (task_at U i).jitter ≡ 0
         → IsResponseOf U i H r ↔ IsResponse (demand_of U i H) r }
@@ -102,15 +105,18 @@ pub fn full_chain_shows()
 
 /// A demand has one full chain at most for a limit.
 pub fn full_chain_is_one()
-    ensures { (W : ℕ → ℕ) (limit : ℕ) (first second : List ℕ) → IsFullChain W limit first → IsFullChain W limit second
+    ensures { (W : ℕ → ℕ) (limit : ℕ) (first second : List ℕ) → IsFullChain W limit first
+        → IsFullChain W limit second
         → first ≡ second }
 {}
 
 /// A task that is unbound in some tasks is unbound in each part of them; so it may stand below fewer.
 pub fn fewer_bind_less()
-    ensures unbound { (U : List Task) (i : ℕ) (H G : Indexes) → IsPart H G → IsFalse (is_bound U i G)
+    ensures unbound { (U : List Task) (i : ℕ) (H G : Indexes) → IsPart H G
+        → IsFalse (is_bound U i G)
         → IsFalse (is_bound U i H) }
-    ensures stands { (U : List Task) (i : ℕ) (H G : Indexes) → AllTasks U → IsPart H G → Stands U i G → Stands U i H }
+    ensures stands { (U : List Task) (i : ℕ) (H G : Indexes) → AllTasks U → IsPart H G
+        → Stands U i G → Stands U i H }
 {}
 
 /// The test says whether a task may stand.
@@ -139,7 +145,8 @@ pub fn obstructions_unite()
 
 /// No order passes exactly where there is an obstruction, and where there is one, there is a greatest.
 pub fn infeasible_is_obstructed()
-    ensures exactly { (U : List Task) → AllTasks U → (¬ IsFeasible U) ↔ ((S : Indexes) × IsObstruction U S) }
+    ensures exactly { (U : List Task) → AllTasks U → (¬ IsFeasible U)
+        ↔ ((S : Indexes) × IsObstruction U S) }
     ensures greatest { (U : List Task) (S : Indexes) → AllTasks U → IsObstruction U S
         → (G : Indexes) × IsGreatestObstruction U G }
 {}
@@ -162,7 +169,8 @@ pub fn rest_is_greatest()
 
 /// A set has one best order at most.
 pub fn best_is_one()
-    ensures { (U : List Task) (first second : List ℕ) → IsBest U first → IsBest U second → first ≡ second }
+    ensures { (U : List Task) (first second : List ℕ) → IsBest U first → IsBest U second
+        → first ≡ second }
 {}
 
 /// A set has a best order, or a greatest obstruction.
@@ -180,7 +188,8 @@ pub fn ready_is_best()
 
 /// Where the members of a set are ready, no order passes.
 pub fn ready_refutes()
-    ensures { (U : List Task) (members : List FailureData) → AllTasks U → IsReadySet U members → ¬ IsFeasible U }
+    ensures { (U : List Task) (members : List FailureData) → AllTasks U → IsReadySet U members
+        → ¬ IsFeasible U }
 {}
 
 /// What the climb from the lowest level up leads to is the verdict.
@@ -190,7 +199,8 @@ pub fn climb_gives_verdict()
         → AllLevels U (all_of U) levels
         → ((k : ℕ) → IsFalse (left_after (all_of U) (order_of levels) k))
         → IsVerdictOf U (Admitted levels) }
-    ensures infeasible { (U : List Task) (placed : List ℕ) (members : List FailureData) (k : ℕ) → AllTasks U
+    ensures infeasible { (U : List Task) (placed : List ℕ) (members : List FailureData) (k : ℕ)
+        → AllTasks U
         → AllChosen U (all_of U) placed
         → IsTrue (left_after (all_of U) placed k)
         → (tasks_of members ≡ listed_below (length U) (left_after (all_of U) placed))
@@ -205,21 +215,26 @@ pub fn verdict_exists()
 
 /// A set has one verdict at most.
 pub fn verdict_is_one()
-    ensures { (U : List Task) (first second : VerdictData) → AllTasks U → IsVerdictOf U first → IsVerdictOf U second
+    ensures { (U : List Task) (first second : VerdictData) → AllTasks U → IsVerdictOf U first
+        → IsVerdictOf U second
         → first ≡ second }
 {}
 
 /// The verdict says whether some order passes.
 pub fn verdict_decides()
-    ensures admitted { (U : List Task) (levels : List LevelData) → IsVerdictOf U (Admitted levels) → IsFeasible U }
-    ensures infeasible { (U : List Task) (members : List FailureData) → AllTasks U → IsVerdictOf U (Infeasible members)
+    ensures admitted { (U : List Task) (levels : List LevelData) → IsVerdictOf U (Admitted levels)
+        → IsFeasible U }
+    ensures infeasible { (U : List Task) (members : List FailureData) → AllTasks U
+        → IsVerdictOf U (Infeasible members)
         → ¬ IsFeasible U }
 {}
 
 /// A verdict is ready for a certificate.
 pub fn verdict_is_ready()
-    ensures admitted { (U : List Task) (levels : List LevelData) → AllTasks U → IsVerdictOf U (Admitted levels)
+    ensures admitted { (U : List Task) (levels : List LevelData) → AllTasks U
+        → IsVerdictOf U (Admitted levels)
         → IsReadyOrder U levels }
-    ensures infeasible { (U : List Task) (members : List FailureData) → IsVerdictOf U (Infeasible members)
+    ensures infeasible { (U : List Task) (members : List FailureData)
+        → IsVerdictOf U (Infeasible members)
         → IsReadySet U members }
 {}

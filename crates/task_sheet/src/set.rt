@@ -163,7 +163,8 @@ fn by_rank(mut sheets: Vec<Sheet>) -> TaskSet
 impl TaskSet {
     /// The set of the sheets. Refused in this order: `SameName`, `TooManyTasks`.
     pub fn new(alloc: Global, sheets: Vec<Sheet>) -> Result<TaskSet, SheetsFault>
-        ensures ok { IfOk result (λ set. (sheets_fault sheets.items ≡ None) × IsByRank sheets.items set) }
+        ensures ok { IfOk result (λ set. (sheets_fault sheets.items ≡ None)
+            × IsByRank sheets.items set) }
         ensures err { IfErr result (λ e. e.cause ≢ SetCause.OutOfMemory
             → sheets_fault sheets.items ≡ Some e.cause) }
         ensures back { IfErr result (λ e. e.sheets.items ≡ sheets.items) }

@@ -2,7 +2,7 @@
 ghost use Rattle.std.specs.Prelude.{◌≡◌, ◌↔◌, ℕ, ◌+◌, ◌<◌, ◌≤◌, length, All, IsTrue, Some, None, IfNone, IfOk, IfErr, OnOk, OnErr};
 ghost use Rattle.std.specs.Bool.{OnFalse};
 ghost use Rattle.task_sheet.specs.Name.{IsName};
-ghost use Rattle.task_sheet.specs.Sheet.{CriticalSection, Task, IsSection, AreSections, AreOutranked, IsValidSheet, task_of, with_jitter, outranking, repeats, same_section, same_sheet};
+ghost use Rattle.task_sheet.specs.Sheet.{CriticalSection, Task, IsSection, AreSections, AreOutranked, IsValidSheet, task_of, with_jitter, outranking, weighing, repeats, same_section, same_sheet};
 ghost use Rattle.task_sheet.specs.Demand.{limit_of};
 ghost use Rattle.task_sheet.specs.SheetFault.{section_fault, list_fault, numbers_fault, sheet_fault, outranks_fault};
 
@@ -298,7 +298,8 @@ impl Sheet {
         cost: u64,
         sections: Vec<Section>,
     ) -> Result<Sheet, SheetFault>
-        ensures ok { IfOk result (λ s. s ≡ task_of name weight period deadline cost sections.items) }
+        ensures ok { IfOk result (λ s. s
+            ≡ task_of name weight period deadline cost sections.items) }
         ensures valid { IfOk result IsValidSheet }
         ensures none { OnOk result
             (sheet_fault (task_of name weight period deadline cost sections.items) ≡ None) }
@@ -360,6 +361,15 @@ impl Sheet {
         }
         self.outranks = names;
         Ok(self)
+    }
+
+    /// The same sheet with this weight.
+    pub fn weighing(mut self, weight: u64) -> Sheet
+        requires limit { weight ≤ 1000 }
+        ensures { result ≡ weighing self weight }
+    {
+        self.weight = weight;
+        self
     }
 
     /// The task's name.

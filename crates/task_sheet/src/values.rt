@@ -94,7 +94,8 @@ pub(crate) fn strings_at<'a>(key: Key, table: &'a Table) -> Option<&'a [Value]>
 // The array of strings at a key, which is empty where it is absent.
 pub(crate) fn strings_or_none<'a>(key: Key, table: &'a Table) -> Option<&'a [Value]>
     ensures { MatchOption result (strings_or_none (value_at key (table_view table.now)) ≡ None)
-        (λ s. strings_or_none (value_at key (table_view table.now)) ≡ Some (strings_in (items_view s.now))) }
+        (λ s. strings_or_none (value_at key (table_view table.now))
+        ≡ Some (strings_in (items_view s.now))) }
 {
     match value_at(key, table) {
         Some(value) => strings_of(value),

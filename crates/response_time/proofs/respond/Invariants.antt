@@ -9,8 +9,9 @@ use Rattle.response_time.proofs.respond.Given as goal
 -- the numbers and the next one are the first iterates
 abbrev pub invariant-loop-time : goal.invariant-loop-time
 invariant-loop-time l = record {
-  demand : (t : ℕ) → work_within t l.work ≡ demand_of l.set l.task (indexes_of l.fn.above) t;
+  demand : (t : ℕ) → 1 ≤ t → t ≤ l.limit → work_within t l.work ≡ demand_of l.set l.task (indexes_of l.fn.above) t;
   carried : l.work.time ≤ l.time;
+  positive : 1 ≤ l.time;
   climb : IsClimb (demand_of l.set l.task (indexes_of l.fn.above)) (l.numbers.items ++ l.time ∷ []);
   within : AllWithinLimit (limit_of (task_at l.set l.task)) l.numbers.items;
   first : (s : ℕ) → 1 ≤ s → demand_of l.set l.task (indexes_of l.fn.above) s ≤ s → l.time ≤ s;

@@ -8,8 +8,8 @@ use Rattle.response_time.proofs.workload.Workload.advance.Goals as goal
 total-is : (w : WorkloadData) (time work : ℕ) → IsCarried w → w.time ≤ time → work ≡ sum_by (further_work time) w.shares → w.total + work ≡ work_within time w
 total-is w time work h le is = omega (arith, h.total, is, sum-further w.time time le w.shares h.counted)
 
-total-fits : (w : WorkloadData) (time work : ℕ) → IsCarried w → w.time ≤ time → time ≤ 10000000 → length w.shares ≤ 32 → w.always ≤ 20000000
-    → work ≡ sum_by (further_work time) w.shares → w.total + work ≤ 980000000
+total-fits : (w : WorkloadData) (time work : ℕ) → IsCarried w → w.time ≤ time → time ≤ 10000000 → length w.shares ≤ 32 → w.always ≤ 980000000
+    → work ≡ sum_by (further_work time) w.shares → w.total + work ≤ 1940000000
 total-fits w time work h le short few once is = omega (arith, total-is w time work h le is, sum-fits w.time time w.shares short h.counted)
 
 pub overflow_add-self : goal.overflow_add-self
