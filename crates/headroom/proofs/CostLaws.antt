@@ -37,13 +37,14 @@ blocking-longest : (U : List Task) (i : ℕ) (H : Indexes) → blocking_of U i H
 unfolding blocking_of
 blocking-longest U i H = refl
 
+-- and the same blocking
+pub blocking-same : (V U : List Task) (i : ℕ) (H : Indexes) → length V ≡ length U → ((k : ℕ) → (task_at V k).sections ≡ (task_at U k).sections) → blocking_of V i H ≡ blocking_of U i H
+blocking-same V U i H count same =
+    blocking-longest V i H ∙ longest-same V U (with_index H i) count same ∙ sym (blocking-longest U i H)
+
 module _ (V U : List Task) (light : AreLighter V U) where
   pub blocking-lighter : (i : ℕ) (H : Indexes) → blocking_of V i H ≡ blocking_of U i H
-  blocking-lighter i H =
-      let X = with_index H i in
-      blocking-longest V i H
-      ∙ longest-same V U X light.count (λ k. ap (λ (t : Task). t.sections) (light.each k).same)
-      ∙ sym (blocking-longest U i H)
+  blocking-lighter i H = blocking-same V U i H light.count (λ k. ap (λ (t : Task). t.sections) (light.each k).same)
 
   releases-lighter : (k t : ℕ) → releases_within (task_at V k) t ≤ releases_within (task_at U k) t
   releases-lighter k t =
@@ -53,7 +54,7 @@ module _ (V U : List Task) (light : AreLighter V U) where
   interference-lighter : (k t : ℕ) → interference_of (task_at V k) t ≤ interference_of (task_at U k) t
   interference-lighter k t = mul-le-mul (releases-lighter k t) (light.each k).cost
 
-  term-lighter : (H : Indexes) (t k : ℕ) → cond (H k) (interference_of (task_at V k) t) 0 ≤ cond (H k) (interference_of (task_at U k) t) 0
+  pub term-lighter : (H : Indexes) (t k : ℕ) → cond (H k) (interference_of (task_at V k) t) 0 ≤ cond (H k) (interference_of (task_at U k) t) 0
   term-lighter H t k = elim (cases_Bool (H k)) [
     | inl so ↦ rw so (interference-lighter k t)
     | inr so ↦ rw so (omega arith)
@@ -159,7 +160,7 @@ sections-within from cost other (x ∷ xs) h ends = (
   sections-within (x.at + x.len) cost other xs h.1 ends.1,
 )
 
-sections-end : (from cost : ℕ) (xs : List CriticalSection) → AreSections from cost xs → AllByRecursion (λ (s : CriticalSection). s.at + s.len ≤ cost) xs
+pub sections-end : (from cost : ℕ) (xs : List CriticalSection) → AreSections from cost xs → AllByRecursion (λ (s : CriticalSection). s.at + s.len ≤ cost) xs
 sections-end from cost [] h = tt
 sections-end from cost (x ∷ xs) h = (h.0.within, sections-end (x.at + x.len) cost xs h.1)
 

@@ -1,2 +1,5 @@
 pub mod CostLaws
 pub mod SetCostLaws
+pub mod RoomLaws
+pub mod OrderLaws
+pub mod SomeOrderLaws

@@ -13,7 +13,7 @@ use Rattle.task_sheet.specs.Sheet.{CriticalSection, Task, no_task, same_bytes, t
 use Rattle.task_sheet.specs.TaskSet.{rank_cmp, same_name, has_name, first_repeat, AreDistinct, IsTaskSet, IsByRank}
 use Rattle.task_sheet.specs.SheetsFault.{set_cause, sheets_fault}
 use Rattle.task_sheet.specs.Locks.{names_lock}
-use Rattle.task_sheet.proofs.SetLaws.{by_rank_one}
+use Rattle.task_sheet.proofs.SetLaws.{by_rank_one, no_fault}
 use Rattle.task_sheet.specs.Indexes.{indexes_of}
 use Rattle.ceilings.specs.Table.{Table}
 use Rattle.ceilings.specs.Holds.{TableData}
@@ -63,7 +63,7 @@ outranks-costed (y ∷ ys) zero cost (suc k) = refl
 outranks-costed (y ∷ ys) (suc i) cost zero = refl
 outranks-costed (y ∷ ys) (suc i) cost (suc k) = outranks-costed ys i cost k
 
-must_outrank-costed : (U : List Task) (j cost i k : ℕ) → must_outrank (costed U j cost) i k ≡ must_outrank U i k
+pub must_outrank-costed : (U : List Task) (j cost i k : ℕ) → must_outrank (costed U j cost) i k ≡ must_outrank U i k
 must_outrank-costed U j cost i k = rw (name-costed U j cost k, outranks-costed U j cost i) refl
 
 -- ---- the names of locks
@@ -94,26 +94,6 @@ IsTableOf-costed U i cost table is = record {
 }
 
 -- ---- names: the sheets with another cost are no fault
--- no element has the name of one that is seen
-abbrev Unseen : List Task → List Task → Type 0
-Unseen seen xs = AllByRecursion (λ x. has_name seen x.name ≡ false) xs
-
-none_seen : (xs : List Task) → Unseen [] xs
-none_seen [] = tt
-none_seen (x ∷ xs) = (refl, none_seen xs)
-
-unseen_more : (seen : List Task) (x : Task) (xs : List Task) → Unseen seen xs → AllByRecursion (λ y. same_name x y ≡ false) xs → Unseen (seen ++ x ∷ []) xs
-unseen_more seen x [] unseen apart = tt
-unseen_more seen x (y ∷ ys) unseen apart = (
-  list_any-append (λ (z : Task). same_bytes z.name y.name) seen (x ∷ []) ∙ rw unseen.0 (rw apart.0 refl),
-  unseen_more seen x ys unseen.1 apart.1,
-)
-
-never_repeats : (seen : List Task) (place : ℕ) (xs : List Task) → Unseen seen xs → AreDistinct same_name xs → first_repeat seen place xs ≡ None
-never_repeats seen place [] unseen distinct = refl
-never_repeats seen place (x ∷ xs) unseen distinct =
-    rw unseen.0 (never_repeats (seen ++ x ∷ []) (place + 1) xs (unseen_more seen x xs unseen.1 distinct.0) distinct.1)
-
 distinct-costed : (U : List Task) (i cost : ℕ) → AreDistinct same_name U → AreDistinct same_name (costed U i cost)
 distinct-costed [] i cost h = tt
 distinct-costed (y ∷ ys) zero cost h = h
@@ -121,14 +101,11 @@ distinct-costed (y ∷ ys) (suc i) cost h = (all-costed (λ z. same_name y z ≡
 
 pub no_fault-costed : (U : List Task) (i cost : ℕ) → IsTaskSet U → sheets_fault (costed U i cost) ≡ None
 no_fault-costed U i cost valid =
-    let other = costed U i cost in
-    let few : nat_lt 32 (length other) ≡ false = le-ltb 32 (length other) (few-costed U i cost valid.few) in
-    let once : first_repeat [] 1 other ≡ None = never_repeats [] 1 other (none_seen other) (distinct-costed U i cost valid.distinct) in
-    ap (λ (o : Option ℕ). set_cause o other) once ∙ rw few refl
+    no_fault (costed U i cost) (distinct-costed U i cost valid.distinct) (few-costed U i cost valid.few)
 
 -- ---- what a headroom says
 -- with its own cost a task is as it was
-costed-own : (U : List Task) (i : ℕ) → costed U i (task_at U i).cost ≡ U
+pub costed-own : (U : List Task) (i : ℕ) → costed U i (task_at U i).cost ≡ U
 costed-own U i = set-get_or U i no_task
 
 pub headroom-each : (U : List Task) (i most cost : ℕ) → IsHeadroom U i most → MayCost U i cost → IsFeasible (costed U i cost) ↔ (cost ≤ most)

@@ -1,16 +1,22 @@
-//! How far a task's cost may grow with some order still passing, or has to shrink for one to pass. Times are whole
-//! microseconds.
+//! How far a task's cost may grow with some order still passing, or with a given one, or has to shrink for one to pass.
+//! Times are whole microseconds.
 #![tactic(auto)]
 
-ghost use Rattle.std.specs.Prelude.{◌≡◌, ◌↔◌, ◌<◌, ◌≤◌, length, IsTrue, IfOk};
-ghost use Rattle.task_sheet.specs.Orders.{IsFeasible};
+ghost use Rattle.std.specs.Prelude.{◌≡◌, ◌↔◌, ◌<◌, ◌≤◌, length, IsTrue, IfOk, IfSome, IfNone};
+ghost use Rattle.task_sheet.specs.Sheet.{task_at};
+ghost use Rattle.task_sheet.specs.Orders.{IsPassingOrder, IsFeasible};
 ghost use Rattle.ceilings.specs.IsTableOf.{IsTableOf};
-ghost use Rattle.headroom.specs.Costs.{costed, MayCost, AnswersHeadroom};
+ghost use Rattle.headroom.specs.Costs.{costed, MayCost, AnswersHeadroom, IsHeadroom};
 
 mod costs;
+mod in_order;
 pub mod laws;
+mod some_order;
 
+pub use crate::costs::with_cost;
 use crate::costs::{costed, least_cost};
+pub use crate::in_order::headroom_in_order;
+use crate::some_order::some_order;
 use assignment::is_feasible;
 use ceilings::LockTable;
 use std::alloc::{AllocError, Global};
@@ -33,6 +39,89 @@ fn passes_at(
     Ok(is_feasible(&other, table))
 }
 
+// The headroom of a task in a set that no order passes: less than its cost, if any.
+fn headroom_below(
+    alloc: Global,
+    set: &TaskSet,
+    table: &LockTable,
+    task: usize,
+) -> Result<Option<u64>, AllocError>
+    requires table { IsTableOf set.now table.now }
+    requires task { task < length set.now }
+    requires stuck { ¬ IsFeasible set.now }
+    ensures { IfOk result (λ answer. AnswersHeadroom set.now task answer) }
+{
+    let sheet = &set.sheets()[task];
+    let mut passing = least_cost(sheet);
+    if !passes_at(alloc, set, table, task, passing)? {
+        return Ok(None);
+    }
+    let mut failing = sheet.cost();
+    while failing - passing > 1 {
+        let cost = passing + (failing - passing) / 2;
+        if passes_at(alloc, set, table, task, cost)? {
+            passing = cost;
+        } else {
+            failing = cost;
+        }
+    }
+    Ok(Some(passing))
+}
+
+// The greatest cost with which some order passes that passes with this cost; none where no order does.
+fn further(
+    alloc: Global,
+    set: &TaskSet,
+    table: &LockTable,
+    task: usize,
+    cost: u64,
+) -> Result<Option<u64>, AllocError>
+    requires table { IsTableOf set.now table.now }
+    requires task { task < length set.now }
+    requires may { MayCost set.now task cost }
+    ensures from { IfOk result (λ found. IfSome found (λ more. cost ≤ more)) }
+    ensures may { IfOk result (λ found. IfSome found (MayCost set.now task)) }
+    ensures feasible { IfOk result (λ found. IfSome found
+        (λ more. IsFeasible (costed set.now task more))) }
+    ensures none { IfOk result (λ found. IfNone found (¬ IsFeasible (costed set.now task cost))) }
+{
+    let other = costed(alloc, set, task, cost)?;
+    match some_order(alloc, &other, table)? {
+        Some(order) => Ok(Some(headroom_in_order(alloc, &other, table, &order, task)?)),
+        None => Ok(None),
+    }
+}
+
+// The headroom of a task in a set that this order passes: its cost or more. Each order that is found is followed as far
+// as it passes.
+fn headroom_from(
+    alloc: Global,
+    set: &TaskSet,
+    table: &LockTable,
+    order: &[usize],
+    task: usize,
+) -> Result<u64, AllocError>
+    requires table { IsTableOf set.now table.now }
+    requires task { task < length set.now }
+    requires passing { IsPassingOrder set.now order.now }
+    ensures { IfOk result (IsHeadroom set.now task) }
+{
+    let mut passing = headroom_in_order(alloc, set, table, order, task)?;
+    let mut failing = set.sheets()[task].period() + 1;
+    let mut step = 1;
+    while failing - passing > 1 {
+        let cost = passing + ((failing - passing) / 2).min(step);
+        match further(alloc, set, table, task, cost)? {
+            Some(more) => {
+                step = (more - passing) * 8;
+                passing = more;
+            }
+            None => failing = cost,
+        }
+    }
+    Ok(passing)
+}
+
 /// The greatest cost that a task may have, in microseconds, with which some order of the set passes, all else equal;
 /// none where no cost that its sheet may have helps. A sheet may have each cost from 1, or the end of its last section,
 /// to its period. The table is that of the set, and is made once for all its tasks. The error is want of memory.
@@ -46,19 +135,8 @@ pub fn headroom(
     requires task { task < length set.now }
     ensures { IfOk result (λ answer. AnswersHeadroom set.now task answer) }
 {
-    let sheet = &set.sheets()[task];
-    let mut passing = least_cost(sheet);
-    if !passes_at(alloc, set, table, task, passing)? {
-        return Ok(None);
+    match some_order(alloc, set, table)? {
+        Some(order) => Ok(Some(headroom_from(alloc, set, table, &order, task)?)),
+        None => headroom_below(alloc, set, table, task),
     }
-    let mut failing = sheet.period() + 1;
-    while failing - passing > 1 {
-        let cost = passing + (failing - passing) / 2;
-        if passes_at(alloc, set, table, task, cost)? {
-            passing = cost;
-        } else {
-            failing = cost;
-        }
-    }
-    Ok(Some(passing))
 }

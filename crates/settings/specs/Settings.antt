@@ -24,7 +24,8 @@ mutex_line lock None = []
 -- a line for each lock, with its ceiling in an order
 abbrev pub mutex_lines : List Task → List ℕ → List (List ℕ) → List ℕ
 mutex_lines U order [] = []
-mutex_lines U order (lock ∷ locks) = mutex_line lock (ceiling_of U order lock) ++ mutex_lines U order locks
+mutex_lines U order (lock ∷ locks) =
+    mutex_line lock (ceiling_of U order lock) ++ mutex_lines U order locks
 
 -- the threads of an order, the lowest first, and then the mutexes of the set's locks in order of first sight
 abbrev pub settings_lines : List Task → List ℕ → List ℕ

@@ -9,6 +9,7 @@ ghost use Rattle.ceilings.specs.IsTableOf.{locks_of};
 
 /// Each lock of a set has a ceiling in each order of it, so that each mutex has a line.
 pub fn each_lock_has_a_ceiling()
-    ensures { (U : List Task) (order lock : List ℕ) → IsOrder U order → IsTrue (list_any (same_bytes lock) (locks_of U))
+    ensures { (U : List Task) (order lock : List ℕ) → IsOrder U order
+        → IsTrue (list_any (same_bytes lock) (locks_of U))
         → (level : ℕ) × (ceiling_of U order lock ≡ Some level) }
 {}

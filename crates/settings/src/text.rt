@@ -14,7 +14,8 @@ use task_sheet::{Name, TaskSet};
 
 // The name of the task at an index; nothing past the end of the set.
 fn push_name(text: &mut String, set: &TaskSet, task: usize) -> Result<(), AllocError>
-    ensures { OnOk result (string_bytes text.new ≡ string_bytes text.old ++ (task_at set.now task).name) }
+    ensures { OnOk result (string_bytes text.new ≡ string_bytes text.old
+        ++ (task_at set.now task).name) }
 {
     match set.get(task) {
         Some(sheet) => {
@@ -32,7 +33,8 @@ fn push_thread(
     level: usize,
     task: usize,
 ) -> Result<(), AllocError>
-    ensures { OnOk result (string_bytes text.new ≡ string_bytes text.old ++ thread_line set.now level task) }
+    ensures { OnOk result (string_bytes text.new ≡ string_bytes text.old
+        ++ thread_line set.now level task) }
 {
     text.push_str("thread ")?;
     push_name(text, set, task)?;
@@ -42,7 +44,8 @@ fn push_thread(
 // A line for each task of an order.
 fn push_threads(text: &mut String, set: &TaskSet, order: &[usize]) -> Result<(), AllocError>
     requires { length order.now ≤ 32 }
-    ensures { OnOk result (string_bytes text.new ≡ string_bytes text.old ++ thread_lines set.now 1 order.now) }
+    ensures { OnOk result (string_bytes text.new ≡ string_bytes text.old
+        ++ thread_lines set.now 1 order.now) }
 {
     for (below, task) in order.iter().enumerate() {
         push_thread(text, set, below + 1, *task)?;
@@ -52,7 +55,8 @@ fn push_threads(text: &mut String, set: &TaskSet, order: &[usize]) -> Result<(),
 
 // The line of a lock's mutex.
 fn push_mutex(text: &mut String, lock: Name, ceiling: Option<u32>) -> Result<(), AllocError>
-    ensures { OnOk result (string_bytes text.new ≡ string_bytes text.old ++ mutex_line lock ceiling) }
+    ensures { OnOk result (string_bytes text.new ≡ string_bytes text.old
+        ++ mutex_line lock ceiling) }
 {
     match ceiling {
         Some(level) => writeln!(text, "mutex {lock} {level}"),
@@ -71,7 +75,8 @@ fn push_lock(
     requires few { length order.now ≤ 32 }
     ensures { OnOk result ((U : List Task) → IsTableOf U table.now
         → (lock : List ℕ) → slice_get (locks_of U) place ≡ Some lock
-        → string_bytes text.new ≡ string_bytes text.old ++ mutex_line lock (ceiling_of U order.now lock)) }
+        → string_bytes text.new ≡ string_bytes text.old
+        ++ mutex_line lock (ceiling_of U order.now lock)) }
 {
     match table.lock_at(place) {
         Some(lock) => push_mutex(text, lock, table.ceiling(lock, order)),
@@ -107,7 +112,8 @@ fn order_of(alloc: Global, places: &[Place]) -> Result<Vec<usize>, AllocError>
 /// task's thread, and the ceiling of each lock's mutex. The error is want of memory.
 pub fn settings_text(alloc: Global, set: &TaskSet, places: &[Place]) -> Result<String, AllocError>
     requires { IsOrder set.now (tasks_of_places places.now) }
-    ensures { IfOk result (λ text. string_bytes text ≡ settings_lines set.now (tasks_of_places places.now)) }
+    ensures { IfOk result (λ text. string_bytes text
+        ≡ settings_lines set.now (tasks_of_places places.now)) }
 {
     let order = order_of(alloc, places)?;
     let table = LockTable::new(alloc, set)?;

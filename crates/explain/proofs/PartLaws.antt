@@ -1,0 +1,70 @@
+-- The parts of a demand add up.
+use Rattle.std.proofs.Common.{◌≡◌, ℕ, zero, suc, ◌+◌, ◌<◌, ◌≤◌, inl, inr, true, cond, List, [], ◌∷◌, length, map, sum_by, Option, Some, None, refl, sym, ◌∙◌, ap, arith}
+use Rattle.std.proofs.lemmas.Bool.{cases_eq, ltb-true}
+use Rattle.std.proofs.lemmas.List.Sums.{sum_by-cons}
+use Rattle.task_sheet.specs.Sheet.{Task, task_at}
+use Rattle.task_sheet.specs.Indexes.{Indexes, IsPart, below, no_index, without_index, sum_below}
+use Rattle.task_sheet.specs.Demand.{interference_of, interference_within, blocking_of, demand_of, past_jitter, IsResponseOf}
+use Rattle.task_sheet.specs.Orders.{all_of, IsOrderOf}
+use Rattle.task_sheet.proofs.IndexLaws.{without-gone, without-kept, without-part_of, IsOrderOf-among, IsOrderOf-head, IsOrderOf-rest}
+use Rattle.task_sheet.proofs.PassingLaws.{IsResponseOf-iff}
+use Rattle.explain.specs.Parts.{AboveData, PartsData, BlockerData, IsBlockerOf, IsPartsOf, above_at, blocked_by, total_of}
+
+module _ (f : ℕ → ℕ) where
+  abbrev part_of : Indexes → ℕ → ℕ
+  part_of L h = cond (L h) (f h) 0
+
+  -- a task past the end takes nothing away
+  sum-past : (n : ℕ) (L : Indexes) (i : ℕ) → n ≤ i → sum_below n (part_of (without_index L i)) ≡ sum_below n (part_of L)
+  sum-past zero L i le = refl
+  sum-past (suc n) L i le =
+      let here : part_of (without_index L i) n ≡ part_of L n = ap (λ b. cond b (f n) 0) (without-kept L i n (λ e. omega arith)) in
+      omega (arith, sum-past n L i (omega arith), here)
+
+  -- one task's part, and the rest
+  sum-one : (n : ℕ) (L : Indexes) (i : ℕ) → i < n → L i ≡ true → sum_below n (part_of L) ≡ f i + sum_below n (part_of (without_index L i))
+  sum-one zero L i lt member = absurd (omega arith)
+  sum-one (suc n) L i lt member = elim (cases_eq n i) [
+    | inl e ↦
+        let own : part_of L n ≡ f i = ap (λ k. part_of L k) e ∙ ap (λ b. cond b (f i) 0) member in
+        let gone : part_of (without_index L i) n ≡ 0 = ap (λ b. cond b (f n) 0) (without-gone L i n e) in
+        omega (arith, own, gone, sum-past n L i (omega arith))
+    | inr ne ↦
+        let here : part_of (without_index L i) n ≡ part_of L n = ap (λ b. cond b (f n) 0) (without-kept L i n ne) in
+        omega (arith, here, sum-one n L i (omega arith) member)
+  ]
+
+  sum-none : (n : ℕ) → sum_below n (part_of no_index) ≡ 0
+  sum-none zero = refl
+  sum-none (suc n) = omega (arith, sum-none n)
+
+  -- the parts of an order's tasks
+  pub sum-order : (n : ℕ) (L : Indexes) (order : List ℕ) → IsOrderOf L order → IsPart L (below n) → sum_by f order ≡ sum_below n (part_of L)
+  sum-order n L [] each part = sym (ap (λ (X : Indexes). sum_below n (part_of X)) (sym (IsOrderOf-among L [] each)) ∙ sum-none n)
+  sum-order n L (i ∷ above) each part =
+      let member = IsOrderOf-head L i above each in
+      let rest = sum-order n (without_index L i) above (IsOrderOf-rest L i above each) (without-part_of n L i part) in
+      rw (sum_by-cons f i above) (omega (arith, rest, sum-one n L i (ltb-true i n (part i member)) member))
+
+times_of : (U : List Task) (time : ℕ) (order : List ℕ) → sum_by (λ (a : AboveData). a.time) (map (above_at U time) order) ≡ sum_by (λ h. interference_of (task_at U h) time) order
+times_of U time [] = refl
+times_of U time (h ∷ order) =
+    rw (sum_by-cons (λ (a : AboveData). a.time) (above_at U time h) (map (above_at U time) order), sum_by-cons (λ h. interference_of (task_at U h) time) h order, times_of U time order) refl
+
+blocked_is : (U : List Task) (i : ℕ) (H : Indexes) (b : Option BlockerData) → IsBlockerOf U i H b → blocked_by b ≡ blocking_of U i H
+blocked_is U i H None none = sym none
+blocked_is U i H (Some b) first = first.longest
+
+pub parts-demand : (U : List Task) (i : ℕ) (H : Indexes) (order : List ℕ) (time : ℕ) (parts : PartsData) → IsPartsOf U i H order time parts → IsOrderOf H order → IsPart H (all_of U)
+    → total_of parts ≡ demand_of U i H time + (task_at U i).jitter
+unfolding demand_of
+parts-demand U i H order time parts is each part =
+    let above : sum_by (λ (a : AboveData). a.time) parts.above ≡ interference_within U H time =
+    ap (λ (xs : List AboveData). sum_by (λ (a : AboveData). a.time) xs) is.above ∙ times_of U time order ∙ sum-order (λ h. interference_of (task_at U h) time) (length U) H order each part in
+    omega (arith, is.cost, is.jitter, blocked_is U i H parts.blocker is.blocker, above)
+
+pub parts-response : (U : List Task) (i : ℕ) (H : Indexes) (order : List ℕ) (response : ℕ) (parts : PartsData) → IsResponseOf U i H response → IsPartsOf U i H order (past_jitter (task_at U i) response) parts
+    → IsOrderOf H order → IsPart H (all_of U) → total_of parts ≡ response
+parts-response U i H order response parts right is each part =
+    let found = (IsResponseOf-iff U i H response).0 right in
+    omega (arith, parts-demand U i H order (past_jitter (task_at U i) response) parts is each part, right.fixed, right.positive, found.2)

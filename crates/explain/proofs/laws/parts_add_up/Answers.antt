@@ -1,0 +1,8 @@
+use Rattle.explain.proofs.PartLaws.{parts-demand, parts-response}
+use Rattle.explain.proofs.laws.parts_add_up.Goals as goal
+
+pub returns-clause-demand : goal.returns-clause-demand
+returns-clause-demand c = parts-demand
+
+pub returns-clause-response : goal.returns-clause-response
+returns-clause-response c = parts-response

@@ -1,0 +1,105 @@
+//! The section that blocks a task longest.
+ghost use Rattle.std.specs.Prelude.{◌≡◌, ◌<◌, length, IfSome, IfNone};
+ghost use Rattle.task_sheet.specs.Sheet.{task_at};
+ghost use Rattle.task_sheet.specs.Indexes.{indexes_of};
+ghost use Rattle.ceilings.specs.IsTableOf.{IsTableOf};
+ghost use Rattle.explain.specs.Parts.{IsBlockerOf, reached_lock};
+ghost use Rattle.explain.specs.Blockers.{HasNoneBefore, IsFirstOf};
+
+use blocking::blocking;
+use ceilings::LockTable;
+use std::marker::Model;
+use task_sheet::{Members, Name, Section, TaskSet};
+
+/// A section that blocks: its task's index, its place among that task's sections from 0, its length in microseconds,
+/// and the first of its locks, as written, that makes it block.
+#[derive(Drop)]
+pub struct Blocker {
+    pub task: usize,
+    pub place: u32,
+    pub len: u64,
+    pub lock: Name,
+}
+
+impl Model for Blocker {
+    ghost use Rattle.explain.specs.Parts.{BlockerData};
+
+    ghost Value = { BlockerData };
+
+    ghost view = { λ b. record { task = b.task; place = b.place; len = b.len; lock = b.lock } };
+}
+
+// Of a section's locks the first as written that some member uses.
+fn reached_lock(
+    set: &TaskSet,
+    table: &LockTable,
+    section: &Section,
+    members: Members,
+) -> Option<Name>
+    requires { IsTableOf set.now table.now }
+    ensures { result ≡ reached_lock set.now (indexes_of members) section.now }
+{
+    for lock in &section.locks {
+        if table.users(*lock).meets(members) {
+            return Some(*lock);
+        }
+    }
+    None
+}
+
+// Of a task's sections that are this long the first that the members reach.
+fn first_of(
+    set: &TaskSet,
+    table: &LockTable,
+    task: usize,
+    members: Members,
+    len: u64,
+) -> Option<Blocker>
+    requires table { IsTableOf set.now table.now }
+    requires task { task < length set.now }
+    ensures some { IfSome result (λ b. IsFirstOf set.now (indexes_of members) task len b) }
+    ensures none { IfNone result
+        (HasNoneBefore set.now (indexes_of members) task len
+        (length (task_at set.now task).sections)) }
+{
+    for (place, section) in set.sheets()[task].sections().iter().enumerate() {
+        if section.len == len {
+            if let Some(lock) = reached_lock(set, table, section, members) {
+                return Some(Blocker {
+                    task,
+                    place: place as u32,
+                    len,
+                    lock,
+                });
+            }
+        }
+    }
+    None
+}
+
+/// Of the sections that block a task longest with these above it the first, by the rank of its task and its place;
+/// none where nothing blocks (Sha, Rajkumar, Lehoczky 1990). The table is that of the set.
+pub fn first_blocker(
+    set: &TaskSet,
+    table: &LockTable,
+    task: usize,
+    above: Members,
+) -> Option<Blocker>
+    requires table { IsTableOf set.now table.now }
+    requires task { task < length set.now }
+    ensures { IsBlockerOf set.now task (indexes_of above) result }
+{
+    let longest = blocking(set, table, task, above);
+    if longest == 0 {
+        return None;
+    }
+    let members = above.with(task);
+    for owner in 0..set.len() {
+        if !members.has(owner) {
+            if let Some(found) = first_of(set, table, owner, members, longest) {
+                return Some(found);
+            }
+        }
+    }
+    None
+}

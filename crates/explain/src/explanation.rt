@@ -1,0 +1,49 @@
+//! What explains a placing of a set.
+ghost use Rattle.std.specs.Prelude.{IfOk};
+ghost use Rattle.ceilings.specs.IsTableOf.{IsTableOf};
+ghost use Rattle.assignment.specs.Placings.{IsPlacingOf};
+ghost use Rattle.explain.specs.Explanations.{Explains};
+
+use crate::accounts::{Account, response_accounts};
+use crate::conflict::least_conflict;
+use crate::needs::{Need, needs_of};
+use assignment::Placing;
+use ceilings::LockTable;
+use std::alloc::{AllocError, Global};
+use task_sheet::{Members, TaskSet};
+
+/// What explains a placing.
+#[derive(Drop)]
+pub enum Explanation {
+    /// Some order passes: each response with its parts, the lowest level first.
+    Responses(Vec<Account>),
+    /// No order passes: a least conflict, and why each of its tasks may not stand below the others, by rank.
+    Conflict { left: Members, needs: Vec<Need> },
+}
+
+/// What explains a placing of a set: the parts of its responses, or a least conflict with what its tasks need
+/// (Audsley et al. 1993; Audsley 1991). The table is that of the set. The error is want of memory.
+pub fn explain(
+    alloc: Global,
+    set: &TaskSet,
+    table: &LockTable,
+    placing: &Placing,
+) -> Result<Explanation, AllocError>
+    requires table { IsTableOf set.now table.now }
+    requires placing { IsPlacingOf set.now placing.now }
+    ensures { IfOk result (λ explanation. Explains set.now placing.now explanation) }
+{
+    // The set is valid: the proof has it from its sheets.
+    let _sheets = set.sheets();
+    match placing {
+        Placing::Best(places) => {
+            let accounts = response_accounts(alloc, set, table, places)?;
+            Ok(Explanation::Responses(accounts))
+        }
+        Placing::Stuck(greatest) => {
+            let left = least_conflict(set, table, *greatest);
+            let needs = needs_of(alloc, set, table, left)?;
+            Ok(Explanation::Conflict { left, needs })
+        }
+    }
+}

@@ -1,0 +1,21 @@
+//! Why a bound is what it is, and which tasks really collide.
+#![tactic(auto)]
+
+mod accounts;
+mod blocker;
+mod conflict;
+mod explanation;
+pub mod laws;
+mod needs;
+mod parts;
+mod shares;
+mod text;
+
+pub use crate::accounts::Account;
+pub use crate::blocker::{Blocker, first_blocker};
+pub use crate::conflict::{greatest_within, least_conflict};
+pub use crate::explanation::{Explanation, explain};
+pub use crate::needs::Need;
+pub use crate::parts::{Above, Parts, parts_of};
+pub use crate::shares::load;
+pub use crate::text::explanation_text;

@@ -1,0 +1,52 @@
+use Rattle.std.proofs.Common.{◌+◌, ◌≤◌, ℕ, get_or, sym, ap, subst, arith, below_more}
+use Rattle.std.proofs.lemmas.List.{get_or_read}
+use Rattle.std.proofs.lemmas.List.Elements.{recursion_from_All}
+use Rattle.task_sheet.specs.Sheet.{CriticalSection}
+use Rattle.task_sheet.specs.Demand.{greatest_of}
+use Rattle.task_sheet.proofs.Below.{ord_max-is, greatest_of-le, le-greatest_of}
+use Rattle.headroom.proofs.CostLaws.{item_within}
+use Rattle.factor.specs.Factors.{end_of}
+use Rattle.factor.proofs.ScaleLaws.{end-within}
+use Rattle.factor.proofs.scaling.end_of.Goals as goal
+
+abbrev section_end : CriticalSection → ℕ
+section_end s = s.at + s.len
+
+pub overflow_add-section-inside : goal.overflow_add-section-inside
+overflow_add-section-inside c =
+    let t = c.args.sheet.now in
+    let within = item_within t t.cost c.sections-section-items.result.now c.loop-section.section-index c.section-item.result c.requires c.sections-section-items.ensures c.loop-section-test.true c.section-item.is in
+    omega (arith, within, c.requires.cost_to, c.requires.period_to, ap (λ (s : CriticalSection). s.at) c.section.view_is, ap (λ (s : CriticalSection). s.len) c.section.view_is)
+
+pub loop-section-preserved : goal.loop-section-preserved
+loop-section-preserved c =
+    let t = c.args.sheet.now in
+    let items = c.sections-section-items.result.now in
+    let i = c.loop-section.section-index in
+    let x = c.section-item.result in
+    let at = ap (λ (s : CriticalSection). s.at) c.section.view_is in
+    let len = ap (λ (s : CriticalSection). s.len) c.section.view_is in
+    record {
+      ends = λ k d lt.
+          let P : ℕ → Type 0 = λ j. (get_or items j d).at + (get_or items j d).len ≤ c.max-end.result in
+          let is = get_or_read items i x c.loop-section-test.true c.section-item.is d in
+          below_more P i (λ j l. omega (arith, c.max-end.ensures, ord_max-is, c.loop-section.invariant.ends j d l))
+          (omega (arith, c.max-end.ensures, ord_max-is, at, len, ap (λ (s : CriticalSection). s.at) is, ap (λ (s : CriticalSection). s.len) is)) k lt;
+      lower =
+          let below : section_end x ≤ greatest_of section_end items = le-greatest_of section_end items i x c.loop-section-test.true (sym c.section-item.is) in
+          let below' : section_end x ≤ end_of t = subst (λ xs. section_end x ≤ greatest_of section_end xs) c.sections-section-items.ensures below in
+          omega (arith, c.max-end.ensures, ord_max-is, at, len, below', c.loop-section.invariant.lower);
+    }
+
+pub returns-clause-is : goal.returns-clause-is
+returns-clause-is c =
+    let t = c.args.sheet.now in
+    let items = c.sections-section-items.result.now in
+    let end = c.loop-section.end in
+    let all : greatest_of section_end items ≤ end = greatest_of-le section_end end items
+    (recursion_from_All (λ (s : CriticalSection). s.at + s.len ≤ end) items (λ k d lt. c.loop-section.invariant.ends k d (omega (arith, lt, c.loop-section-test.false)))) in
+    let all' : end_of t ≤ end = subst (λ xs. greatest_of section_end xs ≤ end) c.sections-section-items.ensures all in
+    omega (arith, all', c.loop-section.invariant.lower)
+
+pub returns-clause-within : goal.returns-clause-within
+returns-clause-within c = omega (arith, end-within c.args.sheet.now c.requires, c.loop-section.invariant.lower)

@@ -1,0 +1,61 @@
+-- The tasks of an order, judged one after the other.
+use Rattle.std.proofs.Common.{◌≡◌, ◌∙◌, ℕ, ◌+◌, ◌<◌, ◌≤◌, inl, inr, Bool, true, false, ◌||◌, ◌==◌, List, [], ◌∷◌, ◌++◌, length, get_or, take, drop, append-nil, refl, sym, ap, subst, append_assoc}
+use Rattle.std.proofs.Math.Path.{fun_ext}
+use Rattle.std.specs.Ordering.{nat_cmp}
+use Rattle.std.specs.FinSet as set
+use Rattle.std.proofs.lemmas.Bool.{cases_eq, eq-eqb, ne_eqb}
+use Rattle.std.proofs.lemmas.List.{drop_more, take_more, take_all, map_push}
+use Rattle.std.proofs.Math.ListN.{drop_of_length-le}
+use Rattle.std.proofs.lemmas.List.Folds.{list_any-append}
+use Rattle.task_sheet.specs.Sheet.{Task}
+use Rattle.task_sheet.specs.Indexes.{among, indexes_of, with_index}
+use Rattle.task_sheet.proofs.MembersIndexes.{indexes_of-insert}
+use Rattle.judge.specs.Judgements.{AllJudged, IsJudged, tasks_of}
+use Rattle.judge.specs.declared.judging.Judged.{Judged}
+
+or_turned : (b c : Bool) → (b || (c || false)) ≡ (c || b)
+or_turned true true = refl
+or_turned true false = refl
+or_turned false true = refl
+or_turned false false = refl
+
+pub turned : (i k : ℕ) → (i == k) ≡ (k == i)
+turned i k = elim (cases_eq i k) [
+  | inl e ↦ eq-eqb i k e ∙ sym (eq-eqb k i (sym e))
+  | inr ne ↦ ne_eqb i k ne ∙ sym (ne_eqb k i (λ e. ne (sym e)))
+]
+
+among-push : (xs : List ℕ) (i : ℕ) → among (xs ++ i ∷ []) ≡ with_index (among xs) i
+among-push xs i = fun_ext (λ k. list_any-append (λ x. x == k) xs (i ∷ []) ∙ or_turned (among xs k) (i == k) ∙ ap (λ b. b || among xs k) (turned i k))
+
+-- one more member
+pub members_step : (m n : set.FinSet nat_cmp) (xs : List ℕ) (k : ℕ) → k < length xs → indexes_of m ≡ among (take k xs) → n ≡ set.insert m (get_or xs k 0) → indexes_of n ≡ among (take (k + 1) xs)
+members_step m n xs k lt so is =
+    ap indexes_of is ∙ indexes_of-insert m (get_or xs k 0) ∙ ap (λ H. with_index H (get_or xs k 0)) so
+    ∙ sym (among-push (take k xs) (get_or xs k 0)) ∙ ap among (sym (take_more xs k 0 lt))
+
+-- those that are judged so far, in front of the rest of the order
+pub record IsJudgedTo (U : List Task) (order : List ℕ) (place : ℕ) (judged : List Judged) : Type 0 where
+  pub tasks : tasks_of judged ≡ take place order
+  pub front : (rest : List Judged) → tasks_of rest ≡ drop place order → AllJudged U rest → AllJudged U (judged ++ rest)
+
+pub judged_step : (U : List Task) (order : List ℕ) (place : ℕ) (judged judged' : List Judged) (j : Judged) → place < length order → IsJudgedTo U order place judged → j.task ≡ get_or order place 0 → IsJudged U (get_or order place 0) (among (drop (place + 1) order)) j.judgement → judged' ≡ judged ++ j ∷ [] → IsJudgedTo U order (place + 1) judged'
+judged_step U order place judged judged' j lt so task is pushed = record {
+  tasks = ap tasks_of pushed ∙ map_push (λ (x : Judged). x.task) judged j ∙ ap (λ xs. xs ++ j.task ∷ []) so.tasks ∙ ap (λ i. take place order ++ i ∷ []) task ∙ sym (take_more order place 0 lt);
+  front = λ rest same all.
+      let here = subst (λ i. IsJudged U i (among (tasks_of rest)) j.judgement) (sym task) (subst (λ xs. IsJudged U (get_or order place 0) (among xs) j.judgement) (sym same) is) in
+      let from : tasks_of (j ∷ rest) ≡ drop place order = ap (λ xs. j.task ∷ xs) same ∙ ap (λ i. i ∷ drop (place + 1) order) task ∙ sym (drop_more order place 0 lt) in
+      subst (λ xs. AllJudged U xs) (sym (ap (λ xs. xs ++ rest) pushed ∙ append_assoc judged (j ∷ []) rest)) (so.front (j ∷ rest) from (here, all));
+}
+
+pub judged_start : (U : List Task) (order : List ℕ) (judged : List Judged) → judged ≡ [] → IsJudgedTo U order 0 judged
+judged_start U order judged none = record {
+  tasks = ap tasks_of none;
+  front = λ rest same all. subst (λ xs. AllJudged U (xs ++ rest)) (sym none) all;
+}
+
+pub judged_end : (U : List Task) (order : List ℕ) (place : ℕ) (judged : List Judged) → length order ≤ place → IsJudgedTo U order place judged → (tasks_of judged ≡ order) × AllJudged U judged
+judged_end U order place judged past so = (
+  so.tasks ∙ take_all place order past,
+  subst (λ xs. AllJudged U xs) (append-nil judged) (so.front [] (sym (drop_of_length-le order past)) tt),
+)

@@ -1,0 +1,190 @@
+-- The order that the numbers of threads give.
+use Rattle.std.proofs.Common.{◌≡◌, ◌∙◌, ℕ, zero, suc, ◌+◌, ◌<◌, ◌≤◌, Bool, true, false, not, cond, ◌==◌, inl, inr, List, [], ◌∷◌, ◌++◌, map, length, get_or, append_assoc, length-append, Some, None, All, refl, sym, ap, subst, arith, count_by}
+use Rattle.std.specs.List.{find, list_any, AllByRecursion}
+use Rattle.std.specs.List.Sorted.{IsPermutation, IsNonDecreasingBy}
+use Rattle.std.specs.Option.{option_map}
+use Rattle.std.proofs.lemmas.Option.{none-some}
+use Rattle.std.proofs.lemmas.Bool.{cases_Bool, cases_eq, cases_lt, cases_order, both_ways, true≢false, lt-ltb, eq-eqb, or_parts, or_cases}
+use Rattle.std.proofs.lemmas.List.{get_or-map, get_or_append_left, map_push, length-map}
+use Rattle.std.proofs.Math.Seq.{get_or-append_seam}
+use Rattle.std.proofs.lemmas.Slice.Eq.{bytes_eq-Decides}
+use Rattle.ceiling_kernel.proofs.OrderLaws.{order_iff}
+use Rattle.std.proofs.lemmas.List.Elements.{All-push}
+use Rattle.std.proofs.lemmas.List.Sorted.{All-permutation, IsPermutation-map, sum_by-IsPermutation}
+use Rattle.std.specs.Cmp.Lexicographic.{nat_list_eq_equiv}
+use Rattle.task_sheet.specs.Sheet.{Task, same_bytes, task_at}
+use Rattle.task_sheet.specs.TaskSet.{IsTaskSet, AreDistinct, same_name}
+use Rattle.task_sheet.specs.Indexes.{Indexes, listed_below, without_index}
+use Rattle.task_sheet.specs.Orders.{all_of, IsOrder, IsOrderOf}
+use Rattle.task_sheet.proofs.IndexLaws.{without-parts, IsOrderOf-head, IsOrderOf-rest, listed-order}
+use Rattle.assignment.proofs.GatherLaws.{listed_below-member}
+use Rattle.judge.specs.Faults.{is_set, line_again, number_at, number_of, same_number, threadless}
+use Rattle.judge.specs.Node.{IsOrderBy}
+use Rattle.judge.specs.declared.order.Numbered.{Numbered}
+use Rattle.judge.specs.declared.rows.Setting.{Setting}
+
+-- one more task, by rank
+pub numbered_step : (U : List Task) (threads : List Setting) (k : ℕ) (xs xs' : List Numbered) (number : ℕ) → k < length U → number ≡ number_at U threads k
+    → map (λ n. n.task) xs ≡ listed_below k (all_of U) → All (λ n. n.number ≡ number_at U threads n.task) xs → xs' ≡ xs ++ record { number = number; task = k } ∷ []
+    → (map (λ n. n.task) xs' ≡ listed_below (k + 1) (all_of U)) × All (λ n. n.number ≡ number_at U threads n.task) xs'
+numbered_step U threads k xs xs' number lt is tasks numbers pushed =
+    let one : Numbered = record { number = number; task = k } in
+    let P : Numbered → Type 0 = λ n. n.number ≡ number_at U threads n.task in (
+      ap (λ (ns : List Numbered). map (λ (n : Numbered). n.task) ns) pushed ∙ map_push (λ (n : Numbered). n.task) xs one ∙ ap (λ (ts : List ℕ). ts ++ k ∷ []) tasks ∙ sym (listed_below-member k (all_of U) (lt-ltb k (length U) lt)),
+      subst (λ (ns : List Numbered). All P ns) (sym pushed) (All-push P xs one numbers is),
+    )
+
+-- ---- names and numbers
+-- stands past the end of a list
+abbrev no_setting : Setting
+no_setting = record { line = 0; name = []; number = 0 }
+
+-- where some setting is of a name, its number is that of one of them
+number_found : (settings : List Setting) (name : List ℕ) → is_set settings name ≡ true
+    → (p : ℕ) × (p < length settings) × (same_bytes (get_or settings p no_setting).name name ≡ true) × (number_of settings name ≡ (get_or settings p no_setting).number)
+number_found [] name h = absurd (true≢false (sym h))
+number_found (s ∷ settings) name h = elim (cases_Bool (same_bytes s.name name)) [
+  | inl here ↦ (0, omega arith, here, ap (λ b. cond b s.number (number_of settings name)) here)
+  | inr other ↦
+      let later : is_set settings name ≡ true = elim (or_cases (same_bytes s.name name) (is_set settings name) h) [ inl here ↦ absurd (both_ways (same_bytes s.name name) other here) | inr more ↦ more ] in
+      let found = number_found settings name later in
+      (suc found.0, omega (arith, found.1), found.2, ap (λ b. cond b s.number (number_of settings name)) other ∙ found.3)
+]
+
+-- a test that fails on all of a list fails on each
+any_not : {X : Type 0} (p : X → Bool) (xs : List X) (k : ℕ) (d : X) → list_any p xs ≡ false → k < length xs → p (get_or xs k d) ≡ false
+any_not p [] k d h lt = absurd (omega arith)
+any_not p (x ∷ xs) zero d h lt = (or_parts (p x) (list_any p xs) h).0
+any_not p (x ∷ xs) (suc k) d h lt = any_not p xs k d (or_parts (p x) (list_any p xs) h).1 (omega arith)
+
+-- where none is like one before it, no two are alike
+apart_at : (alike : Setting → Setting → Bool) (seen xs : List Setting) → line_again alike seen xs ≡ None → (p q : ℕ) → p < q → length seen ≤ q → q < length (seen ++ xs)
+    → alike (get_or (seen ++ xs) p no_setting) (get_or (seen ++ xs) q no_setting) ≡ false
+apart_at alike seen [] none p q lt from within = absurd (omega (arith, length-append seen []))
+apart_at alike seen (x ∷ xs) none p q lt from within =
+    by (list_any (λ before. alike before x) seen) refl none (apart_at alike (seen ++ x ∷ []) xs)
+  where
+    by : (b : Bool) → list_any (λ before. alike before x) seen ≡ b → cond b (Some x.line) (line_again alike (seen ++ x ∷ []) xs) ≡ None
+        → (line_again alike (seen ++ x ∷ []) xs ≡ None → (p q : ℕ) → p < q → length (seen ++ x ∷ []) ≤ q → q < length ((seen ++ x ∷ []) ++ xs)
+        → alike (get_or ((seen ++ x ∷ []) ++ xs) p no_setting) (get_or ((seen ++ x ∷ []) ++ xs) q no_setting) ≡ false)
+        → alike (get_or (seen ++ x ∷ xs) p no_setting) (get_or (seen ++ x ∷ xs) q no_setting) ≡ false
+    by true e h rest = absurd (none-some x.line (sym h))
+    by false e h rest = elim (cases_eq q (length seen)) [
+      | inl here ↦
+          let last : get_or (seen ++ x ∷ xs) q no_setting ≡ x = ap (λ n. get_or (seen ++ x ∷ xs) n no_setting) here ∙ get_or-append_seam seen x xs no_setting in
+          let first : get_or (seen ++ x ∷ xs) p no_setting ≡ get_or seen p no_setting = get_or_append_left seen (x ∷ xs) no_setting p (omega (arith, here)) in
+          rw (last, first) (any_not (λ before. alike before x) seen p no_setting e (omega (arith, here)))
+      | inr past ↦
+          let same : (seen ++ x ∷ []) ++ xs ≡ seen ++ x ∷ xs = append_assoc seen (x ∷ []) xs in
+          subst (λ (ys : List Setting). alike (get_or ys p no_setting) (get_or ys q no_setting) ≡ false) same
+          (rest h p q lt (omega (arith, length-append seen (x ∷ []), past)) (omega (arith, ap (λ (ys : List Setting). length ys) same)))
+    ]
+
+-- ---- tasks
+distinct_first : (x : Task) (xs : List Task) (k : ℕ) → AllByRecursion (λ y. same_name x y ≡ false) xs → k < length xs → same_name x (task_at xs k) ≡ false
+distinct_first x [] k h lt = absurd (omega arith)
+distinct_first x (y ∷ xs) zero h lt = h.0
+distinct_first x (y ∷ xs) (suc k) h lt = distinct_first x xs k h.1 (omega arith)
+
+pub distinct_at : (U : List Task) → AreDistinct same_name U → (i j : ℕ) → i < j → j < length U → same_name (task_at U i) (task_at U j) ≡ false
+distinct_at [] h i j lt within = absurd (omega arith)
+distinct_at (x ∷ U) h zero zero lt within = absurd (omega arith)
+distinct_at (x ∷ U) h (suc i) zero lt within = absurd (omega arith)
+distinct_at (x ∷ U) h zero (suc j) lt within = distinct_first x U j h.0 (omega arith)
+distinct_at (x ∷ U) h (suc i) (suc j) lt within = distinct_at U h.1 i j (omega arith) (omega arith)
+
+-- where no task lacks a thread, each has one
+all_threads : (U : List Task) (threads : List Setting) → threadless U threads ≡ None → (k : ℕ) → k < length U → is_set threads (task_at U k).name ≡ true
+all_threads [] threads none k lt = absurd (omega arith)
+all_threads (t ∷ U) threads none k lt = by (is_set threads t.name) refl none (all_threads U threads) k lt
+  where
+    by : (b : Bool) → is_set threads t.name ≡ b → option_map (λ x. x.name) (cond (not b) (Some t) (find (λ x. not (is_set threads x.name)) U)) ≡ None
+        → (threadless U threads ≡ None → (k : ℕ) → k < length U → is_set threads (task_at U k).name ≡ true) → (k : ℕ) → k < length (t ∷ U) → is_set threads (task_at (t ∷ U) k).name ≡ true
+    by false e h rest k lt = absurd (none-some t.name (sym h))
+    by true e h rest zero lt = e
+    by true e h rest (suc k) lt = rest h k (omega arith)
+
+module _ (U : List Task) (threads : List Setting) (kept : IsTaskSet U) (all : threadless U threads ≡ None) (apart : line_again same_number [] threads ≡ None) where
+  -- two settings of one number are one
+  one_place : (p q : ℕ) → p < length threads → q < length threads → (get_or threads p no_setting).number ≡ (get_or threads q no_setting).number → p ≡ q
+  one_place p q lt lt' same = elim (cases_order p q) [
+    | inl e ↦ e
+    | inr either ↦ elim either [
+      | inl less ↦ absurd (both_ways _ (apart_at same_number [] threads apart p q less (omega arith) lt') (eq-eqb _ _ same))
+      | inr more ↦ absurd (both_ways _ (apart_at same_number [] threads apart q p more (omega arith) lt) (eq-eqb _ _ (sym same)))
+    ]
+  ]
+
+  -- two tasks of one number have one name
+  one_name : (i j : ℕ) → i < length U → j < length U → number_at U threads i ≡ number_at U threads j → same_name (task_at U i) (task_at U j) ≡ true
+  one_name i j lt lt' same =
+      let first = number_found threads (task_at U i).name (all_threads U threads all i lt) in
+      let second = number_found threads (task_at U j).name (all_threads U threads all j lt') in
+      let place = one_place first.0 second.0 first.1 second.1 (sym first.3 ∙ same ∙ second.3) in
+      let own = (bytes_eq-Decides (get_or threads first.0 no_setting).name (task_at U i).name).0 first.2 in
+      let other = (bytes_eq-Decides (get_or threads second.0 no_setting).name (task_at U j).name).0 second.2 in
+      let names : (task_at U i).name ≡ (task_at U j).name = sym own ∙ ap (λ p. (get_or threads p no_setting).name) place ∙ other in
+      subst (λ name. same_bytes (task_at U i).name name ≡ true) names (nat_list_eq_equiv.refl (task_at U i).name)
+
+  one_task : (i j : ℕ) → i < length U → j < length U → number_at U threads i ≡ number_at U threads j → i ≡ j
+  one_task i j lt lt' same = elim (cases_order i j) [
+    | inl e ↦ e
+    | inr either ↦ elim either [
+      | inl less ↦ absurd (both_ways _ (distinct_at U kept.distinct i j less lt') (one_name i j lt lt' same))
+      | inr more ↦ absurd (both_ways _ (distinct_at U kept.distinct j i more lt) (one_name j i lt' lt (sym same)))
+    ]
+  ]
+
+  -- ---- the order
+  -- no two neighbours of an order are one
+  adjacent : (L : Indexes) (order : List ℕ) → IsOrderOf L order → (k : ℕ) → suc k < length order → get_or order k 0 ≡ get_or order (suc k) 0 → ⊥
+  adjacent L [] each k lt e = omega arith
+  adjacent L (i ∷ []) each k lt e = omega arith
+  adjacent L (i ∷ j ∷ above) each zero lt e = (without-parts L i j (IsOrderOf-head (without_index L i) j above (IsOrderOf-rest L i (j ∷ above) each))).1 (sym e)
+  adjacent L (i ∷ j ∷ above) each (suc k) lt e = adjacent (without_index L i) (j ∷ above) (IsOrderOf-rest L i (j ∷ above) each) k (omega arith) e
+
+  -- stands past the end of a list
+  abbrev no_numbered : Numbered
+  no_numbered = record { number = 0; task = 0 }
+
+  module _ (xs ys : List Numbered) (tasks : map (λ n. n.task) xs ≡ listed_below (length U) (all_of U)) (numbers : All (λ n. n.number ≡ number_at U threads n.task) xs)
+      (moved : IsPermutation xs ys) (rising : IsNonDecreasingBy (λ n. n.number) ys) where
+    abbrev order : List ℕ
+    order = map (λ n. n.task) ys
+
+    each : IsOrder U order
+    each k =
+        sum_by-IsPermutation (λ x. cond (x == k) 1 0) (map (λ (n : Numbered). n.task) xs) order (IsPermutation-map (λ (n : Numbered). n.task) xs ys moved)
+        ∙ ap (λ ts. count_by (λ x. x == k) ts) tasks ∙ listed-order (length U) (all_of U) (λ j h. h) k
+
+    task_here : (k : ℕ) → k < length ys → get_or order k 0 ≡ (get_or ys k no_numbered).task
+    task_here k lt = get_or-map (λ (n : Numbered). n.task) ys k no_numbered 0 lt
+
+    number_here : (k : ℕ) → k < length ys → number_at U threads (get_or order k 0) ≡ (get_or ys k no_numbered).number
+    number_here k lt = ap (number_at U threads) (task_here k lt) ∙ sym (All-permutation (λ (n : Numbered). n.number ≡ number_at U threads n.task) xs ys moved numbers k no_numbered lt)
+
+    in_set : (k : ℕ) → k < length ys → get_or order k 0 < length U
+    in_set k lt = ((order_iff (length U) order).1 each).0 k 0 (omega (arith, length-map ys (λ (n : Numbered). n.task)))
+
+    step : (k : ℕ) → k + 1 < length ys → number_at U threads (get_or order k 0) < number_at U threads (get_or order (k + 1) 0)
+    step k lt =
+        let le = rising k (k + 1) no_numbered (omega arith) lt in
+        let here = number_here k (omega arith) in
+        let next = number_here (k + 1) lt in
+        elim (cases_lt (number_at U threads (get_or order k 0)) (number_at U threads (get_or order (k + 1) 0))) [
+          | inl less ↦ less
+          | inr not_less ↦
+              let same : get_or order k 0 ≡ get_or order (k + 1) 0 = one_task _ _ (in_set k (omega arith)) (in_set (k + 1) lt) (omega arith) in
+              let after : suc k ≡ k + 1 = omega arith in
+              absurd (adjacent (all_of U) order each k (omega (arith, length-map ys (λ (n : Numbered). n.task))) (same ∙ ap (λ m. get_or order m 0) (sym after)))
+        ]
+
+    pub ordered : IsOrderBy U threads order
+    ordered = record {
+      each_once = each;
+      rises = λ k lt.
+          let short : k + 1 < length ys = omega (arith, length-map order (number_at U threads), length-map ys (λ (n : Numbered). n.task)) in
+          let here : k < length order = omega (arith, length-map ys (λ (n : Numbered). n.task)) in
+          let next : k + 1 < length order = omega (arith, length-map ys (λ (n : Numbered). n.task)) in
+          rw (get_or-map (number_at U threads) order k 0 0 here, get_or-map (number_at U threads) order (k + 1) 0 0 next) (step k short);
+    }

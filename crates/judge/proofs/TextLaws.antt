@@ -1,0 +1,54 @@
+-- The lines of judgements, one task after the other.
+use Rattle.std.proofs.Common.{◌≡◌, ◌++◌, ◌∙◌, ◌+◌, ◌<◌, ◌==◌, ◌&&◌, ◌||◌, not, ℕ, Bool, true, false, cond, List, [], ◌∷◌, length, get_or, take, codes, refl, ap, sym, append_assoc, append-nil}
+use Rattle.std.proofs.Math.Path.{fun_ext}
+use Rattle.std.specs.Ordering.{nat_cmp}
+use Rattle.std.specs.FinSet as set
+use Rattle.std.proofs.lemmas.List.{take_more}
+use Rattle.std.proofs.lemmas.List.Folds.{list_any-append}
+use Rattle.task_sheet.specs.Sheet.{Task, task_at}
+use Rattle.task_sheet.specs.Indexes.{indexes_of, with_index}
+use Rattle.task_sheet.proofs.MembersIndexes.{indexes_of-insert}
+use Rattle.judge.specs.Judgements.{does_meet}
+use Rattle.judge.specs.Lines.{missed_of, named}
+use Rattle.judge.specs.declared.judging.Judged.{Judged}
+use Rattle.judge.specs.declared.judging.Judgement.TheVariants.{Meets}
+use Rattle.judge.proofs.JudgedLaws.{turned}
+
+-- stands past the end of a list
+abbrev pub no_judged : Judged
+no_judged = record { task = 0; judgement = Meets 0 }
+
+pub named_push : (U : List Task) (tasks : List ℕ) (task : ℕ) → named U (tasks ++ task ∷ []) ≡ named U tasks ++ (codes " " ++ (task_at U task).name)
+named_push U [] task = append-nil (codes " " ++ (task_at U task).name)
+named_push U (first ∷ tasks) task =
+    ap (λ (rest : List ℕ). (codes " " ++ (task_at U first).name) ++ rest) (named_push U tasks task)
+    ∙ sym (append_assoc (codes " " ++ (task_at U first).name) (named U tasks) (codes " " ++ (task_at U task).name))
+
+-- one task more, which meets its deadline or misses it
+kept : (b c : Bool) → (b || ((c && not true) || false)) ≡ b
+kept true true = refl
+kept true false = refl
+kept false true = refl
+kept false false = refl
+
+more : (b c : Bool) → (b || ((c && not false) || false)) ≡ (c || b)
+more true true = refl
+more true false = refl
+more false true = refl
+more false false = refl
+
+missed_push : (xs : List Judged) (j : Judged) (meets : Bool) → meets ≡ does_meet j.judgement → missed_of (xs ++ j ∷ []) ≡ cond meets (missed_of xs) (with_index (missed_of xs) j.task)
+missed_push xs j true is = fun_ext (λ k.
+    list_any-append (λ x. (x.task == k) && not (does_meet x.judgement)) xs (j ∷ [])
+    ∙ ap (λ m. missed_of xs k || (((j.task == k) && not m) || false)) (sym is) ∙ kept (missed_of xs k) (j.task == k))
+missed_push xs j false is = fun_ext (λ k.
+    list_any-append (λ x. (x.task == k) && not (does_meet x.judgement)) xs (j ∷ [])
+    ∙ ap (λ m. missed_of xs k || (((j.task == k) && not m) || false)) (sym is) ∙ more (missed_of xs k) (j.task == k) ∙ ap (λ b. b || missed_of xs k) (turned j.task k))
+
+pub missed_step : (m n : set.FinSet nat_cmp) (xs : List Judged) (k : ℕ) (d : Judged) (meets : Bool) → k < length xs → meets ≡ does_meet (get_or xs k d).judgement → indexes_of m ≡ missed_of (take k xs)
+    → n ≡ cond meets m (set.insert m (get_or xs k d).task) → indexes_of n ≡ missed_of (take (k + 1) xs)
+missed_step m n xs k d true lt is so next =
+    ap indexes_of next ∙ so ∙ sym (ap missed_of (take_more xs k d lt) ∙ missed_push (take k xs) (get_or xs k d) true is)
+missed_step m n xs k d false lt is so next =
+    ap indexes_of next ∙ indexes_of-insert m (get_or xs k d).task ∙ ap (λ H. with_index H (get_or xs k d).task) so
+    ∙ sym (ap missed_of (take_more xs k d lt) ∙ missed_push (take k xs) (get_or xs k d) false is)

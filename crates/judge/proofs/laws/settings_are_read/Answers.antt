@@ -1,0 +1,5 @@
+use Rattle.judge.proofs.SettingsLaws.{comes_back}
+use Rattle.judge.proofs.laws.settings_are_read.Goals as goal
+
+pub returns : goal.returns
+returns c = λ U order kept each. comes_back U kept order each

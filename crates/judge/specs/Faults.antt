@@ -1,0 +1,119 @@
+-- Why a text is no settings of a set: the first reason, in the order of the tests.
+use Rattle.std.specs.Prelude.{◌≡◌, ℕ, Bool, not, ◌==◌, List, [], ◌∷◌, ◌++◌, length, find, position, is_none, Option, Some, None, Result, Ok, Err, if◌then◌else◌}
+use Rattle.std.specs.List.{list_any}
+use Rattle.std.specs.Option.{option_or, option_map}
+use Rattle.task_sheet.specs.Sheet.{Task, same_bytes, task_at}
+use Rattle.task_sheet.specs.Indexes.{greatest_below}
+use Rattle.task_sheet.specs.Locks.{uses}
+use Rattle.ceilings.specs.IsTableOf.{locks_of}
+use Rattle.judge.specs.Rows.{mutexes_of, rows_in, threads_of}
+use Rattle.judge.specs.declared.fault.SettingsFault.{SettingsFault}
+use Rattle.judge.specs.declared.fault.SettingsFault.TheVariants as fault
+use Rattle.judge.specs.declared.rows.Row.{Row}
+use Rattle.judge.specs.declared.rows.Setting.{Setting}
+
+-- ---- what is set
+-- some setting is of this name
+abbrev pub is_set : List Setting → List ℕ → Bool
+is_set settings name = list_any (λ s. same_bytes s.name name) settings
+
+-- the number of the first setting of this name, and 0 of none
+abbrev pub number_of : List Setting → List ℕ → ℕ
+number_of [] name = 0
+number_of (s ∷ settings) name = if same_bytes s.name name then s.number else number_of settings name
+
+-- the number of a task's thread
+abbrev pub number_at : List Task → List Setting → ℕ → ℕ
+number_at U threads task = number_of threads (task_at U task).name
+
+-- the number of the highest user of a lock
+abbrev pub top_of : List Task → List Setting → List ℕ → ℕ
+top_of U threads lock =
+    greatest_below (length U) (λ k. if uses (task_at U k) lock then number_at U threads k else 0)
+
+-- ---- the tests
+-- no task has the name of the thread
+abbrev pub is_no_task : List Task → Setting → Bool
+is_no_task U s = is_none (position (λ t. same_bytes t.name s.name) U)
+
+-- no lock has the name of the mutex
+abbrev pub is_no_lock : List Task → Setting → Bool
+is_no_lock U s = is_none (position (same_bytes s.name) (locks_of U))
+
+-- the line of the first setting that passes a test
+abbrev pub line_where : (Setting → Bool) → List Setting → Option ℕ
+line_where test settings = option_map (λ s. s.line) (find test settings)
+
+-- the line of the first setting that is like one before it, where some stand before these
+abbrev pub line_again : (Setting → Setting → Bool) → (seen settings : List Setting) → Option ℕ
+line_again alike seen [] = None
+line_again alike seen (s ∷ settings) =
+    if list_any (λ before. alike before s) seen then Some s.line
+    else line_again alike (seen ++ s ∷ []) settings
+
+-- the two are of one name
+abbrev pub same_name : Setting → Setting → Bool
+same_name r s = same_bytes r.name s.name
+
+-- the two have one number
+abbrev pub same_number : Setting → Setting → Bool
+same_number r s = r.number == s.number
+
+-- the name of the first task by rank that has no thread
+abbrev pub threadless : List Task → List Setting → Option (List ℕ)
+threadless U threads = option_map (λ t. t.name) (find (λ t. not (is_set threads t.name)) U)
+
+-- where there are mutexes, the first of these locks that has none
+abbrev pub mutexless : List (List ℕ) → List Setting → Option (List ℕ)
+mutexless locks [] = None
+mutexless locks (m ∷ mutexes) = find (λ lock. not (is_set (m ∷ mutexes) lock)) locks
+
+-- where there are mutexes, the first of these locks whose mutex isn't at the number of its highest user
+abbrev pub wrong_lock : List Task → List (List ℕ) → (threads mutexes : List Setting)
+    → Option (List ℕ)
+wrong_lock U locks threads [] = None
+wrong_lock U locks threads (m ∷ mutexes) =
+    find (λ lock. not (number_of (m ∷ mutexes) lock == top_of U threads lock)) locks
+
+-- ---- the faults
+-- the first reason that the lines of threads and mutexes give
+abbrev pub line_fault : List Task → (threads mutexes : List Setting) → Option SettingsFault
+line_fault U threads mutexes =
+    option_or (option_map (λ line. fault.UnknownTask line) (line_where (is_no_task U) threads))
+    (option_or (option_map (λ line. fault.UnknownLock line) (line_where (is_no_lock U) mutexes))
+    (option_or (option_map (λ line. fault.SameTask line) (line_again same_name [] threads))
+    (option_or (option_map (λ line. fault.SameLock line) (line_again same_name [] mutexes))
+    (option_map (λ line. fault.SameNumber line) (line_again same_number [] threads)))))
+
+-- the first reason that a task or a lock gives
+abbrev pub name_fault : List Task → (threads mutexes : List Setting) → Option SettingsFault
+name_fault U threads mutexes =
+    option_or (option_map (λ name. fault.MissingTask name) (threadless U threads))
+    (option_or (option_map (λ name. fault.MissingLock name) (mutexless (locks_of U) mutexes))
+    (option_map (λ name. fault.WrongCeiling name) (wrong_lock U (locks_of U) threads mutexes)))
+
+-- the first reason that threads and mutexes give: the lines come first
+abbrev pub setting_fault : List Task → (threads mutexes : List Setting) → Option SettingsFault
+setting_fault U threads mutexes =
+    option_or (line_fault U threads mutexes) (name_fault U threads mutexes)
+
+-- the first reason of a reading
+abbrev pub rows_fault : List Task → Result (List Row) ℕ → Option SettingsFault
+rows_fault U (Err line) = Some (fault.BadLine line)
+rows_fault U (Ok rows) = setting_fault U (threads_of rows) (mutexes_of rows)
+
+-- the first reason why a text is no settings of a set
+abbrev pub settings_fault : List Task → List ℕ → Option SettingsFault
+settings_fault U text = rows_fault U (rows_in text)
+
+-- ---- how they are found
+-- a fault is want of memory, or the first faulty line
+abbrev pub IsRowsFault : SettingsFault → Result (List Row) ℕ → Type 0
+IsRowsFault fault.OutOfMemory read = Unit {0}
+IsRowsFault (fault.BadLine line) read = read ≡ Err line
+IsRowsFault _ read = ⊥
+
+-- a fault is want of memory, or the first reason
+abbrev pub IsFault : SettingsFault → Option SettingsFault → Type 0
+IsFault fault.OutOfMemory reason = Unit {0}
+IsFault e reason = reason ≡ Some e

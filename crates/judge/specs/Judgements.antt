@@ -1,0 +1,43 @@
+-- What becomes of the tasks of an order that a node has.
+use Rattle.std.specs.Prelude.{ℕ, ◌≤◌, Bool, true, false, List, [], ◌∷◌, map, IsFalse}
+use Rattle.std.specs.List.{list_all}
+use Rattle.task_sheet.specs.Sheet.{Task, task_at}
+use Rattle.task_sheet.specs.Indexes.{Indexes, among}
+use Rattle.task_sheet.specs.Demand.{IsResponseOf, Passes}
+use Rattle.task_sheet.specs.Orders.{is_bound}
+use Rattle.task_sheet.specs.Verdicts.{IsLeastOver}
+use Rattle.assignment.specs.Places.{PlaceData}
+use Rattle.judge.specs.declared.judging.Judged.{Judged}
+use Rattle.judge.specs.declared.judging.Judgement.{Judgement}
+use Rattle.judge.specs.declared.judging.Judgement.TheVariants.{Meets, Misses, Below}
+
+-- what becomes of task i with the tasks H above it: its response, which is within its deadline; or it doesn't pass; or
+-- it stands below tasks that it must outrank, of which one has the least rank
+abbrev pub IsJudged : List Task → ℕ → Indexes → Judgement → Type 0
+IsJudged U i H (Meets response) =
+    IsFalse (is_bound U i H) × IsResponseOf U i H response × (response ≤ (task_at U i).deadline)
+IsJudged U i H Misses = IsFalse (is_bound U i H) × ¬ Passes U i H
+IsJudged U i H (Below other) = IsLeastOver U i H other
+
+-- the tasks, the lowest first
+abbrev pub tasks_of : List Judged → List ℕ
+tasks_of judged = map (λ j. j.task) judged
+
+-- what becomes of each task of an order, with those after it above it
+abbrev pub AllJudged : List Task → List Judged → Type 0
+AllJudged U [] = Unit {0}
+AllJudged U (j ∷ above) = IsJudged U j.task (among (tasks_of above)) j.judgement × AllJudged U above
+
+-- the task meets its deadline
+abbrev pub does_meet : Judgement → Bool
+does_meet (Meets response) = true
+does_meet Misses = false
+does_meet (Below other) = false
+
+-- each task meets its deadline
+abbrev pub all_meet : List Judged → Bool
+all_meet judged = list_all (λ j. does_meet j.judgement) judged
+
+-- each task of a placing meets its deadline, with its response
+abbrev pub judged_of : List PlaceData → List Judged
+judged_of places = map (λ p. record { task = p.task; judgement = Meets p.response }) places

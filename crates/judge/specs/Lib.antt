@@ -1,0 +1,5 @@
+pub mod Judgements
+pub mod Rows
+pub mod Faults
+pub mod Lines
+pub mod Node

@@ -1,0 +1,52 @@
+-- The lines that say what becomes of the tasks of an order.
+use Rattle.std.specs.Prelude.{ℕ, ◌+◌, ◌==◌, ◌&&◌, not, List, [], ◌∷◌, ◌++◌, length, codes, if◌then◌else◌}
+use Rattle.std.specs.List.{list_any}
+use Rattle.std.specs.Fmt.{decimal}
+use Rattle.task_sheet.specs.Sheet.{Task, task_at}
+use Rattle.task_sheet.specs.Indexes.{Indexes, listed_below}
+use Rattle.judge.specs.Judgements.{all_meet, does_meet}
+use Rattle.judge.specs.declared.judging.Judged.{Judged}
+use Rattle.judge.specs.declared.judging.Judgement.{Judgement}
+use Rattle.judge.specs.declared.judging.Judgement.TheVariants.{Meets, Misses, Below}
+
+-- ---- the first line
+-- the tasks that don't meet their deadlines
+abbrev pub missed_of : List Judged → Indexes
+missed_of judged k = list_any (λ j. (j.task == k) && not (does_meet j.judgement)) judged
+
+-- the names of tasks, each after one space
+abbrev pub named : List Task → List ℕ → List ℕ
+named U [] = []
+named U (task ∷ tasks) = codes " " ++ (task_at U task).name ++ named U tasks
+
+-- the tasks that don't meet their deadlines, by rank
+abbrev pub missed_line : List Task → Indexes → List ℕ
+missed_line U missed = codes "misses" ++ named U (listed_below (length U) missed) ++ codes "\n"
+
+-- how many tasks there are, where all meet their deadlines, and else those that don't
+abbrev pub first_line : List Task → List Judged → List ℕ
+first_line U judged =
+    if all_meet judged then codes "meets " ++ decimal (length judged) ++ codes "\n"
+    else missed_line U (missed_of judged)
+
+-- ---- a line for each task
+-- what becomes of a task with this deadline
+abbrev pub judgement_words : List Task → ℕ → Judgement → List ℕ
+judgement_words U deadline (Meets response) = decimal response ++ codes " of " ++ decimal deadline
+judgement_words U deadline Misses = codes "misses " ++ decimal deadline
+judgement_words U deadline (Below other) = codes "below " ++ (task_at U other).name
+
+-- the line of a level
+abbrev pub judged_line : List Task → ℕ → Judged → List ℕ
+judged_line U level j =
+    decimal level ++ codes " " ++ (task_at U j.task).name ++ codes " "
+    ++ judgement_words U (task_at U j.task).deadline j.judgement ++ codes "\n"
+
+-- a line for each level, of which the first has a number
+abbrev pub level_lines : List Task → ℕ → List Judged → List ℕ
+level_lines U level [] = []
+level_lines U level (j ∷ judged) = judged_line U level j ++ level_lines U (level + 1) judged
+
+-- whether all tasks meet their deadlines, and then each, the lowest first
+abbrev pub judged_lines : List Task → List Judged → List ℕ
+judged_lines U judged = first_line U judged ++ level_lines U 1 judged

@@ -1,0 +1,108 @@
+//! Whether each task of an order meets its deadline (Audsley et al. 1993).
+ghost use Rattle.std.specs.Prelude.{◌≡◌, ◌<◌, ◌+◌, length, slice_index, drop, All, IfOk};
+ghost use Rattle.task_sheet.specs.Indexes.{among, indexes_of};
+ghost use Rattle.ceilings.specs.IsTableOf.{IsTableOf};
+ghost use Rattle.judge.specs.Judgements.{AllJudged, IsJudged, all_meet, does_meet, tasks_of};
+
+use assignment::least_over;
+use ceilings::LockTable;
+use response_time::response_in_time;
+use std::alloc::{AllocError, Global};
+use task_sheet::{Members, TaskSet};
+
+/// What becomes of a task in an order.
+#[derive(Clone, Copy, Debug, PartialEq, Eq)]
+pub enum Judgement {
+    /// It meets its deadline, with this response in microseconds from the arrival.
+    Meets { response: u64 },
+    /// It misses it: no time from 1 to what its jitter leaves of its deadline covers its demand.
+    Misses,
+    /// A task is above it above which it must stand: of these the one of least rank, by its index.
+    Below { other: usize },
+}
+
+/// A task of an order, by its index, with what becomes of it.
+#[derive(Clone, Copy)]
+pub struct Judged {
+    pub task: usize,
+    pub judgement: Judgement,
+}
+
+// The tasks of a list.
+fn members_of(order: &[usize]) -> Members
+    requires { All (λ index. index < 32) order.now }
+    ensures { indexes_of result ≡ among order.now }
+{
+    let mut members = Members::empty();
+    for task in order {
+        members = members.with(*task);
+    }
+    members
+}
+
+// What becomes of a task with these above it.
+fn judge_task(set: &TaskSet, table: &LockTable, task: usize, above: Members) -> Judgement
+    requires table { IsTableOf set.now table.now }
+    requires task { task < length set.now }
+    ensures { IsJudged set.now task (indexes_of above) result }
+{
+    match least_over(set, table, task, above) {
+        Some(other) => Judgement::Below { other },
+        None => match response_in_time(set, table, task, above) {
+            Some(response) => Judgement::Meets { response },
+            None => Judgement::Misses,
+        },
+    }
+}
+
+// What becomes of the task at a place of an order.
+fn judge_place(set: &TaskSet, table: &LockTable, order: &[usize], place: usize) -> Judged
+    requires table { IsTableOf set.now table.now }
+    requires within { All (λ index. index < length set.now) order.now }
+    requires place { place < length order.now }
+    ensures task { result.task ≡ slice_index order.now place }
+    ensures judged { IsJudged set.now (slice_index order.now place)
+        (among (drop (place + 1) order.now)) result.judgement }
+{
+    let task = order[place];
+    let above = members_of(&order[place + 1..]);
+    let judgement = judge_task(set, table, task, above);
+    Judged { task, judgement }
+}
+
+/// What becomes of each task of an order, the lowest first, with the tasks after it above it: for every order, whether
+/// it passes or not. The error is want of memory. The table is that of the set.
+pub fn judge_order(
+    alloc: Global,
+    set: &TaskSet,
+    table: &LockTable,
+    order: &[usize],
+) -> Result<Vec<Judged>, AllocError>
+    requires table { IsTableOf set.now table.now }
+    requires within { All (λ index. index < length set.now) order.now }
+    ensures order { IfOk result (λ judged. tasks_of judged.items ≡ order.now) }
+    ensures judged { IfOk result (λ judged. AllJudged set.now judged.items) }
+{
+    let mut judged = Vec::with_capacity(alloc, order.len())?;
+    for place in 0..order.len() {
+        judged.push(judge_place(set, table, order, place))?;
+    }
+    Ok(judged)
+}
+
+// The task meets its deadline.
+pub(crate) fn does_meet(judgement: Judgement) -> bool
+    ensures { result ≡ does_meet judgement }
+{
+    match judgement {
+        Judgement::Meets { .. } => true,
+        Judgement::Misses | Judgement::Below { .. } => false,
+    }
+}
+
+/// Whether each task of an order meets its deadline.
+pub fn all_meet(judged: &[Judged]) -> bool
+    ensures { result ≡ all_meet judged.now }
+{
+    judged.iter().all(|entry| does_meet(entry.judgement))
+}

@@ -1,0 +1,53 @@
+//! Laws of orders that a node has. Each is the contract of a function that does nothing.
+ghost use Rattle.std.specs.Prelude.{◌≡◌, ◌↔◌, ℕ, List, IsTrue};
+ghost use Rattle.task_sheet.specs.Sheet.{Task, AllTasks};
+ghost use Rattle.task_sheet.specs.TaskSet.{IsTaskSet};
+ghost use Rattle.task_sheet.specs.Orders.{AllStand, IsOrder};
+ghost use Rattle.assignment.specs.Places.{PlaceData};
+ghost use Rattle.assignment.specs.Placings.{IsBestPlacing, tasks_of_places};
+ghost use Rattle.settings.specs.Settings.{settings_lines};
+ghost use Rattle.judge.specs.Judgements.{AllJudged, all_meet, judged_of, tasks_of};
+ghost use Rattle.judge.specs.Node.{IsNodeOrder};
+ghost use Rattle.judge.specs.declared.judging.Judged.{Judged};
+
+/// An order is judged in one way at most.
+pub fn judged_is_one()
+    ensures { (U : List Task) (first second : List Judged) → tasks_of first ≡ tasks_of second
+        → AllJudged U first → AllJudged U second → first ≡ second }
+{}
+
+/// All tasks of an order are judged to meet their deadlines exactly where each may stand below those after it.
+pub fn passing_is_judged()
+    ensures { (U : List Task) (judged : List Judged) → AllJudged U judged
+        → IsTrue (all_meet judged) ↔ AllStand U (tasks_of judged) }
+{}
+
+/// The best order is judged to meet all deadlines, with the responses that its placing has.
+pub fn best_is_judged()
+    ensures judged { (U : List Task) (places : List PlaceData) → AllTasks U → IsBestPlacing U places
+        → AllJudged U (judged_of places) }
+    ensures order { (places : List PlaceData)
+        → tasks_of (judged_of places) ≡ tasks_of_places places }
+    ensures meets { (places : List PlaceData) → IsTrue (all_meet (judged_of places)) }
+{}
+
+/// A text gives a set one order at most.
+pub fn node_order_is_one()
+    ensures { (U : List Task) (text first second : List ℕ) → IsNodeOrder U text first
+        → IsNodeOrder U text second → first ≡ second }
+{}
+
+/// What the settings of an order print gives the order back, for each order of a set, passing or not.
+pub fn settings_are_read()
+    ensures { (U : List Task) (order : List ℕ) → IsTaskSet U → IsOrder U order
+        → IsNodeOrder U (settings_lines U order) order }
+{}
+
+/// What the settings of the best order print is judged to meet all deadlines, with the responses that its placing has;
+/// and in no other way.
+pub fn best_settings_meet()
+    ensures { (U : List Task) (places : List PlaceData) (judged : List Judged) → IsTaskSet U
+        → IsBestPlacing U places
+        → IsNodeOrder U (settings_lines U (tasks_of_places places)) (tasks_of judged)
+        → AllJudged U judged → judged ≡ judged_of places }
+{}

@@ -1,0 +1,20 @@
+//! An order that a node has already: what the numbers of its threads and mutexes say, and whether each task meets its
+//! deadline there.
+#![tactic(auto)]
+
+mod fault;
+mod judging;
+pub mod laws;
+mod node;
+mod order;
+mod reading;
+mod rows;
+mod settings_fault;
+mod text;
+
+pub use crate::fault::SettingsFault;
+pub use crate::judging::{Judged, Judgement, all_meet, judge_order};
+pub use crate::node::judge_settings;
+pub use crate::reading::read_settings;
+pub use crate::rows::{Row, Setting};
+pub use crate::text::judged_text;

@@ -1,0 +1,31 @@
+//! What becomes of the tasks of a node.
+ghost use Rattle.std.specs.Prelude.{◌≡◌, ◌<◌, All, MatchResult, IfOk};
+ghost use Rattle.judge.specs.Faults.{IsFault, settings_fault};
+ghost use Rattle.judge.specs.Judgements.{AllJudged, tasks_of};
+ghost use Rattle.judge.specs.Node.{IsNodeOrder};
+
+use crate::fault::SettingsFault;
+use crate::judging::{Judged, judge_order};
+use crate::reading::read_settings;
+use ceilings::LockTable;
+use std::alloc::Global;
+use task_sheet::TaskSet;
+
+/// What becomes of each task in the order that a text's settings give a node, the lowest first. Refused in the order of
+/// `SettingsFault`.
+pub fn judge_settings(
+    alloc: Global,
+    set: &TaskSet,
+    text: &[u8],
+) -> Result<Vec<Judged>, SettingsFault>
+    ensures judged { MatchResult result
+        (λ judged. IsNodeOrder set.now text.now (tasks_of judged.items)
+        × AllJudged set.now judged.items)
+        (λ fault. IsFault fault (settings_fault set.now text.now)) }
+    ensures within { IfOk result (λ judged. All (λ j. j.task < 32) judged.items) }
+{
+    let table = LockTable::new(alloc, set)?;
+    let order = read_settings(alloc, set, &table, text)?;
+    let judged = judge_order(alloc, set, &table, &order)?;
+    Ok(judged)
+}

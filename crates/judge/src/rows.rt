@@ -1,0 +1,114 @@
+//! The lines of settings: `thread NAME NUMBER` and `mutex NAME NUMBER`.
+ghost use Rattle.std.specs.Prelude.{◌≡◌, Ok, MatchResult, IfOk};
+ghost use Rattle.lines.specs.Words.{words};
+ghost use Rattle.judge.specs.Faults.{IsRowsFault};
+ghost use Rattle.judge.specs.Rows.{mutexes_of, number_in_range, row_in, row_of, rows_in, threads_of};
+
+use crate::fault::SettingsFault;
+use lines::{Place, Words, name_of, next_kept, number_of};
+use std::alloc::{AllocError, Global};
+use task_sheet::Name;
+
+/// What a line sets: a thread's priority or a mutex's priority ceiling.
+#[derive(Clone, Copy)]
+pub struct Setting {
+    /// Counted from 1, with the lines that say nothing.
+    pub line: u64,
+    /// That of the thread's task, or of the mutex's lock.
+    pub name: Name,
+    /// From 1 to 1,000,000; a greater one is higher.
+    pub number: u64,
+}
+
+/// A line of settings.
+#[derive(Clone, Copy)]
+pub enum Row {
+    Thread(Setting),
+    Mutex(Setting),
+}
+
+// The number from 1 to 1,000,000 that a word is.
+fn number_in_range(word: &[u8]) -> Option<u64>
+    ensures { result ≡ number_in_range word.now }
+{
+    let number = number_of(word)?;
+    if 1 <= number && number <= 1_000_000 {
+        Some(number)
+    } else {
+        None
+    }
+}
+
+// The row of a first word.
+fn row_of(word: &[u8], setting: Setting) -> Option<Row>
+    ensures { result ≡ row_of word.now setting }
+{
+    if word == b"thread".as_slice() {
+        Some(Row::Thread(setting))
+    } else if word == b"mutex".as_slice() {
+        Some(Row::Mutex(setting))
+    } else {
+        None
+    }
+}
+
+// The row that a line says.
+fn read_row(line: u64, text: &[u8]) -> Option<Row>
+    ensures { result ≡ row_in line (words text.now) }
+{
+    let mut words = Words::of(text);
+    let word = words.next()?;
+    let name = words.next()?;
+    let number = words.next()?;
+    match words.next() {
+        Some(_more) => None,
+        None => {
+            let name = name_of(name)?;
+            let number = number_in_range(number)?;
+            row_of(word, Setting { line, name, number })
+        }
+    }
+}
+
+// The rows of a text. Empty lines and lines that begin with `#` are skipped and counted; the last line may lack its LF.
+pub(crate) fn read_rows(alloc: Global, text: &[u8]) -> Result<Vec<Row>, SettingsFault>
+    ensures { MatchResult result
+        (λ rows. rows_in text.now ≡ Ok rows.items) (λ fault. IsRowsFault fault (rows_in text.now)) }
+{
+    let mut at = Place::start(text);
+    let mut rows = Vec::new(alloc);
+    while let Ok((line, after)) = next_kept(at) {
+        let Some(row) = read_row(line.number, line.text) else {
+            return Err(SettingsFault::BadLine { line: line.number });
+        };
+        rows.push(row)?;
+        at = after;
+    }
+    Ok(rows)
+}
+
+// What is set of threads.
+pub(crate) fn threads_of(alloc: Global, rows: &[Row]) -> Result<Vec<Setting>, AllocError>
+    ensures { IfOk result (λ threads. threads.items ≡ threads_of rows.now) }
+{
+    let mut threads = Vec::new(alloc);
+    for row in rows {
+        if let Row::Thread(setting) = row {
+            threads.push(*setting)?;
+        }
+    }
+    Ok(threads)
+}
+
+// What is set of mutexes.
+pub(crate) fn mutexes_of(alloc: Global, rows: &[Row]) -> Result<Vec<Setting>, AllocError>
+    ensures { IfOk result (λ mutexes. mutexes.items ≡ mutexes_of rows.now) }
+{
+    let mut mutexes = Vec::new(alloc);
+    for row in rows {
+        if let Row::Mutex(setting) = row {
+            mutexes.push(*setting)?;
+        }
+    }
+    Ok(mutexes)
+}

@@ -1,0 +1,233 @@
+//! The first reason why threads and mutexes are no settings of a set.
+ghost use Rattle.std.specs.Prelude.{◌≡◌, ◌==◌, []};
+ghost use Rattle.std.specs.List.{list_any};
+ghost use Rattle.ceilings.specs.IsTableOf.{IsTableOf, locks_of};
+ghost use Rattle.judge.specs.Faults.{is_no_lock, is_no_task, is_set, line_again, line_fault, line_where, mutexless, name_fault, number_of, same_name, same_number, setting_fault, threadless, top_of, wrong_lock};
+
+use crate::fault::SettingsFault;
+use crate::rows::Setting;
+use ceilings::LockTable;
+use task_sheet::{Name, TaskSet};
+
+// Some setting is of this name.
+fn is_set(settings: &[Setting], name: Name) -> bool
+    ensures { result ≡ is_set settings.now name }
+{
+    settings.iter().any(|setting| setting.name == name)
+}
+
+// The number of the first setting of this name, and 0 of none.
+pub(crate) fn number_of(settings: &[Setting], name: Name) -> u64
+    ensures { result ≡ number_of settings.now name }
+{
+    for setting in settings {
+        if setting.name == name {
+            return setting.number;
+        }
+    }
+    0
+}
+
+// The number of the highest user of a lock.
+fn top_of(set: &TaskSet, table: &LockTable, threads: &[Setting], lock: Name) -> u64
+    requires { IsTableOf set.now table.now }
+    ensures { result ≡ top_of set.now threads.now lock }
+{
+    let users = table.users(lock);
+    let mut top = 0;
+    for (task, sheet) in set.sheets().iter().enumerate() {
+        if users.has(task) {
+            top = top.max(number_of(threads, sheet.name()));
+        }
+    }
+    top
+}
+
+// No task has the name of the thread.
+fn is_no_task(set: &TaskSet, thread: &Setting) -> bool
+    ensures { result ≡ is_no_task set.now thread.now }
+{
+    set.find(thread.name).is_none()
+}
+
+// No lock has the name of the mutex.
+fn is_no_lock(set: &TaskSet, table: &LockTable, mutex: &Setting) -> bool
+    requires { IsTableOf set.now table.now }
+    ensures { result ≡ is_no_lock set.now mutex.now }
+{
+    table.index_of(mutex.name).is_none()
+}
+
+// Some setting has this number.
+fn has_number(settings: &[Setting], number: u64) -> bool
+    ensures { result ≡ list_any (λ s. s.number == number) settings.now }
+{
+    settings.iter().any(|setting| setting.number == number)
+}
+
+// The line of the first thread that has the name of no task.
+fn unknown_task(set: &TaskSet, threads: &[Setting]) -> Option<u64>
+    ensures { result ≡ line_where (is_no_task set.now) threads.now }
+{
+    for thread in threads {
+        if is_no_task(set, thread) {
+            return Some(thread.line);
+        }
+    }
+    None
+}
+
+// The line of the first mutex that has the name of no lock.
+fn unknown_lock(set: &TaskSet, table: &LockTable, mutexes: &[Setting]) -> Option<u64>
+    requires { IsTableOf set.now table.now }
+    ensures { result ≡ line_where (is_no_lock set.now) mutexes.now }
+{
+    for mutex in mutexes {
+        if is_no_lock(set, table, mutex) {
+            return Some(mutex.line);
+        }
+    }
+    None
+}
+
+// The line of the first setting that has the name of one before it.
+fn name_again(settings: &[Setting]) -> Option<u64>
+    ensures { result ≡ line_again same_name [] settings.now }
+{
+    for (place, setting) in settings.iter().enumerate() {
+        if is_set(&settings[..place], setting.name) {
+            return Some(setting.line);
+        }
+    }
+    None
+}
+
+// The line of the first setting that has the number of one before it.
+fn number_again(settings: &[Setting]) -> Option<u64>
+    ensures { result ≡ line_again same_number [] settings.now }
+{
+    for (place, setting) in settings.iter().enumerate() {
+        if has_number(&settings[..place], setting.number) {
+            return Some(setting.line);
+        }
+    }
+    None
+}
+
+// The first task by rank that has no thread.
+fn threadless(set: &TaskSet, threads: &[Setting]) -> Option<Name>
+    ensures { result ≡ threadless set.now threads.now }
+{
+    for sheet in set.sheets() {
+        if !is_set(threads, sheet.name()) {
+            return Some(sheet.name());
+        }
+    }
+    None
+}
+
+// Where there are mutexes, the first lock, in the order of first sight, that has none.
+fn mutexless(set: &TaskSet, table: &LockTable, mutexes: &[Setting]) -> Option<Name>
+    requires { IsTableOf set.now table.now }
+    ensures { result ≡ mutexless (locks_of set.now) mutexes.now }
+{
+    if mutexes.is_empty() {
+        return None;
+    }
+    for place in 0..table.count() {
+        let lock = table.lock_at(place)?;
+        if !is_set(mutexes, lock) {
+            return Some(lock);
+        }
+    }
+    None
+}
+
+// Where there are mutexes, the first lock, in the order of first sight, whose mutex isn't at the number of its highest
+// user.
+fn wrong_lock(
+    set: &TaskSet,
+    table: &LockTable,
+    threads: &[Setting],
+    mutexes: &[Setting],
+) -> Option<Name>
+    requires { IsTableOf set.now table.now }
+    ensures { result ≡ wrong_lock set.now (locks_of set.now) threads.now mutexes.now }
+{
+    if mutexes.is_empty() {
+        return None;
+    }
+    for place in 0..table.count() {
+        let lock = table.lock_at(place)?;
+        if number_of(mutexes, lock) != top_of(set, table, threads, lock) {
+            return Some(lock);
+        }
+    }
+    None
+}
+
+// The first reason that the lines give.
+fn line_fault(
+    set: &TaskSet,
+    table: &LockTable,
+    threads: &[Setting],
+    mutexes: &[Setting],
+) -> Option<SettingsFault>
+    requires { IsTableOf set.now table.now }
+    ensures { result ≡ line_fault set.now threads.now mutexes.now }
+{
+    if let Some(line) = unknown_task(set, threads) {
+        return Some(SettingsFault::UnknownTask { line });
+    }
+    if let Some(line) = unknown_lock(set, table, mutexes) {
+        return Some(SettingsFault::UnknownLock { line });
+    }
+    if let Some(line) = name_again(threads) {
+        return Some(SettingsFault::SameTask { line });
+    }
+    if let Some(line) = name_again(mutexes) {
+        return Some(SettingsFault::SameLock { line });
+    }
+    match number_again(threads) {
+        Some(line) => Some(SettingsFault::SameNumber { line }),
+        None => None,
+    }
+}
+
+// The first reason that a task or a lock gives.
+fn name_fault(
+    set: &TaskSet,
+    table: &LockTable,
+    threads: &[Setting],
+    mutexes: &[Setting],
+) -> Option<SettingsFault>
+    requires { IsTableOf set.now table.now }
+    ensures { result ≡ name_fault set.now threads.now mutexes.now }
+{
+    if let Some(name) = threadless(set, threads) {
+        return Some(SettingsFault::MissingTask { name });
+    }
+    if let Some(name) = mutexless(set, table, mutexes) {
+        return Some(SettingsFault::MissingLock { name });
+    }
+    match wrong_lock(set, table, threads, mutexes) {
+        Some(name) => Some(SettingsFault::WrongCeiling { name }),
+        None => None,
+    }
+}
+
+/// The first reason why threads and mutexes are no settings of a set. The table is that of the set.
+pub(crate) fn setting_fault(
+    set: &TaskSet,
+    table: &LockTable,
+    threads: &[Setting],
+    mutexes: &[Setting],
+) -> Option<SettingsFault>
+    requires { IsTableOf set.now table.now }
+    ensures { result ≡ setting_fault set.now threads.now mutexes.now }
+{
+    match line_fault(set, table, threads, mutexes) {
+        Some(fault) => Some(fault),
+        None => name_fault(set, table, threads, mutexes),
+    }
+}

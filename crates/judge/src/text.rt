@@ -1,0 +1,136 @@
+//! The lines that say what becomes of the tasks of an order.
+ghost use Rattle.std.specs.Prelude.{◌≡◌, ◌++◌, ◌<◌, length, All, OnOk, IfOk, string_bytes};
+ghost use Rattle.task_sheet.specs.Sheet.{task_at};
+ghost use Rattle.task_sheet.specs.Indexes.{indexes_of, listed_below};
+ghost use Rattle.judge.specs.Lines.{first_line, judged_line, judged_lines, judgement_words, level_lines, missed_line, missed_of, named};
+
+use crate::judging::{Judged, Judgement, all_meet, does_meet};
+use std::alloc::{AllocError, Global};
+use task_sheet::{Members, TaskSet};
+
+// The name of the task at an index; nothing past the end of the set.
+fn push_name(text: &mut String, set: &TaskSet, task: usize) -> Result<(), AllocError>
+    ensures { OnOk result (string_bytes text.new
+        ≡ string_bytes text.old ++ (task_at set.now task).name) }
+{
+    match set.get(task) {
+        Some(sheet) => {
+            let name = sheet.name();
+            write!(text, "{name}")
+        }
+        None => Ok(()),
+    }
+}
+
+// The deadline of the task at an index, in microseconds; 0 past the end of the set.
+fn deadline_of(set: &TaskSet, task: usize) -> u64
+    ensures { result ≡ (task_at set.now task).deadline }
+{
+    match set.get(task) {
+        Some(sheet) => sheet.deadline(),
+        None => 0,
+    }
+}
+
+// The tasks that don't meet their deadlines.
+fn missed_of(judged: &[Judged]) -> Members
+    requires { All (λ j. j.task < 32) judged.now }
+    ensures { indexes_of result ≡ missed_of judged.now }
+{
+    let mut missed = Members::empty();
+    for entry in judged {
+        if !does_meet(entry.judgement) {
+            missed = missed.with(entry.task);
+        }
+    }
+    missed
+}
+
+// The names of tasks by rank, each after one space.
+fn push_names(text: &mut String, set: &TaskSet, tasks: Members) -> Result<(), AllocError>
+    ensures { OnOk result (string_bytes text.new
+        ≡ string_bytes text.old
+        ++ named set.now (listed_below (length set.now) (indexes_of tasks))) }
+{
+    for task in 0..set.len() {
+        if tasks.has(task) {
+            text.push_str(" ")?;
+            push_name(text, set, task)?;
+        }
+    }
+    Ok(())
+}
+
+// The first line where these tasks don't meet their deadlines.
+fn push_missed(text: &mut String, set: &TaskSet, missed: Members) -> Result<(), AllocError>
+    ensures { OnOk result (string_bytes text.new
+        ≡ string_bytes text.old ++ missed_line set.now (indexes_of missed)) }
+{
+    text.push_str("misses")?;
+    push_names(text, set, missed)?;
+    text.push_str("\n")
+}
+
+// The first line.
+fn push_first(text: &mut String, set: &TaskSet, judged: &[Judged]) -> Result<(), AllocError>
+    requires { All (λ j. j.task < 32) judged.now }
+    ensures { OnOk result (string_bytes text.new
+        ≡ string_bytes text.old ++ first_line set.now judged.now) }
+{
+    if all_meet(judged) {
+        let count = judged.len();
+        return writeln!(text, "meets {count}");
+    }
+    push_missed(text, set, missed_of(judged))
+}
+
+// What becomes of a task with this deadline.
+fn push_judgement(
+    text: &mut String,
+    set: &TaskSet,
+    deadline: u64,
+    judgement: Judgement,
+) -> Result<(), AllocError>
+    ensures { OnOk result (string_bytes text.new
+        ≡ string_bytes text.old ++ judgement_words set.now deadline judgement) }
+{
+    match judgement {
+        Judgement::Meets { response } => write!(text, "{response} of {deadline}"),
+        Judgement::Misses => write!(text, "misses {deadline}"),
+        Judgement::Below { other } => {
+            text.push_str("below ")?;
+            push_name(text, set, other)
+        }
+    }
+}
+
+// The line of a level.
+fn push_judged(
+    text: &mut String,
+    set: &TaskSet,
+    level: usize,
+    judged: &Judged,
+) -> Result<(), AllocError>
+    ensures { OnOk result (string_bytes text.new
+        ≡ string_bytes text.old ++ judged_line set.now level judged.now) }
+{
+    write!(text, "{level} ")?;
+    push_name(text, set, judged.task)?;
+    text.push_str(" ")?;
+    push_judgement(text, set, deadline_of(set, judged.task), judged.judgement)?;
+    text.push_str("\n")
+}
+
+/// The lines that say what becomes of the tasks of an order, the lowest first: whether all meet their deadlines, and then
+/// each. The error is want of memory.
+pub fn judged_text(alloc: Global, set: &TaskSet, judged: &[Judged]) -> Result<String, AllocError>
+    requires { All (λ j. j.task < 32) judged.now }
+    ensures { IfOk result (λ text. string_bytes text ≡ judged_lines set.now judged.now) }
+{
+    let mut text = String::new(alloc);
+    push_first(&mut text, set, judged)?;
+    for (place, entry) in judged.iter().enumerate() {
+        push_judged(&mut text, set, place + 1, entry)?;
+    }
+    Ok(text)
+}
