@@ -19,7 +19,8 @@ use Rattle.candidate_workers.specs.declared.claims.ClaimTable.{ClaimTable}
 use Rattle.candidate_workers.specs.declared.claims.ClaimSeat.{ClaimSeat}
 use Rattle.candidate_workers.specs.declared.gathering.Claimed.{Claimed}
 use Rattle.candidate_workers.specs.declared.gathering.Crew.{Crew}
-use Rattle.candidate_workers.specs.Claims.{count_of, candidate_at, times, joined}
+use Rattle.candidate_workers.specs.Claims.{count_of, candidate_at, joined}
+use Rattle.candidate_workers.specs.Counting.{times}
 use Rattle.candidate_workers.specs.Seats.{seat_view, level_of, task_of, IsTold}
 use Rattle.candidate_workers.specs.Faults.{IsHanded, NoVerdict, MayFail, fault_of, is_shut}
 use Rattle.candidate_workers.specs.Crews.{tasks_handed, work_faults, faults_of, rank_of, IsFirstFault, whole_view, AreClaims}

@@ -12,7 +12,8 @@ use Rattle.task_sheet.proofs.PassingLaws.{does_stand-iff}
 use Rattle.assignment.specs.Questions.{FindingData}
 use Rattle.assignment.specs.Levels.{LevelState, IsDecided}
 use Rattle.assignment.proofs.CandidateLaws.{listed-at}
-use Rattle.candidate_workers.specs.Claims.{count_of, candidate_at, passes_at, times, IsLeastPassing}
+use Rattle.candidate_workers.specs.Claims.{count_of, candidate_at, passes_at, IsLeastPassing}
+use Rattle.candidate_workers.specs.Counting.{times}
 use Rattle.candidate_workers.specs.Crews.{tasks_handed, AreClaims, AreFound}
 use Rattle.candidate_workers.specs.declared.gathering.Claimed.{Claimed}
 use Rattle.candidate_workers.specs.declared.gathering.Crew.{Crew}

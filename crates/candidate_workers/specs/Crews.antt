@@ -1,17 +1,19 @@
 -- What came of the workers of a level, all together.
-use Rattle.std.specs.Prelude.{◌≡◌, ℕ, ◌+◌, ◌<◌, ◌≤◌, true, false, cond, List, [], ◌∷◌, ◌++◌, map, Option, None, Some, Result, Ok, Err, All, IsFalse}
+use Rattle.std.specs.Prelude.{◌≡◌, ℕ, ◌+◌, ◌<◌, ◌≤◌, true, false, if◌then◌else◌, List, [], ◌∷◌, ◌++◌, map, Option, None, Some, Result, Ok, Err, All, IsFalse}
 use Rattle.std.specs.List.{Contains}
 use Rattle.std.specs.Global.{Vec}
 use Rattle.std.specs.FinSet.{contains}
 use Rattle.assignment.specs.Questions.{FindingData}
 use Rattle.assignment.specs.Levels.{LevelState}
+use Rattle.candidate_workers.specs.declared.assaying.TheConstants.{WORKER_LIMIT}
 use Rattle.candidate_workers.specs.declared.asking.WorkFault.{WorkFault}
 use Rattle.candidate_workers.specs.declared.assaying.AssayFault.{AssayFault}
 use Rattle.candidate_workers.specs.declared.assaying.AssayFault.TheVariants.{BadWorkers, ThreadRefused, GateShut, OutOfMemory}
 use Rattle.candidate_workers.specs.declared.gathering.Claimed.{Claimed}
 use Rattle.candidate_workers.specs.declared.gathering.Crew.{Crew}
 use Rattle.candidate_workers.specs.declared.view.View.{View}
-use Rattle.candidate_workers.specs.Claims.{count_of, candidate_at, passes_at, times, once_below, settled, IsLeastPassing}
+use Rattle.candidate_workers.specs.Claims.{count_of, candidate_at, passes_at, settled, IsLeastPassing}
+use Rattle.candidate_workers.specs.Counting.{times, once_below}
 use Rattle.candidate_workers.specs.Seats.{seat_view, task_of}
 use Rattle.candidate_workers.specs.Faults.{fault_of}
 
@@ -33,7 +35,7 @@ work_faults (Err fault ∷ rest) = fault_of fault ∷ work_faults rest
 
 -- the faults of a crew: a thread that was refused, and the faults of its workers
 abbrev pub faults_of : Crew → List AssayFault
-faults_of crew = cond crew.refused (ThreadRefused ∷ []) [] ++ work_faults crew.handed.items
+faults_of crew = (if crew.refused then ThreadRefused ∷ [] else []) ++ work_faults crew.handed.items
 
 -- the place of a fault in the order in which faults are answered
 abbrev pub rank_of : AssayFault → ℕ
@@ -45,21 +47,24 @@ rank_of OutOfMemory = 3
 -- one of the faults, with none of smaller rank among them, or there are none
 abbrev pub IsFirstFault : List AssayFault → Option AssayFault → Type 0
 IsFirstFault faults None = faults ≡ []
-IsFirstFault faults (Some fault) = Contains faults fault × All (λ other. rank_of fault ≤ rank_of other) faults
+IsFirstFault faults (Some fault) = Contains faults fault
+    × All (λ other. rank_of fault ≤ rank_of other) faults
 
 -- the view of all that the workers of a level did at its claim table
 abbrev pub whole_view : Claimed → View
 whole_view claimed = seat_view claimed.seat.value
 
--- the workers drew the numbers below the counter, each once, among them each place up to the least word; each of these
--- that is a place became one of passed, failed and cut; the tasks of the findings handed on are the candidates at the
--- failed and the passed places; the least word is the least place whose candidate passes, or the number of candidates
+-- the workers drew the numbers below the counter, each once, among them each place up to the least
+-- word; each of these that is a place became one of passed, failed and cut; the tasks of the
+-- findings handed on are the candidates at the failed and the passed places; the least word is the
+-- least place whose candidate passes, or the number of candidates
 pub record AreClaims (level : LevelState) (tasks : List ℕ) (claimed : Claimed) : Type 0 where
   pub each_once : (x : ℕ) → times x (whole_view claimed).drawn ≡ once_below x claimed.counter
-  pub near : claimed.counter ≤ count_of level + 8
+  pub near : claimed.counter ≤ count_of level + WORKER_LIMIT
   pub least : IsLeastPassing (count_of level) (passes_at level) claimed.least
   pub reached : (k : ℕ) → k < count_of level → k ≤ claimed.least → k < claimed.counter
-  pub one_fate : (k : ℕ) → k < count_of level → settled (whole_view claimed) k ≡ once_below k claimed.counter
+  pub one_fate : (k : ℕ) → k < count_of level
+      → settled (whole_view claimed) k ≡ once_below k claimed.counter
   pub passing : (k : ℕ) → 0 < times k (whole_view claimed).passed → passes_at level k ≡ true
   pub failing : (k : ℕ) → 0 < times k (whole_view claimed).failed → passes_at level k ≡ false
   pub cut_above : (k : ℕ) → 0 < times k (whole_view claimed).cut → claimed.least < k

@@ -1,9 +1,14 @@
-//! A law of the claims. It is the clause of a function that does nothing.
+//! Laws of the claims and of the demands. Each is the clause of a function that does nothing.
 ghost use Rattle.std.specs.Prelude.{ℕ, ◌<◌, ◌≤◌, List};
+ghost use Rattle.task_sheet.specs.Sheet.{Task};
+ghost use Rattle.task_sheet.specs.Indexes.{Indexes};
+ghost use Rattle.task_sheet.specs.Demand.{evaluation_bound, limit_of};
 ghost use Rattle.assignment.specs.Levels.{LevelState};
 ghost use Rattle.candidate_workers.specs.declared.gathering.Claimed.{Claimed};
-ghost use Rattle.candidate_workers.specs.Claims.{count_of, candidate_at, times};
+ghost use Rattle.candidate_workers.specs.Claims.{count_of, candidate_at};
+ghost use Rattle.candidate_workers.specs.Counting.{times};
 ghost use Rattle.candidate_workers.specs.Crews.{AreClaims};
+ghost use Rattle.candidate_workers.specs.Threads.{demands_on};
 
 /// The workers handed on a finding for each candidate up to the least that passes, and for all where none passes: these
 /// decide the level.
@@ -11,4 +16,10 @@ pub fn claims_find_all()
     ensures { (level : LevelState) (tasks : List ℕ) (claimed : Claimed) (k : ℕ) →
         AreClaims level tasks claimed → k < count_of level → k ≤ claimed.least →
         0 < times (candidate_at level k) tasks }
+{}
+
+/// A question computes no more demands than the bound of its task, whatever tasks are above it.
+pub fn demands_are_bounded()
+    ensures { (set : List Task) (task : Task) (above : Indexes) →
+        evaluation_bound set above (limit_of task) ≤ demands_on set task }
 {}

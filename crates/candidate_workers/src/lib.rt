@@ -13,11 +13,11 @@ mod threads;
 mod view;
 
 pub use asking::WorkFault;
-pub use assaying::{AssayFault, assay};
+pub use assaying::{AssayFault, WORKER_LIMIT, assay};
 pub use claims::{ClaimSeat, ClaimTable};
 pub use crew::share_out;
 pub use gate::{Gate, OpenGate};
 pub use gathering::{Claimed, Crew, Handed};
-pub use laws::claims_find_all;
+pub use laws::{claims_find_all, demands_are_bounded};
 pub use threads::threads_worth;
 pub use view::View;

@@ -1,39 +1,47 @@
 //! How many threads a set is worth.
-ghost use Rattle.std.specs.Prelude.{◌≤◌, ◌<◌};
+ghost use Rattle.std.specs.Prelude.{◌≡◌, ◌≤◌, ◌<◌};
+ghost use Rattle.task_sheet.specs.Sheet.{IsValidSheet};
+ghost use Rattle.candidate_workers.specs.Threads.{demands_on, demands_in, threads_worth_of};
 
 use task_sheet::{Sheet, TaskSet};
 
-// With fewer demands than these a set's test takes less time than starting threads for each level of it.
+// With fewer demands than these the test of a set is thought too short for starting threads at each of its levels.
 const DEMANDS_WORTH_THREADS: u64 = 2_000_000;
 
-// A bound on the demands of a question on a task: how often tasks are released within its limit.
-fn demands_of(set: &TaskSet, task: &Sheet) -> u64 {
+// A bound on the demands of a question on a task.
+fn demands_on(set: &TaskSet, task: &Sheet) -> u64
+    requires { IsValidSheet task.now }
+    ensures is { result ≡ demands_on set.now task.now }
+    ensures fits { result ≤ 1000000 }
+{
     let limit = task.limit();
-    let mut demands = 2u64;
+    let mut demands = 2;
     for sheet in set.sheets() {
-        let window = limit.saturating_add(sheet.jitter());
-        demands = demands.saturating_add(window.div_ceil(sheet.period()));
+        demands += (limit + sheet.jitter()).div_ceil(sheet.period());
     }
     demands
 }
 
-// A bound on the demands of a set's test: at each level each task is asked once at most.
-fn demands_of_all(set: &TaskSet) -> u64 {
-    let mut demands = 0u64;
+// A bound on the demands of a set's test.
+fn demands_in(set: &TaskSet) -> u64
+    ensures { result ≡ demands_in set.now }
+{
+    let mut demands = 0;
     for sheet in set.sheets() {
-        demands = demands.saturating_add(demands_of(set, sheet));
+        demands += demands_on(set, sheet);
     }
-    demands.saturating_mul(set.len() as u64)
+    set.len() as u64 * demands
 }
 
-/// How many of so many workers the test of a set is worth: all of them, or 1 where it is too short for starting threads to
-/// pay. What the test says is the same for every number.
+/// How many of so many workers the test of a set gets: all of them, or 1 where a bound on its demands is below a limit.
+/// What the test says is the same for every number.
 pub fn threads_worth(set: &TaskSet, workers: usize) -> usize
     requires { 0 < workers }
+    ensures is { result ≡ threads_worth_of set.now workers }
     ensures from { 0 < result }
     ensures most { result ≤ workers }
 {
-    if demands_of_all(set) < DEMANDS_WORTH_THREADS {
+    if demands_in(set) < DEMANDS_WORTH_THREADS {
         1
     } else {
         workers
