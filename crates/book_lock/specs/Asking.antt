@@ -18,7 +18,8 @@ use Rattle.book_lock.specs.declared.commit.CommitCause.TheVariants.{OtherTeam, B
 -- no question of the set's verdict is one of these; a set has one verdict
 abbrev pub NoneShutOf : (QuestionData → Type 0) → List Task → Type 0
 NoneShutOf shut U =
-    (verdict : VerdictData) → IsVerdictOf U verdict → (q : QuestionData) → IsOfVerdict U verdict q → shut q → ⊥
+    (verdict : VerdictData) → IsVerdictOf U verdict → (q : QuestionData) → IsOfVerdict U verdict q
+    → shut q → ⊥
 
 -- where the changes apply, this holds of the set that they come to
 abbrev pub NoneShut : (QuestionData → Type 0) → Result (List Owned) Refusal → Type 0

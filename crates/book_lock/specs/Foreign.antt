@@ -25,4 +25,5 @@ first_name (Some first) name = if is_lt (slice_cmp nat_cmp name first) then name
 abbrev pub first_told : (List ℕ → Bool) → List Task → Option (List ℕ) → Option (List ℕ)
 first_told test [] first = first
 first_told test (x ∷ xs) first =
-    if test x.name then first_told test xs (Some (first_name first x.name)) else first_told test xs first
+    if test x.name then first_told test xs (Some (first_name first x.name))
+    else first_told test xs first

@@ -21,7 +21,8 @@ Opens b p (Ok d) =
     × (is_up_to b.desk.version p.receipts ≡ true)
     × (d ≡ (let n : Draft = record { team = p.team; base = b.desk; changes = [] } in n))
 Opens b p (Err (Foreign name)) = IsForeignName (own_of p.team b.desk.tasks) p.tasks name
-Opens b p (Err (Behind version)) = IsOwn b.desk p × (version ≡ b.desk.version) × (is_up_to version p.receipts ≡ false)
+Opens b p (Err (Behind version)) =
+    IsOwn b.desk p × (version ≡ b.desk.version) × (is_up_to version p.receipts ≡ false)
 Opens b p (Err OutOfMemory) = Unit {0}
 
 -- an empty draft of that team on a state that a node can come to, with its tasks, and no older than its receipts

@@ -40,4 +40,5 @@ sheet_in name tasks = find (λ x. same_bytes x.name name) tasks
 -- the first name by bytes on which the two differ
 pub record IsForeignName (book pass : List Task) (name : List ℕ) : Type 0 where
   pub differs : sheet_in name book ≢ sheet_in name pass
-  pub first : (other : List ℕ) → is_lt (slice_cmp nat_cmp other name) ≡ true → sheet_in other book ≡ sheet_in other pass
+  pub first : (other : List ℕ) → is_lt (slice_cmp nat_cmp other name) ≡ true
+      → sheet_in other book ≡ sheet_in other pass

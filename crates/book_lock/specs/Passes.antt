@@ -41,7 +41,8 @@ is_up_to version (r ∷ rs) = nat_le (version_in r.1.decision) version && is_up_
 abbrev pub places_of : ℕ → ℕ → List Entry → List (ℕ × Entry)
 places_of team place [] = []
 places_of team place (l ∷ ls) =
-    if l.team == team then (place, l) ∷ places_of team (place + 1) ls else places_of team (place + 1) ls
+    if l.team == team then (place, l) ∷ places_of team (place + 1) ls
+    else places_of team (place + 1) ls
 
 -- the pass of a team that has decided nothing yet
 abbrev pub newcomer : ℕ → ℕ → Known

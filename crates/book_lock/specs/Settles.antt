@@ -21,10 +21,13 @@ abbrev pub Settles : Book → ProposalData → Known → Result Outcome DeskFaul
 Settles b p old (Ok (Decided place)) next new =
     (p.draft.base.version ≡ b.desk.version)
     × StillHolds b p
-    × ((e : Entry) × IsSaidBy p e.decision × IsNextEntry b p.draft place e × (next ≡ logged b e) × (new ≡ receiving old place e))
+    × ((e : Entry) × IsSaidBy p e.decision × IsNextEntry b p.draft place e × (next ≡ logged b e)
+    × (new ≡ receiving old place e))
 Settles b p old (Ok (Stale fresh back)) next new =
-    (p.draft.base.version < b.desk.version) × (fresh.value ≡ b.desk) × (back ≡ p) × (next ≡ b) × (new ≡ old)
-Settles b p old (Err (Stranger back)) next new = IsStrange b p × (back ≡ p) × (next ≡ b) × (new ≡ old)
+    (p.draft.base.version < b.desk.version) × (fresh.value ≡ b.desk) × (back ≡ p) × (next ≡ b)
+    × (new ≡ old)
+Settles b p old (Err (Stranger back)) next new =
+    IsStrange b p × (back ≡ p) × (next ≡ b) × (new ≡ old)
 Settles b p old (Err (OutOfMemory back)) next new = (back ≡ p) × (next ≡ b) × (new ≡ old)
 Settles b p old (Err (OtherTeam back)) next new = ⊥
 

@@ -40,8 +40,10 @@ fn test_set<G: Gate + Sync, R: Threads + Wait>(
     requires { IsBadCount workers → ⊥ }
     ensures right { IfOk result (λ judged. IsJudgedSet set.value judged) }
     ensures asked { OnOk result (NoneShutOf (λ q. G.always_shuts gate.now q) set.value) }
-    ensures fault { IfErr result (λ cause. IsUntestedSet (λ q. G.may_shut gate.now q) set.value cause) }
+    ensures fault { IfErr result (λ cause. IsUntestedSet
+        (λ q. G.may_shut gate.now q) set.value cause) }
 {
+    // The set is valid: the proof has it from its sheets.
     let _ = set.sheets();
     let Ok(own) = set.clone() else {
         return Err(CommitCause::OutOfMemory);
@@ -66,7 +68,8 @@ fn test<G: Gate + Sync, R: Threads + Wait>(
     requires { IsBadCount workers → ⊥ }
     ensures right { IfOk result (λ judged. IsJudged (on_base draft.now) judged) }
     ensures asked { OnOk result (NoneShut (λ q. G.always_shuts gate.now q) (on_base draft.now)) }
-    ensures fault { IfErr result (λ cause. IsUntested (λ q. G.may_shut gate.now q) (on_base draft.now) cause) }
+    ensures fault { IfErr result (λ cause. IsUntested (λ q. G.may_shut gate.now q)
+        (on_base draft.now) cause) }
 {
     match draft.applied(alloc) {
         Err(_) => Err(CommitCause::OutOfMemory),
@@ -87,7 +90,8 @@ pub(crate) fn examine<G: Gate + Sync, R: Threads + Wait>(
     ensures ok { IfOk result (λ proposal. proposal.draft ≡ draft) }
     ensures asked { OnOk result (NoneShut (λ q. G.always_shuts gate.now q) (on_base draft)) }
     ensures back { IfErr result (λ fault. fault.draft ≡ draft) }
-    ensures fault { IfErr result (λ fault. IsUntested (λ q. G.may_shut gate.now q) (on_base draft) fault.cause) }
+    ensures fault { IfErr result (λ fault. IsUntested (λ q. G.may_shut gate.now q)
+        (on_base draft) fault.cause) }
 {
     match test(rt, alloc, &draft, workers, gate) {
         Ok(judged) => Ok(Proposal::with(draft, judged)),

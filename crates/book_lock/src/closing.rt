@@ -143,7 +143,8 @@ impl<L: Ledger> Desk<L> {
     /// A desk for so many teams, and a pass for each; together these have all parts of the ledger. Refused: `BadTeams`.
     pub fn new(alloc: Global, blank: Blank, teams: u64) -> Result<(Desk<L>, Vec<Pass<L>>), NewFault>
         requires { (blank.name ≡ L.name) × (blank.parts ≡ L.parts) × (L.parts ≡ 8) }
-        ensures ok { IfOk result (λ r. (¬ IsBadTeams teams) × (r.0 ≡ teams) × (r.1.items ≡ newcomers 1 teams)) }
+        ensures ok { IfOk result (λ r. (¬ IsBadTeams teams) × (r.0 ≡ teams)
+            × (r.1.items ≡ newcomers 1 teams)) }
         ensures whole { IfOk result (λ r. parts_of r.1.items ≡ L.parts) }
         ensures err { IfErr result (λ fault. IsNoDesk blank teams fault) }
     {
@@ -172,7 +173,11 @@ impl<L: Ledger> Desk<L> {
     /// Refused in this order: `MissingPass`, `ReceiptMismatch`.
     pub fn close(self, passes: Vec<Pass<L>>) -> Result<Closing, CloseFault<L>>
         ensures ok { IfOk result (λ closing. IsClosed self passes.items
-            (let b : Book = record { desk = closing.state.value; log = map (λ e. e.value) closing.log.items } in b)) }
+            (let b : Book = record {
+              desk = closing.state.value;
+              log = map
+                  (λ e. e.value) closing.log.items;
+            } in b)) }
         ensures bound { IfOk result (λ closing. count_of passes.items ≤ length closing.log.items) }
         ensures counted { IfOk result (λ closing. parts_of passes.items ≡ L.parts →
             length closing.log.items ≡ count_of passes.items) }

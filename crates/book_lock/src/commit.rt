@@ -72,7 +72,8 @@ impl<L: Ledger> Desk<L> {
     ) -> Result<Round, CommitFault>
         requires team { draft.team ≡ pass.old.team }
         requires workers { IsBadCount workers → ⊥ }
-        ensures { IsRound (λ q. G.may_shut gate.now q) (λ q. G.always_shuts gate.now q) draft pass.old result pass.new }
+        ensures { IsRound (λ q. G.may_shut gate.now q)
+            (λ q. G.always_shuts gate.now q) draft pass.old result pass.new }
     {
         let proposal = match examine(rt, alloc, draft, workers, gate) {
             Ok(proposal) => proposal,

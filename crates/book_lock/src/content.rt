@@ -56,6 +56,7 @@ fn is_same_refusal(first: &Refusal, second: &Refusal) -> bool
 fn is_same_obstruction(first: &Obstruction, second: &Obstruction) -> bool
     ensures { IsTrue result ↔ (first.now ≡ second.now) }
 {
+    // Both sets are valid: the proof has it from their sheets.
     let _ = first.set().sheets();
     let _ = second.set();
     first.set().is_same(second.set())

@@ -59,7 +59,8 @@ fn first_told(sheets: &[Sheet], book: &[Sheet], pass: &[Sheet], first: Option<Na
 fn foreign_name(book: &[Sheet], pass: &[Sheet]) -> Option<Name>
     requires book { IsRanked book.now }
     requires pass { IsRanked pass.now }
-    ensures { MatchOption result (book.now ≡ pass.now) (λ name. IsForeignName book.now pass.now name) }
+    ensures { MatchOption result (book.now ≡ pass.now)
+        (λ name. IsForeignName book.now pass.now name) }
 {
     let first = first_told(book, book, pass, None);
     first_told(pass, book, pass, first)

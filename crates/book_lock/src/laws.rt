@@ -16,11 +16,16 @@ ghost use Rattle.book_lock.specs.Settles.{IsEntered, Settles};
 /// Where a team's changes apply to a legal book, the team's own tasks after them are those that its pass works out.
 /// So a pass that knows its team's tasks on the node knows them after each decision that it receives.
 pub fn own_tasks_are_known()
-    ensures changes { (b : Book) (team : ℕ) (changes : List (List ℕ × Change)) (tasks : List Owned) → IsLegalBook b
+    ensures changes { (b : Book) (team : ℕ) (changes : List (List ℕ × Change)) (tasks : List Owned)
+        → IsLegalBook b
         → applied team b.desk.tasks changes ≡ Ok tasks
         → own_of team tasks ≡ own_changes changes (own_of team b.desk.tasks) }
-    ensures entered { (b : Book) (d : Draft) (old new : Known) (place : ℕ) (next : Book) → IsLegalBook b
-        → d.team ≡ old.team → IsOwn b.desk old → IsEntered b d old place next new → IsOwn next.desk new }
-    ensures settled { (b : Book) (p : ProposalData) (old new : Known) (place : ℕ) (next : Book) → IsLegalBook b
-        → p.draft.team ≡ old.team → IsOwn b.desk old → Settles b p old (Ok (Decided place)) next new → IsOwn next.desk new }
+    ensures entered { (b : Book) (d : Draft) (old new : Known) (place : ℕ) (next : Book)
+        → IsLegalBook b
+        → d.team ≡ old.team → IsOwn b.desk old → IsEntered b d old place next new
+        → IsOwn next.desk new }
+    ensures settled { (b : Book) (p : ProposalData) (old new : Known) (place : ℕ) (next : Book)
+        → IsLegalBook b
+        → p.draft.team ≡ old.team → IsOwn b.desk old → Settles b p old (Ok (Decided place)) next new
+        → IsOwn next.desk new }
 {}

@@ -123,6 +123,7 @@ impl<L: Ledger> Locked<L> {
                 pass.tasks.keep(entry.decision(), tasks);
                 pass.latest = later(pass.latest, entry.decision());
                 pass.receipts.push_reserved(Receipt { place, entry });
+                // The book is legal: the proof has it from its state.
                 let _ = self.book.state();
                 Ok(Outcome::Decided { place })
             }
@@ -157,6 +158,7 @@ impl<L: Ledger> Locked<L> {
                 pass.tasks.keep(entry.decision(), tasks);
                 pass.latest = later(pass.latest, entry.decision());
                 pass.receipts.push_reserved(Receipt { place, entry });
+                // The book is legal: the proof has it from its state.
                 let _ = self.book.state();
                 Ok(place)
             }

@@ -1,8 +1,7 @@
 -- What a draft answers to the finding that it asks for.
-use Rattle.std.proofs.Common.{◌≡◌, ◌∙◌, ℕ, zero, suc, set, get_or, ◌+◌, ◌-◌, ◌<◌, List, [], ◌∷◌, ◌++◌, length, Option, None, Some, Result, Ok, Err, IfOk, refl, sym, ap, subst, arith}
+use Rattle.std.proofs.Common.{◌≡◌, ◌∙◌, ℕ, set, get_or, ◌+◌, ◌<◌, List, length, Option, None, Some, Result, Ok, Err, IfOk, refl, sym, ap, subst}
 use Rattle.std.proofs.lemmas.List.{get_or_default}
 use Rattle.std.specs.declared.alloc.AllocError.{AllocError}
-use Rattle.task_sheet.specs.Sheet.{Task}
 use Rattle.assignment.specs.Questions.{QuestionData}
 use Rattle.drafts.specs.declared.roster.Owned.{Owned}
 use Rattle.drafts.specs.declared.change.Refusal.{Refusal}
@@ -10,18 +9,16 @@ use Rattle.drafts.specs.Applied.{set_of}
 use Rattle.drafts.specs.Changes.{on_base}
 use Rattle.desk_core.specs.declared.asked.Asked.{Asked}
 use Rattle.desk_core.specs.declared.told.Told.{Told}
-use Rattle.desk_core.specs.declared.told.Told.TheVariants as told
 use Rattle.desk_core.specs.declared.events.Reply.{Reply}
-use Rattle.desk_core.specs.declared.events.Reply.TheVariants as reply
 use Rattle.desk_core.specs.declared.events.Standing.TheVariants.{Asking}
-use Rattle.desk_core.specs.declared.stage.Stage.TheVariants.{Trying}
 use Rattle.desk_core.specs.Advances.{IsTried, IsAdvancedOn, IsAdvancedIn, IsAdvanced}
 use Rattle.desk_core.specs.Asking.{IsNextAsked}
-use Rattle.desk_core.specs.Findings.{asked_of, found_after, Decides, IsTold}
-use Rattle.desk_core.specs.Stages.{IsStage}
+use Rattle.desk_core.specs.Findings.{Decides, IsTold}
+use Rattle.desk_core.specs.Stages.{IsTrialOn}
 use Rattle.desk_core.specs.Standings.{IsStanding, IsStandingOn}
 use Rattle.desk_core.specs.Trials.{TrialData}
-use Rattle.desk_core.specs.World.{World, Live, live_at, noted, IsTestedOn, IsTestedReply, IsToldReply, IsFoundReply}
+use Rattle.desk_core.specs.World.{World, Live, live_at, IsTestedOn, IsToldReply}
+use Rattle.desk_core.proofs.SlotLaws.{set-same, found-moved}
 
 -- a draft that is tested asks nothing
 pub tested-silent : (outcome : Result (List Owned) Refusal) (found : List Asked) → IsTestedOn outcome found → (q : QuestionData) → ¬ IsStandingOn outcome found (Asking q)
@@ -29,31 +26,12 @@ tested-silent (Err refusal) found tested q asking = absurd tested
 tested-silent (Ok tasks) found tested q asking = asking.1.present.undecided (tested asking.0)
 
 -- ---- of a trial
--- a verdict that is complete notes the finding
-pub noted-tested : (U : List Task) (found : List Asked) (a : Asked) (r : Reply) → IsTestedReply U r → found ++ a ∷ [] ≡ noted found a r
-noted-tested U found a (reply.Tested infeasible) is = refl
-noted-tested U found a (reply.Opened draft version) is = absurd is
-noted-tested U found a reply.Done is = absurd is
-noted-tested U found a reply.Taken is = absurd is
-noted-tested U found a (reply.LevelDone level name response) is = absurd is
-noted-tested U found a (reply.Stale version) is = absurd is
-noted-tested U found a (reply.Decided place entry) is = absurd is
-noted-tested U found a (reply.Refused why) is = absurd is
-
--- the findings are by the reply what they are by what was told
-pub noted-told : (U : List Task) (found : List Asked) (a : Asked) (t : Told) (r : Reply) → IsToldReply U t r → found_after found a t ≡ noted found a r
-noted-told U found a told.Stranger r is = ap (λ (x : Reply). noted found a x) (sym is)
-noted-told U found a told.Twice r is = ap (λ (x : Reply). noted found a x) (sym is)
-noted-told U found a told.Taken r is = ap (λ (x : Reply). noted found a x) (sym is)
-noted-told U found a (told.LevelDone level task response) r is = ap (λ (x : Reply). noted found a x) (sym is)
-noted-told U found a told.Tested r is = noted-tested U found a r is
-
-pub tried-none : (outcome : Result (List Owned) Refusal) (t u : TrialData) → IsStage outcome (Trying t) → IsTried t u None → IsAdvancedOn outcome t.found u.found None
+pub tried-none : (outcome : Result (List Owned) Refusal) (t u : TrialData) → IsTrialOn outcome t → IsTried t u None → IsAdvancedOn outcome t.found u.found None
 tried-none (Err refusal) t u so tried = absurd so
 tried-none (Ok tasks) t u so tried =
     (tested-silent (Ok tasks) t.found (subst (λ U. (k : ℕ) → Decides U t.found k) so tried.0), ap (λ (x : TrialData). x.found) tried.1)
 
-pub tried-some : (outcome : Result (List Owned) Refusal) (t u : TrialData) (told : Told) (r : Reply) → IsStage outcome (Trying t) → IsTried t u (Some told) → IsToldReply u.set told r → IsAdvancedOn outcome t.found u.found (Some r)
+pub tried-some : (outcome : Result (List Owned) Refusal) (t u : TrialData) (told : Told) (r : Reply) → IsTrialOn outcome t → IsTried t u (Some told) → IsToldReply u.set told r → IsAdvancedOn outcome t.found u.found (Some r)
 tried-some (Err refusal) t u told r so tried is = absurd so
 tried-some (Ok tasks) t u told r so tried is =
     let f = tried.0 in
@@ -61,25 +39,20 @@ tried-some (Ok tasks) t u told r so tried is =
     let same : u.set ≡ set_of tasks = on.same ∙ so in (
       f,
       subst (λ U. (k : ℕ) × IsNextAsked U t.found f.question k) so on.asked,
-      (told, subst (λ U. IsTold U t.found f.question told) so on.answer, subst (λ U. IsToldReply U told r) same is),
-      on.found ∙ noted-told u.set t.found (asked_of f.question) told r is,
+      (told, subst (λ U. IsTold U t.found f.question told) so on.answer, subst (λ U. IsToldReply U told r) same is, on.found),
     )
 
 -- ---- of a live draft
 pub live-advanced : (l m : Live) (result : Result (Option Reply) AllocError) → m.draft ≡ l.draft → IfOk result (IsAdvancedOn (on_base l.draft) l.found m.found) → IfOk result (IsAdvancedIn (Some l) (Some m))
 live-advanced l m (Err e) same so = tt
 live-advanced l m (Ok None) same so = (so.0, λ i. Some (let x : Live = record { draft = same i; found = so.1 i } in x))
-live-advanced l m (Ok (Some r)) same so = (so.0, so.1, so.2, λ i. Some (let x : Live = record { draft = same i; found = so.3 i } in x))
+live-advanced l m (Ok (Some r)) same so =
+    (so.0, so.1, (m, (m.found, so.2, λ i. let x : Live = record { draft = same i; found = m.found } in x), refl))
 
 pub slot-advanced : (slot : Option Live) (l m : Live) (result : Result (Option Reply) AllocError) → slot ≡ Some l → IfOk result (IsAdvancedIn (Some l) (Some m)) → IfOk result (IsAdvancedIn slot (Some m))
 slot-advanced slot l m result is so = subst (λ (o : Option Live). IfOk result (IsAdvancedIn o (Some m))) (sym is) so
 
 -- ---- of the core
-set-same : (xs : List (Option Live)) (i : ℕ) (x : Option Live) → x ≡ get_or xs i x → set xs i x ≡ xs
-set-same [] i x is = refl
-set-same (y ∷ xs) zero x is = ap (λ z. z ∷ xs) is
-set-same (y ∷ xs) (suc i) x is = ap (λ zs. y ∷ zs) (set-same xs i x is)
-
 moved : (w : World) (draft i : ℕ) (slot new : Option Live) (result : Result (Option Reply) AllocError) → i + 1 ≡ draft → live_at w.drafts draft ≡ slot → slot ≡ get_or w.drafts i slot
     → IfOk result (IsAdvancedIn slot new) → IfOk result (IsAdvanced w draft (record { book = w.book; drafts = set w.drafts i new }))
 moved w draft i slot new (Err e) next at is so = tt
@@ -87,14 +60,11 @@ moved w draft i slot new (Ok None) next at is so = (
   λ q asking. so.0 q (subst (λ (o : Option Live). IsStanding o (Asking q)) at asking),
   λ j. let x : World = record { book = w.book; drafts = (ap (λ o. set w.drafts i o) so.1 ∙ set-same w.drafts i slot is) j } in x,
 )
-moved w draft i None new (Ok (Some r)) next at is so = absurd (cc)
-moved w draft i (Some l) new (Ok (Some r)) next at is so =
-    let index : i ≡ draft - 1 = omega arith in (
-      so.0,
-      subst (λ (o : Option Live). IsStanding o (Asking so.0.question)) (sym at) so.1,
-      subst (λ (o : Option Live). IsFoundReply o so.0.question r) (sym at) so.2,
-      rw at (λ j. let x : World = record { book = w.book; drafts = set w.drafts (index j) (so.3 j) } in x),
-    )
+moved w draft i slot new (Ok (Some r)) next at is so = (
+  so.0,
+  subst (λ (o : Option Live). IsStanding o (Asking so.0.question)) (sym at) so.1,
+  found-moved w draft i slot new so.0 r next at is so.2,
+)
 
 pub core-advanced : (w : World) (draft i : ℕ) (slot new : Option Live) (result : Result (Option Reply) AllocError) → i + 1 ≡ draft → i < length w.drafts → live_at w.drafts draft ≡ get_or w.drafts i None → slot ≡ get_or w.drafts i slot
     → IfOk result (IsAdvancedIn slot new) → IfOk result (IsAdvanced w draft (record { book = w.book; drafts = set w.drafts i new }))

@@ -10,11 +10,10 @@ use Rattle.desk_core.specs.declared.events.Cause.TheVariants as cause
 use Rattle.desk_core.specs.declared.asked.Asked.{Asked}
 use Rattle.desk_core.specs.declared.told.Told.{Told}
 use Rattle.desk_core.specs.declared.told.Told.TheVariants.{Stranger, Twice, Taken, LevelDone, Tested}
-use Rattle.desk_core.specs.declared.stage.Stage.TheVariants.{Trying}
 use Rattle.desk_core.specs.Findings.{asked_of, IsTold, IsTested, found_after}
 use Rattle.desk_core.specs.Trials.{TrialData}
-use Rattle.desk_core.specs.World.{IsFoundAnswer, IsToldReply, IsTestedOn}
-use Rattle.desk_core.specs.Stages.{IsStage}
+use Rattle.desk_core.specs.World.{IsFound, IsToldReply, IsTestedOn}
+use Rattle.desk_core.specs.Stages.{IsTrialOn}
 use Rattle.desk_core.specs.Brought.{IsTelling, IsBrought}
 use Rattle.task_sheet.proofs.ChosenLaws.{level_at-part}
 
@@ -27,13 +26,14 @@ telling old new q (LevelDone level task response) is same found =
     subst (λ U. task < length U) (sym same) within
 telling old new q Tested is same found = subst (λ U. IsTested U new.found) (sym same) (subst (λ xs. IsTested old.set xs) (sym found) is.2)
 
-pub brought-answer : (outcome : Result (List Owned) Refusal) (trial : TrialData) (found : List Asked) (q : QuestionData) (result : Result Reply FindingData) → IsStage outcome (Trying trial) → trial.found ≡ found → IfOk result (λ r. IsBrought trial q r) → IfOk result (λ r. IsFoundAnswer outcome found q r)
-brought-answer outcome trial found q (Err back) so same is = tt
-brought-answer (Err refusal) trial found q (Ok r) so same is = absurd so
-brought-answer (Ok tasks) trial found q (Ok r) so same is =
-    subst (λ xs. IsFoundAnswer (Ok tasks) xs q r) same (subst (λ U. (t : Told) × IsTold U trial.found q t × IsToldReply U t r) so is)
+pub brought-answer : (outcome : Result (List Owned) Refusal) (trial : TrialData) (found after : List Asked) (q : QuestionData) (result : Result Reply FindingData) → IsTrialOn outcome trial → trial.found ≡ found → IfOk result (λ r. IsBrought trial q r after) → IfOk result (λ r. IsFound outcome found q r after)
+brought-answer outcome trial found after q (Err back) so same is = tt
+brought-answer (Err refusal) trial found after q (Ok r) so same is = absurd so
+brought-answer (Ok tasks) trial found after q (Ok r) so same is =
+    subst (λ xs. IsFound (Ok tasks) xs q r after) same
+    (subst (λ U. (t : Told) × IsTold U trial.found q t × IsToldReply U t r × (after ≡ found_after trial.found (asked_of q) t)) so is)
 
 -- a finding for a draft that is tested is a stranger
-pub tested-stranger : (outcome : Result (List Owned) Refusal) (found : List Asked) (q : QuestionData) → IsTestedOn outcome found → IsFoundAnswer outcome found q (reply.Refused cause.Stranger)
-tested-stranger (Err refusal) found q tested = absurd tested
-tested-stranger (Ok tasks) found q tested = (Stranger, (λ k present. absurd (present.undecided (tested k))), refl)
+pub tested-stranger : (outcome : Result (List Owned) Refusal) (found after : List Asked) (q : QuestionData) → IsTestedOn outcome found → after ≡ found → IsFound outcome found q (reply.Refused cause.Stranger) after
+tested-stranger (Err refusal) found after q tested same = absurd tested
+tested-stranger (Ok tasks) found after q tested same = (Stranger, (λ k present. absurd (present.undecided (tested k))), refl, same)

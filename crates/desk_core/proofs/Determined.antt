@@ -1,27 +1,30 @@
--- Replies are determined by the events.
-use Rattle.std.proofs.Common.{◌≡◌, ◌∙◌, ℕ, ◌⊎◌, inl, inr, List, [], ◌∷◌, ◌++◌, map, Option, None, Some, Result, Ok, Err, refl, sym, ap, subst}
+-- Replies are determined by the events, and so is the world that they lead to.
+use Rattle.std.proofs.Common.{◌≡◌, ◌∙◌, ℕ, ◌-◌, ◌⊎◌, inl, inr, List, [], ◌∷◌, map, Option, None, Some, Result, Ok, Err, slice_set, refl, sym, ap, subst}
 use Rattle.task_sheet.specs.Sheet.{Task, task_at}
 use Rattle.task_sheet.specs.Verdicts.{FailureData, tasks_of}
 use Rattle.task_sheet.proofs.VerdictLaws.{IsStuck-one}
 use Rattle.assignment.specs.Kept.{ObstructionData}
 use Rattle.assignment.specs.Questions.{QuestionData}
 use Rattle.drafts.specs.declared.roster.Owned.{Owned}
+use Rattle.drafts.specs.declared.change.Change.{Change}
 use Rattle.drafts.specs.declared.change.Refusal.{Refusal}
+use Rattle.drafts.specs.declared.draft.EditRefusal.{EditRefusal}
 use Rattle.drafts.specs.Applied.{set_of, applied}
-use Rattle.drafts.specs.Machine.{Desk, Entry, Ruling, Admitted, Refused, Infeasible, IsAnswer}
+use Rattle.drafts.specs.Machine.{Entry, Ruling, Admitted, Refused, Infeasible, IsAnswer}
 use Rattle.drafts.specs.Books.{Book, logged, IsNextEntry}
-use Rattle.drafts.specs.Changes.{Draft, on_base}
+use Rattle.drafts.specs.Changes.{Draft, on_base, after_put, after_remove}
 use Rattle.desk_core.specs.declared.asked.Asked.{Asked}
 use Rattle.desk_core.specs.declared.told.Told.{Told}
 use Rattle.desk_core.specs.declared.told.Told.TheVariants as told
+use Rattle.desk_core.specs.declared.events.Cause.TheVariants as cause
 use Rattle.desk_core.specs.declared.events.Event.{Event}
 use Rattle.desk_core.specs.declared.events.Event.TheVariants.{Open, Put, Remove, Found, Commit, Abandon}
 use Rattle.desk_core.specs.declared.events.Reply.{Reply}
 use Rattle.desk_core.specs.declared.events.Reply.TheVariants as reply
-use Rattle.desk_core.specs.Findings.{asked_of}
+use Rattle.desk_core.specs.Findings.{asked_of, found_after}
 use Rattle.desk_core.specs.Said.{Said, said_of}
 use Rattle.desk_core.specs.Said as said
-use Rattle.desk_core.specs.World.{World, Live, live_at, on_draft, rebased, noted, book_after, committed, IsShown, IsTestedReply, IsToldReply, IsFoundAnswer, IsFoundReply, IsStale, IsLiveCommit, IsCommitReply, IsReply, happens, IsRun, after_all}
+use Rattle.desk_core.specs.World.{World, Live, live_at, with_slot, with_found, changed, rebased, cause_of, IsShown, IsTestedReply, IsToldReply, IsEdited, IsFound, IsBroughtTo, IsStale, IsCommitted, IfLive, IsEdit, Happens, IsRun}
 use Rattle.desk_core.proofs.ToldOne.{told-one}
 
 -- ---- verdicts
@@ -52,10 +55,21 @@ told-said U told.Tested r s x y =
     let second = tested-said U s y in
     first.1 ∙ ap (λ (names : List (List ℕ)). said.Tested names) (shown-one U first.0 second.0 first.2 second.2) ∙ sym second.1
 
-found-said : (outcome : Result (List Owned) Refusal) (found : List Asked) (q : QuestionData) (r s : Reply) → IsFoundAnswer outcome found q r → IsFoundAnswer outcome found q s → said_of r ≡ said_of s
-found-said (Err refusal) found q r s x y = ap (λ (z : Reply). said_of z) (x ∙ sym y)
-found-said (Ok tasks) found q r s x y =
-    told-said (set_of tasks) x.0 r s x.2 (subst (λ (t : Told). IsToldReply (set_of tasks) t s) (told-one (set_of tasks) found q y.0 x.0 y.1 x.1) y.2)
+-- two of a draft's findings are then the same, and the same is said
+abbrev Same : {A : Type 0} → Reply → Reply → A → A → Type 0
+Same r s x y = (said_of r ≡ said_of s) × (x ≡ y)
+
+same-reply : {A : Type 0} (r s t : Reply) (x y z : A) → r ≡ t → s ≡ t → x ≡ z → y ≡ z → Same r s x y
+same-reply r s t x y z first second here there = (ap (λ (u : Reply). said_of u) (first ∙ sym second), here ∙ sym there)
+
+found-one : (outcome : Result (List Owned) Refusal) (found : List Asked) (q : QuestionData) (r s : Reply) (xs ys : List Asked) → IsFound outcome found q r xs → IsFound outcome found q s ys → Same r s xs ys
+found-one (Err refusal) found q r s xs ys x y = same-reply r s (reply.Refused cause.Untestable) xs ys found x.0 y.0 x.1 y.1
+found-one (Ok tasks) found q r s xs ys x y =
+    let U = set_of tasks in
+    let same : y.0 ≡ x.0 = told-one U found q y.0 x.0 y.1 x.1 in (
+      told-said U x.0 r s x.2 (subst (λ (t : Told). IsToldReply U t s) same y.2),
+      x.3 ∙ sym (y.3 ∙ ap (λ (t : Told). found_after found (asked_of q) t) same),
+    )
 
 -- ---- decisions
 ruling-one : (version : ℕ) (outcome : Result (List Owned) Refusal) (a b : Ruling) → IsAnswer version outcome a → IsAnswer version outcome b → a ≡ b
@@ -84,142 +98,84 @@ entry-one b d place place' e f x y =
     λ i. record { team = team i; changes = changes i; decision = decision i }
 
 -- a commit is stale, or decided
-abbrev Commits : Book → Live → Said → Type 0
-Commits b l s = (IsStale b l × (s ≡ said.Stale b.desk.version)) ⊎ ((¬ IsStale b l) × ((place : ℕ) × (e : Entry) × IsNextEntry b l.draft place e × (s ≡ said.Decided place e)))
+abbrev Commits : Book → Live → Said → Book → Option Live → Type 0
+Commits b l s book slot =
+    (IsStale b l × (s ≡ said.Stale b.desk.version) × (book ≡ b) × (slot ≡ Some (rebased l b.desk)))
+    ⊎ ((¬ IsStale b l) × ((place : ℕ) × (e : Entry) × IsNextEntry b l.draft place e × (s ≡ said.Decided place e) × (book ≡ logged b e)) × (slot ≡ None))
 
-commit-said : (b : Book) (l : Live) (r : Reply) → IsLiveCommit b l r → Commits b l (said_of r)
-commit-said b l (reply.Stale version) is = inl (is.0, ap (λ (v : ℕ). said.Stale v) is.1)
-commit-said b l (reply.Decided place entry) is = inr (is.0, (place, entry.value, is.1, refl))
-commit-said b l (reply.Opened draft version) is = absurd is
-commit-said b l reply.Done is = absurd is
-commit-said b l reply.Taken is = absurd is
-commit-said b l (reply.LevelDone level name response) is = absurd is
-commit-said b l (reply.Tested infeasible) is = absurd is
-commit-said b l (reply.Refused why) is = absurd is
+commit-said : (b : Book) (l : Live) (r : Reply) (book : Book) (slot : Option Live) → IsCommitted b l r book slot → Commits b l (said_of r) book slot
+commit-said b l (reply.Stale version) book slot is = inl (is.0, ap (λ (v : ℕ). said.Stale v) is.1, is.2, is.3)
+commit-said b l (reply.Decided place entry) book slot is = inr (is.0, (place, entry.value, is.1, refl, is.2), is.3)
+commit-said b l (reply.Opened draft version) book slot is = absurd is
+commit-said b l reply.Done book slot is = absurd is
+commit-said b l reply.Taken book slot is = absurd is
+commit-said b l (reply.LevelDone level name response) book slot is = absurd is
+commit-said b l (reply.Tested infeasible) book slot is = absurd is
+commit-said b l (reply.Refused why) book slot is = absurd is
 
-commits-one : (b : Book) (l : Live) (r s : Said) → Commits b l r → Commits b l s → r ≡ s
-commits-one b l r s (inl x) (inl y) = x.1 ∙ sym y.1
-commits-one b l r s (inl x) (inr y) = absurd (y.0 x.0)
-commits-one b l r s (inr x) (inl y) = absurd (x.0 y.0)
-commits-one b l r s (inr x) (inr y) =
+commits-one : (b : Book) (l : Live) (r s : Said) (c d : Book) (i j : Option Live) → Commits b l r c i → Commits b l s d j → (r ≡ s) × (c ≡ d) × (i ≡ j)
+commits-one b l r s c d i j (inl x) (inl y) = (x.1 ∙ sym y.1, x.2 ∙ sym y.2, x.3 ∙ sym y.3)
+commits-one b l r s c d i j (inl x) (inr y) = absurd (y.0 x.0)
+commits-one b l r s c d i j (inr x) (inl y) = absurd (x.0 y.0)
+commits-one b l r s c d i j (inr x) (inr y) =
     let place : x.1.0 ≡ y.1.0 = x.1.2.0 ∙ sym y.1.2.0 in
     let entry : x.1.1 ≡ y.1.1 = entry-one b l.draft x.1.0 y.1.0 x.1.1 y.1.1 x.1.2 y.1.2 in
-    let same : said.Decided x.1.0 x.1.1 ≡ said.Decided y.1.0 y.1.1 = λ i. said.Decided (place i) (entry i) in
-    x.1.3 ∙ same ∙ sym y.1.3
+    let same : said.Decided x.1.0 x.1.1 ≡ said.Decided y.1.0 y.1.1 = λ k. said.Decided (place k) (entry k) in
+    (x.1.3 ∙ same ∙ sym y.1.3, x.1.4 ∙ ap (λ (e : Entry). logged b e) entry ∙ sym y.1.4, x.2 ∙ sym y.2)
 
--- ---- replies
-slot-found : (slot : Option Live) (q : QuestionData) (r s : Reply) → IsFoundReply slot q r → IsFoundReply slot q s → said_of r ≡ said_of s
-slot-found None q r s x y = ap (λ (z : Reply). said_of z) (x ∙ sym y)
-slot-found (Some l) q r s x y = found-said (on_base l.draft) l.found q r s x y
+-- ---- events
+edited-one : (l : Live) (outcome : Result (List (List ℕ × Change)) EditRefusal) (r s : Reply) (m n : Live) → IsEdited l outcome r m → IsEdited l outcome s n → Same r s m n
+edited-one l (Ok changes) r s m n x y = same-reply r s reply.Done m n (changed l changes) x.0 y.0 x.1 y.1
+edited-one l (Err refusal) r s m n x y = same-reply r s (reply.Refused (cause_of refusal)) m n l x.0 y.0 x.1 y.1
 
-slot-commit : (b : Book) (slot : Option Live) (r s : Reply) → IsCommitReply b slot r → IsCommitReply b slot s → said_of r ≡ said_of s
-slot-commit b None r s x y = ap (λ (z : Reply). said_of z) (x ∙ sym y)
-slot-commit b (Some l) r s x y = commits-one b l (said_of r) (said_of s) (commit-said b l r x) (commit-said b l s y)
+-- an event on a draft is determined where what comes of it on one that is live is
+live-one : (slot : Option Live) (r s : Reply) (w u v : World) (first second : Live → Type 0) → ((l : Live) → first l → second l → Same r s u v) → IfLive slot r (u ≡ w) first → IfLive slot s (v ≡ w) second → Same r s u v
+live-one None r s w u v first second one x y = same-reply r s (reply.Refused cause.NoSuchDraft) u v w x.0 y.0 x.1 y.1
+live-one (Some l) r s w u v first second one x y = one l x y
 
-reply-one : (w : World) (e : Event) (r s : Reply) → IsReply w e r → IsReply w e s → said_of r ≡ said_of s
-reply-one w (Open team) r s x y = ap (λ (z : Reply). said_of z) (x ∙ sym y)
-reply-one w (Put draft sheet) r s x y = ap (λ (z : Reply). said_of z) (x ∙ sym y)
-reply-one w (Remove draft name) r s x y = ap (λ (z : Reply). said_of z) (x ∙ sym y)
-reply-one w (Found draft finding) r s x y = slot-found (live_at w.drafts draft) finding.question r s x y
-reply-one w (Commit draft) r s x y = slot-commit w.book (live_at w.drafts draft) r s x y
-reply-one w (Abandon draft) r s x y = ap (λ (z : Reply). said_of z) (x ∙ sym y)
+slot-one : (w u v : World) (draft : ℕ) (r s : Reply) (m n : Live) → u ≡ with_slot w draft (Some m) → v ≡ with_slot w draft (Some n) → Same r s m n → Same r s u v
+slot-one w u v draft r s m n here there same = (same.0, here ∙ ap (λ (l : Live). with_slot w draft (Some l)) same.1 ∙ sym there)
 
--- ---- what is then depends on what was said
-noted_by : List Asked → Asked → Said → List Asked
-noted_by found a said.Taken = found ++ a ∷ []
-noted_by found a (said.LevelDone level name response) = found ++ a ∷ []
-noted_by found a (said.Tested infeasible) = found ++ a ∷ []
-noted_by found a (said.Opened draft version) = found
-noted_by found a said.Done = found
-noted_by found a (said.Stale version) = found
-noted_by found a (said.Decided place entry) = found
-noted_by found a (said.Refused why) = found
+edit-one : (w u v : World) (draft : ℕ) (comes_to : Live → Result (List (List ℕ × Change)) EditRefusal) (r s : Reply) → IsEdit w draft comes_to r u → IsEdit w draft comes_to s v → Same r s u v
+edit-one w u v draft comes_to r s x y =
+    live-one (live_at w.drafts draft) r s w u v _ _ (λ l a b. slot-one w u v draft r s a.0 b.0 a.2 b.2 (edited-one l (comes_to l) r s a.0 b.0 a.1 b.1)) x y
 
-noted-said : (found : List Asked) (a : Asked) (r : Reply) → noted found a r ≡ noted_by found a (said_of r)
-unfolding noted_by
-noted-said found a (reply.Opened draft version) = refl
-noted-said found a reply.Done = refl
-noted-said found a reply.Taken = refl
-noted-said found a (reply.LevelDone level name response) = refl
-noted-said found a (reply.Tested infeasible) = refl
-noted-said found a (reply.Stale version) = refl
-noted-said found a (reply.Decided place entry) = refl
-noted-said found a (reply.Refused why) = refl
+found-same : (w u v : World) (draft : ℕ) (q : QuestionData) (l m n : Live) (r s : Reply) → IsBroughtTo l q r m → IsBroughtTo l q s n → u ≡ with_slot w draft (Some m) → v ≡ with_slot w draft (Some n) → Same r s u v
+found-same w u v draft q l m n r s a b here there =
+    let same = found-one (on_base l.draft) l.found q r s a.0 b.0 a.1 b.1 in
+    slot-one w u v draft r s m n here there (same.0, a.2 ∙ ap (λ (xs : List Asked). with_found l xs) same.1 ∙ sym b.2)
 
-book_by : Book → Said → Book
-book_by b (said.Decided place entry) = logged b entry
-book_by b (said.Opened draft version) = b
-book_by b said.Done = b
-book_by b said.Taken = b
-book_by b (said.LevelDone level name response) = b
-book_by b (said.Tested infeasible) = b
-book_by b (said.Stale version) = b
-book_by b (said.Refused why) = b
+commit-same : (w u v : World) (draft : ℕ) (l : Live) (r s : Reply) (i j : Option Live) → IsCommitted w.book l r u.book i → IsCommitted w.book l s v.book j → u.drafts ≡ slice_set w.drafts (draft - 1) i → v.drafts ≡ slice_set w.drafts (draft - 1) j → Same r s u v
+commit-same w u v draft l r s i j a b here there =
+    let one = commits-one w.book l (said_of r) (said_of s) u.book v.book i j (commit-said w.book l r u.book i a) (commit-said w.book l s v.book j b) in
+    let drafts : u.drafts ≡ v.drafts = here ∙ ap (λ (o : Option Live). slice_set w.drafts (draft - 1) o) one.2 ∙ sym there in
+    (one.0, λ k. let x : World = record { book = one.1 k; drafts = drafts k } in x)
 
-book-said : (b : Book) (r : Reply) → book_after b r ≡ book_by b (said_of r)
-unfolding book_by
-book-said b (reply.Opened draft version) = refl
-book-said b reply.Done = refl
-book-said b reply.Taken = refl
-book-said b (reply.LevelDone level name response) = refl
-book-said b (reply.Tested infeasible) = refl
-book-said b (reply.Stale version) = refl
-book-said b (reply.Decided place entry) = refl
-book-said b (reply.Refused why) = refl
-
-slot_by : Desk → Live → Said → Option Live
-slot_by desk l (said.Decided place entry) = None
-slot_by desk l (said.Stale version) = Some (rebased l desk)
-slot_by desk l (said.Opened draft version) = Some l
-slot_by desk l said.Done = Some l
-slot_by desk l said.Taken = Some l
-slot_by desk l (said.LevelDone level name response) = Some l
-slot_by desk l (said.Tested infeasible) = Some l
-slot_by desk l (said.Refused why) = Some l
-
-slot-said : (desk : Desk) (l : Live) (r : Reply) → committed desk r l ≡ slot_by desk l (said_of r)
-unfolding slot_by
-slot-said desk l (reply.Opened draft version) = refl
-slot-said desk l reply.Done = refl
-slot-said desk l reply.Taken = refl
-slot-said desk l (reply.LevelDone level name response) = refl
-slot-said desk l (reply.Tested infeasible) = refl
-slot-said desk l (reply.Stale version) = refl
-slot-said desk l (reply.Decided place entry) = refl
-slot-said desk l (reply.Refused why) = refl
-
-happens-one : (w : World) (e : Event) (r s : Reply) → said_of r ≡ said_of s → happens w e r ≡ happens w e s
-happens-one w (Open team) r s same = refl
-happens-one w (Put draft sheet) r s same = refl
-happens-one w (Remove draft name) r s same = refl
-happens-one w (Found draft finding) r s same =
-    let a : Asked = asked_of finding.question in
-    let found : (l : Live) → noted l.found a r ≡ noted l.found a s = λ l. noted-said l.found a r ∙ ap (λ (x : Said). noted_by l.found a x) same ∙ sym (noted-said l.found a s) in
-    λ i. on_draft w draft w.book (λ l. Some (record { draft = l.draft; found = found l i }))
-happens-one w (Commit draft) r s same =
-    let book : book_after w.book r ≡ book_after w.book s = book-said w.book r ∙ ap (λ (x : Said). book_by w.book x) same ∙ sym (book-said w.book s) in
-    let slot : (l : Live) → committed w.book.desk r l ≡ committed w.book.desk s l = λ l. slot-said w.book.desk l r ∙ ap (λ (x : Said). slot_by w.book.desk l x) same ∙ sym (slot-said w.book.desk l s) in
-    λ i. on_draft w draft (book i) (λ l. slot l i)
-happens-one w (Abandon draft) r s same = refl
+happens-one : (w u v : World) (e : Event) (r s : Reply) → Happens w e r u → Happens w e s v → Same r s u v
+happens-one w u v (Open team) r s x y = same-reply r s _ u v _ x.0 y.0 x.1 y.1
+happens-one w u v (Put draft sheet) r s x y = edit-one w u v draft (λ l. after_put l.draft sheet) r s x y
+happens-one w u v (Remove draft name) r s x y = edit-one w u v draft (λ l. after_remove l.draft name) r s x y
+happens-one w u v (Found draft finding) r s x y =
+    live-one (live_at w.drafts draft) r s w u v _ _ (λ l a b. found-same w u v draft finding.question l a.0 b.0 r s a.1 b.1 a.2 b.2) x y
+happens-one w u v (Commit draft) r s x y =
+    live-one (live_at w.drafts draft) r s w u v _ _ (λ l a b. commit-same w u v draft l r s a.0 b.0 a.1 b.1 a.2 b.2) x y
+happens-one w u v (Abandon draft) r s x y =
+    live-one (live_at w.drafts draft) r s w u v _ _ (λ l a b. same-reply r s reply.Done u v (with_slot w draft None) a.0 b.0 a.1 b.1) x y
 
 -- ---- runs
-pub replies-one : (w : World) (events : List Event) (rs ss : List Reply) → IsRun w events rs → IsRun w events ss → map said_of rs ≡ map said_of ss
-replies-one w [] [] [] x y = refl
-replies-one w [] [] (s ∷ ss) x y = absurd y
-replies-one w [] (r ∷ rs) ss x y = absurd x
-replies-one w (e ∷ events) [] ss x y = absurd x
-replies-one w (e ∷ events) (r ∷ rs) [] x y = absurd y
-replies-one w (e ∷ events) (r ∷ rs) (s ∷ ss) x y =
-    let first : said_of r ≡ said_of s = reply-one w e r s x.0 y.0 in
-    let rest : map said_of rs ≡ map said_of ss = replies-one (happens w e r) events rs ss x.1 (subst (λ (v : World). IsRun v events ss) (sym (happens-one w e r s first)) y.1) in
-    λ i. first i ∷ rest i
+runs-one : (w u v : World) (events : List Event) (rs ss : List Reply) → IsRun w events rs u → IsRun w events ss v → (map said_of rs ≡ map said_of ss) × (u ≡ v)
+runs-one w u v [] [] [] x y = (refl, x ∙ sym y)
+runs-one w u v [] [] (s ∷ ss) x y = absurd y
+runs-one w u v [] (r ∷ rs) ss x y = absurd x
+runs-one w u v (e ∷ events) [] ss x y = absurd x
+runs-one w u v (e ∷ events) (r ∷ rs) [] x y = absurd y
+runs-one w u v (e ∷ events) (r ∷ rs) (s ∷ ss) x y =
+    let first = happens-one w x.0 y.0 e r s x.1 y.1 in
+    let rest = runs-one x.0 u v events rs ss x.2 (subst (λ (z : World). IsRun z events ss v) (sym first.1) y.2) in
+    (λ i. first.0 i ∷ rest.0 i, rest.1)
 
-pub worlds-one : (w : World) (events : List Event) (rs ss : List Reply) → IsRun w events rs → IsRun w events ss → after_all w events rs ≡ after_all w events ss
-worlds-one w [] [] [] x y = refl
-worlds-one w [] [] (s ∷ ss) x y = absurd y
-worlds-one w [] (r ∷ rs) ss x y = absurd x
-worlds-one w (e ∷ events) [] ss x y = absurd x
-worlds-one w (e ∷ events) (r ∷ rs) [] x y = absurd y
-worlds-one w (e ∷ events) (r ∷ rs) (s ∷ ss) x y =
-    let first = happens-one w e r s (reply-one w e r s x.0 y.0) in
-    worlds-one (happens w e r) events rs ss x.1 (subst (λ (v : World). IsRun v events ss) (sym first) y.1) ∙ ap (λ (v : World). after_all v events ss) first
+pub replies-one : (w u v : World) (events : List Event) (rs ss : List Reply) → IsRun w events rs u → IsRun w events ss v → map said_of rs ≡ map said_of ss
+replies-one w u v events rs ss x y = (runs-one w u v events rs ss x y).0
+
+pub worlds-one : (w u v : World) (events : List Event) (rs ss : List Reply) → IsRun w events rs u → IsRun w events ss v → u ≡ v
+worlds-one w u v events rs ss x y = (runs-one w u v events rs ss x y).1

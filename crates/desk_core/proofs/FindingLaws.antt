@@ -29,7 +29,7 @@ unfolding with_missing
 level_of-on U found k a on =
     ap (λ m. with_missing U (level_at U k) m) (missing_after-push (level_at U k) (level_at U k) found a ∙ rw on refl)
 
-level_of-off : (U : List Task) (found : List Asked) (k : ℕ) (a : Asked) → is_on (level_at U k) a ≡ false → level_of U (found ++ a ∷ []) k ≡ level_of U found k
+pub level_of-off : (U : List Task) (found : List Asked) (k : ℕ) (a : Asked) → is_on (level_at U k) a ≡ false → level_of U (found ++ a ∷ []) k ≡ level_of U found k
 unfolding with_missing
 level_of-off U found k a off =
     ap (λ m. with_missing U (level_at U k) m) (missing_after-push (level_at U k) (level_at U k) found a ∙ rw off refl)

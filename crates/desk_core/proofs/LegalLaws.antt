@@ -1,5 +1,5 @@
 -- Whatever events come, and whatever replies they get, the book stays legal.
-use Rattle.std.proofs.Common.{◌≡◌, ℕ, List, [], ◌∷◌, Option, None, Some, refl, sym, subst}
+use Rattle.std.proofs.Common.{◌≡◌, ℕ, ◌-◌, List, [], ◌∷◌, Option, None, Some, slice_set, refl, sym, ap, subst}
 use Rattle.drafts.specs.declared.change.Change.{Change}
 use Rattle.drafts.specs.Machine.{empty_desk, IsDecision, IsLegal, replay}
 use Rattle.drafts.specs.Books.{Book, IsLegalBook}
@@ -8,52 +8,54 @@ use Rattle.desk_core.specs.declared.events.Event.{Event}
 use Rattle.desk_core.specs.declared.events.Event.TheVariants.{Open, Put, Remove, Found, Commit, Abandon}
 use Rattle.desk_core.specs.declared.events.Reply.{Reply}
 use Rattle.desk_core.specs.declared.events.Reply.TheVariants as reply
-use Rattle.desk_core.specs.World.{World, Live, live_at, start, IsReply, IsLiveCommit, IsCommitReply, book_after, if_there, happens, IsRun, after_all}
+use Rattle.desk_core.specs.World.{World, Live, live_at, start, IsCommitted, IfLive, Happens, IsRun}
 
 abbrev Legal : Book → Type 0
 Legal b = IsLegal empty_desk b.log × (replay empty_desk b.log ≡ b.desk)
 
 -- ---- one commit
-commit-live : (b : Book) (l : Live) (r : Reply) → IsLiveCommit b l r → Legal b → Legal (book_after b r)
-commit-live b l (reply.Stale version) is legal = legal
-commit-live b l (reply.Decided place entry) is legal =
+commit-live : (b book : Book) (l : Live) (r : Reply) (slot : Option Live) → IsCommitted b l r book slot → Legal b → Legal book
+commit-live b book l (reply.Stale version) slot is legal = subst Legal (sym is.2) legal
+commit-live b book l (reply.Decided place entry) slot is legal =
     let e = entry.value in
     let named = subst (λ (t : ℕ). IsDecision b.desk t l.draft.changes e.decision) (sym is.1.1) is.1.3 in
-    logged-legal b e legal.0 legal.1 (subst (λ (cs : List (List ℕ × Change)). IsDecision b.desk e.team cs e.decision) (sym is.1.2) named)
-commit-live b l (reply.Opened draft version) is legal = absurd is
-commit-live b l reply.Done is legal = absurd is
-commit-live b l reply.Taken is legal = absurd is
-commit-live b l (reply.LevelDone level name response) is legal = absurd is
-commit-live b l (reply.Tested infeasible) is legal = absurd is
-commit-live b l (reply.Refused why) is legal = absurd is
-
-commit-there : (slot : Option Live) (w : World) (r : Reply) (drafts : List (Option Live)) → IsCommitReply w.book slot r → Legal w.book
-    → Legal (if_there slot w (record { book = book_after w.book r; drafts = drafts })).book
-commit-there None w r drafts is legal = legal
-commit-there (Some l) w r drafts is legal = commit-live w.book l r is legal
+    subst Legal (sym is.2)
+    (logged-legal b e legal.0 legal.1 (subst (λ (cs : List (List ℕ × Change)). IsDecision b.desk e.team cs e.decision) (sym is.1.2) named))
+commit-live b book l (reply.Opened draft version) slot is legal = absurd is
+commit-live b book l reply.Done slot is legal = absurd is
+commit-live b book l reply.Taken slot is legal = absurd is
+commit-live b book l (reply.LevelDone level name response) slot is legal = absurd is
+commit-live b book l (reply.Tested infeasible) slot is legal = absurd is
+commit-live b book l (reply.Refused why) slot is legal = absurd is
 
 -- ---- one event
-same-there : (slot : Option Live) (w : World) (drafts : List (Option Live)) → Legal w.book → Legal (if_there slot w (record { book = w.book; drafts = drafts })).book
-same-there None w drafts legal = legal
-same-there (Some l) w drafts legal = legal
+kept : (w v : World) → v.book ≡ w.book → Legal w.book → Legal v.book
+kept w v same legal = subst Legal (sym same) legal
 
-happens-legal : (w : World) (e : Event) (r : Reply) → IsReply w e r → Legal w.book → Legal (happens w e r).book
-happens-legal w (Open team) r is legal = legal
-happens-legal w (Put draft sheet) r is legal = same-there (live_at w.drafts draft) w _ legal
-happens-legal w (Remove draft name) r is legal = same-there (live_at w.drafts draft) w _ legal
-happens-legal w (Found draft finding) r is legal = same-there (live_at w.drafts draft) w _ legal
-happens-legal w (Commit draft) r is legal = commit-there (live_at w.drafts draft) w r _ is legal
-happens-legal w (Abandon draft) r is legal = same-there (live_at w.drafts draft) w _ legal
+same-book : (w v : World) (slot : Option Live) (stays : Type 0) (comes : Live → Type 0) (r : Reply) → (stays → v.book ≡ w.book) → ((l : Live) → comes l → v.book ≡ w.book) → IfLive slot r stays comes → v.book ≡ w.book
+same-book w v None stays comes r still went is = still is.1
+same-book w v (Some l) stays comes r still went is = went l is
+
+commit-there : (w v : World) (draft : ℕ) (slot : Option Live) (r : Reply) → IfLive slot r (v ≡ w) (λ l. (s : Option Live) × IsCommitted w.book l r v.book s × (v.drafts ≡ slice_set w.drafts (draft - 1) s)) → Legal w.book → Legal v.book
+commit-there w v draft None r is legal = kept w v (ap (λ (x : World). x.book) is.1) legal
+commit-there w v draft (Some l) r is legal = commit-live w.book v.book l r is.0 is.1 legal
+
+happens-legal : (w v : World) (e : Event) (r : Reply) → Happens w e r v → Legal w.book → Legal v.book
+happens-legal w v (Open team) r is = kept w v (ap (λ (x : World). x.book) is.1)
+happens-legal w v (Put draft sheet) r is = kept w v (same-book w v (live_at w.drafts draft) (v ≡ w) _ r (λ same. ap (λ (x : World). x.book) same) (λ l so. ap (λ (x : World). x.book) so.2) is)
+happens-legal w v (Remove draft name) r is = kept w v (same-book w v (live_at w.drafts draft) (v ≡ w) _ r (λ same. ap (λ (x : World). x.book) same) (λ l so. ap (λ (x : World). x.book) so.2) is)
+happens-legal w v (Found draft finding) r is = kept w v (same-book w v (live_at w.drafts draft) (v ≡ w) _ r (λ same. ap (λ (x : World). x.book) same) (λ l so. ap (λ (x : World). x.book) so.2) is)
+happens-legal w v (Commit draft) r is = commit-there w v draft (live_at w.drafts draft) r is
+happens-legal w v (Abandon draft) r is = kept w v (same-book w v (live_at w.drafts draft) (v ≡ w) _ r (λ same. ap (λ (x : World). x.book) same) (λ l so. ap (λ (x : World). x.book) so.1) is)
 
 -- ---- all events
-run-kept : (w : World) (events : List Event) (replies : List Reply) → IsRun w events replies → Legal w.book → Legal (after_all w events replies).book
-run-kept w [] [] run legal = legal
-run-kept w [] (r ∷ replies) run legal = absurd run
-run-kept w (e ∷ events) [] run legal = absurd run
-run-kept w (e ∷ events) (r ∷ replies) run legal = run-kept (happens w e r) events replies run.1 (happens-legal w e r run.0 legal)
+run-kept : (w v : World) (events : List Event) (replies : List Reply) → IsRun w events replies v → Legal w.book → Legal v.book
+run-kept w v [] [] run legal = kept w v (ap (λ (x : World). x.book) run) legal
+run-kept w v [] (r ∷ replies) run legal = absurd run
+run-kept w v (e ∷ events) [] run legal = absurd run
+run-kept w v (e ∷ events) (r ∷ replies) run legal = run-kept run.0 v events replies run.2 (happens-legal w run.0 e r run.1 legal)
 
-pub run-legal : (events : List Event) (replies : List Reply) → IsRun start events replies → IsLegalBook (after_all start events replies).book
-run-legal events replies run =
-    let b = (after_all start events replies).book in
-    let kept = run-kept start events replies run (tt, refl) in
-    record { legal = kept.0; replay = kept.1; version = version-counts b kept.0 kept.1 }
+pub run-legal : (events : List Event) (replies : List Reply) (v : World) → IsRun start events replies v → IsLegalBook v.book
+run-legal events replies v run =
+    let done = run-kept start v events replies run (tt, refl) in
+    record { legal = done.0; replay = done.1; version = version-counts v.book done.0 done.1 }

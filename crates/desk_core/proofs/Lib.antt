@@ -5,8 +5,9 @@ pub mod ClosingLaws
 pub mod StepLaws
 pub mod StageLaws
 pub mod BroughtLaws
-pub mod BasedLaws
 pub mod RunLaws
+pub mod SlotLaws
+pub mod OpenLaws
 pub mod ToldOne
 pub mod AskingLaws
 pub mod Determined

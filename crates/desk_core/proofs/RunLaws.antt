@@ -1,20 +1,17 @@
--- A run goes on by one event.
-use Rattle.std.proofs.Common.{◌≡◌, ◌∙◌, ℕ, List, [], ◌∷◌, ◌++◌, length, append-nil, sym, refl, arith}
+-- Runs go on.
+use Rattle.std.proofs.Common.{◌≡◌, ◌∙◌, ℕ, List, [], ◌∷◌, ◌++◌, length, append-nil, sym, refl, subst, arith}
 use Rattle.desk_core.specs.declared.events.Event.{Event}
 use Rattle.desk_core.specs.declared.events.Reply.{Reply}
-use Rattle.desk_core.specs.World.{World, IsReply, happens, IsRun, after_all}
+use Rattle.desk_core.specs.World.{World, Happens, IsRun}
 
-pub IsRun-push : (w : World) (es : List Event) (rs : List Reply) (e : Event) (r : Reply) → IsRun w es rs → IsReply (after_all w es rs) e r → IsRun w (es ++ e ∷ []) (rs ++ r ∷ [])
-IsRun-push w [] [] e r run next = (next, tt)
-IsRun-push w [] (s ∷ rs) e r run next = absurd run
-IsRun-push w (d ∷ es) [] e r run next = absurd run
-IsRun-push w (d ∷ es) (s ∷ rs) e r run next = (run.0, IsRun-push (happens w d s) es rs e r run.1 next)
+pub IsRun-append : (w u v : World) (es fs : List Event) (rs ss : List Reply) → IsRun w es rs u → IsRun u fs ss v → IsRun w (es ++ fs) (rs ++ ss) v
+IsRun-append w u v [] fs [] ss run more = subst (λ (x : World). IsRun x fs ss v) run more
+IsRun-append w u v [] fs (r ∷ rs) ss run more = absurd run
+IsRun-append w u v (e ∷ es) fs [] ss run more = absurd run
+IsRun-append w u v (e ∷ es) fs (r ∷ rs) ss run more = (run.0, run.1, IsRun-append run.0 u v es fs rs ss run.2 more)
 
-pub after_all-push : (w : World) (es : List Event) (rs : List Reply) (e : Event) (r : Reply) → IsRun w es rs → after_all w (es ++ e ∷ []) (rs ++ r ∷ []) ≡ happens (after_all w es rs) e r
-after_all-push w [] [] e r run = refl
-after_all-push w [] (s ∷ rs) e r run = absurd run
-after_all-push w (d ∷ es) [] e r run = absurd run
-after_all-push w (d ∷ es) (s ∷ rs) e r run = after_all-push (happens w d s) es rs e r run.1
+pub IsRun-push : (w u v : World) (es : List Event) (rs : List Reply) (e : Event) (r : Reply) → IsRun w es rs u → Happens u e r v → IsRun w (es ++ e ∷ []) (rs ++ r ∷ []) v
+IsRun-push w u v es rs e r run next = IsRun-append w u v es (e ∷ []) rs (r ∷ []) run (v, next, refl)
 
 -- nothing is left
 pub all_done : (done left all : List Event) (count : ℕ) → done ++ left ≡ all → length left ≡ count → count ≡ 0 → done ≡ all

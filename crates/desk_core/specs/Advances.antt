@@ -1,5 +1,5 @@
 -- A draft is brought the finding that it asks for.
-use Rattle.std.specs.Prelude.{◌≡◌, ℕ, ◌<◌, ◌^◌, List, length, Option, None, Some, Result, IsTrue, IsFalse}
+use Rattle.std.specs.Prelude.{◌≡◌, ℕ, ◌<◌, List, Option, None, Some, Result, IsTrue, IsFalse}
 use Rattle.std.specs.FinSet.{contains}
 use Rattle.assignment.specs.Questions.{QuestionData, FindingData}
 use Rattle.assignment.specs.Levels.{LevelState, IsAsked}
@@ -14,7 +14,8 @@ use Rattle.desk_core.specs.Asking.{IsNextAsked}
 use Rattle.desk_core.specs.Findings.{asked_of, IsTold, found_after, IsTested}
 use Rattle.desk_core.specs.Standings.{IsStanding, IsStandingOn}
 use Rattle.desk_core.specs.Trials.{TrialData}
-use Rattle.desk_core.specs.World.{World, Live, live_at, after_slot, noted, with_finding, IsFoundAnswer, IsFoundReply, IsReply, happens}
+use Rattle.desk_core.specs.World.{World, Live, live_at, IsFound, Happens}
+use Rattle.desk_core.specs.Slots.{IsFoundIn}
 
 -- the question on the missing candidate of least rank of a level
 pub record IsLeast (l : LevelState) (q : QuestionData) : Type 0 where
@@ -34,30 +35,27 @@ abbrev pub IsTried : TrialData → TrialData → Option Told → Type 0
 IsTried t u None = IsTested t.set t.found × (u ≡ t)
 IsTried t u (Some told) = (f : FindingData) × IsTriedOn t f.question told u
 
--- what was replied to that finding, on what changes come to, with the findings before and after; none where none is
--- asked for
-abbrev pub IsAdvancedOn : Result (List Owned) Refusal → List Asked → List Asked → Option Reply → Type 0
-IsAdvancedOn outcome found after None = ((q : QuestionData) → ¬ IsStandingOn outcome found (Asking q)) × (after ≡ found)
+-- what was replied to that finding, on what changes come to, with the findings before and after;
+-- none where none is asked for
+abbrev pub IsAdvancedOn :
+    Result (List Owned) Refusal → List Asked → List Asked → Option Reply → Type 0
+IsAdvancedOn outcome found after None =
+    ((q : QuestionData) → ¬ IsStandingOn outcome found (Asking q)) × (after ≡ found)
 IsAdvancedOn outcome found after (Some reply) =
     (f : FindingData) × IsStandingOn outcome found (Asking f.question)
-    × IsFoundAnswer outcome found f.question reply × (after ≡ noted found (asked_of f.question) reply)
+    × IsFound outcome found f.question reply after
 
 -- and to that finding for a draft, if it is live, with the draft before and after
 abbrev pub IsAdvancedIn : Option Live → Option Live → Option Reply → Type 0
 IsAdvancedIn slot new None = ((q : QuestionData) → ¬ IsStanding slot (Asking q)) × (new ≡ slot)
 IsAdvancedIn slot new (Some reply) =
-    (f : FindingData) × IsStanding slot (Asking f.question) × IsFoundReply slot f.question reply
-    × (new ≡ after_slot slot (λ l. Some (with_finding l (asked_of f.question) reply)))
+    (f : FindingData) × IsStanding slot (Asking f.question) × IsFoundIn slot f.question reply new
 
--- the draft of that number was brought the finding that it asks for, as an event, and this is the reply; none where it
--- asks for none
+-- the draft of that number was brought the finding that it asks for, as an event, and this is the
+-- reply; none where it asks for none
 abbrev pub IsAdvanced : World → ℕ → World → Option Reply → Type 0
-IsAdvanced w draft v None = ((q : QuestionData) → ¬ IsStanding (live_at w.drafts draft) (Asking q)) × (v ≡ w)
+IsAdvanced w draft v None =
+    ((q : QuestionData) → ¬ IsStanding (live_at w.drafts draft) (Asking q)) × (v ≡ w)
 IsAdvanced w draft v (Some reply) =
     (f : FindingData) × IsStanding (live_at w.drafts draft) (Asking f.question)
-    × IsReply w (Found draft f) reply × (v ≡ happens w (Found draft f) reply)
-
--- its findings are a list that memory holds
-abbrev pub IsFew : Option Live → Type 0
-IsFew None = Unit {0}
-IsFew (Some l) = length l.found < 2 ^ 63
+    × Happens w (Found draft f) reply v

@@ -22,14 +22,20 @@ abbrev pub IsNew : LevelState → QuestionData → Type 0
 IsNew l q = IsAsked l q × IsTrue (contains l.missing q.task)
 
 -- the finding decides the level, which is closed
-abbrev pub IsDeciding : ClimbState → LevelState → QuestionData → ClimbState → Option LevelState → Told → Type 0
-IsDeciding c l q c' kept told = IsNew l q × IsDecided (with_finding l q.task) × (kept ≡ None) × IsClosing c c' told
+abbrev pub IsDeciding :
+    ClimbState → LevelState → QuestionData → ClimbState → Option LevelState → Told → Type 0
+IsDeciding c l q c' kept told =
+    IsNew l q × IsDecided (with_finding l q.task) × (kept ≡ None) × IsClosing c c' told
 
 -- what is told of a finding at a level, and what the climb and the level are then
-abbrev pub IsTakenAt : ClimbState → LevelState → QuestionData → ClimbState → Option LevelState → Told → Type 0
+abbrev pub IsTakenAt :
+    ClimbState → LevelState → QuestionData → ClimbState → Option LevelState → Told → Type 0
 IsTakenAt c l q c' kept Stranger = (¬ IsAsked l q) × (kept ≡ Some l) × (c' ≡ c)
-IsTakenAt c l q c' kept Twice = (IsAsked l q × IsFalse (contains l.missing q.task)) × (kept ≡ Some l) × (c' ≡ c)
+IsTakenAt c l q c' kept Twice =
+    (IsAsked l q × IsFalse (contains l.missing q.task)) × (kept ≡ Some l) × (c' ≡ c)
 IsTakenAt c l q c' kept Taken =
-    IsNew l q × (¬ IsDecided (with_finding l q.task)) × (kept ≡ Some (with_finding l q.task)) × (c' ≡ c)
-IsTakenAt c l q c' kept (LevelDone level task response) = IsDeciding c l q c' kept (LevelDone level task response)
+    IsNew l q × (¬ IsDecided (with_finding l q.task))
+    × (kept ≡ Some (with_finding l q.task)) × (c' ≡ c)
+IsTakenAt c l q c' kept (LevelDone level task response) =
+    IsDeciding c l q c' kept (LevelDone level task response)
 IsTakenAt c l q c' kept Tested = IsDeciding c l q c' kept Tested

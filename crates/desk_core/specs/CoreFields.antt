@@ -1,12 +1,7 @@
 -- How a `Core` keeps its drafts.
 use Rattle.desk_core.specs.World.{World}
-use Rattle.desk_core.specs.Based.{AllBased}
 use Rattle.desk_core.specs.declared.desk_core.Core.TheInside.{Inside}
 
 -- what callers see of a core
 abbrev pub world_of : Inside → World
 world_of a = record { book = a.book; drafts = a.drafts.items }
-
--- each draft stands on a state that the book had
-abbrev pub IsKept : Inside → Type 0
-IsKept a = AllBased a.book.desk a.drafts.items

@@ -52,6 +52,14 @@ pub record IsNews (U : List Task) (found : List Asked) (q : QuestionData) (k : �
   pub asked : IsAsked (level_of U found k) q
   pub missing : IsTrue (contains (level_of U found k).missing q.task)
 
+-- after the findings before them each of these, one after the other, was on a candidate of the level
+-- that was present then, and had no finding
+abbrev pub AreNews : List Task → (before found : List Asked) → Type 0
+AreNews U before [] = Unit {0}
+AreNews U before (a ∷ found) =
+    ((q : QuestionData) × (k : ℕ) × (a ≡ asked_of q) × IsNews U before q k)
+    × AreNews U (before ++ a ∷ []) found
+
 -- the finding decides level k by a task with its response, and the next level is the present one
 pub record IsLevelDone (U : List Task) (found : List Asked) (k level task response : ℕ) : Type 0 where
   pub next : IsPresent U found (suc k)

@@ -4,9 +4,9 @@ pub mod Trials
 pub mod TrialFields
 pub mod Closing
 pub mod World
+pub mod Slots
 pub mod Stages
 pub mod LiveFields
-pub mod Based
 pub mod Brought
 pub mod CoreFields
 pub mod Asking

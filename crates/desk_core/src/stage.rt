@@ -1,44 +1,39 @@
 //! How far the test of a draft has come.
 
-ghost use Rattle.std.specs.Prelude.{◌≡◌, IfOk, IfErr, IsTrue, OnErr, List, Result};
+ghost use Rattle.std.specs.Prelude.{◌≡◌, ◌↔◌, IfOk, IsTrue, List, Result};
 ghost use Rattle.drafts.specs.declared.roster.Owned.{Owned};
 ghost use Rattle.drafts.specs.declared.change.Refusal.{Refusal};
 ghost use Rattle.drafts.specs.Changes.{on_base};
-ghost use Rattle.desk_core.specs.Stages.{found_of, IsStage, IsBegun, IsTrialOf, IsReady};
-ghost use Rattle.desk_core.specs.Standings.{IsQuestionOn, IsShort, IsStandingOn, IsTrying};
-ghost use Rattle.desk_core.specs.declared.stage.Stage.TheVariants.{Complete, Trying};
-ghost use Rattle.desk_core.specs.Findings.{IsTested};
+ghost use Rattle.desk_core.specs.Stages.{found_of, IsStage, IsBegun, IsTrialOf};
+ghost use Rattle.desk_core.specs.declared.stage.Stage.TheVariants.{Trying};
+ghost use Rattle.desk_core.specs.Standings.{IsNaming, IsQuestionOn, IsStandingOn, IsTrying};
+ghost use Rattle.desk_core.specs.Trials.{names_of};
 ghost use Rattle.desk_core.specs.World.{IsTestedOn};
 
 use crate::asked::Asked;
 use crate::events::Standing;
-use crate::trial::Trial;
-use assignment::{Question, Verdict};
-use drafts::{Applied, Draft, Judged, share};
+use crate::trial::{Trial, list_names};
+use assignment::Question;
+use drafts::{Applied, Draft};
 use std::alloc::{AllocError, Global};
 use std::mem;
-use task_sheet::Name;
+use std::sync::Arc;
+use task_sheet::{Members, Name, TaskSet};
 
 /// How far the test of a draft's changes on its base has come.
 #[derive(Drop)]
 pub enum Stage {
     /// No finding was brought yet.
     Fresh,
-    /// Findings were brought.
+    /// Findings were brought. The trial lies by itself, so that a draft without one is small.
     Trying {
-        trial: Trial,
+        trial: Box<Trial>,
     },
-    /// The findings have completed the verdict, which shows these names.
-    Complete {
-        verdict: Verdict,
-        found: Vec<Asked>,
-        names: Vec<Name>,
-    },
-    /// The same, to be shared.
+    /// The findings have completed the verdict on the set, which shows the names of these tasks.
     Tested {
-        judged: Judged,
+        set: Arc<TaskSet>,
+        members: Members,
         found: Vec<Asked>,
-        names: Vec<Name>,
     },
 }
 
@@ -62,66 +57,56 @@ pub fn begin(alloc: Global, draft: &Draft, stage: &mut Stage) -> Result<bool, Al
     match stage {
         Stage::Fresh => match try_out(alloc, draft)? {
             None => Ok(false),
-            Some(trial) => {
-                *stage = Stage::Trying { trial };
-                Ok(true)
-            }
+            Some(trial) => match Box::new(alloc, trial) {
+                Ok(trial) => {
+                    *stage = Stage::Trying { trial };
+                    Ok(true)
+                }
+                Err(_) => Err(AllocError),
+            },
         },
         _ => Ok(true),
     }
 }
 
-// Keeps a verdict to be shared, and gives it.
-fn keep(
-    alloc: Global,
-    stage: &mut Stage,
-    verdict: Verdict,
-    found: Vec<Asked>,
-    names: Vec<Name>,
-) -> Result<Option<Judged>, AllocError>
-    ensures kept { (outcome : Result (List Owned) Refusal) → IsStage outcome (Complete verdict found names)
+/// Keeps of a complete test what is asked for.
+pub fn put_away(stage: &mut Stage)
+    ensures kept { (outcome : Result (List Owned) Refusal) → IsStage outcome stage.old
         → IsStage outcome stage.new }
-    ensures found { found_of stage.new ≡ found.items }
-    ensures ok { (outcome : Result (List Owned) Refusal) → IsStage outcome (Complete verdict found names)
-        → IfOk result (λ judged. IsReady outcome found.items judged) }
+    ensures found { found_of stage.new ≡ found_of stage.old }
 {
-    match share(alloc, verdict) {
-        Ok(judged) => {
-            let again = judged.again();
+    match mem::replace(stage, Stage::Fresh) {
+        Stage::Fresh => {}
+        Stage::Trying { trial } => *stage = rest_of(trial),
+        Stage::Tested {
+            set,
+            members,
+            found,
+        } => {
             *stage = Stage::Tested {
-                judged,
+                set,
+                members,
                 found,
-                names,
-            };
-            Ok(Some(again?))
-        }
-        Err(verdict) => {
-            *stage = Stage::Complete {
-                verdict,
-                found,
-                names,
-            };
-            Err(AllocError)
+            }
         }
     }
 }
 
-// Keeps the verdict of a trial that is complete, and gives it.
-fn complete(alloc: Global, stage: &mut Stage, trial: Trial) -> Result<Option<Judged>, AllocError>
-    requires { IsTested trial.set trial.found }
+// What a trial comes to.
+fn rest_of(trial: Box<Trial>) -> Stage
     ensures kept { (outcome : Result (List Owned) Refusal) → IsStage outcome (Trying trial)
-        → IsStage outcome stage.new }
-    ensures found { found_of stage.new ≡ trial.found }
-    ensures ok { (outcome : Result (List Owned) Refusal) → IsStage outcome (Trying trial)
-        → IfOk result (λ judged. IsReady outcome trial.found judged) }
+        → IsStage outcome result }
+    ensures found { found_of result ≡ trial.value.found }
 {
-    let Ok(room) = Vec::with_capacity(alloc, trial.set().len()) else {
-        *stage = Stage::Trying { trial };
-        return Err(AllocError);
-    };
-    let names = trial.infeasible(room);
-    let (verdict, found) = trial.finish();
-    keep(alloc, stage, verdict, found, names)
+    if !trial.is_tested() {
+        return Stage::Trying { trial };
+    }
+    let (set, members, found) = Box::into_inner(trial).finish();
+    Stage::Tested {
+        set,
+        members,
+        found,
+    }
 }
 
 // Whether a draft has no finding, and a task that asks for one. That its test isn't complete is known then, and it need
@@ -135,50 +120,27 @@ fn is_surely_untested(draft: &Draft, stage: &Stage) -> bool
     }
 }
 
-/// What was judged of a draft's changes on its base, where the findings complete the verdict.
-pub fn judged(alloc: Global, draft: &Draft, stage: &mut Stage) -> Result<Option<Judged>, AllocError>
+/// Whether the findings complete the verdict on a draft's changes.
+pub fn is_tested(alloc: Global, draft: &Draft, stage: &mut Stage) -> Result<bool, AllocError>
     requires { IsStage (on_base draft.now) stage.old }
     ensures kept { IsStage (on_base draft.now) stage.new }
     ensures found { found_of stage.new ≡ found_of stage.old }
-    ensures ok { IfOk result (λ judged. IsReady (on_base draft.now) (found_of stage.old) judged) }
+    ensures ok { IfOk result
+        (λ tested. IsTrue tested ↔ IsTestedOn (on_base draft.now) (found_of stage.old)) }
 {
     if is_surely_untested(draft, stage) || !begin(alloc, draft, stage)? {
-        return Ok(None);
+        return Ok(false);
     }
-    match mem::replace(stage, Stage::Fresh) {
+    match stage {
         Stage::Fresh => unreachable!(),
-        Stage::Trying { trial } => {
-            if !trial.is_tested() {
-                *stage = Stage::Trying { trial };
-                return Ok(None);
-            }
-            complete(alloc, stage, trial)
-        }
-        Stage::Complete {
-            verdict,
-            found,
-            names,
-        } => keep(alloc, stage, verdict, found, names),
-        Stage::Tested {
-            judged,
-            found,
-            names,
-        } => {
-            let again = judged.again();
-            *stage = Stage::Tested {
-                judged,
-                found,
-                names,
-            };
-            Ok(Some(again?))
-        }
+        Stage::Trying { trial } => Ok(trial.is_tested()),
+        Stage::Tested { .. } => Ok(true),
     }
 }
 
 // Where a draft stands whose changes apply.
 fn trying(alloc: Global, trial: &Trial) -> Result<Standing, AllocError>
-    ensures ok { IfOk result (IsTrying trial.now.set trial.now.found) }
-    ensures few { IfOk result (IsShort trial.now.found) }
+    ensures { IfOk result (IsTrying trial.now.set trial.now.found) }
 {
     match trial.asking()? {
         Some(question) => Ok(Standing::Asking { question }),
@@ -196,7 +158,6 @@ pub fn standing(alloc: Global, draft: &Draft, stage: &mut Stage) -> Result<Stand
     ensures kept { IsStage (on_base draft.now) stage.new }
     ensures found { found_of stage.new ≡ found_of stage.old }
     ensures ok { IfOk result (IsStandingOn (on_base draft.now) (found_of stage.old)) }
-    ensures few { IfOk result (IsShort (found_of stage.old)) }
 {
     if !begin(alloc, draft, stage)? {
         return Ok(Standing::Untestable);
@@ -204,15 +165,17 @@ pub fn standing(alloc: Global, draft: &Draft, stage: &mut Stage) -> Result<Stand
     match stage {
         Stage::Fresh => unreachable!(),
         Stage::Trying { trial } => trying(alloc, trial),
-        Stage::Complete { names, .. } => {
-            let infeasible = Vec::from_slice(alloc, names)?;
-            Ok(Standing::Tested { infeasible })
-        }
-        Stage::Tested { names, .. } => {
-            let infeasible = Vec::from_slice(alloc, names)?;
-            Ok(Standing::Tested { infeasible })
-        }
+        Stage::Tested { set, members, .. } => tested(alloc, set, *members),
     }
+}
+
+// That a test is complete whose verdict shows the names of these tasks.
+fn tested(alloc: Global, set: &Arc<TaskSet>, members: Members) -> Result<Standing, AllocError>
+    ensures { IfOk result (IsNaming (names_of set.now.value members)) }
+{
+    let room = Vec::with_capacity(alloc, set.len())?;
+    let infeasible = list_names(set, members, room);
+    Ok(Standing::Tested { infeasible })
 }
 
 /// The question on the candidate of a name at a draft's present level.
@@ -233,7 +196,6 @@ pub fn question(
     match stage {
         Stage::Fresh => unreachable!(),
         Stage::Trying { trial } => trial.question(name),
-        Stage::Complete { .. } => Ok(None),
         Stage::Tested { .. } => Ok(None),
     }
 }

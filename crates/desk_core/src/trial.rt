@@ -1,25 +1,25 @@
 //! The test of a set by findings that come in any order.
 
-ghost use Rattle.std.specs.Prelude.{◌≡◌, ◌↔◌, ◌<◌, ◌≤◌, ◌+◌, ◌^◌, [], ◌∷◌, ◌++◌, List, length, map, None, Some, ℕ, IsTrue, IsFalse, MatchOption, IfOk, IfErr, OnOk, OnErr, vec_len, vec_capacity};
+ghost use Rattle.std.specs.Prelude.{◌≡◌, ◌↔◌, ◌<◌, ◌≤◌, ◌+◌, [], ◌∷◌, ◌++◌, List, length, map, None, Some, ℕ, IsTrue, IsFalse, MatchOption, IfOk, IfErr, OnOk, OnErr, vec_len, vec_capacity};
 ghost use Rattle.std.specs.FinSet.{contains};
 ghost use Rattle.desk_core.specs.Asking.{IsAsking, IsNamed};
 ghost use Rattle.task_sheet.specs.Indexes.{indexes_of, listed_below, IsPart};
 ghost use Rattle.task_sheet.specs.Sheet.{task_at};
 ghost use Rattle.task_sheet.specs.Orders.{all_of};
-ghost use Rattle.task_sheet.specs.Verdicts.{LevelData, IsVerdictOf};
+ghost use Rattle.task_sheet.specs.Verdicts.{LevelData};
 ghost use Rattle.ceilings.specs.IsTableOf.{IsTableOf};
 ghost use Rattle.assignment.specs.Levels.{IsDecided};
 ghost use Rattle.assignment.specs.Climbs.{ClimbState, IsNext, IsUnfinished};
-ghost use Rattle.assignment.specs.Verdict.{set_of, verdict_of};
 ghost use Rattle.desk_core.specs.Progress.{present_of};
 ghost use Rattle.desk_core.specs.Findings.{asked_of, IsTold, found_after, IsTested};
+ghost use Rattle.desk_core.specs.Trials.{names_of};
 ghost use Rattle.desk_core.specs.World.{IsShown};
 ghost use Rattle.desk_core.specs.Closing.{IsClosing, IsNew, IsTakenAt};
 ghost use Rattle.desk_core.specs.Advances.{IsLeast, IsTried};
 
 use crate::asked::Asked;
 use crate::told::Told;
-use assignment::{AnswerFault, Climb, Finding, Level, LevelRecord, Question, TakeFault, Verdict};
+use assignment::{AnswerFault, Climb, Finding, Level, LevelRecord, Question, TakeFault};
 use ceilings::LockTable;
 use std::alloc::{AllocError, Global};
 use std::marker::Model;
@@ -165,7 +165,8 @@ fn missing_of(climb: &Climb, level: &Option<Level>) -> Members
 fn least(members: Members, count: usize) -> Option<usize>
     requires { count ≤ 32 }
     ensures { MatchOption result ((j : ℕ) → j < count → IsFalse (contains members j))
-        (λ i. (i < count) × IsTrue (contains members i) × ((j : ℕ) → j < i → IsFalse (contains members j))) }
+        (λ i. (i < count) × IsTrue (contains members i)
+        × ((j : ℕ) → j < i → IsFalse (contains members j))) }
 {
     for i in 0..count {
         if members.has(i) {
@@ -193,10 +194,10 @@ fn find_least(alloc: Global, table: &LockTable, level: &Level) -> Result<Finding
 }
 
 // The names of tasks, by rank, into a list with room for them.
-fn list_names(set: &TaskSet, tasks: Members, mut names: Vec<Name>) -> Vec<Name>
+pub(crate) fn list_names(set: &TaskSet, tasks: Members, mut names: Vec<Name>) -> Vec<Name>
     requires empty { names.items ≡ [] }
     requires room { length set.now ≤ vec_capacity names }
-    ensures { result.items ≡ map (λ i. (task_at set.now i).name) (listed_below (length set.now) (indexes_of tasks)) }
+    ensures { result.items ≡ names_of set.now tasks }
 {
     for task in 0..set.sheets().len() {
         if tasks.has(task) {
@@ -238,8 +239,7 @@ impl Trial {
 
     /// The question on the missing candidate of least rank at the present level; none where the verdict is complete.
     pub fn asking(&self) -> Result<Option<Question>, AllocError>
-        ensures asking { IfOk result (λ question. IsAsking self.now.set self.now.found question) }
-        ensures few { length self.now.found < 2 ^ 63 }
+        ensures { IfOk result (λ question. IsAsking self.now.set self.now.found question) }
     {
         if !self.climb.is_unfinished() {
             return Ok(None);
@@ -263,6 +263,7 @@ impl Trial {
         if !self.climb.is_unfinished() {
             return Ok(None);
         }
+        // The set is valid: the proof has it from its sheets.
         let _ = self.set.sheets();
         let Some(task) = self.set.find(name) else {
             return Ok(None);
@@ -295,39 +296,49 @@ impl Trial {
         requires room { length self.now.set ≤ vec_capacity names }
         ensures { IsShown self.now.set result.items }
     {
+        list_names(&self.set, self.members(), names)
+    }
+
+    // The tasks whose names the complete verdict shows.
+    fn members(&self) -> Members
+        requires { IsTested self.now.set self.now.found }
+        ensures { IsShown self.now.set (names_of self.now.set result) }
+    {
+        // The set is valid, and the levels place all its tasks: the proof has it from them.
         let _ = self.set.sheets();
         match self.climb.members() {
-            Some(_) => list_names(&self.set, self.climb.left(), names),
+            Some(_) => self.climb.left(),
             None => {
+                // The levels place all tasks: the proof has it from them.
                 let _ = self.climb.levels();
-                names
+                Members::empty()
             }
         }
     }
 
-    /// The verdict and the findings, once it is complete.
-    pub fn finish(self) -> (Verdict, Vec<Asked>)
+    // What is kept of a complete test: the set, the tasks whose names its verdict shows, and the findings. The table and
+    // the climb go, and with them the chains of the verdict, which may take megabytes and which nothing asks for.
+    pub(crate) fn finish(self) -> (Arc<TaskSet>, Members, Vec<Asked>)
         requires { IsTested self.set self.found }
-        ensures of_set { set_of result.0 ≡ self.set }
-        ensures verdict { IsVerdictOf self.set (verdict_of result.0) }
-        ensures found { result.1.items ≡ self.found }
+        ensures set { result.0.value ≡ self.set }
+        ensures shown { IsShown self.set (names_of self.set result.1) }
+        ensures found { result.2.items ≡ self.found }
     {
+        let members = self.members();
         let Trial {
-            set: _,
+            set,
             table: _,
-            climb,
+            climb: _,
             level: _,
             found,
         } = self;
-        match climb.finish() {
-            Ok(verdict) => (verdict, found),
-            Err(_) => unreachable!(),
-        }
+        (set, members, found)
     }
 
     /// Takes a finding. Want of memory leaves the trial as it was, and hands the finding back.
     pub fn take(&mut self, alloc: Global, finding: Finding) -> Result<Told, Finding>
-        ensures told { IfOk result (λ told. IsTold self.old.set self.old.found finding.question told) }
+        ensures told { IfOk result
+            (λ told. IsTold self.old.set self.old.found finding.question told) }
         ensures same { self.new.set ≡ self.old.set }
         ensures found { IfOk result
             (λ told. self.new.found ≡ found_after self.old.found (asked_of finding.question) told) }
@@ -357,13 +368,13 @@ impl Trial {
         note(&mut self.found, asked, told);
         Ok(told)
     }
+
     /// Answers the question on the missing candidate of least rank at the present level by the table of the trial, and
     /// takes the finding: no sets are compared. None where the verdict is complete. Want of memory leaves the trial as
     /// it was.
     pub(crate) fn advance(&mut self, alloc: Global) -> Result<Option<Told>, AllocError>
         ensures ok { IfOk result (IsTried self.old self.new) }
         ensures err { OnErr result (self.new ≡ self.old) }
-        ensures few { length self.old.found < 2 ^ 63 }
     {
         if !self.climb.is_unfinished() {
             return Ok(None);

@@ -58,7 +58,8 @@ after_change team tasks name (Put sheet) =
     else Ok (with_task sheet.name (record { sheet = sheet; team = team }) tasks)
 after_change team tasks name Remove =
     if is_foreign team (held name tasks) then Err (NotYours name)
-    else (if is_there (held name tasks) then Ok (without_name name tasks) else Err (NoSuchTask name))
+    else (if is_there (held name tasks) then Ok (without_name name tasks)
+    else Err (NoSuchTask name))
 
 -- the team at that place is this one
 abbrev pub is_team_at : ℕ → List ℕ → ℕ → Bool
@@ -85,7 +86,8 @@ then_on (Ok tasks) f = f tasks
 -- the tasks after a team's changes, by name, in their order; the first that is refused decides
 abbrev pub all_changes : ℕ → List Owned → List (List ℕ × Change) → Result (List Owned) Refusal
 all_changes team tasks [] = Ok tasks
-all_changes team tasks (c ∷ changes) = then_on (after_change team tasks c.0 c.1) (λ next. all_changes team next changes)
+all_changes team tasks (c ∷ changes) =
+    then_on (after_change team tasks c.0 c.1) (λ next. all_changes team next changes)
 
 -- what a team's changes come to: the tasks, or the first refusal
 abbrev pub applied : ℕ → List Owned → List (List ℕ × Change) → Result (List Owned) Refusal

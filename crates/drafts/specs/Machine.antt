@@ -42,7 +42,8 @@ IsAnswer version (Ok tasks) (Refused told) = ⊥
 
 -- the decision is the machine's on the team's changes
 abbrev pub IsDecision : Desk → ℕ → List (List ℕ × Change) → Ruling → Type 0
-IsDecision desk team changes decision = IsAnswer desk.version (applied team desk.tasks changes) decision
+IsDecision desk team changes decision =
+    IsAnswer desk.version (applied team desk.tasks changes) decision
 
 -- the state with these tasks, a version on
 abbrev pub admitted : Desk → Result (List Owned) Refusal → Desk
@@ -62,7 +63,8 @@ after_entry desk e = moved desk e.decision (applied e.team desk.tasks e.changes)
 -- each decision of the log is the machine's at its place
 abbrev pub IsLegal : Desk → List Entry → Type 0
 IsLegal desk [] = Unit {0}
-IsLegal desk (e ∷ log) = IsDecision desk e.team e.changes e.decision × IsLegal (after_entry desk e) log
+IsLegal desk (e ∷ log) =
+    IsDecision desk e.team e.changes e.decision × IsLegal (after_entry desk e) log
 
 -- the machine's state after the log
 abbrev pub replay : Desk → List Entry → Desk

@@ -62,10 +62,3 @@ IsEntryOf version d j e = (e.team ≡ d.team) × (e.changes ≡ d.changes) × Is
 abbrev pub after_next : Desk → Option Desk → Desk
 after_next desk None = desk
 after_next desk (Some next) = next
-
--- the same judgement
-abbrev pub IsAgain : Judged → Judged → Type 0
-IsAgain (judged.Refused told) (judged.Refused again) = again ≡ told
-IsAgain (judged.Best a) (judged.Best b) = b.value ≡ a.value
-IsAgain (judged.Stuck a) (judged.Stuck b) = b.value ≡ a.value
-IsAgain a b = ⊥

@@ -27,4 +27,5 @@ IsSaidBy p decision = IsSaid p.draft.base.version p.judged decision
 -- its base is above the present version, or equal while the changes come to something else on the present state
 abbrev pub IsStrange : Book → ProposalData → Type 0
 IsStrange b p =
-    (b.desk.version < p.draft.base.version) ⊎ ((p.draft.base.version ≡ b.desk.version) × (¬ StillHolds b p))
+    (b.desk.version < p.draft.base.version) ⊎ ((p.draft.base.version ≡ b.desk.version)
+    × (¬ StillHolds b p))

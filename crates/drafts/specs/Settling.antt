@@ -13,7 +13,8 @@ abbrev pub IsSettled : Book → ProposalData → Book → Result Settled SettleF
 IsSettled old p new (Ok (Stale fresh back)) =
     (p.draft.base.version < old.desk.version) × (fresh.value ≡ old.desk) × (back ≡ p) × (new ≡ old)
 IsSettled old p new (Ok (Decided place entry)) =
-    (p.draft.base.version ≡ old.desk.version) × StillHolds old p × IsNextEntry old p.draft place entry.value
+    (p.draft.base.version ≡ old.desk.version) × StillHolds old p
+    × IsNextEntry old p.draft place entry.value
     × IsSaidBy p entry.value.decision × (new ≡ logged old entry.value)
 IsSettled old p new (Err (Stranger back)) = IsStrange old p × (back ≡ p) × (new ≡ old)
 IsSettled old p new (Err (OutOfMemory back)) = (back ≡ p) × (new ≡ old)

@@ -34,7 +34,8 @@ fn put(
 ) -> Result<Option<Refusal>, AllocError>
     requires { IsRoster tasks.old.items }
     ensures roster { IsRoster tasks.new.items }
-    ensures ok { let outcome = after_change team tasks.old.items sheet.now.name (Change.Put sheet.now) in
+    ensures ok { let outcome = after_change team tasks.old.items sheet.now.name
+        (Change.Put sheet.now) in
         IfOk result (IsMade outcome tasks.new.items) }
 {
     let name = sheet.name();
@@ -51,7 +52,8 @@ fn put(
 fn remove(team: Team, tasks: &mut Vec<Owned>, name: Name) -> Option<Refusal>
     requires { IsRoster tasks.old.items }
     ensures roster { IsRoster tasks.new.items }
-    ensures made { IsMade (after_change team tasks.old.items name Change.Remove) tasks.new.items result }
+    ensures made { IsMade
+        (after_change team tasks.old.items name Change.Remove) tasks.new.items result }
 {
     if is_foreign(tasks, team, name) {
         return Some(Refusal::NotYours { name });
@@ -73,7 +75,8 @@ fn make_change(
 ) -> Result<Option<Refusal>, AllocError>
     requires { IsRoster tasks.old.items }
     ensures roster { IsRoster tasks.new.items }
-    ensures ok { IfOk result (IsMade (after_change team tasks.old.items name change.now) tasks.new.items) }
+    ensures ok { IfOk result (IsMade
+        (after_change team tasks.old.items name change.now) tasks.new.items) }
 {
     match change {
         Change::Put(sheet) => put(alloc, team, tasks, sheet),
@@ -90,7 +93,8 @@ fn make_changes(
 ) -> Result<Option<Refusal>, AllocError>
     requires { IsRoster tasks.old.items }
     ensures roster { IsRoster tasks.new.items }
-    ensures ok { IfOk result (IsMade (all_changes team tasks.old.items changes.now.entries) tasks.new.items) }
+    ensures ok { IfOk result (IsMade
+        (all_changes team tasks.old.items changes.now.entries) tasks.new.items) }
 {
     for place in 0..changes.len() {
         let Some((name, change)) = changes.get_index(place) else {

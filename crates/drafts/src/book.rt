@@ -70,6 +70,7 @@ fn decide(version: u64, judged: &Judged) -> Result<Decision, AllocError>
             version: version + 1,
         }),
         Judged::Stuck { obstruction } => {
+            // The set is valid: the proof has it from its sheets.
             let _ = obstruction.set().sheets();
             Ok(Decision::Infeasible {
                 obstruction: obstruction.clone()?,
@@ -161,10 +162,12 @@ impl Book {
         draft: &Draft,
         judged: &Judged,
     ) -> Result<Option<Arc<NodeState>>, AllocError>
-        requires judged { IsJudged (applied draft.now.team self.now.desk.tasks draft.now.changes) judged.now }
+        requires judged { IsJudged
+            (applied draft.now.team self.now.desk.tasks draft.now.changes) judged.now }
         requires room { self.now.desk.version + 1 < 2 ^ 64 }
         ensures { let outcome = applied draft.now.team self.now.desk.tasks draft.now.changes in
-            IfOk result (λ next. IsNextState self.now.desk outcome judged.now (option_map (λ s. s.value) next)) }
+            IfOk result (λ next. IsNextState self.now.desk outcome judged.now
+            (option_map (λ s. s.value) next)) }
     {
         match judged {
             Judged::Refused { refusal: _ } => Ok(None),
@@ -190,9 +193,11 @@ impl Book {
         draft: &Draft,
         judged: &Judged,
     ) -> Result<Decided, AllocError>
-        requires { IsJudged (applied draft.now.team self.old.desk.tasks draft.now.changes) judged.now }
+        requires { IsJudged
+            (applied draft.now.team self.old.desk.tasks draft.now.changes) judged.now }
         ensures entry { IfOk result (λ d. IsNextEntry self.old draft.now d.place d.entry.value) }
-        ensures said { IfOk result (λ d. IsSaid self.old.desk.version judged.now d.entry.value.decision) }
+        ensures said { IfOk result
+            (λ d. IsSaid self.old.desk.version judged.now d.entry.value.decision) }
         ensures ok { IfOk result (λ d. self.new ≡ logged self.old d.entry.value) }
         ensures err { OnErr result (self.new ≡ self.old) }
     {

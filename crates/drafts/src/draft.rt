@@ -87,7 +87,8 @@ fn record(changes: &mut IndexMap<Name, Change>, name: Name, change: Change) -> R
     ensures ok { OnOk result (changes.new.entries ≡ recorded name change changes.old.entries) }
     ensures few { is_full name changes.old.entries ≡ false
         → length changes.old.entries ≤ 64 → length changes.new.entries ≤ 64 }
-    ensures named { IsNamed name change → AreNamed changes.old.entries → AreNamed changes.new.entries }
+    ensures named { IsNamed name change → AreNamed changes.old.entries
+        → AreNamed changes.new.entries }
     ensures err { OnErr result (changes.new.entries ≡ changes.old.entries) }
     ensures back { IfErr result (λ back. back ≡ change) }
 {
@@ -108,6 +109,7 @@ fn copy_at(
     requires before { copies.old.entries ≡ take place changes.now.entries }
     ensures { OnOk result (copies.new.entries ≡ take (place + 1) changes.now.entries) }
 {
+    // The place is one of theirs: the proof has it from their number.
     let _ = changes.len();
     let Some((name, change)) = changes.get_index(place) else {
         unreachable!();
@@ -259,7 +261,8 @@ impl Draft {
 
     /// The same changes on another state, and the state that they were on.
     pub fn exchange(self, fresh: Arc<NodeState>) -> (Draft, Arc<NodeState>)
-        ensures draft { result.0 ≡ record { team = self.team; base = fresh.value; changes = self.changes } }
+        ensures draft { result.0
+            ≡ record { team = self.team; base = fresh.value; changes = self.changes } }
         ensures base { result.1.value ≡ self.base }
     {
         let (team, base, changes) = self.into_parts();
@@ -289,7 +292,8 @@ impl Draft {
         ensures ok { OnOk result (after_put self.old sheet ≡ Ok self.new.changes) }
         ensures team { self.new.team ≡ self.old.team }
         ensures base { self.new.base ≡ self.old.base }
-        ensures refused { IfErr result (λ fault. IsEditFault (after_put self.old sheet) fault.cause) }
+        ensures refused { IfErr result (λ fault. IsEditFault
+            (after_put self.old sheet) fault.cause) }
         ensures err { OnErr result (self.new ≡ self.old) }
         ensures back { IfErr result (λ fault. fault.sheet ≡ sheet) }
     {

@@ -37,7 +37,8 @@ impl Model for Entry {
 impl Entry {
     // A line of these parts.
     pub(crate) fn new(team: Team, changes: Vec<(Name, Change)>, decision: Decision) -> Entry
-        ensures { result ≡ record { team = team; changes = changes.items; decision = ruling_of decision } }
+        ensures { result
+            ≡ record { team = team; changes = changes.items; decision = ruling_of decision } }
     {
         Entry {
             team,

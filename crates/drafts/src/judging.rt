@@ -2,7 +2,7 @@
 
 ghost use Rattle.std.specs.Prelude.{◌≡◌, IfOk, IfErr};
 ghost use Rattle.drafts.specs.Applied.{applied};
-ghost use Rattle.drafts.specs.Outcomes.{IsJudged, IsShared, IsAgain};
+ghost use Rattle.drafts.specs.Outcomes.{IsJudged, IsShared};
 
 use crate::applying::{Applied, apply};
 use crate::change::{Change, Refusal};
@@ -22,23 +22,6 @@ pub enum Judged {
     Best { assignment: Arc<Assignment> },
     /// No order passes.
     Stuck { obstruction: Arc<Obstruction> },
-}
-
-impl Judged {
-    /// The same again.
-    pub fn again(&self) -> Result<Judged, AllocError>
-        ensures { IfOk result (λ again. IsAgain self.now again) }
-    {
-        match self {
-            Judged::Refused { refusal } => Ok(Judged::Refused { refusal: *refusal }),
-            Judged::Best { assignment } => Ok(Judged::Best {
-                assignment: assignment.clone()?,
-            }),
-            Judged::Stuck { obstruction } => Ok(Judged::Stuck {
-                obstruction: obstruction.clone()?,
-            }),
-        }
-    }
 }
 
 /// A verdict, to be shared.
@@ -65,7 +48,8 @@ pub fn judge(
     state: &NodeState,
     changes: &IndexMap<Name, Change>,
 ) -> Result<Judged, AllocError>
-    ensures { IfOk result (λ judged. IsJudged (applied team state.now.tasks changes.now.entries) judged) }
+    ensures { IfOk result (λ judged. IsJudged
+        (applied team state.now.tasks changes.now.entries) judged) }
 {
     match apply(alloc, team, state, changes)? {
         Applied::Refused { refusal } => Ok(Judged::Refused { refusal }),

@@ -50,7 +50,8 @@ pub enum VerdictFault {
 
 // Whether the verdict is on the set that a draft's changes come to.
 fn is_on(alloc: Global, draft: &Draft, verdict: &Verdict) -> Result<bool, AllocError>
-    ensures same { IfOk result (λ same. IsTrue same ↔ IsOnSet (on_base draft.now) (set_of verdict.now)) }
+    ensures same { IfOk result (λ same. IsTrue same
+        ↔ IsOnSet (on_base draft.now) (set_of verdict.now)) }
     ensures verdict { IsVerdictOf (set_of verdict.now) (verdict_of verdict.now) }
 {
     let set = verdict.set();
@@ -74,7 +75,8 @@ pub fn propose(alloc: Global, draft: Draft) -> Result<Proposal, ProposeFault>
 
 /// The proposal of a draft with a verdict that was worked out elsewhere. Refused: `Stranger`.
 pub fn propose_with(alloc: Global, draft: Draft, verdict: Verdict) -> Result<Proposal, VerdictFault>
-    ensures ok { IfOk result (λ proposal. (proposal.draft ≡ draft) × IsShared verdict proposal.judged) }
+    ensures ok { IfOk result (λ proposal. (proposal.draft ≡ draft)
+        × IsShared verdict proposal.judged) }
     ensures right { IfOk result IsProposal }
     ensures same { IfOk result (λ proposal. IsOnSet (on_base draft) (set_of verdict)) }
     ensures err { IfErr result (IsVerdictFault draft verdict) }

@@ -61,7 +61,8 @@ impl NodeState {
     // The state of a version with this order, by rank with the teams.
     pub(crate) fn with(version: u64, assignment: Arc<Assignment>, teams: Vec<Team>) -> NodeState
         requires { length teams.items ≡ length assignment.value.set }
-        ensures { result ≡ record { version = version; tasks = owned_of assignment.value.set teams.items } }
+        ensures { result
+            ≡ record { version = version; tasks = owned_of assignment.value.set teams.items } }
     {
         NodeState {
             version,
@@ -109,6 +110,7 @@ impl NodeState {
         ensures best { IsBestOrder (set_of self.now.tasks) result.now.levels }
     {
         let assignment: &Assignment = &self.assignment;
+        // The order is of this set: the proof has it from it.
         let _ = assignment.set();
         assignment
     }
@@ -151,6 +153,7 @@ impl NodeState {
     pub fn tasks_of(&self, team: Team) -> Members
         ensures { (i : ℕ) → contains result i ≡ is_team_at team (teams_of self.now.tasks) i }
     {
+        // The set is small: the proof has it from its number.
         let _ = self.set().len();
         places_of(&self.teams, team)
     }

@@ -3,16 +3,15 @@ use Rattle.desk_core.specs.declared.events.Event.{Event}
 use Rattle.desk_core.specs.declared.events.Reply.{Reply}
 use Rattle.drafts.specs.Books.{Book}
 use Rattle.drafts.specs.Machine.{admissions}
-use Rattle.desk_core.specs.World.{start, IsReply, happens, IsRun, after_all}
-use Rattle.desk_core.proofs.RunLaws.{IsRun-push, after_all-push, all_done}
+use Rattle.desk_core.specs.World.{start, IsRun}
+use Rattle.desk_core.proofs.RunLaws.{IsRun-push, all_done}
 use Rattle.desk_core.proofs.desk_core.run.Goals as goal
 
 pub loop-event-init : goal.loop-event-init
 loop-event-init c =
     let gives = c.into_iter-event-iterator.ensures.into_iter_gives in
     record {
-      replies = subst (λ (rs : List Reply). IsRun start [] rs) (sym c.new-replies.ensures.items) tt;
-      world = c.in_ok-core.ensures ∙ ap (λ (rs : List Reply). after_all start [] rs) (sym c.new-replies.ensures.items);
+      run = subst (λ (rs : List Reply). IsRun start [] rs c.in_ok-core.core) (sym c.new-replies.ensures.items) c.in_ok-core.ensures;
       rest = gives.0;
       counted = omega (arith, ap length gives.0, gives.1, c.args.events.ok.0, c.args.events.ok.1);
     }
@@ -26,25 +25,17 @@ loop-event-preserved c =
     let r = c.in-Ok.reply in
     let steps = c.in-Some.ensures.steps in
     let pushed = c.in_ok-push.ensures.items in
-    let next = subst (λ w. IsReply w e r) so.world c.in-Ok.ensures.reply in
     record {
-      replies = subst (λ ys. IsRun start (done ++ e ∷ []) ys) (sym pushed) (IsRun-push start done rs e r so.replies next);
-      world = c.in-Ok.ensures.ok ∙ ap (λ w. happens w e r) so.world ∙ sym (after_all-push start done rs e r so.replies) ∙ ap (λ ys. after_all start (done ++ e ∷ []) ys) (sym pushed);
+      run = subst (λ ys. IsRun start (done ++ e ∷ []) ys c.step.new.self) (sym pushed) (IsRun-push start c.loop-event.core c.step.new.self done rs e r so.run c.in-Ok.ensures.ok);
       rest = append_assoc done (e ∷ []) c.next.new.self.rest.items ∙ ap (λ xs. done ++ xs) (sym steps.0) ∙ so.rest;
       counted = let more = ap length steps.0 in omega (arith, more, steps.1, so.counted);
     }
 
-pub returns-clause-replies : goal.returns-clause-replies
-returns-clause-replies c =
+pub returns-clause-run : goal.returns-clause-run
+returns-clause-run c =
     let so = c.loop-event.invariant in
     let all = all_done c.loop-event.yielded c.loop-event.event-iterator.rest.items c.args.events.items c.loop-event.event-iterator.rest.len so.rest so.counted c.in-None.ensures.steps.0 in
-    subst (λ (es : List Event). IsRun start es c.loop-event.replies.items) all so.replies
-
-pub returns-clause-world : goal.returns-clause-world
-returns-clause-world c =
-    let so = c.loop-event.invariant in
-    let all = all_done c.loop-event.yielded c.loop-event.event-iterator.rest.items c.args.events.items c.loop-event.event-iterator.rest.len so.rest so.counted c.in-None.ensures.steps.0 in
-    so.world ∙ ap (λ (es : List Event). after_all start es c.loop-event.replies.items) all
+    subst (λ (es : List Event). IsRun start es c.loop-event.replies.items c.loop-event.core) all so.run
 
 pub returns-clause-version : goal.returns-clause-version
 returns-clause-version c = subst (λ (b : Book). b.desk.version ≡ admissions b.log) c.book.ensures c.state.ensures.version

@@ -1,13 +1,12 @@
 use Rattle.std.proofs.Common.{◌≡◌, ◌++◌, ℕ, List, length}
 use Rattle.desk_core.specs.declared.events.Event.{Event}
 use Rattle.desk_core.specs.declared.events.Reply.{Reply}
-use Rattle.desk_core.specs.World.{World, start, IsRun, after_all}
+use Rattle.desk_core.specs.World.{World, start, IsRun}
 use Rattle.desk_core.proofs.desk_core.run.Given as goal
 
 -- the events so far are answered, and these are left
 pub record Ran (core : World) (done left all : List Event) (count : ℕ) (answers : List Reply) : Type 0 where
-  pub replies : IsRun start done answers
-  pub world : core ≡ after_all start done answers
+  pub run : IsRun start done answers core
   pub rest : done ++ left ≡ all
   pub counted : length left ≡ count
 

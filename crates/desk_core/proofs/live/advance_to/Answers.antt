@@ -4,9 +4,10 @@ use Rattle.desk_core.specs.declared.asked.Asked.{Asked}
 use Rattle.desk_core.specs.declared.stage.Stage.{Stage}
 use Rattle.desk_core.specs.Advances.{IsAdvancedOn}
 use Rattle.desk_core.specs.Stages.{found_of, IsStage}
+use Rattle.desk_core.specs.Trials.{TrialData}
 use Rattle.desk_core.specs.World.{IsTestedOn}
 use Rattle.desk_core.proofs.AdvanceLaws.{tested-silent}
-use Rattle.desk_core.proofs.StageLaws.{complete-tested, tested-tested}
+use Rattle.desk_core.proofs.StageLaws.{tested-tested}
 use Rattle.desk_core.proofs.live.advance_to.Goals as goal
 
 pub returns-in-Trying-clause-ok : goal.returns-in-Trying-clause-ok
@@ -14,18 +15,12 @@ returns-in-Trying-clause-ok c =
     let outcome = on_base c.args.draft.now in
     let so = subst (λ (s : Stage). IsStage outcome s) c.in-Trying.is c.begin.ensures.kept in
     let same = sym (ap (λ (s : Stage). found_of s) c.in-Trying.is) ∙ c.begin.ensures.found in
-    subst (λ (xs : List Asked). IfOk c.advance.result (IsAdvancedOn outcome xs c.advance.new.trial.found)) same (c.advance.ensures.ok outcome so)
-
-pub returns-in-Complete-clause-ok : goal.returns-in-Complete-clause-ok
-returns-in-Complete-clause-ok c =
-    let outcome = on_base c.args.draft.now in
-    let so = subst (λ (s : Stage). IsStage outcome s) c.in-Complete.is c.begin.ensures.kept in
-    let same = sym (ap (λ (s : Stage). found_of s) c.in-Complete.is) ∙ c.begin.ensures.found in
-    (tested-silent outcome (found_of c.args.stage.now) (subst (λ (xs : List Asked). IsTestedOn outcome xs) same (complete-tested outcome c.in-Complete.verdict c.in-Complete.found c.in-Complete.names so)), c.begin.ensures.found)
+    let at = c.deref_mut.ensures.value in
+    subst (λ (xs : List Asked). IfOk c.advance.result (IsAdvancedOn outcome xs c.advance.new.trial.found)) (ap (λ (t : TrialData). t.found) at ∙ same) (c.advance.ensures.ok outcome (rw at so))
 
 pub returns-in-Tested-clause-ok : goal.returns-in-Tested-clause-ok
 returns-in-Tested-clause-ok c =
     let outcome = on_base c.args.draft.now in
     let so = subst (λ (s : Stage). IsStage outcome s) c.in-Tested.is c.begin.ensures.kept in
     let same = sym (ap (λ (s : Stage). found_of s) c.in-Tested.is) ∙ c.begin.ensures.found in
-    (tested-silent outcome (found_of c.args.stage.now) (subst (λ (xs : List Asked). IsTestedOn outcome xs) same (tested-tested outcome c.in-Tested.judged c.in-Tested.found c.in-Tested.names so)), c.begin.ensures.found)
+    (tested-silent outcome (found_of c.args.stage.now) (subst (λ (xs : List Asked). IsTestedOn outcome xs) same (tested-tested outcome c.in-Tested.set c.in-Tested.members c.in-Tested.found so)), c.begin.ensures.found)

@@ -2,19 +2,12 @@ use Rattle.std.proofs.Common.{◌∙◌, sym, ap, subst}
 use Rattle.desk_core.specs.declared.stage.Stage.{Stage}
 use Rattle.drafts.specs.Changes.{on_base}
 use Rattle.desk_core.specs.Stages.{found_of, IsStage}
-use Rattle.desk_core.proofs.StageLaws.{complete-tested, tested-tested, tested-unasked}
+use Rattle.desk_core.proofs.StageLaws.{tested-tested, tested-unasked}
 use Rattle.desk_core.proofs.stage.question.Goals as goal
-
-pub returns-in-Complete-clause-ok : goal.returns-in-Complete-clause-ok
-returns-in-Complete-clause-ok c =
-    let outcome = on_base c.args.draft.now in
-    let so = subst (λ (s : Stage). IsStage outcome s) c.in-Complete.is c.begin.ensures.kept in
-    let same = sym (ap (λ (s : Stage). found_of s) c.in-Complete.is) ∙ c.begin.ensures.found in
-    tested-unasked outcome c.in-Complete.found.items (found_of c.args.stage.now) c.args.name (complete-tested outcome c.in-Complete.verdict c.in-Complete.found c.in-Complete.names so) same
 
 pub returns-in-Tested-clause-ok : goal.returns-in-Tested-clause-ok
 returns-in-Tested-clause-ok c =
     let outcome = on_base c.args.draft.now in
     let so = subst (λ (s : Stage). IsStage outcome s) c.in-Tested.is c.begin.ensures.kept in
     let same = sym (ap (λ (s : Stage). found_of s) c.in-Tested.is) ∙ c.begin.ensures.found in
-    tested-unasked outcome c.in-Tested.found.items (found_of c.args.stage.now) c.args.name (tested-tested outcome c.in-Tested.judged c.in-Tested.found c.in-Tested.names so) same
+    tested-unasked outcome c.in-Tested.found.items (found_of c.args.stage.now) c.args.name (tested-tested outcome c.in-Tested.set c.in-Tested.members c.in-Tested.found so) same

@@ -2,15 +2,7 @@ use Rattle.std.proofs.Common.{◌≡◌, ◌<◌, List, Option, IfOk, None, get_
 use Rattle.desk_core.specs.Advances.{IsAdvanced}
 use Rattle.desk_core.specs.World.{World, Live, live_at}
 use Rattle.desk_core.proofs.AdvanceLaws.{core-advanced}
-use Rattle.desk_core.proofs.BasedLaws.{AllBased-set, AllBased-read}
 use Rattle.desk_core.proofs.desk_core.Core.advance.Goals as goal
-
-pub invariant_of-self : goal.invariant_of-self
-invariant_of-self c =
-    let a = c.self.inside in
-    let lt : c.in-Some.i < length a.drafts.items = omega (arith, c.in-Some.ensures.1, ap length c.deref.ensures.value) in
-    let was = AllBased-read a.book.desk a.drafts.items c.in-Some.i c.index_mut.result.now c.self.invariant lt c.index_mut.ensures.value in
-    AllBased-set a.book.desk a.drafts.items c.in-Some.i c.advance_in.new.slot c.self.invariant (c.advance_in.ensures.based a.book.desk was)
 
 pub returns-in-Some-clause-ok : goal.returns-in-Some-clause-ok
 returns-in-Some-clause-ok c =

@@ -15,8 +15,8 @@ use Rattle.desk_core.proofs.ToldLaws.{tested-iff}
 use Rattle.desk_core.proofs.AskingLaws.{asking-next}
 use Rattle.desk_core.proofs.trial.Trial.asking.Goals as goal
 
-pub returns-then-not-is_unfinished-clause-asking : goal.returns-then-not-is_unfinished-clause-asking
-returns-then-not-is_unfinished-clause-asking c =
+pub returns-then-not-is_unfinished : goal.returns-then-not-is_unfinished
+returns-then-not-is_unfinished c =
     let a = c.self.inside in
     let ended = λ (going : IsUnfinished a.climb). both_ways c.is_unfinished.result c.if-not-is_unfinished.true (c.is_unfinished.ensures.1 going) in
     subst (λ (x : TrialData). IsTested x.set x.found) c.self.view_is ((tested-iff a.set.value a.climb c.self.invariant.present a.found.items c.self.invariant.progress).0 ended)
@@ -31,8 +31,8 @@ new-requires-clause-above c =
 pub new-requires-clause-apart : goal.new-requires-clause-apart
 new-requires-clause-apart c = rw c.without.ensures (remove-apart c.left-left.result c.in-Some.task)
 
-pub returns-clause-asking : goal.returns-clause-asking
-returns-clause-asking c =
+pub returns : goal.returns
+returns c =
     let a = c.self.inside in
     let inv = c.self.invariant in
     let U : List Task = a.set.value in
