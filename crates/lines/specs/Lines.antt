@@ -25,7 +25,9 @@ is_skipped (c ∷ cs) = c == 35
 -- of lines, the first of which has a number: those that are not skipped, each with its number
 abbrev pub kept_from : ℕ → List (List ℕ) → List (ℕ × List ℕ)
 kept_from number [] = []
-kept_from number (l ∷ ls) = if is_skipped l then kept_from (number + 1) ls else (number, l) ∷ kept_from (number + 1) ls
+kept_from number (l ∷ ls) =
+    if is_skipped l then kept_from (number + 1) ls
+    else (number, l) ∷ kept_from (number + 1) ls
 
 -- the lines of a text that are not skipped, each with its number; the first line has the number 1
 abbrev pub kept_lines : List ℕ → List (ℕ × List ℕ)

@@ -12,8 +12,10 @@ words line = slice_split (λ b. b == 32) line
 -- 1 to 10 digits, with no zero in front of others
 abbrev pub is_number : List ℕ → Bool
 is_number text =
-    nat_lt 0 (length text) && nat_le
-    (length text) 10 && ((length text == 1) || not (slice_index text 0 == 48)) && list_all is_ascii_digit text
+    nat_lt 0 (length text)
+    && nat_le (length text) 10
+    && ((length text == 1) || not (slice_index text 0 == 48))
+    && list_all is_ascii_digit text
 
 -- the number that a word is
 abbrev pub number_in : List ℕ → Option ℕ

@@ -31,7 +31,8 @@ pub fn next_kept<'a>(at: Place<'a>) -> Result<(KeptLine<'a>, Place<'a>), u64>
         ≡ (x.0.number, x.0.text.now) ∷ kept_from x.1.line (lines_of x.1.rest.now))
         (λ _. kept_from at.entry.line (lines_of at.entry.rest.now) ≡ []) }
     ensures end { MatchResult result
-        (λ x. x.1.line + length (lines_of x.1.rest.now) ≡ at.entry.line + length (lines_of at.entry.rest.now))
+        (λ x. x.1.line + length (lines_of x.1.rest.now)
+        ≡ at.entry.line + length (lines_of at.entry.rest.now))
         (λ past. past ≡ at.entry.line + length (lines_of at.entry.rest.now)) }
     ensures less { IfOk result (λ x. length x.1.rest.now < length at.entry.rest.now) }
 {

@@ -8,7 +8,8 @@ use crate::place::Place;
 /// The next line that ends with LF, and the place behind it.
 pub fn complete_line<'a>(at: Place<'a>) -> Option<(&'a [u8], Place<'a>)>
     ensures line { MatchOption result (parts at.entry.rest.now ≡ at.entry.rest.now ∷ [])
-        (λ x. (parts at.entry.rest.now ≡ x.0.now ∷ parts x.1.rest.now) × (x.1.line ≡ at.entry.line + 1)) }
+        (λ x. (parts at.entry.rest.now ≡ x.0.now ∷ parts x.1.rest.now)
+        × (x.1.line ≡ at.entry.line + 1)) }
     ensures less { IfSome result (λ x. length x.1.rest.now < length at.entry.rest.now) }
 {
     let (line, rest) = cut(at.rest, b'\n')?;
@@ -24,7 +25,8 @@ pub fn complete_line<'a>(at: Place<'a>) -> Option<(&'a [u8], Place<'a>)>
 /// The next line, and the place behind it; the last line may lack its LF.
 pub fn next_line<'a>(at: Place<'a>) -> Option<(&'a [u8], Place<'a>)>
     ensures line { MatchOption result (lines_of at.entry.rest.now ≡ [])
-        (λ x. (lines_of at.entry.rest.now ≡ x.0.now ∷ lines_of x.1.rest.now) × (x.1.line ≡ at.entry.line + 1)) }
+        (λ x. (lines_of at.entry.rest.now ≡ x.0.now ∷ lines_of x.1.rest.now)
+        × (x.1.line ≡ at.entry.line + 1)) }
     ensures less { IfSome result (λ x. length x.1.rest.now < length at.entry.rest.now) }
 {
     if at.rest.is_empty() {

@@ -43,7 +43,8 @@ impl<'a> Words<'a> {
 
     /// The next word; `None` behind the last one.
     pub fn next(&mut self) -> Option<&'a [u8]>
-        ensures { MatchOption result ((self.old ≡ []) × (self.new ≡ [])) (λ word. self.old ≡ word.now ∷ self.new) }
+        ensures { MatchOption result ((self.old ≡ []) × (self.new ≡ []))
+            (λ word. self.old ≡ word.now ∷ self.new) }
     {
         let rest = self.rest?;
         match cut(rest, b' ') {

@@ -1,46 +1,29 @@
 -- Lines that are played are a run of their events.
-use Rattle.std.proofs.Common.{◌≡◌, ◌∙◌, ℕ, inl, inr, List, [], ◌∷◌, ◌++◌, map, Option, None, Some, refl, sym, ap, subst}
+use Rattle.std.proofs.Common.{◌≡◌, ℕ, inl, inr, List, [], ◌∷◌, ◌++◌, map, Option, None, Some, refl, sym, subst}
 use Rattle.std.proofs.lemmas.List.{map_push}
 use Rattle.assignment.specs.Questions.{FindingData}
 use Rattle.drafts.specs.Books.{IsLegalBook}
 use Rattle.desk_core.specs.declared.events.Cause.{Cause}
 use Rattle.desk_core.specs.declared.events.Event.{Event}
 use Rattle.desk_core.specs.declared.events.Event.TheVariants as event
-use Rattle.desk_core.specs.declared.events.Reply.{Reply}
-use Rattle.desk_core.specs.World.{World, live_at, start, happens, IsRun, after_all}
+use Rattle.desk_core.specs.World.{World, live_at, start}
 use Rattle.desk_core.proofs.LegalLaws.{run-legal}
+use Rattle.desk_core.proofs.RunLaws.{IsRun-append}
 use Rattle.scripts.specs.declared.line.Line.{Line}
 use Rattle.scripts.specs.declared.line.Row.{Row}
 use Rattle.scripts.specs.declared.line.Row.TheVariants.{Open, Put, Remove, Found, Test, Commit, Abandon}
 use Rattle.plays.specs.Plays.{Answers, IsBrought, IsFoundLine, IsBroughtAll, IsPlayed, ArePlayed, AreEventsOf, AreEvents, IsLedBy, first_cause, no_levels}
 
 -- ---- runs, one after the other
-IsRun-append : (w : World) (es fs : List Event) (rs ss : List Reply) → IsRun w es rs → IsRun (after_all w es rs) fs ss → IsRun w (es ++ fs) (rs ++ ss)
-IsRun-append w [] fs [] ss run more = more
-IsRun-append w [] fs (r ∷ rs) ss run more = absurd run
-IsRun-append w (e ∷ es) fs [] ss run more = absurd run
-IsRun-append w (e ∷ es) fs (r ∷ rs) ss run more = (run.0, IsRun-append (happens w e r) es fs rs ss run.1 more)
-
-after_all-append : (w : World) (es fs : List Event) (rs ss : List Reply) → IsRun w es rs → after_all w (es ++ fs) (rs ++ ss) ≡ after_all (after_all w es rs) fs ss
-after_all-append w [] fs [] ss run = refl
-after_all-append w [] fs (r ∷ rs) ss run = absurd run
-after_all-append w (e ∷ es) fs [] ss run = absurd run
-after_all-append w (e ∷ es) fs (r ∷ rs) ss run = after_all-append (happens w e r) es fs rs ss run.1
-
 led-append : (w u v : World) (es fs : List Event) → IsLedBy w es u → IsLedBy u fs v → IsLedBy w (es ++ fs) v
-led-append w u v es fs first next =
-    let rs = first.0 in
-    let ss = next.0 in
-    let run = subst (λ (x : World). IsRun x fs ss) first.2 next.1 in
-    let here = next.2 ∙ ap (λ (x : World). after_all x fs ss) first.2 in
-    (rs ++ ss, IsRun-append w es fs rs ss first.1 run, here ∙ sym (after_all-append w es fs rs ss first.1))
+led-append w u v es fs first next = (first.0 ++ next.0, IsRun-append w u v es fs first.0 next.0 first.1 next.1)
 
 -- ---- one event, or none
 led-one : (w : World) (e : Event) (v : World) (text : List ℕ) → Answers w e v text → IsLedBy w (e ∷ []) v
-led-one w e v text is = (is.0 ∷ [], (is.1, tt), is.2)
+led-one w e v text is = (is.0 ∷ [], (v, is.1, refl))
 
 led-none : (w v : World) → v ≡ w → IsLedBy w [] v
-led-none w v same = ([], tt, same)
+led-none w v same = ([], same)
 
 -- ---- findings
 -- the last one first, in the order in which they came
@@ -53,7 +36,7 @@ led-all w draft [] v same = led-none w v same
 led-all w draft (f ∷ fs) v is =
     let u = is.0 in
     let before : IsLedBy w (map (λ f. event.Found draft f) (came fs)) u = led-all w draft fs u is.2 in
-    let one : IsLedBy u (event.Found draft f ∷ []) v = (is.1 ∷ [], (is.4, tt), is.5) in
+    let one : IsLedBy u (event.Found draft f ∷ []) v = (is.1 ∷ [], (v, is.4, refl)) in
     subst (λ (es : List Event). IsLedBy w es v) (sym (map_push (λ f. event.Found draft f) (came fs) f)) (led-append w u v (map (λ f. event.Found draft f) (came fs)) (event.Found draft f ∷ []) before one)
 
 -- ---- one row
@@ -88,6 +71,5 @@ played-run w v (line ∷ lines) text is =
 
 pub played-legal : (v : World) (lines : List Line) (text : List ℕ) → ArePlayed start lines v text → IsLegalBook v.book
 played-legal v lines text is =
-    let led = (played-run start v lines text is).2 in
-    let events = (played-run start v lines text is).0 in
-    subst (λ (x : World). IsLegalBook x.book) (sym led.2) (run-legal events led.0 led.1)
+    let run = played-run start v lines text is in
+    run-legal run.0 run.2.0 v run.2.1

@@ -15,16 +15,16 @@ use Rattle.desk_core.specs.declared.events.Reply.{Reply}
 use Rattle.desk_core.specs.declared.events.Standing.{Standing}
 use Rattle.desk_core.specs.declared.events.Standing.TheVariants as standing
 use Rattle.drafts.specs.Books.{IsLegalBook}
-use Rattle.desk_core.specs.World.{World, Live, live_at, IsReply, happens, IsRun, after_all}
+use Rattle.desk_core.specs.World.{World, Live, live_at, Happens, IsRun}
 use Rattle.desk_core.specs.Standings.{IsStanding, IsQuestionOf}
 use Rattle.scripts.specs.declared.line.Line.{Line}
 use Rattle.scripts.specs.declared.line.Row.{Row}
 use Rattle.scripts.specs.declared.line.Row.TheVariants.{Open, Put, Remove, Found, Test, Commit, Abandon}
 use Rattle.plays.specs.Printed.{cause_word, printed, refused_line, state_lines, tested_line}
 
--- the event leads from one world to another by a reply that the world gives, and this is the reply's line
+-- the event happens, and leads from one world to another; this is the line of its reply
 abbrev pub Answers : World → Event → World → List ℕ → Type 0
-Answers w e v text = (r : Reply) × IsReply w e r × (v ≡ happens w e r) × (text ≡ printed r)
+Answers w e v text = (r : Reply) × Happens w e r v × (text ≡ printed r)
 
 -- ---- a finding of a draft's present level
 abbrev pub no_levels_on : Result (List Owned) Refusal → Option Cause
@@ -63,7 +63,7 @@ IsBroughtAll w draft [] v = v ≡ w
 IsBroughtAll w draft (f ∷ findings) v =
     (u : World) × (r : Reply) × IsBroughtAll w draft findings u
     × IsStanding (live_at u.drafts draft) (standing.Asking f.question)
-    × IsReply u (event.Found draft f) r × (v ≡ happens u (event.Found draft f) r)
+    × Happens u (event.Found draft f) r v
 
 -- nothing is asked any more, and this is said
 abbrev pub IsSaid : Standing → List ℕ → Type 0
@@ -104,8 +104,10 @@ abbrev pub AreEventsOf : Row → List Event → Type 0
 AreEventsOf (Open team) events = events ≡ event.Open team ∷ []
 AreEventsOf (Put draft sheet) events = events ≡ event.Put draft sheet ∷ []
 AreEventsOf (Remove draft name) events = events ≡ event.Remove draft name ∷ []
-AreEventsOf (Found draft name other) events = (events ≡ []) ⊎ ((f : FindingData) × (events ≡ event.Found draft f ∷ []))
-AreEventsOf (Test draft) events = (fs : List FindingData) × (events ≡ map (λ f. event.Found draft f) fs)
+AreEventsOf (Found draft name other) events =
+    (events ≡ []) ⊎ ((f : FindingData) × (events ≡ event.Found draft f ∷ []))
+AreEventsOf (Test draft) events =
+    (fs : List FindingData) × (events ≡ map (λ f. event.Found draft f) fs)
 AreEventsOf (Commit draft) events = events ≡ event.Commit draft ∷ []
 AreEventsOf (Abandon draft) events = events ≡ event.Abandon draft ∷ []
 
@@ -116,9 +118,9 @@ AreEvents (line ∷ lines) events =
     (first : List Event) × (rest : List Event)
     × AreEventsOf line.row first × AreEvents lines rest × (events ≡ first ++ rest)
 
--- the events get replies that the world may give, and these lead from one world to the other
+-- the events happen one after the other, and lead from one world to the other
 abbrev pub IsLedBy : World → List Event → World → Type 0
-IsLedBy w events v = (replies : List Reply) × IsRun w events replies × (v ≡ after_all w events replies)
+IsLedBy w events v = (replies : List Reply) × IsRun w events replies v
 
 -- the book: its version and the best order of its tasks
 abbrev pub IsBookText : Desk → List ℕ → Type 0
@@ -130,9 +132,11 @@ IsBookText desk text =
 abbrev pub PlaysAll : World → List Line → List ℕ → Type 0
 PlaysAll w lines text =
     (v : World) × (played : List ℕ) × (book : List ℕ)
-    × ArePlayed w lines v played × IsLegalBook v.book × IsBookText v.book.desk book × (text ≡ played ++ book)
+    × ArePlayed w lines v played × IsLegalBook v.book × IsBookText v.book.desk book
+    × (text ≡ played ++ book)
 
 -- some of the lines are played, from the first on
 abbrev pub PlaysSome : World → List Line → List ℕ → Type 0
 PlaysSome w lines text =
-    (done : List Line) × (left : List Line) × (v : World) × (lines ≡ done ++ left) × ArePlayed w done v text
+    (done : List Line) × (left : List Line) × (v : World) × (lines ≡ done ++ left)
+    × ArePlayed w done v text

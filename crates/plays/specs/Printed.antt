@@ -47,7 +47,8 @@ refusal_words refusal.TooManyTasks = codes "TooManyTasks"
 -- the names of members, each after a space
 abbrev pub members_text : List Task → List FailureData → List ℕ
 members_text U [] = []
-members_text U (member ∷ members) = codes " " ++ (task_at U member.task).name ++ members_text U members
+members_text U (member ∷ members) =
+    codes " " ++ (task_at U member.task).name ++ members_text U members
 
 -- a commit is decided
 abbrev pub ruling_line : Ruling → List ℕ
@@ -58,11 +59,13 @@ ruling_line (Infeasible o) = codes "infeasible" ++ members_text o.set o.members 
 -- a level is decided
 abbrev pub level_line : ℕ → List ℕ → ℕ → List ℕ
 level_line level name response =
-    codes "level " ++ decimal level ++ codes " " ++ name ++ codes " " ++ decimal response ++ codes "\n"
+    codes "level " ++ decimal level ++ codes " " ++ name ++ codes " " ++ decimal response
+    ++ codes "\n"
 
 -- a draft is opened
 abbrev pub opened_line : ℕ → ℕ → List ℕ
-opened_line draft version = codes "draft " ++ decimal draft ++ codes " version " ++ decimal version ++ codes "\n"
+opened_line draft version =
+    codes "draft " ++ decimal draft ++ codes " version " ++ decimal version ++ codes "\n"
 
 -- the line of a reply
 abbrev pub printed : Reply → List ℕ
@@ -89,15 +92,18 @@ holder tasks (Some task) = option_map (λ o. o.team) (held task.name tasks)
 -- a level of the book: its task, the team that holds it, and the response
 abbrev pub held_line : List Owned → ℕ → LevelData → List ℕ
 held_line tasks number level =
-    codes "level " ++ decimal number ++ codes " " ++ (task_at (set_of tasks) level.task).name ++ codes " "
+    codes "level " ++ decimal number ++ codes " " ++ (task_at (set_of tasks) level.task).name
+    ++ codes " "
     ++ team_text (holder tasks (slice_get (set_of tasks) level.task)) ++ codes " "
     ++ decimal level.response ++ codes "\n"
 
 -- a line for each level, of which the first has a number
 abbrev pub held_lines : List Owned → ℕ → List LevelData → List ℕ
 held_lines tasks number [] = []
-held_lines tasks number (level ∷ levels) = held_line tasks number level ++ held_lines tasks (number + 1) levels
+held_lines tasks number (level ∷ levels) =
+    held_line tasks number level ++ held_lines tasks (number + 1) levels
 
 -- the version, and the levels from the lowest up
 abbrev pub state_lines : ℕ → List Owned → List LevelData → List ℕ
-state_lines version tasks levels = codes "version " ++ decimal version ++ codes "\n" ++ held_lines tasks 1 levels
+state_lines version tasks levels =
+    codes "version " ++ decimal version ++ codes "\n" ++ held_lines tasks 1 levels

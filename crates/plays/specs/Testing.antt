@@ -17,4 +17,5 @@ IsOver Untestable = Unit {0}
 -- it was brought findings until nothing was asked, and stands there then
 abbrev pub IsTestedBy : World → ℕ → World → Standing → Type 0
 IsTestedBy w draft v s =
-    ((findings : List FindingData) × IsBroughtAll w draft findings v) × IsStanding (live_at v.drafts draft) s × IsOver s
+    ((findings : List FindingData) × IsBroughtAll w draft findings v)
+    × IsStanding (live_at v.drafts draft) s × IsOver s

@@ -45,7 +45,8 @@ pub(crate) fn why_not(
 ) -> Result<Option<Cause>, AllocError>
     ensures same { core.new ≡ core.old }
     ensures ok { IfOk result (λ why. why
-        ≡ first_cause (no_levels (live_at core.old.drafts draft)) (no_levels (live_at core.old.drafts other))) }
+        ≡ first_cause (no_levels (live_at core.old.drafts draft))
+        (no_levels (live_at core.old.drafts other))) }
 {
     let first = core.standing(alloc, draft)?;
     let second = core.standing(alloc, other)?;
@@ -61,7 +62,8 @@ pub(crate) fn find(
 ) -> Result<Option<Finding>, AllocError>
     ensures same { core.new ≡ core.old }
     ensures ok { IfOk result
-        (λ finding. IsQuestionOf (live_at core.old.drafts draft) name (option_map (λ f. f.question) finding)) }
+        (λ finding. IsQuestionOf (live_at core.old.drafts draft) name
+        (option_map (λ f. f.question) finding)) }
 {
     let Some(question) = core.question(alloc, draft, name)? else {
         return Ok(None);

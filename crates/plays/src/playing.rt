@@ -42,8 +42,10 @@ fn play_found(
     name: Name,
     other: usize,
 ) -> Result<String, AllocError>
-    ensures { IfOk result (λ text. IsFoundLine core.old draft name other core.new (string_bytes text)
-        (first_cause (no_levels (live_at core.old.drafts draft)) (no_levels (live_at core.old.drafts other)))) }
+    ensures { IfOk result (λ text. IsFoundLine core.old draft name other core.new
+        (string_bytes text)
+        (first_cause (no_levels (live_at core.old.drafts draft))
+        (no_levels (live_at core.old.drafts other)))) }
 {
     if let Some(cause) = why_not(alloc, core, draft, other)? {
         return refused_text(alloc, cause);
@@ -99,7 +101,8 @@ fn put_lines<W: Write + Drop>(
 ) -> Result<(), PlayFault>
     ensures all { OnOk result ((text : List ℕ) × PlaysAll start lines.items text
         × Sends (W.contents out.old.inner) held.old (W.contents out.new.inner) held.new text) }
-    ensures some { result ≡ Err PlayFault.OutOfMemory → (text : List ℕ) × PlaysSome start lines.items text
+    ensures some { result ≡ Err PlayFault.OutOfMemory
+        → (text : List ℕ) × PlaysSome start lines.items text
         × Sends (W.contents out.old.inner) held.old (W.contents out.new.inner) held.new text }
     ensures ok { result ≢ Err PlayFault.WriteFailed → out.new.has_failed ≡ out.old.has_failed }
     ensures failed { result ≡ Err PlayFault.WriteFailed → out.new.has_failed ≡ true }
@@ -125,7 +128,7 @@ fn put_lines<W: Write + Drop>(
     }
 }
 
-/// Plays lines from an empty desk on. The line of each is put as it was played, through a buffer of 4096 bytes, and at
+/// Plays lines from an empty desk on. The line of each is put as it was played, through a buffer of 65,536 bytes, and at
 /// the end the book. The buffer takes no memory, and what it holds is written before any answer but that the writer
 /// failed. The clause `all` names the book, which is legal: the lines are a run (`laws::played_lines_are_runs`), and the
 /// book of any run is legal (`desk_core::laws::runs_are_legal`).
@@ -136,7 +139,8 @@ pub fn play_lines<W: Write + Drop>(
 ) -> Result<(), PlayFault>
     ensures all { OnOk result ((text : List ℕ) × PlaysAll start lines.items text
         × Appends (W.contents out.old.inner) (W.contents out.new.inner) text) }
-    ensures some { result ≡ Err PlayFault.OutOfMemory → (text : List ℕ) × PlaysSome start lines.items text
+    ensures some { result ≡ Err PlayFault.OutOfMemory
+        → (text : List ℕ) × PlaysSome start lines.items text
         × Appends (W.contents out.old.inner) (W.contents out.new.inner) text }
     ensures ok { result ≢ Err PlayFault.WriteFailed → out.new.has_failed ≡ out.old.has_failed }
     ensures failed { result ≡ Err PlayFault.WriteFailed → out.new.has_failed ≡ true }

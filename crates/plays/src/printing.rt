@@ -60,7 +60,8 @@ fn push_names(text: &mut String, names: &[Name]) -> Result<(), AllocError>
 
 // The name of the task at an index; nothing past the end of the set.
 fn push_name(text: &mut String, set: &TaskSet, task: usize) -> Result<(), AllocError>
-    ensures { OnOk result (string_bytes text.new ≡ string_bytes text.old ++ (task_at set.now task).name) }
+    ensures { OnOk result (string_bytes text.new ≡ string_bytes text.old
+        ++ (task_at set.now task).name) }
 {
     match set.get(task) {
         Some(sheet) => {

@@ -82,11 +82,15 @@ pub draft_there : (slots : List (Option Draft)) (number i : ℕ) (slot : Option 
     → i < length slots → draft_at slots number ≡ get_or slots i None → slot ≡ get_or slots i slot → taken ≡ slot → taken ≡ Some d → draft_at slots number ≡ Some d
 draft_there slots number i slot taken d lt at is took there = at ∙ item_at slots i None slot lt ∙ sym is ∙ sym took ∙ there
 
-pub committed_as : (h : Hand) (number i : ℕ) (d : Draft) (slot : Option Draft) (new : Known) (place : ℕ)
-    → i + 1 ≡ number → draft_at h.drafts number ≡ Some d → slot ≡ None → IsReceived d h.pass place new
-    → IsCommitted h number (let k : Hand = record { drafts = set h.drafts i slot; pass = new } in k) (draft_at h.drafts number)
-committed_as h number i d slot new place next there gone received =
+-- the team after a commit
+abbrev after : Hand → List (Option Draft) → Known → Hand
+after h drafts pass = record { drafts = drafts; own = h.own; pass = pass; notes = h.notes }
+
+pub committed_as : (workers : ℕ) (h : Hand) (number i : ℕ) (d : Draft) (slot : Option Draft) (new : Known) (place : ℕ)
+    → i + 1 ≡ number → draft_at h.drafts number ≡ Some d → slot ≡ None → Commits (λ q. ⊥) (λ q. ⊥) workers d h.pass (Ok place) new
+    → IsCommitted workers h number (after h (set h.drafts i slot) new) (draft_at h.drafts number)
+committed_as workers h number i d slot new place next there gone commits =
     let index : i ≡ number - 1 = omega arith in
-    let same : (let k : Hand = record { drafts = set h.drafts i slot; pass = new } in k) ≡ (let k : Hand = record { drafts = set h.drafts (number - 1) None; pass = new } in k) =
-    λ j. let k : Hand = record { drafts = set h.drafts (index j) (gone j); pass = new } in k in
-    subst (λ (o : Option Draft). IsCommitted h number (let k : Hand = record { drafts = set h.drafts i slot; pass = new } in k) o) (sym there) (place, new, received, same)
+    let same : after h (set h.drafts i slot) new ≡ after h (set h.drafts (number - 1) None) new =
+    λ j. after h (set h.drafts (index j) (gone j)) new in
+    subst (λ (o : Option Draft). IsCommitted workers h number (after h (set h.drafts i slot) new) o) (sym there) (place, new, commits, same)

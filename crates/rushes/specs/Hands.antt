@@ -1,5 +1,5 @@
 -- What the lines of a script make of one team's drafts and pass, while the other teams' lines run beside them.
-use Rattle.std.specs.Prelude.{◌≡◌, ◌≤◌, ℕ, ◌-◌, ◌==◌, List, [], ◌∷◌, ◌++◌, Option, None, Some, Result, Ok, Err, slice_get, slice_set, map, MatchBool, if◌then◌else◌}
+use Rattle.std.specs.Prelude.{◌≡◌, ◌≤◌, ℕ, ◌+◌, ◌-◌, ◌==◌, Bool, true, false, ◌&&◌, not, List, [], ◌∷◌, ◌++◌, length, Option, None, Some, is_some, option_map, Result, Ok, Err, slice_get, slice_set, map, MatchBool, if◌then◌else◌}
 use Rattle.drafts.specs.declared.change.Change.{Change}
 use Rattle.drafts.specs.declared.draft.EditRefusal.{EditRefusal}
 use Rattle.drafts.specs.Books.{Book, IsLegalBook}
@@ -8,20 +8,25 @@ use Rattle.drafts.specs.Changes.{Draft, after_put, after_remove}
 use Rattle.book_lock.specs.declared.closing.Closing.{Closing}
 use Rattle.book_lock.specs.Opening.{IsOpenedFor}
 use Rattle.book_lock.specs.Passes.{Known, newcomer, places_of}
-use Rattle.book_lock.specs.Settles.{IsReceived}
+use Rattle.book_lock.specs.Commits.{Commits}
+use Rattle.rushes.specs.declared.note.Missed.{Missed}
+use Rattle.rushes.specs.declared.note.Missed.TheVariants.{PutRefused, RemoveRefused, Ended}
+use Rattle.rushes.specs.declared.note.Note.{Note}
 use Rattle.scripts.specs.declared.line.Line.{Line}
 use Rattle.scripts.specs.declared.line.Row.{Row}
 use Rattle.scripts.specs.declared.line.Row.TheVariants.{Open, Put, Remove, Found, Test, Commit, Abandon}
 
 -- a team at a line: all drafts that the lines above opened, by number from 1, where None is another team's or has
--- ended; and the team's pass
+-- ended; which of them are the team's; the team's pass; and what is told of its lines above that did nothing
 pub record Hand : Type 0 where
   pub drafts : List (Option Draft)
+  pub own : List Bool
   pub pass : Known
+  pub notes : List Note
 
 -- before the first line
 abbrev pub fresh : Known → Hand
-fresh pass = record { drafts = []; pass = pass }
+fresh pass = record { drafts = []; own = []; pass = pass; notes = [] }
 
 -- a slot that is there
 abbrev pub if_there : Option (Option Draft) → Option Draft
@@ -32,21 +37,36 @@ if_there (Some slot) = slot
 abbrev pub draft_at : List (Option Draft) → ℕ → Option Draft
 draft_at drafts number = if number == 0 then None else if_there (slice_get drafts (number - 1))
 
--- one draft more was opened
-abbrev pub with_draft : Hand → Option Draft → Hand
-with_draft h slot = record { drafts = h.drafts ++ slot ∷ []; pass = h.pass }
+-- what is there holds
+abbrev pub if_true : Option Bool → Bool
+if_true None = false
+if_true (Some holds) = holds
+
+-- the draft of that number is the team's, whether it has ended or not
+abbrev pub own_at : List Bool → ℕ → Bool
+own_at own number = if number == 0 then false else if_true (slice_get own (number - 1))
+
+-- one draft more was opened: the team's, or another's
+abbrev pub with_draft : Hand → Bool → Option Draft → Hand
+with_draft h own slot =
+    record { drafts = h.drafts ++ slot ∷ []; own = h.own ++ own ∷ []; pass = h.pass; notes = h.notes }
 
 -- the draft of that number is this now
 abbrev pub with_slot : Hand → ℕ → Option Draft → Hand
-with_slot h number slot = record { drafts = slice_set h.drafts (number - 1) slot; pass = h.pass }
+with_slot h number slot =
+    record { drafts = slice_set h.drafts (number - 1) slot; own = h.own; pass = h.pass; notes = h.notes }
+
+-- and the pass is this
+abbrev pub with_pass : Hand → Known → Hand
+with_pass h pass = record { drafts = h.drafts; own = h.own; pass = pass; notes = h.notes }
 
 -- ---- lines
 -- the team's own draft is opened on a state of some legal log
 abbrev pub IsOpened : Hand → ℕ → Hand → Type 0
 IsOpened h team k =
     MatchBool (team == h.pass.team)
-    ((d : Draft) × IsOpenedFor h.pass d × (k ≡ with_draft h (Some d)))
-    (k ≡ with_draft h None)
+    ((d : Draft) × IsOpenedFor h.pass d × (k ≡ with_draft h true (Some d)))
+    (k ≡ with_draft h false None)
 
 -- a draft after an edit; one that is refused leaves it
 abbrev pub edited : Draft → Result (List (List ℕ × Change)) EditRefusal → Draft
@@ -54,16 +74,19 @@ edited d (Err refusal) = d
 edited d (Ok changes) = record { team = d.team; base = d.base; changes = changes }
 
 -- an edit of the team's draft of that number; else the line is skipped
-abbrev pub after_edit : Hand → ℕ → (Draft → Result (List (List ℕ × Change)) EditRefusal) → Option Draft → Hand
+abbrev pub after_edit : Hand → ℕ → (Draft → Result (List (List ℕ × Change)) EditRefusal)
+    → Option Draft → Hand
 after_edit h number edit None = h
 after_edit h number edit (Some d) = with_slot h number (Some (edited d (edit d)))
 
--- a commit of the team's draft of that number: its decision is the pass's last receipt, and the draft has ended
-abbrev pub IsCommitted : Hand → ℕ → Hand → Option Draft → Type 0
-IsCommitted h number k None = k ≡ h
-IsCommitted h number k (Some d) =
-    (place : ℕ) × (pass : Known) × IsReceived d h.pass place pass
-    × (k ≡ (let next : Hand = record { drafts = slice_set h.drafts (number - 1) None; pass = pass } in next))
+-- a commit of the team's draft of that number, by at most so many workers at an open gate: its decision is the pass's
+-- last receipt, and the draft has ended
+abbrev pub IsCommitted : ℕ → Hand → ℕ → Hand → Option Draft → Type 0
+IsCommitted workers h number k None = k ≡ h
+IsCommitted workers h number k (Some d) =
+    (place : ℕ) × (pass : Known)
+    × Commits (λ question. ⊥) (λ question. ⊥) workers d h.pass (Ok place) pass
+    × (k ≡ with_pass (with_slot h number None) pass)
 
 -- the team's draft of that number ends without a decision
 abbrev pub abandoned : Hand → ℕ → Option Draft → Hand
@@ -71,29 +94,97 @@ abandoned h number None = h
 abandoned h number (Some d) = with_slot h number None
 
 -- what a line makes of the team's drafts and pass
-abbrev pub IsDone : Hand → Row → Hand → Type 0
-IsDone h (Open team) k = IsOpened h team k
-IsDone h (Put number sheet) k = k ≡ after_edit h number (λ d. after_put d sheet) (draft_at h.drafts number)
-IsDone h (Remove number name) k = k ≡ after_edit h number (λ d. after_remove d name) (draft_at h.drafts number)
-IsDone h (Found number name other) k = k ≡ h
-IsDone h (Test number) k = k ≡ h
-IsDone h (Commit number) k = IsCommitted h number k (draft_at h.drafts number)
-IsDone h (Abandon number) k = k ≡ abandoned h number (draft_at h.drafts number)
+abbrev pub IsDone : ℕ → Hand → Row → Hand → Type 0
+IsDone workers h (Open team) k = IsOpened h team k
+IsDone workers h (Put number sheet) k =
+    k ≡ after_edit h number (λ d. after_put d sheet) (draft_at h.drafts number)
+IsDone workers h (Remove number name) k =
+    k ≡ after_edit h number (λ d. after_remove d name) (draft_at h.drafts number)
+IsDone workers h (Found number name other) k = k ≡ h
+IsDone workers h (Test number) k = k ≡ h
+IsDone workers h (Commit number) k = IsCommitted workers h number k (draft_at h.drafts number)
+IsDone workers h (Abandon number) k = k ≡ abandoned h number (draft_at h.drafts number)
+
+-- ---- what is told
+-- the draft that a line is on; 0 where it opens one
+abbrev pub draft_of : Row → ℕ
+draft_of (Open team) = 0
+draft_of (Put number sheet) = number
+draft_of (Remove number name) = number
+draft_of (Found number name other) = number
+draft_of (Test number) = number
+draft_of (Commit number) = number
+draft_of (Abandon number) = number
+
+-- the draft of that number is the team's, and has ended
+abbrev pub has_ended : Hand → ℕ → Bool
+has_ended h number = own_at h.own number && not (is_some (draft_at h.drafts number))
+
+-- why an edit is refused, if it is
+abbrev pub refusal_in : Result (List (List ℕ × Change)) EditRefusal → Option EditRefusal
+refusal_in (Ok changes) = None
+refusal_in (Err refusal) = Some refusal
+
+-- why an edit of a draft is refused, if the draft is there
+abbrev pub refused : (Draft → Result (List (List ℕ × Change)) EditRefusal) → Option Draft
+    → Option EditRefusal
+refused edit None = None
+refused edit (Some d) = refusal_in (edit d)
+
+-- what is told of a line whose draft hasn't ended: that its edit is refused
+abbrev pub told_edit : Hand → Row → Option Missed
+told_edit h (Open team) = None
+told_edit h (Put number sheet) =
+    option_map (λ refusal. PutRefused sheet.name refusal)
+    (refused (λ d. after_put d sheet) (draft_at h.drafts number))
+told_edit h (Remove number name) =
+    option_map (λ refusal. RemoveRefused name refusal)
+    (refused (λ d. after_remove d name) (draft_at h.drafts number))
+told_edit h (Found number name other) = None
+told_edit h (Test number) = None
+told_edit h (Commit number) = None
+told_edit h (Abandon number) = None
+
+-- why a line did nothing that is the team's, if so
+abbrev pub told : Hand → Row → Option Missed
+told h row = if has_ended h (draft_of row) then Some (Ended (draft_of row)) else told_edit h row
+
+-- it is told of the line with this number
+abbrev pub noting : Hand → ℕ → Option Missed → Hand
+noting h number None = h
+noting h number (Some missed) = record {
+  drafts = h.drafts;
+  own = h.own;
+  pass = h.pass;
+  notes = h.notes ++ (let note : Note = record { line = number; missed = missed } in note) ∷ [];
+}
+
+-- one line: what it makes of the team, and what is told of it
+abbrev pub IsLineDone : ℕ → Hand → Line → Hand → Type 0
+IsLineDone workers h line k =
+    (mid : Hand) × IsDone workers h line.row mid × (k ≡ noting mid line.number (told h line.row))
 
 -- lines, one after the other
-abbrev pub AreDone : Hand → List Line → Hand → Type 0
-AreDone h [] k = k ≡ h
-AreDone h (line ∷ lines) k = (mid : Hand) × IsDone h line.row mid × AreDone mid lines k
-
--- the pass after all lines
-abbrev pub IsRun : List Line → Known → Known → Type 0
-IsRun lines start pass = (last : Hand) × AreDone (fresh start) lines last × (last.pass ≡ pass)
+abbrev pub AreDone : ℕ → Hand → List Line → Hand → Type 0
+AreDone workers h [] k = k ≡ h
+AreDone workers h (line ∷ lines) k =
+    (mid : Hand) × IsLineDone workers h line mid × AreDone workers mid lines k
 
 -- ---- all teams
--- these entries with their places are what the lines of a team came to, whatever parts of the ledger its pass has
-abbrev pub IsPart : List Line → ℕ → List (ℕ × Entry) → Type 0
-IsPart lines team entries =
-    (parts : ℕ) × (pass : Known) × IsRun lines (newcomer team parts) pass × (pass.receipts ≡ entries)
+-- these entries with their places are what the lines of a team came to, whatever parts of the ledger its pass has, and
+-- these notes are what is told of its lines
+abbrev pub IsPart : ℕ → List Line → ℕ → List (ℕ × Entry) → List Note → Type 0
+IsPart workers lines team entries notes =
+    (parts : ℕ) × (last : Hand) × AreDone workers (fresh (newcomer team parts)) lines last
+    × (last.pass.receipts ≡ entries)
+    × (last.notes ≡ notes)
+
+-- so it is with the notes of each team from this one on, and its entries of the log
+abbrev pub AreParts : ℕ → List Line → List Entry → ℕ → List (List Note) → Type 0
+AreParts workers lines log team [] = Unit {0}
+AreParts workers lines log team (notes ∷ rest) =
+    IsPart workers lines team (places_of team 1 log) notes
+    × AreParts workers lines log (team + 1) rest
 
 -- the state and the log of a desk that was closed
 abbrev pub book_of : Closing → Book
@@ -104,9 +195,10 @@ abbrev pub AreOfTeams : List Entry → Type 0
 AreOfTeams [] = Unit {0}
 AreOfTeams (e ∷ log) = (1 ≤ e.team) × (e.team ≤ 8) × AreOfTeams log
 
--- the log is legal, and the state its replay; each entry is of one of the teams, and each team's entries with their
--- places are what its lines came to
-pub record IsRushed (lines : List Line) (b : Book) : Type 0 where
+-- the log is legal, and the state its replay; each entry is of one of the teams; and each team's entries with their
+-- places, and the notes on its lines, are what its lines came to
+pub record IsRushed (workers : ℕ) (lines : List Line) (b : Book) (notes : List (List Note)) : Type 0 where
   pub legal : IsLegalBook b
   pub teams : AreOfTeams b.log
-  pub parts : (team : ℕ) → 1 ≤ team → team ≤ 8 → IsPart lines team (places_of team 1 b.log)
+  pub all : length notes ≡ 8
+  pub parts : AreParts workers lines b.log 1 notes

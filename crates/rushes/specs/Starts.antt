@@ -1,19 +1,19 @@
 -- Threads that run the lines of teams.
-use Rattle.std.specs.Prelude.{List, [], ◌∷◌, Option, None, Some, Result, Ok, Err}
+use Rattle.std.specs.Prelude.{ℕ, List, [], ◌∷◌, Option, None, Some, Result, Ok, Err}
 use Rattle.scripts.specs.declared.line.Line.{Line}
 use Rattle.book_lock.specs.Passes.{Known}
-use Rattle.rushes.specs.Hands.{IsRun}
+use Rattle.rushes.specs.Hands.{Hand, fresh, AreDone}
 use Rattle.rushes.specs.declared.fault.RushFault.{RushFault}
 
--- what a team's lines come to: its pass after all of them, or a fault
-abbrev pub IsEnd : List Line → Known → Result Known RushFault → Type 0
-IsEnd lines start (Ok pass) = IsRun lines start pass
-IsEnd lines start (Err fault) = Unit {0}
+-- what a team's lines come to: the team after all of them, or a fault
+abbrev pub IsEnd : ℕ → List Line → Known → Result Hand RushFault → Type 0
+IsEnd workers lines start (Ok last) = AreDone workers (fresh start) lines last
+IsEnd workers lines start (Err fault) = Unit {0}
 
 -- the first fault among the ends of teams
-abbrev pub first_fault : List (Result Known RushFault) → Option RushFault
+abbrev pub first_fault : List (Result Hand RushFault) → Option RushFault
 first_fault [] = None
-first_fault (Ok pass ∷ ends) = first_fault ends
+first_fault (Ok last ∷ ends) = first_fault ends
 first_fault (Err fault ∷ ends) = Some fault
 
 -- two lists are as long, and what stands at one place of both is related

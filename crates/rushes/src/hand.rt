@@ -2,13 +2,14 @@
 ghost use Rattle.std.specs.Prelude.{◌≡◌, ◌+◌, ◌<◌, [], length, None, Some, OnOk, IfOk, IsSome, MatchOption, slice_index_or};
 ghost use Rattle.candidate_workers.specs.Faults.{IsBadCount};
 ghost use Rattle.drafts.specs.Changes.{after_put, after_remove};
-ghost use Rattle.rushes.specs.Hands.{abandoned, after_edit, draft_at, fresh, IsCommitted, IsDone, IsOpened, IsRun};
+ghost use Rattle.rushes.specs.Hands.{abandoned, after_edit, AreDone, draft_at, draft_of, fresh, has_ended, IsCommitted, IsDone, IsLineDone, IsOpened, noting, own_at, refused, told, told_edit};
 
 use crate::fault::RushFault;
+use crate::note::{Missed, Note};
 use crate::slot::Slot;
 use book_lock::{CommitCause, Desk, OpenFault, Pass};
 use candidate_workers::OpenGate;
-use drafts::Team;
+use drafts::{EditRefusal, Team};
 use scripts::{Line, Row};
 use std::alloc::{AllocError, Global};
 use std::marker::Model;
@@ -17,11 +18,14 @@ use std::sync::ledger::Ledger;
 use std::thread::Threads;
 use task_sheet::{Name, Sheet};
 
-/// All drafts that the lines so far opened, by number from 1, and the team's pass.
+/// All drafts that the lines so far opened, by number from 1, which of them are the team's, its pass, and what is told of
+/// its lines that did nothing.
 #[derive(Drop)]
 pub(crate) struct Hand<L: Ledger> {
     drafts: Vec<Slot>,
+    own: Vec<bool>,
     pass: Pass<L>,
+    notes: Vec<Note>,
 }
 
 impl<L: Ledger> Model for Hand<L> {
@@ -30,7 +34,12 @@ impl<L: Ledger> Model for Hand<L> {
 
     ghost Value = { Hand };
 
-    ghost view = { λ h. record { drafts = h.drafts.items; pass = h.pass } };
+    ghost view = { λ h. record {
+      drafts = h.drafts.items;
+      own = h.own.items;
+      pass = h.pass;
+      notes = h.notes.items;
+    } };
 
     ghost invariant = { λ h. AllOwn h.pass.team h.drafts.items };
 }
@@ -39,7 +48,8 @@ impl<L: Ledger> Model for Hand<L> {
 fn index_of(drafts: &[Slot], number: usize) -> Option<usize>
     ensures { MatchOption result (draft_at drafts.now number ≡ None)
         (λ i. (i + 1 ≡ number) × (i < length drafts.now)
-        × (draft_at drafts.now number ≡ slice_index_or drafts.now i None) × IsSome (draft_at drafts.now number)) }
+        × (draft_at drafts.now number ≡ slice_index_or drafts.now i None)
+        × IsSome (draft_at drafts.now number)) }
 {
     if number == 0 {
         return None;
@@ -52,13 +62,43 @@ fn index_of(drafts: &[Slot], number: usize) -> Option<usize>
     }
 }
 
+// Whether the draft of a number is the team's, ended or not.
+fn is_own(own: &[bool], number: usize) -> bool
+    ensures { result ≡ own_at own.now number }
+{
+    if number == 0 {
+        return false;
+    }
+    match own.get(number - 1) {
+        Some(own) => *own,
+        None => false,
+    }
+}
+
+// The draft that a line is on; 0 where it opens one.
+fn draft_of(row: &Row) -> usize
+    ensures { result ≡ draft_of row.now }
+{
+    match row {
+        Row::Open { .. } => 0,
+        Row::Put { draft, .. } => *draft,
+        Row::Remove { draft, .. } => *draft,
+        Row::Found { draft, .. } => *draft,
+        Row::Test { draft } => *draft,
+        Row::Commit { draft } => *draft,
+        Row::Abandon { draft } => *draft,
+    }
+}
+
 impl<L: Ledger> Hand<L> {
     fn new(alloc: Global, pass: Pass<L>) -> Hand<L>
         ensures { result ≡ fresh pass }
     {
         Hand {
             drafts: Vec::new(alloc),
+            own: Vec::new(alloc),
             pass,
+            notes: Vec::new(alloc),
         }
     }
 
@@ -72,13 +112,16 @@ impl<L: Ledger> Hand<L> {
     ) -> Result<(), RushFault>
         ensures { OnOk result (IsOpened self.old team self.new) }
     {
+        self.own.reserve(1)?;
         if team.number() != self.pass.team().number() {
             self.drafts.push(Slot::empty())?;
+            self.own.push_reserved(false);
             return Ok(());
         }
         match desk.open(rt, alloc, &self.pass) {
             Ok(draft) => {
                 self.drafts.push(Slot::of(alloc, draft)?)?;
+                self.own.push_reserved(true);
                 Ok(())
             }
             Err(OpenFault::Foreign { name: _ }) => Err(RushFault::Foreign),
@@ -87,13 +130,21 @@ impl<L: Ledger> Hand<L> {
         }
     }
 
-    // The line `put`.
-    fn put(&mut self, alloc: Global, number: usize, sheet: &Sheet) -> Result<(), AllocError>
-        ensures { OnOk result (self.new
-            ≡ after_edit self.old number (λ d. after_put d sheet.now) (draft_at self.old.drafts number)) }
+    // The line `put`; why it is refused, if it is.
+    fn put(
+        &mut self,
+        alloc: Global,
+        number: usize,
+        sheet: &Sheet,
+    ) -> Result<Option<EditRefusal>, AllocError>
+        ensures edited { OnOk result (self.new
+            ≡ after_edit self.old number (λ d. after_put d sheet.now)
+            (draft_at self.old.drafts number)) }
+        ensures refused { IfOk result (λ refusal. refusal
+            ≡ refused (λ d. after_put d sheet.now) (draft_at self.old.drafts number)) }
     {
         match index_of(&self.drafts, number) {
-            None => Ok(()),
+            None => Ok(None),
             Some(i) => {
                 let copy = sheet.copy(alloc)?;
                 self.drafts[i].put(copy)
@@ -101,13 +152,16 @@ impl<L: Ledger> Hand<L> {
         }
     }
 
-    // The line `remove`.
-    fn remove(&mut self, number: usize, name: Name) -> Result<(), AllocError>
-        ensures { OnOk result (self.new
-            ≡ after_edit self.old number (λ d. after_remove d name) (draft_at self.old.drafts number)) }
+    // The line `remove`; why it is refused, if it is.
+    fn remove(&mut self, number: usize, name: Name) -> Result<Option<EditRefusal>, AllocError>
+        ensures edited { OnOk result (self.new
+            ≡ after_edit self.old number (λ d. after_remove d name)
+            (draft_at self.old.drafts number)) }
+        ensures refused { IfOk result (λ refusal. refusal
+            ≡ refused (λ d. after_remove d name) (draft_at self.old.drafts number)) }
     {
         match index_of(&self.drafts, number) {
-            None => Ok(()),
+            None => Ok(None),
             Some(i) => self.drafts[i].remove(name),
         }
     }
@@ -122,7 +176,8 @@ impl<L: Ledger> Hand<L> {
         workers: usize,
     ) -> Result<(), RushFault>
         requires { IsBadCount workers → ⊥ }
-        ensures { OnOk result (IsCommitted self.old number self.new (draft_at self.old.drafts number)) }
+        ensures { OnOk result (IsCommitted workers self.old number self.new
+            (draft_at self.old.drafts number)) }
     {
         let Some(i) = index_of(&self.drafts, number) else {
             return Ok(());
@@ -150,7 +205,14 @@ impl<L: Ledger> Hand<L> {
         }
     }
 
-    // One line.
+    // Whether the draft of a number is the team's and has ended.
+    fn has_ended(&self, number: usize) -> bool
+        ensures { result ≡ has_ended self.now number }
+    {
+        is_own(&self.own, number) && index_of(&self.drafts, number).is_none()
+    }
+
+    // What a line says; why its edit is refused, if it is.
     fn run<R: Threads + Wait>(
         &mut self,
         rt: &R,
@@ -158,28 +220,86 @@ impl<L: Ledger> Hand<L> {
         desk: &Desk<L>,
         row: &Row,
         workers: usize,
-    ) -> Result<(), RushFault>
+    ) -> Result<Option<Missed>, RushFault>
         requires { IsBadCount workers → ⊥ }
-        ensures { OnOk result (IsDone self.old row.now self.new) }
+        ensures done { OnOk result (IsDone workers self.old row.now self.new) }
+        ensures told { IfOk result (λ missed. missed ≡ told_edit self.old row.now) }
     {
         match row {
-            Row::Open { team } => self.open(rt, alloc, desk, *team),
+            Row::Open { team } => {
+                self.open(rt, alloc, desk, *team)?;
+                Ok(None)
+            }
             Row::Put { draft, sheet } => {
-                self.put(alloc, *draft, sheet)?;
-                Ok(())
+                let refusal = self.put(alloc, *draft, sheet)?;
+                let name = sheet.name();
+                Ok(refusal.map(|refusal| Missed::PutRefused { name, refusal }))
             }
             Row::Remove { draft, name } => {
-                self.remove(*draft, *name)?;
-                Ok(())
+                let refusal = self.remove(*draft, *name)?;
+                let name = *name;
+                Ok(refusal.map(|refusal| Missed::RemoveRefused { name, refusal }))
             }
-            Row::Found { .. } => Ok(()),
-            Row::Test { .. } => Ok(()),
-            Row::Commit { draft } => self.commit(rt, alloc, desk, *draft, workers),
+            Row::Found { .. } => Ok(None),
+            Row::Test { .. } => Ok(None),
+            Row::Commit { draft } => {
+                self.commit(rt, alloc, desk, *draft, workers)?;
+                Ok(None)
+            }
             Row::Abandon { draft } => {
                 self.abandon(*draft);
-                Ok(())
+                Ok(None)
             }
         }
+    }
+
+    // Tells of a line why it did nothing, if so.
+    fn note(&mut self, line: u64, missed: Option<Missed>) -> Result<(), AllocError>
+        ensures { OnOk result (self.new ≡ noting self.old line missed) }
+    {
+        match missed {
+            Some(missed) => self.notes.push(Note { line, missed })?,
+            None => {}
+        }
+        Ok(())
+    }
+
+    // One line, and what is told of it.
+    fn run_line<R: Threads + Wait>(
+        &mut self,
+        rt: &R,
+        alloc: Global,
+        desk: &Desk<L>,
+        line: &Line,
+        workers: usize,
+    ) -> Result<(), RushFault>
+        requires { IsBadCount workers → ⊥ }
+        ensures { OnOk result (IsLineDone workers self.old line.now self.new) }
+    {
+        let draft = draft_of(&line.row);
+        let has_ended = self.has_ended(draft);
+        let refused = self.run(rt, alloc, desk, &line.row, workers)?;
+        let missed = if has_ended {
+            Some(Missed::Ended { draft })
+        } else {
+            refused
+        };
+        self.note(line.number, missed)?;
+        Ok(())
+    }
+
+    /// What is told of the team's lines that did nothing, by line.
+    pub(crate) fn notes(&self) -> &[Note]
+        ensures { result.now ≡ self.now.notes }
+    {
+        &self.notes
+    }
+
+    /// The team's pass.
+    pub(crate) fn into_pass(self) -> Pass<L>
+        ensures { result ≡ self.pass }
+    {
+        self.pass
     }
 }
 
@@ -191,13 +311,13 @@ pub(crate) fn run_lines<L: Ledger, R: Threads + Wait>(
     pass: Pass<L>,
     lines: &[Line],
     workers: usize,
-) -> Result<Pass<L>, RushFault>
+) -> Result<Hand<L>, RushFault>
     requires { IsBadCount workers → ⊥ }
-    ensures { IfOk result (IsRun lines.now pass) }
+    ensures { IfOk result (λ last. AreDone workers (fresh pass) lines.now last) }
 {
     let mut hand = Hand::new(alloc, pass);
     for line in lines {
-        hand.run(rt, alloc, desk, &line.row, workers)?;
+        hand.run_line(rt, alloc, desk, line, workers)?;
     }
-    Ok(hand.pass)
+    Ok(hand)
 }

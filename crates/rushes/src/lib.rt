@@ -3,10 +3,12 @@
 
 mod fault;
 mod hand;
+mod note;
 mod printing;
 mod rushing;
 mod slot;
 mod teams;
 
 pub use fault::RushFault;
-pub use rushing::rush_lines;
+pub use note::{Missed, Note};
+pub use rushing::{RushTexts, rush_lines};

@@ -1,12 +1,16 @@
-//! The lines of a log.
-ghost use Rattle.std.specs.Prelude.{◌≡◌, ◌≤◌, ◌++◌, OnOk, IfOk, string_bytes};
+//! The lines of a log, and of what is told of lines that did nothing.
+ghost use Rattle.std.specs.Prelude.{◌≡◌, ◌≤◌, ◌++◌, codes, OnOk, IfOk, map, string_bytes};
 ghost use Rattle.rushes.specs.Hands.{AreOfTeams, book_of};
-ghost use Rattle.rushes.specs.Printed.{entry_line, IsBookLog};
+ghost use Rattle.rushes.specs.Printed.{all_note_lines, edit_word, entry_line, IsBookLog, missed_words, note_line, note_lines};
 
+use crate::hand::Hand;
+use crate::note::{Missed, Note};
 use book_lock::Closing;
-use drafts::Entry;
+use drafts::{EditRefusal, Entry};
 use plays::{book_text, ruling_text};
 use std::alloc::{AllocError, Global};
+use std::sync::ledger::Ledger;
+use task_sheet::Name;
 
 // The line of an entry, which has a place.
 fn push_entry(
@@ -15,7 +19,8 @@ fn push_entry(
     place: usize,
     entry: &Entry,
 ) -> Result<(), AllocError>
-    ensures ok { OnOk result (string_bytes text.new ≡ string_bytes text.old ++ entry_line place entry.now) }
+    ensures ok { OnOk result (string_bytes text.new ≡ string_bytes text.old
+        ++ entry_line place entry.now) }
     ensures team { (1 ≤ entry.now.team) × (entry.now.team ≤ 8) }
 {
     let team = entry.team().number();
@@ -38,5 +43,74 @@ pub(crate) fn log_text(alloc: Global, closing: &Closing) -> Result<String, Alloc
     }
     let book = book_text(alloc, &closing.state)?;
     text.push_str(&book)?;
+    Ok(text)
+}
+
+// The name of an edit's refusal.
+fn edit_word(refusal: EditRefusal) -> &'static str
+    ensures { result.now ≡ edit_word refusal }
+{
+    match refusal {
+        EditRefusal::NotYours => "NotYours",
+        EditRefusal::NoSuchTask => "NoSuchTask",
+        EditRefusal::DraftFull => "DraftFull",
+    }
+}
+
+// An edit on a name, and why it was refused.
+fn push_edit(
+    text: &mut String,
+    edit: &str,
+    name: Name,
+    refusal: EditRefusal,
+) -> Result<(), AllocError>
+    ensures { OnOk result (string_bytes text.new
+        ≡ string_bytes text.old ++ (edit.now ++ name ++ codes ": " ++ edit_word refusal)) }
+{
+    text.push_str(edit)?;
+    write!(text, "{name}: ")?;
+    text.push_str(edit_word(refusal))
+}
+
+// Why a line did nothing.
+fn push_missed(text: &mut String, missed: Missed) -> Result<(), AllocError>
+    ensures { OnOk result (string_bytes text.new ≡ string_bytes text.old ++ missed_words missed) }
+{
+    match missed {
+        Missed::PutRefused { name, refusal } => push_edit(text, "put ", name, refusal),
+        Missed::RemoveRefused { name, refusal } => push_edit(text, "remove ", name, refusal),
+        Missed::Ended { draft } => write!(text, "skipped, draft {draft} has ended"),
+    }
+}
+
+// A line that did nothing.
+fn push_note(text: &mut String, note: Note) -> Result<(), AllocError>
+    ensures { OnOk result (string_bytes text.new ≡ string_bytes text.old ++ note_line note) }
+{
+    let line = note.line;
+    write!(text, "line {line}: ")?;
+    push_missed(text, note.missed)?;
+    text.push_str("\n")
+}
+
+// The lines of a team that did nothing.
+fn push_notes(text: &mut String, notes: &[Note]) -> Result<(), AllocError>
+    ensures { OnOk result (string_bytes text.new ≡ string_bytes text.old ++ note_lines notes.now) }
+{
+    for note in notes {
+        push_note(text, *note)?;
+    }
+    Ok(())
+}
+
+/// What is told of the lines of all teams that did nothing, by team and then by line.
+pub(crate) fn notes_text<L: Ledger>(alloc: Global, teams: &[Hand<L>]) -> Result<String, AllocError>
+    ensures { IfOk result (λ text. string_bytes text
+        ≡ all_note_lines (map (λ last. last.notes) teams.now)) }
+{
+    let mut text = String::new(alloc);
+    for last in teams {
+        push_notes(&mut text, last.notes())?;
+    }
     Ok(text)
 }

@@ -4,8 +4,8 @@ ghost use Rattle.candidate_workers.specs.Faults.{IsBadCount};
 ghost use Rattle.rushes.specs.Printed.{IsRushText};
 
 use crate::fault::RushFault;
-use crate::printing::log_text;
-use crate::teams::{passes_of, run_teams};
+use crate::printing::{log_text, notes_text};
+use crate::teams::{passes_of, run_teams, teams_of};
 use book_lock::{CloseCause, Desk};
 use scripts::Line;
 use std::alloc::Global;
@@ -17,29 +17,41 @@ use std::thread::Threads;
 // How many teams a desk has.
 const TEAMS: u64 = 8;
 
-// Runs all lines on a new desk, closes it, and gives the lines of its log and of its book.
+/// What is printed of a rush.
+#[derive(Drop)]
+pub struct RushTexts {
+    /// The lines of the log, and then those of the book.
+    pub log: String,
+    /// What is told of lines that did nothing, by team and then by line.
+    pub notes: String,
+}
+
+// Runs all lines on a new desk, closes it, and gives what is printed of it.
 fn rush_on<L: Ledger + Send + Sync, R: Threads + Wait + Sync>(
     rt: &R,
     alloc: Global,
     blank: Blank,
     lines: &[Line],
     workers: usize,
-) -> Result<String, RushFault>
+) -> Result<RushTexts, RushFault>
     requires blank { (blank.name ≡ L.name) × (blank.parts ≡ L.parts) × (L.parts ≡ 8) }
     requires workers { IsBadCount workers → ⊥ }
-    ensures { IfOk result (λ text. IsRushText lines.now (string_bytes text)) }
+    ensures { IfOk result (λ texts. IsRushText workers lines.now (string_bytes texts.log)
+        (string_bytes texts.notes)) }
 {
     let Ok((desk, passes)) = Desk::<L>::new(alloc, blank, TEAMS) else {
         return Err(RushFault::OutOfMemory);
     };
-    // For the passes that come back; made before any thread starts.
+    // For the teams and the passes that come back; made before any thread starts.
     let room = Vec::with_capacity(alloc, passes.len())?;
+    let pass_room = Vec::with_capacity(alloc, passes.len())?;
     let ends = run_teams(rt, alloc, &desk, passes, lines, workers)?;
-    let passes = passes_of(ends, room)?;
-    match desk.close(passes) {
+    let teams = teams_of(ends, room)?;
+    let notes = notes_text(alloc, &teams)?;
+    match desk.close(passes_of(teams, pass_room)) {
         Ok(closing) => {
-            let text = log_text(alloc, &closing)?;
-            Ok(text)
+            let log = log_text(alloc, &closing)?;
+            Ok(RushTexts { log, notes })
         }
         Err(fault) => match fault.cause {
             CloseCause::ReceiptMismatch { team: _ } => Err(RushFault::ReceiptMismatch),
@@ -49,16 +61,18 @@ fn rush_on<L: Ledger + Send + Sync, R: Threads + Wait + Sync>(
 }
 
 /// Runs the lines of a script on an empty desk of 8 teams, those of each team in their order on a thread of its own,
-/// with so many workers for each commit, and gives the lines of the log and of the book. A line does nothing where the
-/// draft has ended, and lines `found` and `test` do nothing. A fault is that of the least team that has one.
+/// with at most so many workers for each commit, and gives the lines of the log and of the book, and what is told of lines
+/// that did nothing: their edit was refused, or their draft had ended. Lines `found` and `test` do nothing on other
+/// drafts, and nothing is told of that. A fault is that of the least team that has one.
 pub fn rush_lines<R: Threads + Wait + Sync>(
     rt: &R,
     alloc: Global,
     lines: &[Line],
     workers: usize,
-) -> Result<String, RushFault>
+) -> Result<RushTexts, RushFault>
     requires { IsBadCount workers → ⊥ }
-    ensures { IfOk result (λ text. IsRushText lines.now (string_bytes text)) }
+    ensures { IfOk result (λ texts. IsRushText workers lines.now (string_bytes texts.log)
+        (string_bytes texts.notes)) }
 {
     rush_on::<Brand, R>(rt, alloc, Blank::new(8), lines, workers)
 }

@@ -1,10 +1,10 @@
 //! Where a team keeps one of its drafts.
 ghost use Rattle.std.specs.Prelude.{◌≡◌, ◌↔◌, IfOk, OnOk, IsTrue, IsSome, ℕ, None, Some, option_map};
 ghost use Rattle.drafts.specs.Changes.{after_put, after_remove};
-ghost use Rattle.rushes.specs.Hands.{edited};
+ghost use Rattle.rushes.specs.Hands.{edited, refused};
 ghost use Rattle.rushes.specs.HandFields.{IsOwn};
 
-use drafts::{Draft, EditCause, PutFault};
+use drafts::{Draft, EditCause, EditRefusal, PutFault};
 use std::alloc::{AllocError, Global};
 use std::marker::Model;
 use task_sheet::{Name, Sheet};
@@ -57,22 +57,25 @@ impl Slot {
         }
     }
 
-    /// Puts a sheet into the draft; one that is refused leaves it.
-    pub(crate) fn put(&mut self, sheet: Sheet) -> Result<(), AllocError>
-        ensures ok { OnOk result (self.new ≡ option_map (λ d. edited d (after_put d sheet)) self.old) }
+    /// Puts a sheet into the draft; one that is refused leaves it, and here is why.
+    pub(crate) fn put(&mut self, sheet: Sheet) -> Result<Option<EditRefusal>, AllocError>
+        ensures ok { OnOk result (self.new ≡ option_map
+            (λ d. edited d (after_put d sheet)) self.old) }
+        ensures refused { IfOk result (λ refusal. refusal
+            ≡ refused (λ d. after_put d sheet) self.old) }
         ensures own { (team : ℕ) → IsOwn team self.old → IsOwn team self.new }
     {
         let Some(draft) = &mut self.draft else {
-            return Ok(());
+            return Ok(None);
         };
         match draft.put(sheet) {
-            Ok(()) => Ok(()),
+            Ok(()) => Ok(None),
             Err(
                 PutFault {
-                    cause: EditCause::Refused { refusal: _ },
+                    cause: EditCause::Refused { refusal },
                     sheet: _,
                 },
-            ) => Ok(()),
+            ) => Ok(Some(refusal)),
             Err(
                 PutFault {
                     cause: EditCause::OutOfMemory,
@@ -82,17 +85,20 @@ impl Slot {
         }
     }
 
-    /// Removes the task of a name in the draft; where it is refused the draft stays.
-    pub(crate) fn remove(&mut self, name: Name) -> Result<(), AllocError>
-        ensures ok { OnOk result (self.new ≡ option_map (λ d. edited d (after_remove d name)) self.old) }
+    /// Removes the task of a name in the draft; where it is refused the draft stays, and here is why.
+    pub(crate) fn remove(&mut self, name: Name) -> Result<Option<EditRefusal>, AllocError>
+        ensures ok { OnOk result (self.new ≡ option_map
+            (λ d. edited d (after_remove d name)) self.old) }
+        ensures refused { IfOk result (λ refusal. refusal
+            ≡ refused (λ d. after_remove d name) self.old) }
         ensures own { (team : ℕ) → IsOwn team self.old → IsOwn team self.new }
     {
         let Some(draft) = &mut self.draft else {
-            return Ok(());
+            return Ok(None);
         };
         match draft.remove(name) {
-            Ok(()) => Ok(()),
-            Err(EditCause::Refused { refusal: _ }) => Ok(()),
+            Ok(()) => Ok(None),
+            Err(EditCause::Refused { refusal }) => Ok(Some(refusal)),
             Err(EditCause::OutOfMemory) => Err(AllocError),
         }
     }

@@ -4,7 +4,7 @@ ghost use Rattle.candidate_workers.specs.Faults.{IsBadCount};
 ghost use Rattle.rushes.specs.Starts.{Each, IsEnd, first_fault};
 
 use crate::fault::RushFault;
-use crate::hand::run_lines;
+use crate::hand::{Hand, run_lines};
 use book_lock::{Desk, Pass};
 use scripts::{Line, Row};
 use std::alloc::{AllocError, Global};
@@ -14,23 +14,28 @@ use std::sync::ledger::Ledger;
 use std::thread;
 use std::thread::{Promise, PromisedHandle, Scope, Threads};
 
-/// What a team's lines come to: its pass, or the fault that ended them.
-pub(crate) type Ended<L> = Result<Pass<L>, RushFault>;
+/// What a team's lines come to: the team after all of them, or the fault that ended them.
+pub(crate) type Ended<L> = Result<Hand<L>, RushFault>;
 
 /// What a thread gives back is what the lines made of this pass.
 pub(crate) struct Kept<'a, L: Ledger> {
     lines: &'a [Line],
     pass: Snapshot<Pass<L>>,
+    workers: usize,
 }
 
 impl<'a, L: Ledger> Drop for Kept<'a, L> {
     fn drop(self) {
-        let Kept { lines: _, pass: _ } = self;
+        let Kept {
+            lines: _,
+            pass: _,
+            workers: _,
+        } = self;
     }
 }
 
-impl<'a, L: Ledger> Promise<Result<Pass<L>, RushFault>> for Kept<'a, L> {
-    ghost kept_by = { λ p r. IsEnd p.lines.now p.pass.value r };
+impl<'a, L: Ledger> Promise<Result<Hand<L>, RushFault>> for Kept<'a, L> {
+    ghost kept_by = { λ p r. IsEnd p.workers p.lines.now p.pass.value r };
 }
 
 // The thread of a team; or what the team came to, if it needs none or got none.
@@ -59,8 +64,10 @@ fn start<'s, 'e: 's, L: Ledger + Send + Sync, R: Threads + Wait + Sync>(
     workers: usize,
 ) -> Started<'e, L>
     requires { IsBadCount workers → ⊥ }
-    ensures thread { IfOk result (λ h. (h.promise.lines.now ≡ lines.now) × (h.promise.pass.value ≡ pass)) }
-    ensures over { IfErr result (λ ended. IsEnd lines.now pass ended) }
+    ensures thread { IfOk result (λ h. (h.promise.lines.now ≡ lines.now)
+        × (h.promise.workers ≡ workers)
+        × (h.promise.pass.value ≡ pass)) }
+    ensures over { IfErr result (λ ended. IsEnd workers lines.now pass ended) }
 {
     if !has_lines(lines, pass.team().number()) {
         return Err(run_lines(rt, alloc, desk, pass, lines, workers));
@@ -68,6 +75,7 @@ fn start<'s, 'e: 's, L: Ledger + Send + Sync, R: Threads + Wait + Sync>(
     let kept = Kept {
         lines,
         pass: Snapshot::of(&pass),
+        workers,
     };
     match scope.spawn_with(kept, move || {
         run_lines(rt, alloc, desk, pass, lines, workers)
@@ -78,9 +86,15 @@ fn start<'s, 'e: 's, L: Ledger + Send + Sync, R: Threads + Wait + Sync>(
 }
 
 // What a team came to, once its thread is joined.
-fn finish<'e, L: Ledger, R: Threads>(rt: &R, lines: &[Line], started: Started<'e, L>) -> Ended<L>
+fn finish<'e, L: Ledger, R: Threads>(
+    rt: &R,
+    lines: &[Line],
+    workers: usize,
+    started: Started<'e, L>,
+) -> Ended<L>
     ensures thread { IfOk started.entry (λ h. h.promise.lines.now ≡ lines.now
-        → IsEnd lines.now h.promise.pass.value result) }
+        → h.promise.workers ≡ workers
+        → IsEnd workers lines.now h.promise.pass.value result) }
     ensures over { IfErr started.entry (λ ended. result ≡ ended) }
 {
     match started {
@@ -93,18 +107,21 @@ fn finish<'e, L: Ledger, R: Threads>(rt: &R, lines: &[Line], started: Started<'e
 fn join_all<'e, L: Ledger, R: Threads>(
     rt: &R,
     lines: &[Line],
+    workers: usize,
     all: Vec<Started<'e, L>>,
     room: Vec<Ended<L>>,
 ) -> Vec<Ended<L>>
     requires empty { room.items ≡ [] }
     requires room { length all.items ≤ vec_capacity room }
-    ensures { Each (λ started ended. IfOk started (λ h. h.promise.lines.now ≡ lines.now
-        → IsEnd lines.now h.promise.pass.value ended) × IfErr started (λ over. ended ≡ over))
+    ensures { Each (λ started ended. IfOk started
+        (λ h. h.promise.lines.now ≡ lines.now → h.promise.workers ≡ workers
+        → IsEnd workers lines.now h.promise.pass.value ended)
+        × IfErr started (λ over. ended ≡ over))
         all.entry.items result.items }
 {
     let mut ends = room;
     for started in all {
-        ends.push_reserved(finish(rt, lines, started));
+        ends.push_reserved(finish(rt, lines, workers, started));
     }
     ends
 }
@@ -120,14 +137,15 @@ fn run_all<'s, 'e: 's, L: Ledger + Send + Sync, R: Threads + Wait + Sync>(
     workers: usize,
 ) -> Result<Vec<Ended<L>>, AllocError>
     requires { IsBadCount workers → ⊥ }
-    ensures { IfOk result (λ ends. Each (λ start ended. IsEnd lines.now start ended) passes.items ends.items) }
+    ensures { IfOk result (λ ends. Each
+        (λ start ended. IsEnd workers lines.now start ended) passes.items ends.items) }
 {
     let room = Vec::with_capacity(alloc, passes.len())?;
     let mut all = Vec::with_capacity(alloc, passes.len())?;
     for pass in passes {
         all.push_reserved(start(rt, alloc, scope, desk, pass, lines, workers));
     }
-    Ok(join_all(rt, lines, all, room))
+    Ok(join_all(rt, lines, workers, all, room))
 }
 
 /// Runs the lines of each pass's team on a thread of its own, joins all threads, and gives what each team came to, in
@@ -141,33 +159,47 @@ pub(crate) fn run_teams<L: Ledger + Send + Sync, R: Threads + Wait + Sync>(
     workers: usize,
 ) -> Result<Vec<Ended<L>>, AllocError>
     requires { IsBadCount workers → ⊥ }
-    ensures { IfOk result (λ ends. Each (λ start ended. IsEnd lines.now start ended) passes.items ends.items) }
+    ensures { IfOk result (λ ends. Each
+        (λ start ended. IsEnd workers lines.now start ended) passes.items ends.items) }
 {
     thread::scope(
         thread::scope_env(),
         rt,
         |scope| -> Result<Vec<Ended<L>>, AllocError>
             requires { IsBadCount workers → ⊥ }
-            ensures { IfOk result (λ ends. Each (λ start ended. IsEnd lines.entry.now start ended)
+            ensures { IfOk result (λ ends. Each
+                (λ start ended. IsEnd workers lines.entry.now start ended)
                 passes.items ends.items) }
         { run_all(rt, alloc, scope, desk, passes, lines, workers) },
     )
 }
 
-/// The passes of all teams in the order of their ends, put into room that was made before; or the fault of the first
-/// team that has one.
-pub(crate) fn passes_of<L: Ledger>(
+/// All teams in the order of their ends, put into room that was made before; or the fault of the first team that has one.
+pub(crate) fn teams_of<L: Ledger>(
     ends: Vec<Ended<L>>,
-    room: Vec<Pass<L>>,
-) -> Result<Vec<Pass<L>>, RushFault>
+    room: Vec<Hand<L>>,
+) -> Result<Vec<Hand<L>>, RushFault>
     requires empty { room.items ≡ [] }
     requires room { length ends.items ≤ vec_capacity room }
-    ensures passes { IfOk result (λ passes. ends.items ≡ map (λ pass. Ok pass) passes.items) }
+    ensures teams { IfOk result (λ teams. ends.items ≡ map (λ last. Ok last) teams.items) }
     ensures fault { IfErr result (λ fault. first_fault ends.items ≡ Some fault) }
 {
-    let mut passes = room;
+    let mut teams = room;
     for ended in ends {
-        passes.push_reserved(ended?);
+        teams.push_reserved(ended?);
     }
-    Ok(passes)
+    Ok(teams)
+}
+
+/// The passes of teams, put into room that was made before.
+pub(crate) fn passes_of<L: Ledger>(teams: Vec<Hand<L>>, room: Vec<Pass<L>>) -> Vec<Pass<L>>
+    requires empty { room.items ≡ [] }
+    requires room { length teams.items ≤ vec_capacity room }
+    ensures { result.items ≡ map (λ last. last.pass) teams.items }
+{
+    let mut passes = room;
+    for last in teams {
+        passes.push_reserved(last.into_pass());
+    }
+    passes
 }

@@ -1,5 +1,5 @@
 -- What a reading of words answers.
-use Rattle.std.specs.Prelude.{◌≡◌, Result, Ok, Err}
+use Rattle.std.specs.Prelude.{◌≡◌, ℕ, List, take, Result, Ok, Err}
 use Rattle.scripts.specs.declared.line.RowFault.{RowFault}
 use Rattle.scripts.specs.declared.line.RowFault.TheVariants.{Bad, Sheet, BadJitter, Outranks, OutOfMemory}
 
@@ -15,3 +15,10 @@ Fails (Outranks cause) read = read ≡ Err (Outranks cause)
 abbrev pub Gives : {X Y : Type 0} → (X → Y) → Result X RowFault → Result Y RowFault → Type 0
 Gives view (Ok x) read = read ≡ Ok (view x)
 Gives view (Err e) read = Fails e read
+
+-- a result is the first so many of the list that the definition gives, or want of memory
+abbrev pub GivesFirst : {X A : Type 0} → ℕ → (X → List A) → Result X RowFault
+    → Result (List A) RowFault → Type 0
+GivesFirst {A = A} most view (Ok x) read =
+    (all : List A) × (read ≡ Ok all) × (view x ≡ take most all)
+GivesFirst most view (Err e) read = Fails e read

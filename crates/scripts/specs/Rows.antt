@@ -33,7 +33,8 @@ at_end [] x = Ok x
 at_end (w ∷ ws) x = Err Bad
 
 -- what each of some words says
-unfoldable pub each_in : {A : Type 0} → (List ℕ → Result A RowFault) → List (List ℕ) → Result (List A) RowFault
+unfoldable pub each_in : {A : Type 0} → (List ℕ → Result A RowFault) → List (List ℕ)
+    → Result (List A) RowFault
 each_in read [] = Ok []
 each_in read (w ∷ ws) = do
   x ← read w
@@ -149,12 +150,21 @@ valid (Some cause) task = Err (Sheet cause)
 
 -- the sheet with a jitter, which is below its deadline
 abbrev pub late : ℕ → Task → Result Task RowFault
-late jitter task = if nat_lt jitter task.deadline then Ok (with_jitter task jitter) else Err BadJitter
+late jitter task =
+    if nat_lt jitter task.deadline then Ok (with_jitter task jitter) else Err BadJitter
 
 -- a valid sheet that names these tasks
 abbrev pub valid_over : Option OutranksCause → Task → Result Task RowFault
 valid_over None task = Ok task
 valid_over (Some cause) task = Err (Outranks cause)
+
+-- the valid sheet of these values and of the sections that words are
+unfoldable pub made_in : (name : List ℕ) (weight period deadline cost : ℕ) → List (List ℕ)
+    → Result Task RowFault
+made_in name weight period deadline cost ws = do
+  sections ← sections_in ws
+  let task : Task = task_of name weight period deadline cost sections
+  valid (sheet_fault task) task
 
 -- the values of a sheet
 unfoldable pub sheet_in : List (List ℕ) → Result Task RowFault
@@ -168,9 +178,7 @@ sheet_in ws = do
   jitter ← number_or_zero delay.0
   let over : Option (List ℕ) × List (List ℕ) = next_field (codes "over") delay.1
   names ← names_or_none over.0
-  sections ← sections_in over.1
-  let task : Task = task_of name.0 weight.0 period.0 deadline.0 cost.0 sections
-  sheet ← valid (sheet_fault task) task
+  sheet ← made_in name.0 weight.0 period.0 deadline.0 cost.0 over.1
   later ← late jitter sheet
   valid_over (outranks_fault name.0 names) (outranking later names)
 
@@ -225,8 +233,10 @@ row_of opened word ws =
     else if bytes_eq word (codes "remove") then remove_in opened ws
     else if bytes_eq word (codes "found") then found_in opened ws
     else if bytes_eq word (codes "test") then (only_draft opened ws >>= λ draft. Ok (Test draft))
-    else if bytes_eq word (codes "commit") then (only_draft opened ws >>= λ draft. Ok (Commit draft))
-    else if bytes_eq word (codes "abandon") then (only_draft opened ws >>= λ draft. Ok (Abandon draft))
+    else if bytes_eq word (codes "commit") then
+    (only_draft opened ws >>= λ draft. Ok (Commit draft))
+    else if bytes_eq word (codes "abandon") then
+    (only_draft opened ws >>= λ draft. Ok (Abandon draft))
     else Err Bad
 
 -- what the words of a line say, where so many drafts were opened above it

@@ -30,7 +30,8 @@ before front (Ok lines) = Ok (front ++ lines)
 before front (Err fault) = Err fault
 
 -- one line more in front, or its fault
-abbrev pub with_line : ℕ → Result Row RowFault → (Row → Result (List Line) ScriptFault) → Result (List Line) ScriptFault
+abbrev pub with_line : ℕ → Result Row RowFault → (Row → Result (List Line) ScriptFault)
+    → Result (List Line) ScriptFault
 with_line number (Err fault) rest = Err (fault_at number fault)
 with_line number (Ok row) rest = before (record { number = number; row = row } ∷ []) (rest row)
 

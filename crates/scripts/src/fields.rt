@@ -46,7 +46,8 @@ pub(crate) fn team_of(word: &[u8]) -> Option<Team>
 
 /// The two parts of a text round a byte that stands in it once.
 pub(crate) fn round(text: &[u8], byte: u8) -> Option<(&[u8], &[u8])>
-    ensures { MatchOption result (round byte text.now ≡ None) (λ x. round byte text.now ≡ Some (x.0.now, x.1.now)) }
+    ensures { MatchOption result (round byte text.now ≡ None)
+        (λ x. round byte text.now ≡ Some (x.0.now, x.1.now)) }
 {
     let (front, back) = cut(text, byte)?;
     match cut(back, byte) {

@@ -41,7 +41,8 @@ fn fault_at(number: u64, fault: RowFault) -> ScriptFault
 /// The first faulty line decides.
 pub fn read_script(alloc: Global, text: &[u8]) -> Result<Vec<Line>, ScriptFault>
     ensures { MatchResult result
-        (λ lines. script_in text.now ≡ Ok lines.items) (λ fault. IsFault fault (script_in text.now)) }
+        (λ lines. script_in text.now ≡ Ok lines.items)
+        (λ fault. IsFault fault (script_in text.now)) }
 {
     let mut lines = Vec::new(alloc);
     let mut opened = 0;

@@ -1,7 +1,9 @@
 //! The rows of a script.
-ghost use Rattle.std.specs.Prelude.{◌≡◌, bytes_eq};
+ghost use Rattle.std.specs.Prelude.{◌≡◌, IfOk, List, bytes_eq, take};
+ghost use Rattle.task_sheet.specs.Sheet.{CriticalSection, task_of};
+ghost use Rattle.task_sheet.specs.SheetFault.{sheet_fault};
 ghost use Rattle.scripts.specs.Gives.{Gives};
-ghost use Rattle.scripts.specs.Rows.{found_in, late, open_in, put_in, remove_in, row_in, row_of, sheet_in};
+ghost use Rattle.scripts.specs.Rows.{found_in, late, made_in, open_in, put_in, remove_in, row_in, row_of, sheet_in, valid};
 ghost use Rattle.lines.specs.Words.{words};
 
 use crate::fields::{
@@ -12,7 +14,7 @@ use crate::line::{Row, RowFault};
 use crate::sections::{names_or_none, sections_of};
 use lines::Words;
 use std::alloc::Global;
-use task_sheet::{OutranksFault, Sheet, SheetFault};
+use task_sheet::{Name, OutranksFault, Section, Sheet, SheetFault};
 
 // The sheet with a jitter.
 fn late(sheet: Sheet, jitter: u64) -> Result<Sheet, RowFault>
@@ -22,6 +24,44 @@ fn late(sheet: Sheet, jitter: u64) -> Result<Sheet, RowFault>
         Ok(sheet) => Ok(sheet),
         Err(_) => Err(RowFault::BadJitter),
     }
+}
+
+// The sheet of these values and sections, of which the first 9 are given.
+fn valid(
+    name: Name,
+    weight: u64,
+    period: u64,
+    deadline: u64,
+    cost: u64,
+    sections: Vec<Section>,
+) -> Result<Sheet, RowFault>
+    ensures gives { (all : List CriticalSection) → sections.items ≡ take 9 all
+        → let task = task_of name weight period deadline cost all in
+        Gives (λ x. x) result (valid (sheet_fault task) task) }
+    ensures named { IfOk result (λ sheet. sheet.name ≡ name) }
+{
+    match Sheet::new(name, weight, period, deadline, cost, sections) {
+        Ok(sheet) => Ok(sheet),
+        Err(SheetFault { cause, sections: _ }) => Err(RowFault::Sheet { cause }),
+    }
+}
+
+// The sheet of these values and of the sections that are left.
+#[tactic(auto, unfolding(crate::specs::Rows::made_in))]
+fn made_of(
+    alloc: Global,
+    words: &mut Words<'_>,
+    name: Name,
+    weight: u64,
+    period: u64,
+    deadline: u64,
+    cost: u64,
+) -> Result<Sheet, RowFault>
+    ensures gives { Gives (λ x. x) result (made_in name weight period deadline cost words.old) }
+    ensures named { IfOk result (λ sheet. sheet.name ≡ name) }
+{
+    let sections = sections_of(alloc, words)?;
+    valid(name, weight, period, deadline, cost, sections)
 }
 
 // The sheet of the values that are left.
@@ -36,11 +76,7 @@ fn sheet_of(alloc: Global, words: &mut Words<'_>) -> Result<Sheet, RowFault>
     let cost = next_number(words)?;
     let jitter = number_or_zero(next_field(b"j", words))?;
     let names = names_or_none(alloc, next_field(b"over", words))?;
-    let sections = sections_of(alloc, words)?;
-    let sheet = match Sheet::new(name, weight, period, deadline, cost, sections) {
-        Ok(sheet) => sheet,
-        Err(SheetFault { cause, sections: _ }) => return Err(RowFault::Sheet { cause }),
-    };
+    let sheet = made_of(alloc, words, name, weight, period, deadline, cost)?;
     let sheet = late(sheet, jitter)?;
     match sheet.outranking(names) {
         Ok(sheet) => Ok(sheet),

@@ -1,7 +1,7 @@
 //! Sections in a line, as `LOCK+LOCK@AT:LEN`, and names, as `NAME+NAME`.
-ghost use Rattle.std.specs.Prelude.{◌≡◌, ◌==◌, option_map};
+ghost use Rattle.std.specs.Prelude.{◌≡◌, ◌==◌, ◌≤◌, ◌++◌, ◌∷◌, [], length, take, option_map, OnOk, IfErr};
 ghost use Rattle.std.specs.List.{slice_split};
-ghost use Rattle.scripts.specs.Gives.{Gives};
+ghost use Rattle.scripts.specs.Gives.{Gives, GivesFirst};
 ghost use Rattle.scripts.specs.Rows.{names_in, names_or_none, section_in, sections_in};
 
 use crate::fields::round;
@@ -9,6 +9,9 @@ use crate::line::RowFault;
 use lines::{Words, cut, name_of, number_of};
 use std::alloc::Global;
 use task_sheet::{Name, Section};
+
+// How many sections of a line are kept: one more than a sheet may have. So they show whether there are too many.
+const KEPT: usize = 9;
 
 // The names between the signs `+` of a text.
 fn names_of(alloc: Global, text: &[u8]) -> Result<Vec<Name>, RowFault>
@@ -58,13 +61,26 @@ fn section_of(alloc: Global, word: &[u8]) -> Result<Section, RowFault>
     Ok(Section { locks, at, len })
 }
 
-/// The sections that the words are that are left.
+// Puts a section behind those that are kept, unless these are 9.
+fn keep(sections: &mut Vec<Section>, section: Section) -> Result<(), RowFault>
+    requires { length sections.old.items ≤ KEPT }
+    ensures ok { OnOk result
+        (sections.new.items ≡ take KEPT (sections.old.items ++ section ∷ [])) }
+    ensures err { IfErr result (λ fault. fault ≡ RowFault.OutOfMemory) }
+{
+    if sections.len() < KEPT {
+        sections.push(section)?;
+    }
+    Ok(())
+}
+
+/// Reads the words that are left as sections, and gives the first 9 of them.
 pub(crate) fn sections_of(alloc: Global, words: &mut Words<'_>) -> Result<Vec<Section>, RowFault>
-    ensures { Gives (λ x. x.items) result (sections_in words.old) }
+    ensures { GivesFirst KEPT (λ x. x.items) result (sections_in words.old) }
 {
     let mut sections = Vec::new(alloc);
     while let Some(word) = words.next() {
-        sections.push(section_of(alloc, word)?)?;
+        keep(&mut sections, section_of(alloc, word)?)?;
     }
     Ok(sections)
 }

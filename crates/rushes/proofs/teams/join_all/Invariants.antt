@@ -10,5 +10,5 @@ invariant-loop-started g l = record {
   counted : length (into_iter_items l.started-iterator) ≡ into_iter_len l.started-iterator;
   room : vec_len l.ends + into_iter_len l.started-iterator ≤ vec_capacity l.ends;
   rest : l.yielded ++ into_iter_items l.started-iterator ≡ l.fn.all.items;
-  joined : Each (λ started ended. IfOk started (λ h. h.promise.lines.now ≡ l.lines → IsEnd l.lines h.promise.pass.value ended) × IfErr started (λ over. ended ≡ over)) l.yielded l.ends.items;
+  joined : Each (λ started ended. IfOk started (λ h. h.promise.lines.now ≡ l.lines → h.promise.workers ≡ l.workers → IsEnd l.workers l.lines h.promise.pass.value ended) × IfErr started (λ over. ended ≡ over)) l.yielded l.ends.items;
 }

@@ -1,12 +1,12 @@
-use Rattle.std.proofs.Common.{◌≡◌, ◌≤◌, ◌+◌, ◌++◌, Ok, length, map, vec_len}
+use Rattle.std.proofs.Common.{◌≡◌, ◌≤◌, ◌+◌, ◌++◌, length, map, vec_len}
 use Rattle.std.specs.Prelude.{vec_capacity}
 use Rattle.std.specs.Vec.Iter.{into_iter_items, into_iter_len}
 use Rattle.rushes.proofs.teams.passes_of.Given as goal
 
--- the ends that were taken are passes
-abbrev pub invariant-loop-ended : goal.invariant-loop-ended
-invariant-loop-ended g l = record {
-  counted : length (into_iter_items l.ended-iterator) ≡ into_iter_len l.ended-iterator;
-  room : vec_len l.passes + into_iter_len l.ended-iterator ≤ vec_capacity l.passes;
-  rest : map (λ pass. Ok pass) l.passes.items ++ into_iter_items l.ended-iterator ≡ l.fn.ends.items;
+-- the passes of the teams that were taken are there
+abbrev pub invariant-loop-last : goal.invariant-loop-last
+invariant-loop-last g l = record {
+  counted : length (into_iter_items l.last-iterator) ≡ into_iter_len l.last-iterator;
+  room : vec_len l.passes + into_iter_len l.last-iterator ≤ vec_capacity l.passes;
+  rest : l.passes.items ++ map (λ last. last.pass) (into_iter_items l.last-iterator) ≡ map (λ last. last.pass) l.fn.teams.items;
 }

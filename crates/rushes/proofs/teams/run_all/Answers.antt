@@ -22,6 +22,6 @@ returns g c =
     let was = c.loop-pass.invariant in
     let all = worked_off c.loop-pass.yielded _ c.args.passes.items (was.counted ∙ c.in-None.ensures.steps.0) was.rest in
     Each-joined _ _ _ c.loop-pass.all.items c.args.passes.items c.join_all.result.items
-    (λ started start ended is so. finish_end c.args.lines.now started _ _ start ended is so)
+    (λ started start ended is so. finish_end c.args.workers c.args.lines.now started _ _ _ start ended is so)
     (rw (← all) was.started)
     c.join_all.ensures

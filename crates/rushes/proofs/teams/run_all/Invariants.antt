@@ -12,5 +12,5 @@ invariant-loop-pass g l = record {
   empty : l.room.items ≡ [];
   kept : vec_capacity l.all ≤ vec_capacity l.room;
   rest : l.yielded ++ into_iter_items l.pass-iterator ≡ l.fn.passes.items;
-  started : Each (λ started pass. IfOk started (λ h. (h.promise.lines.now ≡ l.lines) × (h.promise.pass.value ≡ pass)) × IfErr started (λ ended. IsEnd l.lines pass ended)) l.all.items l.yielded;
+  started : Each (λ started pass. IfOk started (λ h. (h.promise.lines.now ≡ l.lines) × (h.promise.workers ≡ l.workers) × (h.promise.pass.value ≡ pass)) × IfErr started (λ ended. IsEnd l.workers l.lines pass ended)) l.all.items l.yielded;
 }

@@ -26,15 +26,15 @@ invariant_of-self-in-OutOfMemory g c =
 pub returns-in_default-commit : goal.returns-in_default-commit
 returns-in_default-commit g c =
     let a = c.self.inside in
-    let h : Hand = record { drafts = a.drafts.items; pass = a.pass } in
+    let h : Hand = record { drafts = a.drafts.items; own = a.own.items; pass = a.pass; notes = a.notes.items } in
     let lt : c.in-Some.i < length a.drafts.items = omega (arith, c.in-Some.ensures.1, ap length c.deref.ensures.value) in
     let at : draft_at a.drafts.items c.args.number ≡ get_or a.drafts.items c.in-Some.i None = subst (λ (xs : List (Option Draft)). draft_at xs c.args.number ≡ get_or xs c.in-Some.i None) c.deref.ensures.value c.in-Some.ensures.2 in
-    subst (λ (x : Hand). IsCommitted x c.args.number (let k : Hand = record { drafts = set a.drafts.items c.in-Some.i c.take.new.self; pass = c.commit.new.pass } in k) (draft_at x.drafts c.args.number)) c.self.view_is
-    (committed_as h c.args.number c.in-Some.i c.in-Some-take.draft c.take.new.self c.commit.new.pass c.in_default-commit.field-0
+    subst (λ (x : Hand). IsCommitted c.args.workers x c.args.number (let k : Hand = record { drafts = set a.drafts.items c.in-Some.i c.take.new.self; own = a.own.items; pass = c.commit.new.pass; notes = a.notes.items } in k) (draft_at x.drafts c.args.number)) c.self.view_is
+    (committed_as c.args.workers h c.args.number c.in-Some.i c.in-Some-take.draft c.take.new.self c.commit.new.pass c.in_default-commit.field-0
     c.in-Some.ensures.0
     (draft_there a.drafts.items c.args.number c.in-Some.i c.index_mut.result.now c.take.result c.in-Some-take.draft lt at c.index_mut.ensures.value c.take.ensures.taken c.in-Some-take.is)
     c.take.ensures.empty
-    c.in_default-commit.ensures.3)
+    c.in_default-commit.ensures)
 
 pub unreachable-requires-in-OtherTeam : goal.unreachable-requires-in-OtherTeam
 unreachable-requires-in-OtherTeam g c =

@@ -1,0 +1,12 @@
+use Rattle.std.proofs.Common.{List, ap, sym, ◌∙◌}
+use Rattle.task_sheet.specs.Sheet.{CriticalSection, task_of}
+use Rattle.task_sheet.specs.SheetFault.{sheet_fault}
+use Rattle.scripts.proofs.Kept.{first_sections}
+use Rattle.scripts.proofs.rows.valid.Goals as goal
+
+pub returns-clause-gives : goal.returns-clause-gives
+returns-clause-gives c = λ all kept.
+    let fault = sym (first_sections c.args.name c.args.weight c.args.period c.args.deadline c.args.cost all)
+    ∙ ap (λ (xs : List CriticalSection). sheet_fault (task_of c.args.name c.args.weight c.args.period c.args.deadline c.args.cost xs)) (sym kept)
+    ∙ c.in-Err.ensures.err in
+    rw fault
