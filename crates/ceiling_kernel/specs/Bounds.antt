@@ -22,7 +22,8 @@ is_ready_in jobs a t j = nat_le a (job_at jobs j).ready && nat_lt (job_at jobs j
 -- how many jobs of task h become ready in the window
 abbrev pub ready_within : List Job → (h a t : ℕ) → ℕ
 ready_within jobs h a t =
-    sum_below (length jobs) (λ j. if is_ready_in jobs a t j && ((job_at jobs j).task == h) then 1 else 0)
+    sum_below (length jobs) (λ j. if is_ready_in jobs a t j && ((job_at jobs j).task == h) then 1
+    else 0)
 
 -- a window holds no more jobs of a task than the analysis counts for its length
 abbrev pub WindowsHold : Node → List Job → Type 0

@@ -7,18 +7,21 @@ use Rattle.ceiling_kernel.specs.Tick.{Node, Job, job_at, task_of, executed_befor
 abbrev pub change_after : List CriticalSection → (e limit : ℕ) → ℕ
 change_after [] e limit = limit
 change_after (s ∷ ss) e limit =
-    if nat_le e s.at then s.at + 1 else (if nat_lt e (s.at + s.len) then s.at + s.len else change_after ss e limit)
+    if nat_le e s.at then s.at + 1 else (if nat_lt e (s.at + s.len) then s.at + s.len
+    else change_after ss e limit)
 
 -- no job becomes ready after tick t and before tick u
 abbrev pub NoneReadyBetween : List Job → (t u : ℕ) → Type 0
-NoneReadyBetween jobs t u = (j : ℕ) → j < length jobs → t < (job_at jobs j).ready → u ≤ (job_at jobs j).ready
+NoneReadyBetween jobs t u =
+    (j : ℕ) → j < length jobs → t < (job_at jobs j).ready → u ≤ (job_at jobs j).ready
 
 -- the job that tick t picks is picked for k ticks, where up to their end none becomes ready and it reaches no boundary
 abbrev pub PickStays : Node → List Job → Type 0
 PickStays node jobs =
     (t k p : ℕ) → picked node jobs t ≡ Some p → NoneReadyBetween jobs t (t + k)
     → executed_before node jobs t p + k
-    ≤ change_after (task_of node jobs p).sections (executed_before node jobs t p) (task_of node jobs p).cost
+    ≤ change_after (task_of node jobs p).sections (executed_before node jobs t p)
+    (task_of node jobs p).cost
     → (d : ℕ) → d < k → picked node jobs (t + d) ≡ Some p
 
 -- where tick t picks no job, none is picked until one becomes ready

@@ -51,7 +51,8 @@ StandsAt (x ∷ xs) (suc n) i = StandsAt xs n i
 -- each list holds the tasks whose pending jobs have its priority, by rising own level;
 -- a slot holds a task's pending job
 pub record Queues (slot : ℕ → Option Pending) (list : ℕ → List ℕ) : Type 0 where
-  pub sound : (p n i : ℕ) → StandsAt (list p) n i → (q : Pending) × (slot i ≡ Some q) × (q.active ≡ p)
+  pub sound : (p n i : ℕ) → StandsAt (list p) n i
+      → (q : Pending) × (slot i ≡ Some q) × (q.active ≡ p)
   pub complete : (i : ℕ) (q : Pending) → slot i ≡ Some q → (n : ℕ) × StandsAt (list q.active) n i
   pub rising : (p n m i k : ℕ) (q r : Pending) → n < m
       → StandsAt (list p) n i → StandsAt (list p) m k

@@ -36,7 +36,8 @@ pub record IsTaskOf (node : Node) (i : ℕ) (t : NodeTask) : Type 0 where
 
 -- what is kept of the first tasks
 abbrev pub AreTasksOf : Node → List NodeTask → Type 0
-AreTasksOf node ts = (i : ℕ) (t : NodeTask) → i < length ts → t ≡ slice_index_or ts i t → IsTaskOf node i t
+AreTasksOf node ts =
+    (i : ℕ) (t : NodeTask) → i < length ts → t ≡ slice_index_or ts i t → IsTaskOf node i t
 
 -- what is kept of all tasks
 pub record HasTasks (node : Node) (ts : List NodeTask) : Type 0 where

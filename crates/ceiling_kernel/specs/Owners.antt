@@ -23,7 +23,8 @@ with_owner owners (place ∷ places) owner = with_owner (slice_set owners place 
 
 -- the section's locks get an owner, or none, if a job is inside of it after e ticks
 abbrev pub with_inside : List (Option ℕ) → NodeSection → ℕ → Option ℕ → List (Option ℕ)
-with_inside owners s e owner = if is_within s e then with_owner owners s.locks.items owner else owners
+with_inside owners s e owner =
+    if is_within s e then with_owner owners s.locks.items owner else owners
 
 -- the locks that a job with these sections holds after e ticks get an owner, or none
 abbrev pub with_owners : List (Option ℕ) → List NodeSection → ℕ → Option ℕ → List (Option ℕ)
@@ -33,7 +34,8 @@ with_owners owners (s ∷ ss) e owner = with_owners (with_inside owners s e owne
 -- the owner of each lock is the task whose pending job holds it; a slot holds a task's pending job
 pub record AreOwners (U : List Task) (slot : ℕ → Option Pending) (owner : List ℕ → Option ℕ) : Type 0 where
   pub sound : (lock : List ℕ) (i : ℕ) → owner lock ≡ Some i
-      → (p : Pending) × (slot i ≡ Some p) × (holds_lock (task_at U i).sections p.executed lock ≡ true)
+      → (p : Pending) × (slot i ≡ Some p) × (holds_lock (task_at U i).sections p.executed lock
+      ≡ true)
   pub complete : (lock : List ℕ) (i : ℕ) (p : Pending) → slot i ≡ Some p
       → holds_lock (task_at U i).sections p.executed lock ≡ true
       → owner lock ≡ Some i

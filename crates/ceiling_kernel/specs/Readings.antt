@@ -8,9 +8,12 @@ use Rattle.ceiling_kernel.specs.Trace.{finish_before}
 pub record IsPicked (node : Node) (jobs : List Job) (t p : ℕ) : Type 0 where
   pub is_job : p < length jobs
   pub pending : is_pending node jobs (executed_before node jobs t) t p ≡ true
-  pub first : (k : ℕ) → k < length jobs → is_pending node jobs (executed_before node jobs t) t k ≡ true
-      → (active_of node jobs (executed_before node jobs t) k < active_of node jobs (executed_before node jobs t) p)
-      ⊎ ((active_of node jobs (executed_before node jobs t) k ≡ active_of node jobs (executed_before node jobs t) p)
+  pub first : (k : ℕ) → k < length jobs → is_pending node jobs (executed_before node jobs t) t k
+      ≡ true
+      → (active_of node jobs (executed_before node jobs t) k < active_of node jobs
+      (executed_before node jobs t) p)
+      ⊎ ((active_of node jobs (executed_before node jobs t) k
+      ≡ active_of node jobs (executed_before node jobs t) p)
       × (level_of node jobs p ≤ level_of node jobs k))
 
 -- what the tick rule picks goes first

@@ -63,7 +63,8 @@ is_unknown U rs k = is_none (task_named U (release_at rs k).name)
 abbrev pub is_soon_job : List Task → List Job → ℕ → ℕ → Bool
 is_soon_job U jobs k j =
     ((job_at jobs j).task == (job_at jobs k).task)
-    && nat_lt (job_at jobs k).arrival ((job_at jobs j).arrival + (task_at U (job_at jobs k).task).period)
+    && nat_lt (job_at jobs k).arrival ((job_at jobs j).arrival + (task_at U
+    (job_at jobs k).task).period)
 
 -- it arrives less than a period after a job of its task before it
 abbrev pub is_too_soon : List Task → List Job → ℕ → Bool
@@ -86,9 +87,12 @@ refuse_if test refusal = if test then Some refusal else None
 abbrev pub refusal_of : List Task → List Release → ℕ → Option RunFault
 refusal_of U rs until =
     option_or (option_map (λ k. fault.Unsorted (k + 1)) (first_where (is_unsorted rs) (length rs)))
-    (option_or (option_map (λ k. fault.UnknownTask (k + 1)) (first_where (is_unknown U rs) (length rs)))
-    (option_or (option_map (λ k. fault.TooSoon (k + 1)) (first_where (is_too_soon U (jobs_of U rs)) (length rs)))
-    (option_or (option_map (λ k. fault.TooLate (k + 1)) (first_where (is_too_late U rs) (length rs)))
+    (option_or (option_map (λ k. fault.UnknownTask (k + 1))
+    (first_where (is_unknown U rs) (length rs)))
+    (option_or (option_map (λ k. fault.TooSoon (k + 1))
+    (first_where (is_too_soon U (jobs_of U rs)) (length rs)))
+    (option_or (option_map (λ k. fault.TooLate (k + 1))
+    (first_where (is_too_late U rs) (length rs)))
     (option_or (refuse_if (nat_lt 60000000 until || list_any (is_past until) rs) fault.PastHorizon)
     (refuse_if (nat_lt 10000 (length rs)) fault.TooMany)))))
 
@@ -101,7 +105,8 @@ IsRefusal e refusal = refusal ≡ Some e
 -- a fault is want of memory, or names the first release whose task is unknown
 abbrev pub IsUnknown : List Task → List Release → RunFault → Type 0
 IsUnknown U rs fault.OutOfMemory = Unit {0}
-IsUnknown U rs e = (k : ℕ) × (first_where (is_unknown U rs) (length rs) ≡ Some k) × (e ≡ fault.UnknownTask (k + 1))
+IsUnknown U rs e =
+    (k : ℕ) × (first_where (is_unknown U rs) (length rs) ≡ Some k) × (e ≡ fault.UnknownTask (k + 1))
 
 -- a time comes less than a period after another, if there is one
 abbrev pub soon_after : Option ℕ → ℕ → ℕ → Bool

@@ -17,12 +17,14 @@ use Rattle.ceiling_kernel.specs.Releases.{task_number, ready_of, jobs_of, releas
 pub record IsFirstOverrun (node : Node) (jobs : List Job) (k : ℕ) : Type 0 where
   pub is_job : k < length jobs
   pub overruns : Overruns node jobs k
-  pub earliest : (j : ℕ) → j < length jobs → Overruns node jobs j → (job_at jobs k).ready ≤ (job_at jobs j).ready
+  pub earliest : (j : ℕ) → j < length jobs → Overruns node jobs j
+      → (job_at jobs k).ready ≤ (job_at jobs j).ready
   pub first : (j : ℕ) → j < k → Overruns node jobs j → (job_at jobs k).ready < (job_at jobs j).ready
 
 -- what is recorded of the job at a place in the ticks below a time: its arrival, and when it finishes
 abbrev pub record_of : Node → List Job → ℕ → ℕ → Release → JobRecord
-record_of node jobs until j r = record { name = r.name; release = r.time; finish = finish_before node jobs until j }
+record_of node jobs until j r =
+    record { name = r.name; release = r.time; finish = finish_before node jobs until j }
 
 -- stands past the end of a list of records
 abbrev pub no_record : JobRecord
@@ -31,7 +33,8 @@ no_record = record { name = []; release = 0; finish = None }
 -- the records of releases, of which the first stands at a place
 abbrev pub records_from : Node → List Job → ℕ → ℕ → List Release → List JobRecord
 records_from node jobs until j [] = []
-records_from node jobs until j (r ∷ rs) = record_of node jobs until j r ∷ records_from node jobs until (j + 1) rs
+records_from node jobs until j (r ∷ rs) =
+    record_of node jobs until j r ∷ records_from node jobs until (j + 1) rs
 
 -- the trace of the tick rule, below `until`
 pub record IsTrace (node : Node) (rs : List Release) (until : ℕ) (trace : Trace) : Type 0 where

@@ -87,15 +87,18 @@ pub record Kept (node : Node) (jobs : List Job) (t : ℕ) (come : ℕ → Bool) 
   pub admitted : (j : ℕ) → come j ≡ true → (job_at jobs j).ready ≤ t
   pub to_come : (j : ℕ) → come j ≡ false → j < length jobs → t ≤ (job_at jobs j).ready
   pub slot_count : length slots ≡ length node.tasks
-  pub pending : (i : ℕ) (p : Pending) → slice_index_or slots i None ≡ Some p → IsPending node jobs t come i p
-  pub complete : (j : ℕ) → come j ≡ true → executed_before node jobs t j < (task_of node jobs j).cost
+  pub pending : (i : ℕ) (p : Pending) → slice_index_or slots i None ≡ Some p
+      → IsPending node jobs t come i p
+  pub complete : (j : ℕ) → come j ≡ true
+      → executed_before node jobs t j < (task_of node jobs j).cost
       → (p : Pending) × (slice_index_or slots (job_at jobs j).task None ≡ Some p) × (p.job ≡ j)
   pub no_overrun : (k : ℕ) → come k ≡ true → ¬ Overruns node jobs k
 
 -- when each job finished, so far
 pub record AreFinishes (node : Node) (rs : List Release) (t : ℕ) (finishes : List (Option ℕ)) : Type 0 where
   pub count : length finishes ≡ length rs
-  pub each : (j : ℕ) → j < length rs → slice_index_or finishes j None ≡ finish_before node (jobs_of node.tasks rs) t j
+  pub each : (j : ℕ) → j < length rs → slice_index_or finishes j None
+      ≡ finish_before node (jobs_of node.tasks rs) t j
 
 -- the state is that of the tick rule at its time
 pub record IsRunning (node : Node) (rs : List Release) (turns : List (ℕ × ℕ)) (s : Simulation) : Type 0 where
@@ -104,7 +107,8 @@ pub record IsRunning (node : Node) (rs : List Release) (turns : List (ℕ × ℕ
   pub queues : Queues (λ i. slice_index_or s.slots.items i None) (list_at (listed s.lists.items))
   pub alone : IsAlone (λ i. slice_index_or s.slots.items i None)
   pub lock_count : length s.owners.items ≡ length (locks_of node.tasks)
-  pub owners : AreOwners node.tasks (λ i. slice_index_or s.slots.items i None) (owner_of node.tasks s.owners.items)
+  pub owners : AreOwners node.tasks (λ i. slice_index_or s.slots.items i None)
+      (owner_of node.tasks s.owners.items)
   pub slices : shown s.slices ≡ slices_before (picked node (jobs_of node.tasks rs)) s.now
   pub tidy : IsTidy s.slices
   pub finishes : AreFinishes node rs s.now s.finishes.items

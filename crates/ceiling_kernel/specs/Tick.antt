@@ -62,7 +62,8 @@ is_inside s e = nat_lt s.at e && nat_lt e (s.at + s.len)
 
 -- the highest ceiling of the locks that a job with these sections holds after e ticks
 abbrev pub held_ceiling : Node → List CriticalSection → ℕ → ℕ
-held_ceiling node sections e = greatest_of (λ s. if is_inside s e then top_ceiling node s.locks else 0) sections
+held_ceiling node sections e =
+    greatest_of (λ s. if is_inside s e then top_ceiling node s.locks else 0) sections
 
 -- ---- the pick: of the jobs below n that are pending, the one of greatest active priority, and among equals the one
 -- of lower own level
@@ -71,12 +72,14 @@ held_ceiling node sections e = greatest_of (λ s. if is_inside s e then top_ceil
 
 -- job k gives way to job j
 abbrev pub gives_way : (active level : ℕ → ℕ) → ℕ → ℕ → Bool
-gives_way active level k j = nat_lt (active k) (active j) || ((active k == active j) && nat_lt (level j) (level k))
+gives_way active level k j =
+    nat_lt (active k) (active j) || ((active k == active j) && nat_lt (level j) (level k))
 
 -- the better of one that was found before and job j
 abbrev pub better_of : (pending : ℕ → Bool) (active level : ℕ → ℕ) → Option ℕ → ℕ → Option ℕ
 better_of pending active level None j = if pending j then Some j else None
-better_of pending active level (Some k) j = if pending j && gives_way active level k j then Some j else Some k
+better_of pending active level (Some k) j =
+    if pending j && gives_way active level k j then Some j else Some k
 
 -- the best of the jobs below n
 unfoldable pub best : (pending : ℕ → Bool) (active level : ℕ → ℕ) → ℕ → Option ℕ
@@ -86,7 +89,8 @@ best pending active level (suc j) = better_of pending active level (best pending
 -- ---- the ticks; a state is how many ticks each job has executed, by its place in the list of jobs
 -- job j is pending at tick t: it is ready, and has not executed its cost
 abbrev pub is_pending : Node → List Job → (executed : ℕ → ℕ) → ℕ → ℕ → Bool
-is_pending node jobs executed t j = nat_le (job_at jobs j).ready t && nat_lt (executed j) (task_of node jobs j).cost
+is_pending node jobs executed t j =
+    nat_le (job_at jobs j).ready t && nat_lt (executed j) (task_of node jobs j).cost
 
 -- job j's own level
 abbrev pub level_of : Node → List Job → ℕ → ℕ
@@ -100,7 +104,8 @@ active_of node jobs executed j =
 -- the job that executes in tick t
 abbrev pub pick : Node → List Job → (executed : ℕ → ℕ) → ℕ → Option ℕ
 pick node jobs executed t =
-    best (is_pending node jobs executed t) (active_of node jobs executed) (level_of node jobs) (length jobs)
+    best (is_pending node jobs executed t) (active_of node jobs executed) (level_of node jobs)
+    (length jobs)
 
 -- one tick of that job
 abbrev pub one_more : Option ℕ → (executed : ℕ → ℕ) → ℕ → ℕ

@@ -31,4 +31,5 @@ unfoldable pub finish_before : Node → List Job → ℕ → ℕ → Option ℕ
 finish_before node jobs zero j = None
 finish_before node jobs (suc t) j =
     option_or (finish_before node jobs t j)
-    (if nat_le (task_of node jobs j).cost (executed_before node jobs (suc t) j) then Some (suc t) else None)
+    (if nat_le (task_of node jobs j).cost (executed_before node jobs (suc t) j) then Some (suc t)
+    else None)

@@ -7,7 +7,8 @@ use Rattle.ceiling_kernel.specs.Tick.{Job, job_at}
 -- job j becomes ready before job k, or at the same time and stands before it
 abbrev pub ComesBefore : List Job → ℕ → ℕ → Type 0
 ComesBefore jobs j k =
-    ((job_at jobs j).ready < (job_at jobs k).ready) ⊎ (((job_at jobs j).ready ≡ (job_at jobs k).ready) × (j < k))
+    ((job_at jobs j).ready < (job_at jobs k).ready)
+    ⊎ (((job_at jobs j).ready ≡ (job_at jobs k).ready) × (j < k))
 
 -- a turn: when a job becomes ready, and its place in the list; this one stands past the end of a list of turns
 abbrev pub no_turn : ℕ × ℕ
@@ -24,9 +25,12 @@ job_in_turn turns n = (slice_index_or turns n no_turn).1
 -- each job has one turn, in that order
 pub record AreTurns (jobs : List Job) (turns : List (ℕ × ℕ)) : Type 0 where
   pub known : (n : ℕ) → n < length turns → job_in_turn turns n < length jobs
-  pub timed : (n : ℕ) → n < length turns → time_in_turn turns n ≡ (job_at jobs (job_in_turn turns n)).ready
-  pub ordered : (m n : ℕ) → m < n → n < length turns → ComesBefore jobs (job_in_turn turns m) (job_in_turn turns n)
-  pub complete : (j : ℕ) → j < length jobs → (n : ℕ) × (n < length turns) × (job_in_turn turns n ≡ j)
+  pub timed : (n : ℕ) → n < length turns → time_in_turn turns n
+      ≡ (job_at jobs (job_in_turn turns n)).ready
+  pub ordered : (m n : ℕ) → m < n → n < length turns
+      → ComesBefore jobs (job_in_turn turns m) (job_in_turn turns n)
+  pub complete : (j : ℕ) → j < length jobs → (n : ℕ) × (n < length turns)
+      × (job_in_turn turns n ≡ j)
 
 -- a job has one of the turns below n
 abbrev pub has_come : List (ℕ × ℕ) → ℕ → ℕ → Bool

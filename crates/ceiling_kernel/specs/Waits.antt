@@ -39,7 +39,8 @@ NoOverrun node jobs = (k : ℕ) → k < length jobs → ¬ Overruns node jobs k
 
 -- no job that is ready by tick t overran the one before it
 abbrev pub NoOverrunBy : Node → List Job → ℕ → Type 0
-NoOverrunBy node jobs t = (k : ℕ) → k < length jobs → (job_at jobs k).ready ≤ t → ¬ Overruns node jobs k
+NoOverrunBy node jobs t =
+    (k : ℕ) → k < length jobs → (job_at jobs k).ready ≤ t → ¬ Overruns node jobs k
 
 -- ---- locks
 -- after e ticks a job with these sections holds the lock

@@ -9,11 +9,11 @@ use crate::trace::{Release, RunFault};
 use std::alloc::Global;
 use task_sheet::TaskSet;
 
-// The last time at which a run may end, in microseconds.
-const HORIZON: u64 = 60_000_000;
+/// The last time at which a run may end, in microseconds.
+pub const HORIZON: u64 = 60_000_000;
 
-// The most releases of a run.
-const RELEASE_LIMIT: usize = 10_000;
+/// The most releases of a run.
+pub const RELEASE_LIMIT: usize = 10_000;
 
 // The release arrives before the one before it.
 fn is_unsorted(releases: &[Release], k: usize) -> bool
@@ -69,7 +69,8 @@ fn first_too_soon(set: &TaskSet, releases: &[Release], places: &[usize]) -> Opti
     requires sorted { first_where (is_unsorted releases.now) (length releases.now) ≡ None }
     requires known { first_where (is_unknown set.now releases.now) (length releases.now) ≡ None }
     requires places { places.now ≡ map (task_number set.now) releases.now }
-    ensures first { result ≡ first_where (is_too_soon set.now (jobs_of set.now releases.now)) (length releases.now) }
+    ensures first { result ≡ first_where (is_too_soon set.now (jobs_of set.now releases.now))
+        (length releases.now) }
     ensures in_list { IfSome result (λ k. k < length releases.now) }
 {
     let sheets = set.sheets();

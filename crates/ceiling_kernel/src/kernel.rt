@@ -60,7 +60,8 @@ impl<'a> Kernel<'a> {
 
     /// The kernel of a set in an order of its indexes, lowest first.
     pub fn new(alloc: Global, set: &'a TaskSet, order: &[usize]) -> Result<Kernel<'a>, KernelFault>
-        ensures ok { IfOk result (λ kernel. (kernel ≡ node_in set.now order.now) × IsOrder set.now order.now) }
+        ensures ok { IfOk result (λ kernel. (kernel ≡ node_in set.now order.now)
+            × IsOrder set.now order.now) }
         ensures err { IfErr result (λ fault. fault ≡ WrongOrder → ¬ IsOrder set.now order.now) }
     {
         if !is_order(order, set.len()) {

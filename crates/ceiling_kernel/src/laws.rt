@@ -35,17 +35,20 @@ pub fn finishes_are_ends()
 /// at most the ceiling of each: no job waits, and EINVAL can't occur. It holds for every order, passing or not, as long
 /// as no job overruns the one before it.
 pub fn nobody_waits()
-    ensures { (node : Node) (jobs : List Job) → IsNode node → IsLegal node jobs → NobodyWaits node jobs }
+    ensures { (node : Node) (jobs : List Job) → IsNode node → IsLegal node jobs
+        → NobodyWaits node jobs }
 {}
 
 /// No two jobs hold a lock: each lock has one owner at most, as long as no job overruns the one before it.
 pub fn locks_have_one_owner()
-    ensures { (node : Node) (jobs : List Job) → IsNode node → IsLegal node jobs → OneOwner node jobs }
+    ensures { (node : Node) (jobs : List Job) → IsNode node → IsLegal node jobs
+        → OneOwner node jobs }
 {}
 
 /// Of two jobs of one task, the one that arrives first is ready first: a job is late by less than a period.
 pub fn tasks_keep_order()
-    ensures { (node : Node) (jobs : List Job) → IsNode node → IsLegal node jobs → TasksKeepOrder jobs }
+    ensures { (node : Node) (jobs : List Job) → IsNode node → IsLegal node jobs
+        → TasksKeepOrder jobs }
 {}
 
 /// From one event to the next the pick stays; events are that a job becomes ready, or that the job that runs reaches a
@@ -64,7 +67,8 @@ pub fn levels_follow_the_order()
 /// In a window of t ticks at most `ceil((t + jitter) / period)` jobs of a task become ready: the number that the analysis
 /// counts (Audsley et al. 1993).
 pub fn windows_hold()
-    ensures { (node : Node) (jobs : List Job) → IsNode node → IsLegal node jobs → WindowsHold node jobs }
+    ensures { (node : Node) (jobs : List Job) → IsNode node → IsLegal node jobs
+        → WindowsHold node jobs }
 {}
 
 /// The response of the analysis is a bound: its time past the jitter shows that the task passes.
@@ -75,7 +79,8 @@ pub fn responses_bound()
 /// Each job of a task that passes finishes within its bound, counted from its arrival, and in a set with a passing order
 /// no job overruns the one before it (Audsley et al. 1993).
 pub fn bound_holds()
-    ensures bound { (node : Node) (jobs : List Job) → IsNode node → IsLegal node jobs → BoundHolds node jobs }
+    ensures bound { (node : Node) (jobs : List Job) → IsNode node → IsLegal node jobs
+        → BoundHolds node jobs }
     ensures no_overrun { (node : Node) (jobs : List Job) → IsNode node → IsLegal node jobs
         → IsPassingOrder node.tasks node.order
         → NoOverrun node jobs }

@@ -25,7 +25,8 @@ fn times(order: &[usize], index: usize) -> usize
 
 // The order names each index below `count` once, and perhaps others.
 fn are_once(order: &[usize], count: usize) -> bool
-    ensures { IsTrue result ↔ ((index : ℕ) → index < count → count_by (λ x. x == index) order.now ≡ 1) }
+    ensures { IsTrue result ↔ ((index : ℕ) → index < count
+        → count_by (λ x. x == index) order.now ≡ 1) }
 {
     for index in 0..count {
         if times(order, index) != 1 {
@@ -59,7 +60,8 @@ pub fn level_of(order: &[usize], index: usize) -> u32
 pub fn top_of(table: &LockTable, order: &[usize], locks: &[Name]) -> u32
     requires within { All (λ index. index < 32) order.now }
     requires few { length order.now ≤ 32 }
-    ensures { (U : List Task) → IsTableOf U table.now → result ≡ top_ceiling (node_in U order.now) locks.now }
+    ensures { (U : List Task) → IsTableOf U table.now
+        → result ≡ top_ceiling (node_in U order.now) locks.now }
 {
     let mut top = 0;
     for lock in locks {

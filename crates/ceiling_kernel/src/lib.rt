@@ -13,5 +13,6 @@ mod tasks;
 mod trace;
 mod turns;
 
+pub use accept::{HORIZON, RELEASE_LIMIT};
 pub use kernel::{Kernel, KernelFault};
 pub use trace::{JobRecord, Release, RunFault, Slice, Trace};

@@ -26,7 +26,8 @@ pub(crate) fn enqueue(
     task: usize,
 ) -> Result<(), AllocError>
     requires { priority < vec_len lists.old }
-    ensures { IfOk result (λ _. listed lists.new.items ≡ with_tail (listed lists.old.items) priority task) }
+    ensures { IfOk result (λ _. listed lists.new.items
+        ≡ with_tail (listed lists.old.items) priority task) }
 {
     lists[priority as usize].push_back(task)?;
     Ok(())
@@ -39,7 +40,8 @@ pub(crate) fn put_first(
     task: usize,
 ) -> Result<(), AllocError>
     requires { priority < vec_len lists.old }
-    ensures { IfOk result (λ _. listed lists.new.items ≡ with_head (listed lists.old.items) priority task) }
+    ensures { IfOk result (λ _. listed lists.new.items
+        ≡ with_head (listed lists.old.items) priority task) }
 {
     lists[priority as usize].push_front(task)?;
     Ok(())
@@ -63,7 +65,8 @@ pub(crate) fn move_first(
 ) -> Result<(), AllocError>
     requires old { old < vec_len lists.old }
     requires new { new < vec_len lists.old }
-    ensures { IfOk result (λ _. listed lists.new.items ≡ moved_to (listed lists.old.items) old new task) }
+    ensures { IfOk result (λ _. listed lists.new.items
+        ≡ moved_to (listed lists.old.items) old new task) }
 {
     if old == new {
         return Ok(());

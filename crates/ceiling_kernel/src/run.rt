@@ -83,7 +83,8 @@ fn next_change(sections: &[NodeSection], executed: u64, limit: u64) -> u64
 
 // The active priority of a job of the task.
 fn active(task: &NodeTask, executed: u64) -> u32
-    ensures { (node : Node) (i : ℕ) → IsTaskOf node i task.now → result ≡ active_at node i executed }
+    ensures { (node : Node) (i : ℕ) → IsTaskOf node i task.now
+        → result ≡ active_at node i executed }
 {
     task.level.max(held(&task.sections, executed))
 }
@@ -193,7 +194,8 @@ fn records_of(
 impl Simulation {
     // Before the first tick.
     fn start(alloc: Global, kernel: &Kernel, jobs: usize) -> Result<Simulation, AllocError>
-        ensures { (rs : List Release) (turns : List (ℕ × ℕ)) → IsRunnable kernel.now rs turns → length rs ≡ jobs
+        ensures { (rs : List Release) (turns : List (ℕ × ℕ)) → IsRunnable kernel.now rs turns
+            → length rs ≡ jobs
             → IfOk result (λ s. IsRunning kernel.now rs turns s × (s.now ≡ 0)) }
     {
         let count = kernel.tasks().len();
@@ -218,11 +220,13 @@ impl Simulation {
     // The job whose turn it is becomes pending.
     fn admit(&mut self, kernel: &Kernel, agenda: &Agenda) -> Result<(), RunFault>
         requires runnable { IsRunnable kernel.now agenda.now.releases.now agenda.now.turns.now }
-        requires tasks { agenda.now.tasks.now ≡ map (task_number kernel.now.tasks) agenda.now.releases.now }
+        requires tasks { agenda.now.tasks.now
+            ≡ map (task_number kernel.now.tasks) agenda.now.releases.now }
         requires running { IsRunning kernel.now agenda.now.releases.now agenda.now.turns.now self.old }
         requires next { self.old.next < length agenda.now.turns.now }
         requires ready { time_in_turn agenda.now.turns.now self.old.next ≤ self.old.now }
-        ensures ok { IfOk result (λ _. IsRunning kernel.now agenda.now.releases.now agenda.now.turns.now self.new
+        ensures ok { IfOk result
+            (λ _. IsRunning kernel.now agenda.now.releases.now agenda.now.turns.now self.new
             × (self.new.now ≡ self.old.now)
             × (self.new.next ≡ self.old.next + 1)) }
         ensures err { IfErr result (IsStop kernel.now agenda.now.releases.now) }
@@ -296,7 +300,8 @@ impl Simulation {
     // One event.
     fn step(&mut self, kernel: &Kernel, agenda: &Agenda, until: u64) -> Result<(), RunFault>
         requires runnable { IsRunnable kernel.now agenda.now.releases.now agenda.now.turns.now }
-        requires tasks { agenda.now.tasks.now ≡ map (task_number kernel.now.tasks) agenda.now.releases.now }
+        requires tasks { agenda.now.tasks.now
+            ≡ map (task_number kernel.now.tasks) agenda.now.releases.now }
         requires running { IsRunning kernel.now agenda.now.releases.now agenda.now.turns.now self.old }
         requires before { self.old.now < until }
         ensures ok { IfOk result
@@ -317,11 +322,13 @@ impl<'a> Kernel<'a> {
     /// task whose job before it isn't finished.
     pub fn run(&self, alloc: Global, releases: &[Release], until: u64) -> Result<Trace, RunFault>
         ensures trace { Runs self.now releases.now until result }
-        ensures granted { IfOk result (λ _. EachIsGranted self.now (jobs_of self.now.tasks releases.now)) }
+        ensures granted { IfOk result (λ _. EachIsGranted self.now
+            (jobs_of self.now.tasks releases.now)) }
 
         // What the analysis says of the order holds in the run.
         ensures bounds { IfOk result (MeetsBounds self.now releases.now until) }
-        ensures no_overrun { IsPassingOrder self.now.tasks self.now.order → IfErr result IsNoOverrun }
+        ensures no_overrun { IsPassingOrder self.now.tasks self.now.order
+            → IfErr result IsNoOverrun }
     {
         let tasks = accept(alloc, self.set(), releases, until)?;
         let turns = turns_of(alloc, releases)?;

@@ -19,7 +19,8 @@ pub struct Agenda<'a> {
 // the list.
 pub fn turns_of(alloc: Global, releases: &[Release]) -> Result<Vec<(u64, usize)>, AllocError>
     requires { All (λ r. ready_of r < 2 ^ 64) releases.now }
-    ensures { (U : List Task) → IfOk result (λ turns. AreTurns (jobs_of U releases.now) turns.items) }
+    ensures { (U : List Task) → IfOk result (λ turns. AreTurns
+        (jobs_of U releases.now) turns.items) }
 {
     let mut turns = Vec::new(alloc);
     for k in 0..releases.len() {

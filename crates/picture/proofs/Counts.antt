@@ -1,0 +1,80 @@
+-- The counts of the ticks that jobs have executed.
+use Rattle.std.proofs.Common.{◌≡◌, ◌⊎◌, inl, inr, ℕ, ◌+◌, ◌<◌, ◌≤◌, List, length, sym, ap, ◌∙◌, subst, arith, refl, add-one, min}
+use Rattle.std.specs.Prelude.{slice_index}
+use Rattle.std.proofs.lemmas.Bool.{cases_lt, cases_eq, lt-ltb, le-ltb, eq-eqb, ne_eqb}
+use Rattle.std.proofs.lemmas.List.{length-set, get_or-set_same, get_or-set_other}
+use Rattle.std.proofs.lemmas.Option.{slice_get_past}
+use Rattle.ceiling_kernel.specs.declared.trace.JobRecord.{JobRecord}
+use Rattle.ceiling_kernel.specs.declared.trace.Slice.{Slice}
+use Rattle.picture.specs.declared.frame.Frame.{Frame}
+use Rattle.picture.specs.declared.rows.Row.{Row}
+use Rattle.picture.specs.Sections.{slice_at, executed_in, executed_with, counted, ticks_of}
+use Rattle.picture.specs.Rows.{on_row}
+use Rattle.picture.specs.Elements.{slice_text}
+use Rattle.picture.specs.Document.{slice_by, slice_in, of_job}
+
+-- one slice more
+pub executed_more : (slices : List Slice) (n j : ℕ) → executed_in slices (n + 1) j ≡ executed_with j (executed_in slices n j) (slice_at slices n)
+unfolding executed_in
+executed_more slices n j = rw (add-one n) refl
+
+length-cases : (ticks : List ℕ) (s : Slice) → (s.job < length ticks) ⊎ (length ticks ≤ s.job) → length (counted ticks s) ≡ length ticks
+length-cases ticks s (inl lt) = rw (lt-ltb s.job (length ticks) lt) (length-set ticks s.job (min (slice_index ticks s.job) s.start + ticks_of s))
+length-cases ticks s (inr ge) = rw (le-ltb s.job (length ticks) ge) refl
+
+-- the counts have one number for each job
+pub counted_length : (ticks : List ℕ) (s : Slice) → length (counted ticks s) ≡ length ticks
+counted_length ticks s = length-cases ticks s (cases_lt s.job (length ticks))
+
+at-cases : (ticks : List ℕ) (s : Slice) (j : ℕ) → j < length ticks → (s.job < length ticks) ⊎ (length ticks ≤ s.job) → (s.job ≡ j) ⊎ (s.job ≡ j → ⊥)
+    → slice_index (counted ticks s) j ≡ executed_with j (slice_index ticks j) s
+at-cases ticks s j lt (inl within) (inl same) =
+    rw (lt-ltb s.job (length ticks) within) (rw (eq-eqb s.job j same) (rw (← same) (get_or-set_same ticks s.job (min (slice_index ticks s.job) s.start + ticks_of s) 0 within)))
+at-cases ticks s j lt (inl within) (inr other) =
+    rw (lt-ltb s.job (length ticks) within) (rw (ne_eqb s.job j other) (get_or-set_other ticks s.job j (min (slice_index ticks s.job) s.start + ticks_of s) 0 (λ e. other (sym e))))
+at-cases ticks s j lt (inr past) (inl same) = absurd (omega (arith, same, lt, past))
+at-cases ticks s j lt (inr past) (inr other) = rw (le-ltb s.job (length ticks) past) (rw (ne_eqb s.job j other) refl)
+
+-- a job's count after a slice
+pub counted_at : (ticks : List ℕ) (s : Slice) (j : ℕ) → j < length ticks → slice_index (counted ticks s) j ≡ executed_with j (slice_index ticks j) s
+counted_at ticks s j lt = at-cases ticks s j lt (cases_lt s.job (length ticks)) (cases_eq s.job j)
+
+-- a slice of no job has no text, whatever was executed before it
+pub slice_by_none : (f : Frame) (rows : List Row) (jobs : List JobRecord) (d e : ℕ) (s : Slice) → length jobs ≤ s.job → slice_by f rows jobs d s ≡ slice_by f rows jobs e s
+slice_by_none f rows jobs d e s past =
+    ap (of_job (λ job. on_row rows job.name (slice_text f d s))) (slice_get_past jobs s.job past)
+    ∙ sym (ap (of_job (λ job. on_row rows job.name (slice_text f e s))) (slice_get_past jobs s.job past))
+
+-- the counts are those of the first n slices
+pub record AreCounts (ticks : List ℕ) (jobs : List JobRecord) (slices : List Slice) (n : ℕ) : Type 0 where
+  pub count : length ticks ≡ length jobs
+  pub each_job : (j : ℕ) → j < length jobs → slice_index ticks j ≡ executed_in slices n j
+
+-- of none, at first
+pub none_counted : (ticks : List ℕ) (jobs : List JobRecord) (slices : List Slice) → length ticks ≡ length jobs → ((j : ℕ) → slice_index ticks j ≡ 0) → AreCounts ticks jobs slices 0
+unfolding executed_in
+none_counted ticks jobs slices len zeros = record { count = len; each_job = λ j lt. zeros j }
+
+-- of one slice more
+pub one_counted : (ticks : List ℕ) (jobs : List JobRecord) (slices : List Slice) (n : ℕ) (s : Slice) → s ≡ slice_at slices n → AreCounts ticks jobs slices n → AreCounts (counted ticks s) jobs slices (n + 1)
+one_counted ticks jobs slices n s is counts = record {
+  count = counted_length ticks s ∙ counts.count;
+  each_job = λ j lt.
+      counted_at ticks s j (subst (λ (m : ℕ). j < m) (sym counts.count) lt)
+      ∙ ap (λ (e : ℕ). executed_with j e s) (counts.each_job j lt)
+      ∙ ap (λ (x : Slice). executed_with j (executed_in slices n j) x) is
+      ∙ sym (executed_more slices n j);
+}
+
+text-cases : (f : Frame) (rows : List Row) (jobs : List JobRecord) (slices : List Slice) (ticks : List ℕ) (n : ℕ) → AreCounts ticks jobs slices n
+    → ((slice_at slices n).job < length jobs) ⊎ (length jobs ≤ (slice_at slices n).job)
+    → slice_by f rows jobs (slice_index ticks (slice_at slices n).job) (slice_at slices n) ≡ slice_in f rows jobs slices n
+text-cases f rows jobs slices ticks n counts (inl lt) = ap (λ (e : ℕ). slice_by f rows jobs e (slice_at slices n)) (counts.each_job (slice_at slices n).job lt)
+text-cases f rows jobs slices ticks n counts (inr past) = slice_by_none f rows jobs (slice_index ticks (slice_at slices n).job) (executed_in slices n (slice_at slices n).job) (slice_at slices n) past
+
+-- with these counts, a slice has its text
+pub counted_text : (f : Frame) (rows : List Row) (jobs : List JobRecord) (slices : List Slice) (ticks : List ℕ) (n : ℕ) (s : Slice) → s ≡ slice_at slices n → AreCounts ticks jobs slices n
+    → slice_by f rows jobs (slice_index ticks s.job) s ≡ slice_in f rows jobs slices n
+counted_text f rows jobs slices ticks n s is counts =
+    ap (λ (x : Slice). slice_by f rows jobs (slice_index ticks x.job) x) is
+    ∙ text-cases f rows jobs slices ticks n counts (cases_lt (slice_at slices n).job (length jobs))

@@ -1,0 +1,4 @@
+use Rattle.picture.proofs.jobs.put_limit_words.Goals as goal
+
+pub returns : goal.returns
+returns g c = rw (← c.deadline-deadline.ensures) c.put.ensures.put

@@ -1,0 +1,125 @@
+-- The document: what stands still, the jobs, the slices by time, and the marks of the releases.
+use Rattle.std.specs.Prelude.{ℕ, ◌+◌, ◌-◌, ◌*◌, ◌/◌, Option, Some, None, List, [], ◌∷◌, ◌++◌, length, slice_get, slice_index_or, codes}
+use Rattle.std.specs.Fmt.{decimal}
+use Rattle.std.specs.List.{concat}
+use Rattle.ceiling_kernel.specs.declared.trace.Release.{Release}
+use Rattle.ceiling_kernel.specs.declared.trace.JobRecord.{JobRecord}
+use Rattle.ceiling_kernel.specs.declared.trace.Slice.{Slice}
+use Rattle.ceiling_kernel.specs.declared.trace.Trace.{Trace}
+use Rattle.ceiling_kernel.specs.Releases.{release_at}
+use Rattle.ceiling_kernel.specs.Runs.{no_record}
+use Rattle.picture.specs.declared.frame.Frame.{Frame}
+use Rattle.picture.specs.declared.rows.Row.{Row}
+use Rattle.picture.specs.declared.marks.Mark.{Mark}
+use Rattle.picture.specs.declared.marks.Mark.TheVariants.{Arrival, Ready, Bound, Deadline}
+use Rattle.picture.specs.declared.ground.TheConstants.{STYLE}
+use Rattle.picture.specs.Frame.{frame_of, step_of, top_of}
+use Rattle.picture.specs.Rows.{each, row_at, on_row}
+use Rattle.picture.specs.Sections.{slice_at, executed_in}
+use Rattle.picture.specs.Elements.{tick_text, line_text, name_text, again_text, job_text, slice_text, mark_text, mark_head}
+
+-- the job at a place, from 0
+abbrev pub record_at : List JobRecord → ℕ → JobRecord
+record_at jobs i = slice_index_or jobs i no_record
+
+-- the measures
+abbrev pub measures_text : Frame → (high : ℕ) → List ℕ
+measures_text f high =
+    concat (codes "xmlns:xlink=\"http://www.w3.org/1999/xlink\" version=\"1.1\" width=\""
+    ∷ decimal ((f.span + 500) / 10) ∷ codes "\" height=\"" ∷ decimal (high / 10)
+    ∷ codes "\" viewBox=\"0 0 " ∷ decimal (f.span + 500) ∷ codes " " ∷ decimal high ∷ codes "\">\n"
+    ∷ [])
+
+-- the title
+abbrev pub title_text : (rows jobs until : ℕ) → List ℕ
+title_text rows jobs until =
+    concat (codes "<title>tasks: " ∷ decimal rows ∷ codes ", jobs: " ∷ decimal jobs
+    ∷ codes ", until " ∷ decimal until
+    ∷ codes " us</title>\n" ∷ [])
+
+-- the first lines
+abbrev pub head_text : Frame → (rows jobs until : ℕ) → List ℕ
+head_text f rows jobs until =
+    codes "<?xml version=\"1.0\" encoding=\"UTF-8\"?>\n<svg xmlns=\"http://www.w3.org/2000/svg\" "
+    ++ measures_text f (top_of rows + 60) ++ title_text rows jobs until
+
+-- the scale
+abbrev pub ticks_text : Frame → (bottom step : ℕ) → List ℕ
+ticks_text f bottom step = each (f.until / step + 1) (λ i. tick_text f bottom step (i * step))
+
+-- the lines of the rows
+abbrev pub lines_text : Frame → List Row → List ℕ
+lines_text f rows = each (length rows) (line_text f)
+
+-- the names of the rows
+abbrev pub own_names : List Row → List ℕ
+own_names rows = each (length rows) (λ k. name_text k (row_at rows k))
+
+-- the same as a group, so that they can stand again
+abbrev pub names_group : List Row → List ℕ
+names_group rows = codes "<g id=\"n\">\n" ++ own_names rows ++ codes "</g>\n"
+
+-- the names again, wherever there is room for the longest
+abbrev pub names_again : Frame → List ℕ
+names_again f = each ((f.span - 2000) / 3000) again_text
+
+-- the scale, the lines and the names of the rows, and the names again
+abbrev pub rows_text : Frame → List Row → List ℕ
+rows_text f rows =
+    ticks_text f (top_of (length rows)) (step_of f) ++ lines_text f rows ++ names_group rows
+    ++ names_again f
+
+-- what stands still
+abbrev pub ground_text : Frame → List Row → (jobs until : ℕ) → List ℕ
+ground_text f rows jobs until =
+    head_text f (length rows) jobs until ++ STYLE.now ++ rows_text f rows
+
+-- each job
+abbrev pub jobs_text : Frame → List Row → List JobRecord → List ℕ
+jobs_text f rows jobs =
+    each (length jobs) (λ i. on_row rows (record_at jobs i).name (job_text f (record_at jobs i)))
+
+-- a text for a job, if there is one
+abbrev pub of_job : (JobRecord → List ℕ) → Option JobRecord → List ℕ
+of_job text None = []
+of_job text (Some job) = text job
+
+-- a slice in the row of its job's task, of a job that has executed e ticks before it
+abbrev pub slice_by : Frame → List Row → List JobRecord → (e : ℕ) → Slice → List ℕ
+slice_by f rows jobs e s =
+    of_job (λ job. on_row rows job.name (slice_text f e s)) (slice_get jobs s.job)
+
+-- slice n
+abbrev pub slice_in : Frame → List Row → List JobRecord → List Slice → ℕ → List ℕ
+slice_in f rows jobs slices n =
+    slice_by f rows jobs (executed_in slices n (slice_at slices n).job) (slice_at slices n)
+
+-- each slice, by time
+abbrev pub slices_text : Frame → List Row → List JobRecord → List Slice → List ℕ
+slices_text f rows jobs slices = each (length slices) (slice_in f rows jobs slices)
+
+-- a mark of a kind for each release
+abbrev pub each_mark : Frame → List Row → Mark → List Release → List ℕ
+each_mark f rows mark rs =
+    each (length rs) (λ i. on_row rows (release_at rs i).name (mark_text f mark (release_at rs i)))
+
+-- the marks of a kind, as one path
+abbrev pub marks_text : Frame → List Row → Mark → List Release → List ℕ
+marks_text f rows mark rs = mark_head mark ++ each_mark f rows mark rs ++ codes "\"/>\n"
+
+-- the marks of all kinds
+abbrev pub all_marks : Frame → List Row → List Release → List ℕ
+all_marks f rows rs =
+    marks_text f rows Ready rs ++ marks_text f rows Arrival rs ++ marks_text f rows Bound rs
+    ++ marks_text f rows Deadline rs
+
+-- the document in a frame: what stands still, the jobs, the slices over them, and the marks
+abbrev pub framed : Frame → List Row → ℕ → List Release → Trace → List ℕ
+framed f rows until rs trace =
+    ground_text f rows (length trace.jobs.items) until ++ jobs_text f rows trace.jobs.items
+    ++ slices_text f rows trace.jobs.items trace.slices.items ++ all_marks f rows rs
+    ++ codes "</svg>\n"
+
+-- THE DOCUMENT: the picture of a trace below a time
+abbrev pub document : List Row → ℕ → List Release → Trace → List ℕ
+document rows until rs trace = framed (frame_of rows until) rows until rs trace

@@ -1,0 +1,189 @@
+-- The elements of the picture, as text.
+use Rattle.std.specs.Prelude.{ℕ, ◌+◌, ◌-◌, ◌*◌, ◌/◌, nat_le, nat_lt, if◌then◌else◌, Option, Some, None, List, [], ◌∷◌, ◌++◌, length, slice_index_or, codes}
+use Rattle.std.specs.Fmt.{decimal}
+use Rattle.std.specs.List.{concat}
+use Rattle.task_sheet.specs.Sheet.{CriticalSection}
+use Rattle.ceiling_kernel.specs.declared.trace.Release.{Release}
+use Rattle.ceiling_kernel.specs.declared.trace.JobRecord.{JobRecord}
+use Rattle.ceiling_kernel.specs.declared.trace.Slice.{Slice}
+use Rattle.picture.specs.declared.frame.Frame.{Frame}
+use Rattle.picture.specs.declared.rows.Row.{Row}
+use Rattle.picture.specs.declared.marks.Mark.{Mark}
+use Rattle.picture.specs.declared.marks.Mark.TheVariants.{Arrival, Ready, Bound, Deadline}
+use Rattle.picture.specs.Frame.{x_of, end_of, right_of, top_of, unit_of, unit_name}
+use Rattle.picture.specs.Rows.{each}
+use Rattle.picture.specs.Sections.{dark_from, dark_to, section_at, fits}
+
+-- ---- ground
+-- a line down through the rows, and its time
+abbrev pub tick_text : Frame → (bottom step time : ℕ) → List ℕ
+tick_text f bottom step time =
+    concat (codes "<path class=\"g\" d=\"M" ∷ decimal (x_of f time) ∷ codes " 1300V"
+    ∷ decimal bottom
+    ∷ codes "\"/><text class=\"s\" x=\"" ∷ decimal (x_of f time) ∷ codes "\" y=\"1260\">"
+    ∷ decimal (time / unit_of step) ∷ codes " " ∷ unit_name step ∷ codes "</text>\n" ∷ [])
+
+-- the line of a row, below its bars
+abbrev pub line_text : Frame → ℕ → List ℕ
+line_text f k =
+    concat (codes "<path class=\"l\" d=\"M160 " ∷ decimal (top_of k + 490) ∷ codes "H"
+    ∷ decimal (end_of f) ∷ codes "\"/>\n" ∷ [])
+
+-- the name of a row
+abbrev pub name_text : ℕ → Row → List ℕ
+name_text k row =
+    concat (codes "<text class=\"n\" x=\"160\" y=\"" ∷ decimal (top_of k + 140) ∷ codes "\">"
+    ∷ row.sheet.name
+    ∷ codes "</text>\n" ∷ [])
+
+-- all names again, 300 pixels further
+abbrev pub again_text : ℕ → List ℕ
+again_text i =
+    concat (codes "<use xlink:href=\"#n\" x=\"" ∷ decimal (3000 * (i + 1)) ∷ codes "\"/>\n" ∷ [])
+
+-- ---- bars
+-- a box as high as a bar
+abbrev pub bar_path : (x right y : ℕ) → List ℕ
+bar_path x right y =
+    concat (codes "M" ∷ decimal x ∷ codes " " ∷ decimal y ∷ codes "H" ∷ decimal right
+    ∷ codes "v180H" ∷ decimal x
+    ∷ codes "z" ∷ [])
+
+-- the box from a time up to another, in row k
+abbrev pub span_text : Frame → (k start stop : ℕ) → List ℕ
+span_text f k start stop = bar_path (x_of f start) (right_of f start stop) (top_of k + 305)
+
+-- the box of a job from its arrival, up to its bound if it is done, else open at the end
+abbrev pub job_box : Frame → ℕ → Row → JobRecord → Option ℕ → List ℕ
+job_box f k row job (Some finish) =
+    concat (codes "<path class=\"w\" d=\"" ∷ span_text f k job.release (job.release + row.bound)
+    ∷ codes "\"><title>" ∷ [])
+job_box f k row job None =
+    concat (codes "<path class=\"w\" d=\"M" ∷ decimal (x_of f job.release) ∷ codes " "
+    ∷ decimal (top_of k + 305)
+    ∷ codes "H" ∷ decimal (end_of f) ∷ codes "l60 30-60 30 60 30-60 30 60 30-60 30H"
+    ∷ decimal (x_of f job.release) ∷ codes "z\"><title>" ∷ [])
+
+-- whose job it is, and when it arrives
+abbrev pub arrival_words : JobRecord → List ℕ
+arrival_words job = concat (job.name ∷ codes ": arrival " ∷ decimal job.release ∷ codes ", " ∷ [])
+
+-- when it is done, and how long after its arrival
+abbrev pub finish_words : JobRecord → Option ℕ → List ℕ
+finish_words job (Some finish) =
+    concat (codes "done " ∷ decimal finish ∷ codes ", response " ∷ decimal (finish - job.release)
+    ∷ codes ", " ∷ [])
+finish_words job None = codes "not done, "
+
+-- how long after its arrival it is done at the latest, and has to be
+abbrev pub limit_words : Row → List ℕ
+limit_words row =
+    concat (codes "bound " ∷ decimal row.bound ∷ codes ", deadline " ∷ decimal row.sheet.deadline
+    ∷ codes " us</title></path>\n" ∷ [])
+
+-- what is told of a job
+abbrev pub job_words : Row → JobRecord → List ℕ
+job_words row job = arrival_words job ++ finish_words job job.finish ++ limit_words row
+
+-- a job
+abbrev pub job_text : Frame → JobRecord → ℕ → Row → List ℕ
+job_text f job k row = job_box f k row job job.finish ++ job_words row job
+
+-- a slice
+abbrev pub bar_text : Frame → Slice → ℕ → Row → List ℕ
+bar_text f s k row =
+    concat (codes "<path class=\"e\" d=\"" ∷ span_text f k s.start s.stop ∷ codes "\"><title>"
+    ∷ row.sheet.name ∷ codes " "
+    ∷ decimal s.start ∷ codes " to " ∷ decimal s.stop ∷ codes " us</title></path>\n" ∷ [])
+
+-- names, each after one space
+abbrev pub names_text : List (List ℕ) → List ℕ
+names_text names = each (length names) (λ i. codes " " ++ slice_index_or names i [])
+
+-- what stands before the names in the middle of a part
+abbrev pub label_head : (x right k : ℕ) → List ℕ
+label_head x right k =
+    concat (codes "<text class=\"k\" x=\"" ∷ decimal ((x + right) / 2) ∷ codes "\" y=\""
+    ∷ decimal (top_of k + 433)
+    ∷ codes "\">" ∷ [])
+
+-- the names of locks in the middle of a part
+abbrev pub label_in : (x right k : ℕ) → List (List ℕ) → List ℕ
+label_in x right k locks = label_head x right k ++ names_text locks ++ codes "</text>\n"
+
+-- the same where there is room
+abbrev pub label_text : (x right k : ℕ) → List (List ℕ) → List ℕ
+label_text x right k locks = if fits ((right - x) / 68) locks then label_in x right k locks else []
+
+-- the box of a part, up to the names of its locks
+abbrev pub part_head : Frame → ℕ → Row → (start stop : ℕ) → List ℕ
+part_head f k row start stop =
+    concat (codes "<path class=\"h\" d=\"" ∷ span_text f k start stop ∷ codes "\"><title>"
+    ∷ row.sheet.name
+    ∷ codes " holds" ∷ [])
+
+-- what stands behind them
+abbrev pub part_end : (start stop : ℕ) → List ℕ
+part_end start stop =
+    concat (codes " " ∷ decimal start ∷ codes " to " ∷ decimal stop ∷ codes " us</title></path>\n"
+    ∷ [])
+
+-- a part of a slice in which its job holds locks
+abbrev pub part_text : Frame → ℕ → Row → List (List ℕ) → (start stop : ℕ) → List ℕ
+part_text f k row locks start stop =
+    part_head f k row start stop ++ names_text locks ++ part_end start stop
+    ++ label_text (x_of f start) (x_of f stop) k locks
+
+-- the darker part of a slice for a section, if there is one
+abbrev pub dark_text : Frame → (e : ℕ) → Slice → ℕ → Row → CriticalSection → List ℕ
+dark_text f e s k row x =
+    if nat_lt (dark_from x e) (dark_to x e s)
+    then part_text f k row x.locks (s.start + dark_from x e) (s.start + dark_to x e s)
+    else []
+
+-- the darker parts of a slice for some sections
+abbrev pub darks_text : Frame → (e : ℕ) → Slice → ℕ → Row → List CriticalSection → List ℕ
+darks_text f e s k row sections =
+    each (length sections) (λ i. dark_text f e s k row (section_at sections i))
+
+-- a slice and its darker parts, of a job that has executed e ticks before it
+abbrev pub slice_text : Frame → (e : ℕ) → Slice → ℕ → Row → List ℕ
+slice_text f e s k row = bar_text f s k row ++ darks_text f e s k row row.sheet.sections
+
+-- ---- marks
+-- an arrow up at an arrival
+abbrev pub arrival_text : Frame → Release → (y : ℕ) → List ℕ
+arrival_text f r y =
+    concat (codes "M" ∷ decimal (x_of f r.time) ∷ codes " " ∷ decimal y
+    ∷ codes "v100m-35-50l35-50 35 50\n" ∷ [])
+
+-- a stroke to when a job becomes ready, where that is later
+abbrev pub ready_text : Frame → Release → (y : ℕ) → List ℕ
+ready_text f r y =
+    if nat_lt 0 r.late
+    then concat (codes "M" ∷ decimal (x_of f r.time) ∷ codes " " ∷ decimal y
+    ∷ codes "H" ∷ decimal (x_of f (r.time + r.late)) ∷ codes "v-95\n" ∷ [])
+    else []
+
+-- a mark of a shape so long after an arrival, where that is in the picture
+abbrev pub later_text : Frame → Release → (len y : ℕ) → (shape : List ℕ) → List ℕ
+later_text f r len y shape =
+    if nat_le (r.time + len) f.until
+    then concat (codes "M" ∷ decimal (x_of f (r.time + len)) ∷ codes " " ∷ decimal y ∷ shape ∷ [])
+    else []
+
+-- a mark of a release in row k: an arrow up, a stroke, a tick at the bound, an arrow down
+abbrev pub mark_text : Frame → Mark → Release → ℕ → Row → List ℕ
+mark_text f Arrival r k row = arrival_text f r (top_of k + 510)
+mark_text f Ready r k row = ready_text f r (top_of k + 610)
+mark_text f Bound r k row =
+    later_text f r row.bound (top_of k + 485) (codes "v-195h-60v15h40v180z\n")
+mark_text f Deadline r k row =
+    later_text f r row.sheet.deadline (top_of k + 280) (codes "v-100m0 100l-35-50h70z\n")
+
+-- what opens the marks of a kind
+abbrev pub mark_head : Mark → List ℕ
+mark_head Arrival = codes "<path class=\"a\" d=\"\n"
+mark_head Ready = codes "<path class=\"r\" d=\"\n"
+mark_head Bound = codes "<path class=\"b\" d=\"\n"
+mark_head Deadline = codes "<path class=\"d\" d=\"\n"

@@ -1,0 +1,75 @@
+-- How time and rows lie in the picture, in units of which ten are a pixel.
+use Rattle.std.specs.Prelude.{ℕ, ◌+◌, ◌*◌, ◌/◌, ◌%◌, ◌<◌, ◌≤◌, min, max, Bool, nat_le, ◌==◌, if◌then◌else◌, List, [], ◌∷◌, codes}
+use Rattle.picture.specs.declared.frame.Frame.{Frame}
+use Rattle.picture.specs.declared.rows.Row.{Row}
+
+-- a span of time, and its width
+pub record IsFrame (f : Frame) : Type 0 where
+  pub some : 0 < f.until
+  pub within : f.until ≤ 60000000
+  pub wide : 9500 ≤ f.span
+  pub narrow : f.span ≤ 159500
+
+-- the shortest period, or one that was found before
+abbrev pub least_period : ℕ → List Row → ℕ
+least_period least [] = least
+least_period least (row ∷ rows) = least_period (min least row.sheet.period) rows
+
+-- the frame of a run up to a time: the shortest period is 24 pixels wide, but all are from 950 to 15,950
+abbrev pub frame_until : ℕ → ℕ → Frame
+frame_until least until =
+    record { until = until; span = min (max (240 * until / least) 9500) 159500 }
+
+-- the frame of a run of these rows: at least a microsecond long, and within the horizon
+abbrev pub frame_of : List Row → ℕ → Frame
+frame_of rows until = frame_until (max (least_period 10000000 rows) 1) (max (min until 60000000) 1)
+
+-- where a time lies; later ones lie at the end
+abbrev pub x_of : Frame → ℕ → ℕ
+x_of f time = 160 + min time f.until * f.span / f.until
+
+-- where the end lies
+abbrev pub end_of : Frame → ℕ
+end_of f = 160 + f.span
+
+-- where a part ends, which is at least a hair wide
+abbrev pub right_of : Frame → ℕ → ℕ → ℕ
+right_of f start stop = max (x_of f stop) (x_of f start + 10)
+
+-- where a row begins, from 0
+abbrev pub top_of : ℕ → ℕ
+top_of k = 1340 + 630 * k
+
+-- ---- the scale
+-- a step is at least 80 pixels wide
+abbrev pub is_wide : Frame → ℕ → Bool
+is_wide f step = nat_le (800 * f.until) (step * f.span)
+
+-- the least power of ten of which five are wide enough; a second, where none is less
+abbrev pub decade_of : Frame → ℕ
+decade_of f =
+    if is_wide f 5 then 1
+    else if is_wide f 50 then 10
+    else if is_wide f 500 then 100
+    else if is_wide f 5000 then 1000
+    else if is_wide f 50000 then 10000
+    else if is_wide f 500000 then 100000
+    else 1000000
+
+-- the first of a power of ten, two of it and five of it that is wide enough; five of it where the others aren't
+abbrev pub step_in : Frame → ℕ → ℕ
+step_in f power =
+    if is_wide f power then power else if is_wide f (2 * power) then 2 * power else 5 * power
+
+-- the scale's step, in microseconds: the first of 1, 2, 5, 10, 20, 50 .. that is wide enough
+abbrev pub step_of : Frame → ℕ
+step_of f = step_in f (decade_of f)
+
+-- how many microseconds the scale's unit has: the step is a whole number of it
+abbrev pub unit_of : ℕ → ℕ
+unit_of step = if step % 1000000 == 0 then 1000000 else if step % 1000 == 0 then 1000 else 1
+
+-- the unit's name
+abbrev pub unit_name : ℕ → List ℕ
+unit_name step =
+    if step % 1000000 == 0 then codes "s" else if step % 1000 == 0 then codes "ms" else codes "us"

@@ -1,0 +1,7 @@
+pub mod Puts
+pub mod Frame
+pub mod Rows
+pub mod Sections
+pub mod Elements
+pub mod Document
+pub mod Laws

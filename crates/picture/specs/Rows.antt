@@ -1,0 +1,30 @@
+-- The rows of the picture, and texts one after the other.
+use Rattle.std.specs.Prelude.{ℕ, zero, suc, Option, Some, None, List, [], ◌++◌, position, slice_index_or}
+use Rattle.task_sheet.specs.Sheet.{no_task, same_bytes}
+use Rattle.picture.specs.declared.rows.Row.{Row}
+
+-- the texts of the numbers below n, one after the other
+unfoldable pub each : ℕ → (ℕ → List ℕ) → List ℕ
+each zero text = []
+each (suc n) text = each n text ++ text n
+
+-- stands past the end of some rows
+abbrev pub no_row : Row
+no_row = record { sheet = no_task; bound = 0 }
+
+-- the row at a place, from 0
+abbrev pub row_at : List Row → ℕ → Row
+row_at rows k = slice_index_or rows k no_row
+
+-- the place of the row of the task with a name
+abbrev pub row_named : List Row → List ℕ → Option ℕ
+row_named rows name = position (λ r. same_bytes r.sheet.name name) rows
+
+-- a text for a row, if there is one
+abbrev pub in_row : List Row → (ℕ → Row → List ℕ) → Option ℕ → List ℕ
+in_row rows text None = []
+in_row rows text (Some k) = text k (row_at rows k)
+
+-- a text for the row of the task with a name
+abbrev pub on_row : List Row → List ℕ → (ℕ → Row → List ℕ) → List ℕ
+on_row rows name text = in_row rows text (row_named rows name)

@@ -1,0 +1,121 @@
+//! The whole picture.
+ghost use Rattle.std.specs.Prelude.{◌≡◌, ◌+◌, ◌≤◌, ℕ, length, slice_index, OnOk, OnErr, Err, IfOk, true};
+ghost use Rattle.picture.specs.Puts.{Puts};
+ghost use Rattle.picture.specs.Frame.{IsFrame};
+ghost use Rattle.std.specs.Io.KnownBytes.{Appends};
+ghost use Rattle.picture.specs.Document.{framed, document};
+
+use crate::bars::put_slices;
+use crate::frame::{Frame, frame_of};
+use crate::ground::put_ground;
+use crate::jobs::put_jobs;
+use crate::line::put_bytes;
+use crate::marks::put_all_marks;
+use crate::rows::Row;
+use ceiling_kernel::{JobRecord, Release, Trace};
+use std::alloc::{AllocError, Global};
+use std::io::Write;
+use streams::{Held, Watched, WriteFailed};
+
+/// Why there is no picture.
+#[derive(Clone, Copy, Debug, PartialEq, Eq)]
+pub enum DrawFault {
+    /// Want of memory; nothing was written.
+    OutOfMemory,
+    /// The writer failed.
+    WriteFailed,
+}
+
+impl From<AllocError> for DrawFault {
+    ghost use Rattle.picture.specs.declared.document.DrawFault.TheVariants.{OutOfMemory};
+
+    ghost from_gives = { λ _ fault. fault ≡ OutOfMemory };
+
+    fn from(_: AllocError) -> DrawFault {
+        DrawFault::OutOfMemory
+    }
+}
+
+// A count for each of so many jobs, which is 0.
+fn no_ticks(alloc: Global, jobs: usize) -> Result<Vec<u64>, AllocError>
+    ensures { IfOk result (λ ticks. (length ticks.items ≡ jobs)
+        × ((j : ℕ) → slice_index ticks.items j ≡ 0)) }
+{
+    vec![in alloc; 0; jobs]
+}
+
+// The document, with the counts of the ticks that each job executed.
+fn put_document<W: Write + Drop>(
+    frame: Frame,
+    rows: &[Row],
+    until: u64,
+    releases: &[Release],
+    trace: &Trace,
+    executed: &mut [u64],
+    held: &mut Held,
+    out: &mut Watched<W>,
+) -> Result<(), WriteFailed>
+    requires frame { IsFrame frame }
+    requires few { length rows.now ≤ 32 }
+    requires jobs { length executed.old ≡ length trace.now.jobs.items }
+    requires none { (j : ℕ) → slice_index executed.old j ≡ 0 }
+    ensures { Puts W.contents out.old held.old out.new held.new result
+        (framed frame rows.now until releases.now trace.now) }
+{
+    let jobs: &[JobRecord] = &trace.jobs;
+    put_ground(frame, rows, jobs.len(), until, held, out)?;
+    put_jobs(frame, rows, jobs, held, out)?;
+    put_slices(frame, rows, jobs, &trace.slices, executed, held, out)?;
+    put_all_marks(frame, rows, releases, held, out)?;
+    put_bytes(b"</svg>\n", held, out)
+}
+
+// The document, sent whole.
+fn put_all<W: Write + Drop>(
+    rows: &[Row],
+    until: u64,
+    releases: &[Release],
+    trace: &Trace,
+    executed: &mut [u64],
+    output: &mut Watched<W>,
+) -> Result<(), WriteFailed>
+    requires few { length rows.now ≤ 32 }
+    requires jobs { length executed.old ≡ length trace.now.jobs.items }
+    requires none { (j : ℕ) → slice_index executed.old j ≡ 0 }
+    ensures sent { OnOk result (Appends (W.contents output.old.inner) (W.contents output.new.inner)
+        (document rows.now until releases.now trace.now)) }
+    ensures ok { OnOk result (output.new.has_failed ≡ output.old.has_failed) }
+    ensures failed { OnErr result (output.new.has_failed ≡ true) }
+{
+    let frame = frame_of(rows, until);
+    let mut held = Held::new();
+    put_document(
+        frame, rows, until, releases, trace, executed, &mut held, output,
+    )?;
+    held.send(output)
+}
+
+/// Writes the picture of a run of these rows, the highest level first, whose trace ends at `until`, in microseconds:
+/// an SVG 1.1 document. It is held back and sent, 65,536 bytes at a time; memory is taken for one count of each job, before
+/// anything is written.
+pub fn draw<W: Write + Drop>(
+    alloc: Global,
+    rows: &[Row],
+    until: u64,
+    releases: &[Release],
+    trace: &Trace,
+    output: &mut Watched<W>,
+) -> Result<(), DrawFault>
+    requires { length rows.now ≤ 32 }
+    ensures drawn { OnOk result (Appends (W.contents output.old.inner) (W.contents output.new.inner)
+        (document rows.now until releases.now trace.now)) }
+    ensures ok { OnOk result (output.new.has_failed ≡ output.old.has_failed) }
+    ensures failed { result ≡ Err DrawFault.WriteFailed → output.new.has_failed ≡ true }
+    ensures memory { result ≡ Err DrawFault.OutOfMemory → output.new ≡ output.old }
+{
+    let mut executed = no_ticks(alloc, trace.jobs.len())?;
+    match put_all(rows, until, releases, trace, &mut executed, output) {
+        Ok(()) => Ok(()),
+        Err(_) => Err(DrawFault::WriteFailed),
+    }
+}

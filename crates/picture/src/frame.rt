@@ -1,0 +1,159 @@
+//! How time and rows lie in the picture.
+ghost use Rattle.std.specs.Prelude.{◌≡◌, ◌+◌, ◌*◌, ◌<◌, ◌≤◌};
+ghost use Rattle.picture.specs.Frame.{IsFrame, frame_of, least_period, x_of, end_of, right_of, top_of, is_wide, decade_of, step_in, step_of, unit_of, unit_name};
+
+use crate::rows::Row;
+
+// A span of time in microseconds, and its width.
+#[derive(Clone, Copy, Debug, PartialEq, Eq)]
+pub(crate) struct Frame {
+    pub(crate) until: u64,
+    pub(crate) span: u64,
+}
+
+// The shortest period of the rows.
+fn least_period(rows: &[Row]) -> u64
+    ensures { result ≡ least_period 10000000 rows.now }
+{
+    let mut least = 10_000_000;
+    for row in rows {
+        least = row.sheet.period().min(least);
+    }
+    least
+}
+
+// The frame of a run of the rows.
+pub(crate) fn frame_of(rows: &[Row], until: u64) -> Frame
+    ensures value { result ≡ frame_of rows.now until }
+    ensures frame { IsFrame result }
+{
+    let least = least_period(rows).max(1);
+    let until = until.min(60_000_000).max(1);
+    let span = (240 * until / least).max(9_500).min(159_500);
+    Frame { until, span }
+}
+
+// Where a time lies.
+pub(crate) fn x_of(frame: Frame, time: u64) -> u64
+    requires { IsFrame frame }
+    ensures value { result ≡ x_of frame time }
+    ensures within { result ≤ 159660 }
+{
+    160 + time.min(frame.until) * frame.span / frame.until
+}
+
+// Where the time lies that comes so long after another.
+pub(crate) fn x_after(frame: Frame, time: u64, len: u64) -> u64
+    requires { IsFrame frame }
+    ensures value { result ≡ x_of frame (time + len) }
+    ensures within { result ≤ 159660 }
+{
+    let time = time.min(frame.until);
+    let rest = frame.until - time;
+    x_of(frame, time + len.min(rest))
+}
+
+// Where the end lies.
+pub(crate) fn end_of(frame: Frame) -> u64
+    requires { IsFrame frame }
+    ensures { result ≡ end_of frame }
+{
+    160 + frame.span
+}
+
+// Where a row begins.
+pub(crate) fn top_of(k: usize) -> u64
+    requires { k ≤ 32 }
+    ensures value { result ≡ top_of k }
+    ensures within { result ≤ 21500 }
+{
+    1340 + 630 * k as u64
+}
+
+// Whether a step is wide enough.
+fn is_wide(frame: Frame, step: u64) -> bool
+    requires frame { IsFrame frame }
+    requires step { step ≤ 5000000 }
+    ensures { result ≡ is_wide frame step }
+{
+    step * frame.span >= 800 * frame.until
+}
+
+// The least power of ten of which five are wide enough.
+fn decade_of(frame: Frame) -> u64
+    requires { IsFrame frame }
+    ensures value { result ≡ decade_of frame }
+    ensures some { 0 < result }
+    ensures within { result ≤ 1000000 }
+{
+    if is_wide(frame, 5) {
+        1
+    } else if is_wide(frame, 50) {
+        10
+    } else if is_wide(frame, 500) {
+        100
+    } else if is_wide(frame, 5_000) {
+        1_000
+    } else if is_wide(frame, 50_000) {
+        10_000
+    } else if is_wide(frame, 500_000) {
+        100_000
+    } else {
+        1_000_000
+    }
+}
+
+// The first of a power of ten, two of it and five of it that is wide enough.
+fn step_in(frame: Frame, power: u64) -> u64
+    requires frame { IsFrame frame }
+    requires some { 0 < power }
+    requires within { power ≤ 1000000 }
+    ensures value { result ≡ step_in frame power }
+    ensures some { 0 < result }
+    ensures within { result ≤ 5000000 }
+{
+    if is_wide(frame, power) {
+        power
+    } else if is_wide(frame, 2 * power) {
+        2 * power
+    } else {
+        5 * power
+    }
+}
+
+// The scale's step.
+pub(crate) fn step_of(frame: Frame) -> u64
+    requires { IsFrame frame }
+    ensures value { result ≡ step_of frame }
+    ensures some { 0 < result }
+    ensures within { result ≤ 5000000 }
+{
+    step_in(frame, decade_of(frame))
+}
+
+// How many microseconds the scale's unit has.
+pub(crate) fn unit_of(step: u64) -> u64
+    ensures value { result ≡ unit_of step }
+    ensures some { 0 < result }
+{
+    if step % 1_000_000 == 0 {
+        1_000_000
+    } else if step % 1_000 == 0 {
+        1_000
+    } else {
+        1
+    }
+}
+
+// The unit's name.
+pub(crate) fn unit_name(step: u64) -> &'static str
+    ensures { result.now ≡ unit_name step }
+{
+    if step % 1_000_000 == 0 {
+        "s"
+    } else if step % 1_000 == 0 {
+        "ms"
+    } else {
+        "us"
+    }
+}

@@ -1,0 +1,18 @@
+//! Laws of the picture.
+ghost use Rattle.picture.specs.Laws.{AreTicksDark, IsHeldBetween, AreNamesPlain};
+
+/// The darker ticks of a slice are those that its job executes inside the section.
+pub fn ticks_are_dark()
+    ensures { AreTicksDark }
+{}
+
+/// After a tick the kernel lets a job hold a section's locks where that tick and the next are executed inside it; so a
+/// tick is darker from the first one inside on, and the locks are held from the end of it.
+pub fn held_between()
+    ensures { IsHeldBetween }
+{}
+
+/// Names have no byte that a document would have to escape.
+pub fn names_are_plain()
+    ensures { AreNamesPlain }
+{}

@@ -1,0 +1,18 @@
+//! The picture of a run: one SVG document.
+#![tactic(auto)]
+
+mod bars;
+mod boxes;
+mod document;
+mod frame;
+mod ground;
+mod jobs;
+pub mod laws;
+mod line;
+mod marks;
+mod parts;
+mod rows;
+mod ticks;
+
+pub use document::{DrawFault, draw};
+pub use rows::Row;

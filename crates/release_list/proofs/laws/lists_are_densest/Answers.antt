@@ -1,0 +1,5 @@
+use Rattle.release_list.proofs.JobLaws.{densest-is}
+use Rattle.release_list.proofs.laws.lists_are_densest.Goals as goal
+
+pub returns : goal.returns
+returns c = λ U until set. densest-is U until set

@@ -1,0 +1,2 @@
+pub mod Densest
+pub mod Text

@@ -1,0 +1,49 @@
+//! The lines of a release list.
+ghost use Rattle.std.specs.Prelude.{◌≡◌, ◌++◌, OnOk, IfOk, string_bytes};
+ghost use Rattle.release_list.specs.Text.{late_words, list_lines, release_line, release_lines};
+
+use ceiling_kernel::Release;
+use std::alloc::{AllocError, Global};
+
+// How late a release is; nothing of one that isn't late.
+fn push_late(text: &mut String, late: u64) -> Result<(), AllocError>
+    ensures { OnOk result (string_bytes text.new ≡ string_bytes text.old ++ late_words late) }
+{
+    if late == 0 {
+        Ok(())
+    } else {
+        write!(text, " {late}")
+    }
+}
+
+// The line of a release.
+fn push_release(text: &mut String, release: Release) -> Result<(), AllocError>
+    ensures { OnOk result (string_bytes text.new ≡ string_bytes text.old ++ release_line release) }
+{
+    let time = release.time;
+    let name = release.name;
+    write!(text, "{time} {name}")?;
+    push_late(text, release.late)?;
+    text.push_str("\n")
+}
+
+// A line for each release.
+fn push_releases(text: &mut String, releases: &[Release]) -> Result<(), AllocError>
+    ensures { OnOk result (string_bytes text.new ≡ string_bytes text.old
+        ++ release_lines releases.now) }
+{
+    for release in releases {
+        push_release(text, *release)?;
+    }
+    Ok(())
+}
+
+/// The lines that say a release list: when the run ends, and each release with how late it is where that isn't 0; in
+/// microseconds. The error is want of memory.
+pub fn list_text(alloc: Global, until: u64, releases: &[Release]) -> Result<String, AllocError>
+    ensures { IfOk result (λ text. string_bytes text ≡ list_lines until releases.now) }
+{
+    let mut text = format!(in alloc; "until {until}\n")?;
+    push_releases(&mut text, releases)?;
+    Ok(text)
+}
