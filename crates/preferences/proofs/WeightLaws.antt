@@ -1,0 +1,68 @@
+-- Sets whose weights are replaced.
+use Rattle.std.proofs.Common.{◌≡◌, ◌↔◌, Result, Ok, Err, refl, subst, ℕ, ◌+◌, ◌<◌, false, None, List, [], ◌∷◌, ◌++◌, length, get_or, take, sym, ◌∙◌, arith, map}
+use Rattle.std.specs.List.{AllByRecursion}
+use Rattle.std.proofs.lemmas.List.{length-map, map_more}
+use Rattle.std.proofs.lemmas.List.Elements.{All-from_recursion, recursion_from_All}
+use Rattle.std.proofs.lemmas.List.Sorted.{IsPermutation-refl, All-permutation}
+use Rattle.task_sheet.specs.Sheet.{Task, IsTask, AllTasks, weighing}
+use Rattle.task_sheet.specs.TaskSet.{same_name, AreDistinct, IsTaskSet, IsByRank}
+use Rattle.task_sheet.specs.SheetsFault.{sheets_fault}
+use Rattle.task_sheet.proofs.SetLaws.{no_fault, by_rank_one}
+use Rattle.task_sheet.specs.ReadsSet.{ReadsSet}
+use Rattle.task_sheet.specs.declared.set.TaskSet.{TaskSet}
+use Rattle.task_sheet.specs.declared.read.SetFault.{SetFault}
+use Rattle.preferences.specs.ReadsPreferred.{ReadsPreferred}
+use Rattle.preferences.specs.Preferences.{later_deadlines, reweighed_in, reweighed, IsPreferred}
+use Rattle.preferences.specs.declared.preferred.Preference.{Preference}
+use Rattle.preferences.specs.declared.preferred.Preference.TheVariants.{Weights, Deadline}
+
+-- one sheet more
+pub reweighed_more : (U xs ys : List Task) (i : ℕ) (x y : Task) → i < length U → x ≡ get_or U i x → y ≡ reweighed_in U x → xs ≡ map (reweighed_in U) (take i U)
+    → ys ≡ xs ++ y ∷ [] → ys ≡ map (reweighed_in U) (take (i + 1) U)
+reweighed_more U xs ys i x y lt is weighs before pushed =
+    pushed ∙ rw (before, weighs, is) (sym (map_more (reweighed_in U) U i x lt))
+
+-- ---- weights of any kind
+module _ (weight : Task → ℕ) where
+  abbrev weighed : List Task → List Task
+  weighed xs = map (λ t. weighing t (weight t)) xs
+
+  -- what doesn't rest on the weight holds of each task as before
+  all-weighed : (P : Task → Type 0) → ((y : Task) (n : ℕ) → P y → P (weighing y n)) → (xs : List Task) → AllByRecursion P xs → AllByRecursion P (weighed xs)
+  all-weighed P kept [] h = tt
+  all-weighed P kept (y ∷ ys) h = (kept y (weight y) h.0, all-weighed P kept ys h.1)
+
+  distinct-weighed : (xs : List Task) → AreDistinct same_name xs → AreDistinct same_name (weighed xs)
+  distinct-weighed [] h = tt
+  distinct-weighed (y ∷ ys) h = (all-weighed (λ z. same_name y z ≡ false) (λ z n apart. apart) ys h.0, distinct-weighed ys h.1)
+
+-- the sheets with these weights are no fault
+pub no_fault-reweighed : (U : List Task) → IsTaskSet U → sheets_fault (reweighed U) ≡ None
+no_fault-reweighed U set =
+    let weight : Task → ℕ = λ t. later_deadlines U t.deadline in
+    no_fault (reweighed U) (distinct-weighed weight U set.distinct) (omega (arith, set.few, length-map U (λ (t : Task). weighing t (weight t))))
+
+-- ---- one set by each preference
+pub IsPreferred-one : (preference : Preference) (U first second : List Task) → IsPreferred preference U first → IsPreferred preference U second → first ≡ second
+IsPreferred-one Weights U first second one other = one ∙ sym other
+IsPreferred-one Deadline U first second one other = by_rank_one (reweighed U) (reweighed U) first second (IsPermutation-refl (reweighed U)) one other
+
+-- ---- the laws of the analysis hold of it
+pub AllTasks-preferred : (U V : List Task) → AllTasks U → IsByRank (reweighed U) V → AllTasks V
+AllTasks-preferred U V valid preferred =
+    let each : AllByRecursion IsTask U = recursion_from_All IsTask U valid in
+    let weighed = all-weighed (λ t. later_deadlines U t.deadline) IsTask (λ y n task. record {
+      period = task.period;
+      jitter = task.jitter;
+      cost = task.cost;
+      within = task.within;
+    }) U each in
+    All-permutation IsTask (reweighed U) V preferred.permutation (All-from_recursion IsTask (reweighed U) weighed)
+
+-- ---- by weights
+pub ReadsPreferred-weights : (text : List ℕ) (result : Result TaskSet SetFault) → ReadsPreferred Weights text result ↔ ReadsSet text result
+ReadsPreferred-weights text (Ok set) = (
+  λ h. subst (λ (xs : List Task). ReadsSet text (Ok xs)) (sym h.2) h.1,
+  λ h. (set, h, refl),
+)
+ReadsPreferred-weights text (Err e) = (λ h. h, λ h. h)

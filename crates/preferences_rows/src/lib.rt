@@ -1,0 +1,7 @@
+//! Sets by each preference and what is refused, worked out by hand, as tests.
+#![tactic(auto)]
+
+#[cfg(test)]
+mod refusals;
+#[cfg(test)]
+mod weights;
