@@ -1,5 +1,5 @@
 pub mod Matches
 pub mod Help
 pub mod Walks
-pub mod Workers
-pub mod Commands
+pub mod Numbers
+pub mod Entered

@@ -1,59 +1,82 @@
 -- The command line of `desk`, as `clap` sees it.
-use Rattle.std.specs.Prelude.{Some, codes, true}
+use Rattle.std.specs.Prelude.{ℕ, List, [], ◌∷◌, Some, codes, true, if◌then◌else◌}
 use Rattle.clap.specs.Words.{App, Rule, Text, new_app, new_rule, with_rule, with_subcommand}
 use Rattle.clap.specs.declared.builder.ArgAction.TheVariants.{Set}
 use Rattle.clap.specs.declared.builder.value_parser.ValueParser.TheVariants.{Unsigned}
+use Rattle.command_line.specs.Commands.{input_of, input_of_number, least_of, most_of, number_of, second_of, takes_preference, word_of_number, word_of_one, word_of_two}
+use Rattle.command_line.specs.declared.calls.OfOne.{OfOne}
+use Rattle.command_line.specs.declared.calls.OfOne.TheVariants.{Admit, Certify, Headroom, Settings, Explain, Play}
+use Rattle.command_line.specs.declared.calls.OfTwo.{OfTwo}
+use Rattle.command_line.specs.declared.calls.OfTwo.TheVariants.{Check, Judge, Simulate, Draw}
+use Rattle.command_line.specs.declared.calls.OfNumber.{OfNumber}
+use Rattle.command_line.specs.declared.calls.OfNumber.TheVariants.{Releases, Rush}
 
 -- an input that has to be named
 abbrev pub input_rule : Text → Rule
 input_rule name = record (new_rule name) { required = true; action = Some Set }
 
--- a command with one input
-abbrev pub one_app : Text → Text → App
-one_app name first = with_rule (new_app name) (input_rule first)
+-- a number that has to be named, from the least to the most
+abbrev pub number_rule : (name : Text) (least most : ℕ) → Rule
+number_rule name least most = record (input_rule name) { parser = Some (Unsigned least most) }
 
--- a command whose first input is a task set
-abbrev pub set_app : Text → App
-set_app name = one_app name (codes "SET")
+-- `--prefer`, with a word
+abbrev pub preference_rule : Rule
+preference_rule = record (new_rule (codes "prefer")) {
+  long = Some (codes "prefer");
+  action = Some Set;
+  value_names = 1;
+}
 
--- the words are all arguments, and one of them names a command
+-- a command with one input, and with `--prefer` where that is a task set
+abbrev pub input_app : (word input : Text) → App
+input_app word input =
+    let app = with_rule (new_app word) (input_rule input) in
+    if takes_preference input then with_rule app preference_rule else app
+
+abbrev pub app_of_one : OfOne → App
+app_of_one c = input_app (word_of_one c) (input_of c)
+
+-- a command with a task set and a second input
+abbrev pub app_of_two : OfTwo → App
+app_of_two c = with_rule (input_app (word_of_two c) (codes "SET")) (input_rule (second_of c))
+
+-- a command with an input and a number
+abbrev pub app_of_number : OfNumber → App
+app_of_number c =
+    with_rule (input_app (word_of_number c) (input_of_number c))
+    (number_rule (number_of c) (least_of c) (most_of c))
+
+-- the program has a version, the words are all arguments, and one of them names a command
 abbrev pub made_bare : App → App
-made_bare a = record a { top = record a.top { no_binary_name = true; subcommand_required = true } }
+made_bare a =
+    record a { top = record a.top { has_version = true; no_binary_name = true; subcommand_required = true } }
 
 -- the program without its commands
 abbrev pub bare_app : App
 bare_app = made_bare (new_app (codes "desk"))
 
--- a command with a task set and a second input
-abbrev pub pair_app : Text → Text → App
-pair_app name second = with_rule (set_app name) (input_rule second)
+-- a program with commands
+abbrev pub with_commands : App → List App → App
+with_commands a [] = a
+with_commands a (command ∷ more) = with_commands (with_subcommand a command.top) more
 
--- a number of workers that has to be named, from 1 to 8
-abbrev pub workers_rule : Rule
-workers_rule = record (input_rule (codes "WORKERS")) { parser = Some (Unsigned 1 8) }
+-- the commands that answer on a task set
+abbrev pub set_commands : List App
+set_commands =
+    app_of_one Admit ∷ app_of_one Explain ∷ app_of_one Headroom ∷ app_of_one Settings
+    ∷ app_of_two Judge ∷ []
 
--- the command with a script and a number of workers
-abbrev pub rush_app : App
-rush_app = with_rule (one_app (codes "rush") (codes "SCRIPT")) workers_rule
+-- those for certificates and runs
+abbrev pub run_commands : List App
+run_commands =
+    app_of_one Certify ∷ app_of_two Check ∷ app_of_number Releases ∷ app_of_two Simulate
+    ∷ app_of_two Draw ∷ []
 
--- the program with `admit SET`, `certify SET`, `check SET CERT` and `simulate SET RELEASES`
-abbrev pub first_app : App
-first_app =
-    with_subcommand
-    (with_subcommand
-    (with_subcommand
-    (with_subcommand bare_app (set_app (codes "admit")).top)
-    (set_app (codes "certify")).top)
-    (pair_app (codes "check") (codes "CERT")).top)
-    (pair_app (codes "simulate") (codes "RELEASES")).top
+-- those for scripts
+abbrev pub script_commands : List App
+script_commands = app_of_one Play ∷ app_of_number Rush ∷ []
 
--- the whole program: with `headroom SET`, `settings SET`, `play SCRIPT` and `rush SCRIPT WORKERS`, too
+-- the whole program
 abbrev pub desk_app : App
-desk_app =
-    with_subcommand
-    (with_subcommand
-    (with_subcommand
-    (with_subcommand first_app (set_app (codes "headroom")).top)
-    (set_app (codes "settings")).top)
-    (one_app (codes "play") (codes "SCRIPT")).top)
-    rush_app.top
+desk_app = with_commands (with_commands
+    (with_commands bare_app set_commands) run_commands) script_commands

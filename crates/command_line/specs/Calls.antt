@@ -3,10 +3,15 @@ use Rattle.std.specs.Prelude.{◌≡◌, ◌≢◌, ◌⊎◌, ◌≤◌, ℕ, L
 use Rattle.std.specs.Str.Parse.{digits_value, without_leading_plus}
 use Rattle.clap.specs.Words.{HasKind, IsUnsignedIn, Row, Text, fault_of, first_of, one_of, subcommand_of}
 use Rattle.command_line.specs.App.{desk_app}
-use Rattle.command_line.specs.declared.words.Input.{Input}
-use Rattle.command_line.specs.declared.words.Input.TheVariants.{Standard, File}
-use Rattle.command_line.specs.declared.words.Call.{Call}
-use Rattle.command_line.specs.declared.words.Call.TheVariants.{Admit, Certify, Check, Simulate, Headroom, Settings, Play, Rush}
+use Rattle.command_line.specs.Commands.{input_of, input_of_number, least_of, most_of, number_of, second_of, word_of_number, word_of_one, word_of_two}
+use Rattle.command_line.specs.declared.calls.Input.{Input}
+use Rattle.command_line.specs.declared.calls.Input.TheVariants.{Standard, File}
+use Rattle.command_line.specs.declared.calls.OfOne.{OfOne}
+use Rattle.command_line.specs.declared.calls.OfOne.TheVariants.{Admit}
+use Rattle.command_line.specs.declared.calls.OfTwo.{OfTwo}
+use Rattle.command_line.specs.declared.calls.OfNumber.{OfNumber}
+use Rattle.command_line.specs.declared.calls.Call.{Call}
+use Rattle.command_line.specs.declared.calls.Call.TheVariants.{One, Two, Number}
 use Rattle.command_line.specs.declared.words.WordsFault.{WordsFault}
 use Rattle.command_line.specs.declared.words.WordsFault.TheVariants as fault
 
@@ -16,47 +21,55 @@ Names None input = input ≡ Standard
 Names (Some word) Standard = word ≡ codes "-"
 Names (Some word) (File path) = (path.now ≡ word) × (word ≢ codes "-")
 
--- the text of a word is a number from 1 to 8, and this is the number
-abbrev pub IsWorkers : Option Text → ℕ → Type 0
-IsWorkers None workers = ⊥
-IsWorkers (Some text) workers = IsUnsignedIn 1 8 text × (workers ≡ digits_value 10 (without_leading_plus text))
+-- the text of a word is a number that the command takes, and this is the number
+abbrev pub Counts : OfNumber → Option Text → ℕ → Type 0
+Counts c None number = ⊥
+Counts c (Some text) number =
+    IsUnsignedIn (least_of c) (most_of c) text
+    × (number ≡ digits_value 10 (without_leading_plus text))
 
--- the words of a command say a number of workers, and `clap` gives it as it was written
-abbrev pub TakesWorkers : List Row → Type 0
-TakesWorkers rows =
-    (text : Text) × (first_of (codes "WORKERS") rows ≡ Some text) × (one_of (codes "WORKERS") rows ≡ Some text)
-    × IsUnsignedIn 1 8 text
+-- the words of the command say a number, and `clap` gives it as it was written
+abbrev pub TakesNumber : OfNumber → List Row → Type 0
+TakesNumber c rows =
+    (text : Text) × (first_of (number_of c) rows ≡ Some text)
+    × (one_of (number_of c) rows ≡ Some text)
+    × IsUnsignedIn (least_of c) (most_of c) text
 
 -- a command of the program is named
 abbrev pub IsCommand : Option (Text × List Row) → Type 0
 IsCommand None = ⊥
 IsCommand (Some found) =
-    (found.0 ≡ codes "admit") ⊎
-    ((found.0 ≡ codes "certify") ⊎ ((found.0 ≡ codes "check") ⊎ ((found.0 ≡ codes "simulate")
-    ⊎ ((found.0 ≡ codes "headroom") ⊎ ((found.0 ≡ codes "settings") ⊎ ((found.0 ≡ codes "play")
-    ⊎ ((found.0 ≡ codes "rush") × TakesWorkers found.1)))))))
+    ((c : OfOne) × (found.0 ≡ word_of_one c))
+    ⊎ (((c : OfTwo) × (found.0 ≡ word_of_two c))
+    ⊎ ((c : OfNumber) × (found.0 ≡ word_of_number c) × TakesNumber c found.1))
+
+-- the word of `--prefer`, where it is given, is `deadline`; and whether it is given
+abbrev pub Prefers : List Row → Bool → Type 0
+Prefers rows true = first_of (codes "prefer") rows ≡ Some (codes "deadline")
+Prefers rows false = first_of (codes "prefer") rows ≡ None
+
+-- the word of the command's `--prefer` is another
+abbrev pub PrefersOther : Option (Text × List Row) → Type 0
+PrefersOther None = ⊥
+PrefersOther (Some found) =
+    (word : Text) × (first_of (codes "prefer") found.1 ≡ Some word) × (word ≢ codes "deadline")
 
 -- the call that a command names, with what was found of its arguments
 abbrev pub IsCall : Option (Text × List Row) → Call → Type 0
 IsCall None call = ⊥
-IsCall (Some found) (Admit set) = (found.0 ≡ codes "admit") × Names (first_of (codes "SET") found.1) set
-IsCall (Some found) (Certify set) = (found.0 ≡ codes "certify") × Names (first_of (codes "SET") found.1) set
-IsCall (Some found) (Check set certificate) =
-    (found.0 ≡ codes "check") × Names (first_of (codes "SET") found.1) set
-    × Names (first_of (codes "CERT") found.1) certificate
-IsCall (Some found) (Simulate set releases) =
-    (found.0 ≡ codes "simulate") × Names (first_of (codes "SET") found.1) set
-    × Names (first_of (codes "RELEASES") found.1) releases
-IsCall (Some found) (Headroom set) = (found.0 ≡ codes "headroom") × Names (first_of (codes "SET") found.1) set
-IsCall (Some found) (Settings set) = (found.0 ≡ codes "settings") × Names (first_of (codes "SET") found.1) set
-IsCall (Some found) (Play script) = (found.0 ≡ codes "play") × Names (first_of (codes "SCRIPT") found.1) script
-IsCall (Some found) (Rush script workers) =
-    (found.0 ≡ codes "rush") × Names (first_of (codes "SCRIPT") found.1) script
-    × IsWorkers (first_of (codes "WORKERS") found.1) workers
+IsCall (Some found) (One c input by_deadline) =
+    (found.0 ≡ word_of_one c) × Names (first_of (input_of c) found.1) input
+    × Prefers found.1 by_deadline
+IsCall (Some found) (Two c first second by_deadline) =
+    (found.0 ≡ word_of_two c) × Names (first_of (codes "SET") found.1) first
+    × Names (first_of (second_of c) found.1) second × Prefers found.1 by_deadline
+IsCall (Some found) (Number c input number by_deadline) =
+    (found.0 ≡ word_of_number c) × Names (first_of (input_of_number c) found.1) input
+    × Counts c (first_of (number_of c) found.1) number × Prefers found.1 by_deadline
 
 -- no words call `admit` of standard input; else they call what `clap`'s matches of them name
 abbrev pub Calls : List Text → Call → Type 0
-Calls [] call = call ≡ Admit Standard
+Calls [] call = call ≡ One Admit Standard false
 Calls (word ∷ words) call = IsCall (subcommand_of desk_app (word ∷ words)) call
 
 -- the input is standard input
@@ -66,26 +79,23 @@ is_standard (File path) = false
 
 -- two inputs of the call are standard input
 abbrev pub is_twice : Call → Bool
-is_twice (Admit set) = false
-is_twice (Certify set) = false
-is_twice (Check set certificate) = is_standard set && is_standard certificate
-is_twice (Simulate set releases) = is_standard set && is_standard releases
-is_twice (Headroom set) = false
-is_twice (Settings set) = false
-is_twice (Play script) = false
-is_twice (Rush script workers) = false
+is_twice (Two c first second by_deadline) = is_standard first && is_standard second
+is_twice _ = false
 
--- a number of workers is from 1 to 8
-abbrev pub HasWorkers : Call → Type 0
-HasWorkers (Rush script workers) = (1 ≤ workers) × (workers ≤ 8)
-HasWorkers _ = Unit {0}
+-- the number of a call is one that its command takes
+abbrev pub HasNumber : Call → Type 0
+HasNumber (Number c input number by_deadline) = (least_of c ≤ number) × (number ≤ most_of c)
+HasNumber _ = Unit {0}
 
 -- there are no words, or `clap` takes them
 abbrev pub IsTaken : List Text → Type 0
 IsTaken words = (words ≡ []) ⊎ (fault_of desk_app words ≡ [])
 
--- `clap` gives an error of a kind that the words have, or for want of memory; or it takes them, and their
--- call names standard input twice
+-- `clap` gives an error of a kind that the words have, or for want of memory; or it takes them, and they prefer
+-- an order that isn't there, or their call names standard input twice
 abbrev pub IsWordsFault : List Text → WordsFault → Type 0
 IsWordsFault words (fault.Clap error) = (words ≢ []) × HasKind (fault_of desk_app words) error
-IsWordsFault words fault.InputTwice = IsTaken words × (call : Call) × Calls words call × (is_twice call ≡ true)
+IsWordsFault words fault.NoSuchPreference =
+    IsTaken words × PrefersOther (subcommand_of desk_app words)
+IsWordsFault words fault.InputTwice =
+    IsTaken words × (call : Call) × Calls words call × (is_twice call ≡ true)

@@ -1,6 +1,9 @@
 //! The words of a command line, and the call that they name.
 #![tactic(auto)]
 
+mod calls;
+mod commands;
 mod words;
 
-pub use words::{Call, Input, WordsFault, read_words};
+pub use calls::{Call, Input, OfNumber, OfOne, OfTwo};
+pub use words::{WordsFault, read_words};

@@ -1,281 +1,30 @@
 //! The words of a command line.
-ghost use Rattle.std.specs.Prelude.{◌≡◌, map, Ok, Some, Err, IfOk, IfErr, true, false, codes};
-ghost use Rattle.clap.specs.Words.{FailsBy, app_of, fault_of, first_of, first_value, found_of, new_app, rows_of, rule_of, subcommand_of, subcommand_rows_of, with_subcommand};
-ghost use Rattle.clap.specs.declared.builder.command.Command.TheViews.{out-Command as fields_of};
-ghost use Rattle.command_line.specs.App.{bare_app, desk_app, first_app, input_rule, one_app, pair_app, rush_app, set_app, workers_rule};
-ghost use Rattle.command_line.specs.Calls.{Calls, HasWorkers, IsCall, IsCommand, IsTaken, IsWordsFault, IsWorkers, Names, TakesWorkers, is_standard, is_twice};
+ghost use Rattle.std.specs.Prelude.{◌≡◌, ◌≢◌, map, Ok, Some, None, Err, IfOk, IfErr, IfSome, true, false, codes};
+ghost use Rattle.clap.specs.Words.{FailsBy, fault_of, first_of, first_value, found_of, rows_of, subcommand_of, subcommand_rows_of};
+ghost use Rattle.command_line.specs.App.{desk_app};
+ghost use Rattle.command_line.specs.Commands.{number_of, word_of_number, word_of_one, word_of_two};
+ghost use Rattle.command_line.specs.Calls.{Calls, Counts, HasNumber, IsCall, IsCommand, IsTaken, IsWordsFault, Names, Prefers, PrefersOther, TakesNumber, is_twice};
 
-use clap::{Arg, ArgAction, ArgMatches, Command, Error, value_parser};
-use std::alloc::{AllocError, Global};
-
-/// An input that a word names.
-#[derive(Clone, Copy, Debug, PartialEq, Eq)]
-pub enum Input<'a> {
-    /// The word `-`.
-    Standard,
-    /// A path.
-    File(&'a str),
-}
-
-impl Input<'_> {
-    fn is_standard(&self) -> bool
-        ensures { result ≡ is_standard self.now }
-    {
-        matches!(self, Input::Standard)
-    }
-}
-
-/// A command with its inputs.
-#[derive(Clone, Copy, Debug, PartialEq, Eq)]
-pub enum Call<'a> {
-    /// `admit SET`
-    Admit {
-        set: Input<'a>,
-    },
-    /// `certify SET`
-    Certify {
-        set: Input<'a>,
-    },
-    /// `check SET CERT`
-    Check {
-        set: Input<'a>,
-        certificate: Input<'a>,
-    },
-    /// `simulate SET RELEASES`
-    Simulate {
-        set: Input<'a>,
-        releases: Input<'a>,
-    },
-    /// `headroom SET`
-    Headroom {
-        set: Input<'a>,
-    },
-    /// `settings SET`
-    Settings {
-        set: Input<'a>,
-    },
-    /// `play SCRIPT`
-    Play {
-        script: Input<'a>,
-    },
-    /// `rush SCRIPT WORKERS`
-    Rush {
-        script: Input<'a>,
-        workers: usize,
-    },
-}
+use crate::calls::{Call, Input, OfNumber, OfOne, OfTwo};
+use crate::commands::desk_command;
+use clap::{ArgMatches, Error};
+use std::alloc::Global;
 
 /// Why words are no call.
 #[derive(Debug, Drop)]
 pub enum WordsFault {
     /// `clap`'s error, which help is too, or want of memory.
     Clap(Error),
+    /// `--prefer` is given a word other than `deadline`.
+    NoSuchPreference,
     /// Standard input is named twice.
     InputTwice,
 }
 
-const ADMIT_ABOUT: &str =
-    "Prints the best order with its responses, or the tasks that stand in the way of all";
-
-const CERTIFY_ABOUT: &str = "Prints a certificate of what admit answers";
-
-const CHECK_ABOUT: &str = "Checks a certificate against a task set, whoever wrote it";
-
-const CERT_HELP: &str = "A certificate: a path, or - for standard input";
-
-const SIMULATE_ABOUT: &str =
-    "Runs a release list in a simulated kernel, at the levels of the best order";
-
-const RELEASES_HELP: &str = "A release list: a path, or - for standard input";
-
-const HEADROOM_ABOUT: &str =
-    "Prints the greatest cost of each task with which some order passes, all else equal";
-
-const SETTINGS_ABOUT: &str =
-    "Prints the level of each thread and the ceiling of each mutex in the best order";
-
-const PLAY_ABOUT: &str =
-    "Plays a script of drafts, findings and commits, and prints what each line comes to";
-
-const RUSH_ABOUT: &str =
-    "Runs the lines of each team of a script on a thread of its own, and prints the log and the book";
-
-const WORKERS_HELP: &str = "How many threads test the set of a commit, from 1 to 8";
-
-const SCRIPT_HELP: &str = "A script: a path, or - for standard input";
-
-const SET_HELP: &str = "A task set in TOML: a path, or - for standard input";
-
-fn input_arg<'a>(alloc: Global, name: &'a str, help: &'a str) -> Arg<'a>
-    ensures rule { rule_of result ≡ input_rule name.entry.now }
-    ensures local { result.global ≡ false }
-{
-    Arg::new(alloc, name)
-        .required(true)
-        .action(ArgAction::Set)
-        .help(help)
-}
-
-fn workers_arg<'a>(alloc: Global) -> Arg<'a>
-    ensures rule { rule_of result ≡ workers_rule }
-    ensures local { result.global ≡ false }
-{
-    input_arg(alloc, "WORKERS", WORKERS_HELP).value_parser(value_parser!(usize).range(1..=8))
-}
-
-fn new_command<'a>(alloc: Global, name: &'a str, about: &'a str) -> Command<'a>
-    ensures app { app_of result ≡ new_app name.entry.now }
-    ensures local { (fields_of result).has_globals ≡ false }
-{
-    Command::new(alloc, name).about(about)
-}
-
-// The program with no command yet.
-fn bare_command<'a>(alloc: Global) -> Result<Command<'a>, AllocError>
-    ensures app { IfOk result (λ c. app_of c ≡ bare_app) }
-    ensures local { IfOk result (λ c. (fields_of c).has_globals ≡ false) }
-{
-    let about =
-        "An admission desk for the periodic tasks of one processor; without a command: admit -";
-    let bare = new_command(alloc, "desk", about)
-        .no_binary_name(true)
-        .subcommand_required(true);
-    let desk = bare.bin_name("desk")?;
-    Ok(desk)
-}
-
-// A command with one input.
-fn one_command<'a>(
-    alloc: Global,
-    name: &'a str,
-    about: &'a str,
-    first: &'a str,
-    help: &'a str,
-) -> Result<Command<'a>, AllocError>
-    ensures app { IfOk result (λ c. app_of c ≡ one_app name.entry.now first.entry.now) }
-    ensures local { IfOk result (λ c. (fields_of c).has_globals ≡ false) }
-{
-    let input = input_arg(alloc, first, help);
-    let command = new_command(alloc, name, about).arg(input)?;
-    Ok(command)
-}
-
-// A command whose first input is a task set.
-fn set_command<'a>(alloc: Global, name: &'a str, about: &'a str) -> Result<Command<'a>, AllocError>
-    ensures app { IfOk result (λ c. app_of c ≡ set_app name.entry.now) }
-    ensures local { IfOk result (λ c. (fields_of c).has_globals ≡ false) }
-{
-    one_command(alloc, name, about, "SET", SET_HELP)
-}
-
-// A command with a task set and a second input.
-fn pair_command<'a>(
-    alloc: Global,
-    name: &'a str,
-    about: &'a str,
-    second: &'a str,
-    help: &'a str,
-) -> Result<Command<'a>, AllocError>
-    ensures app { IfOk result (λ c. app_of c ≡ pair_app name.entry.now second.entry.now) }
-    ensures local { IfOk result (λ c. (fields_of c).has_globals ≡ false) }
-{
-    let input = input_arg(alloc, second, help);
-    let first = set_command(alloc, name, about)?;
-    let command = first.arg(input)?;
-    Ok(command)
-}
-
-// The command with a script and a number of workers.
-fn rush_command<'a>(alloc: Global) -> Result<Command<'a>, AllocError>
-    ensures app { IfOk result (λ c. app_of c ≡ rush_app) }
-    ensures local { IfOk result (λ c. (fields_of c).has_globals ≡ false) }
-{
-    let workers = workers_arg(alloc);
-    let first = one_command(alloc, "rush", RUSH_ABOUT, "SCRIPT", SCRIPT_HELP)?;
-    let command = first.arg(workers)?;
-    Ok(command)
-}
-
-// The command with one more command below it.
-fn with_command<'a>(above: Command<'a>, command: Command<'a>) -> Result<Command<'a>, AllocError>
-    requires above { (fields_of above).has_globals ≡ false }
-    requires command { (fields_of command).has_globals ≡ false }
-    ensures app { IfOk result (λ c. app_of c ≡ with_subcommand (app_of above.entry) (app_of command.entry).top) }
-    ensures local { IfOk result (λ c. (fields_of c).has_globals ≡ false) }
-{
-    let both = above.subcommand(command)?;
-    Ok(both)
-}
-
-// The command with one more command below it that takes a task set.
-fn with_set<'a>(
-    alloc: Global,
-    above: Command<'a>,
-    name: &'a str,
-    about: &'a str,
-) -> Result<Command<'a>, AllocError>
-    requires { (fields_of above).has_globals ≡ false }
-    ensures app { IfOk result (λ c. app_of c ≡ with_subcommand (app_of above.entry) (set_app name.entry.now).top) }
-    ensures local { IfOk result (λ c. (fields_of c).has_globals ≡ false) }
-{
-    let command = set_command(alloc, name, about)?;
-    with_command(above, command)
-}
-
-// The command with one more command below it that takes a task set and a second input.
-fn with_pair<'a>(
-    alloc: Global,
-    above: Command<'a>,
-    name: &'a str,
-    about: &'a str,
-    second: &'a str,
-    help: &'a str,
-) -> Result<Command<'a>, AllocError>
-    requires { (fields_of above).has_globals ≡ false }
-    ensures app { IfOk result (λ c.
-        app_of c ≡ with_subcommand (app_of above.entry) (pair_app name.entry.now second.entry.now).top) }
-    ensures local { IfOk result (λ c. (fields_of c).has_globals ≡ false) }
-{
-    let command = pair_command(alloc, name, about, second, help)?;
-    with_command(above, command)
-}
-
-// The program with its first four commands.
-fn first_commands<'a>(alloc: Global) -> Result<Command<'a>, AllocError>
-    ensures app { IfOk result (λ c. app_of c ≡ first_app) }
-    ensures local { IfOk result (λ c. (fields_of c).has_globals ≡ false) }
-{
-    let bare = bare_command(alloc)?;
-    let first = with_set(alloc, bare, "admit", ADMIT_ABOUT)?;
-    let second = with_set(alloc, first, "certify", CERTIFY_ABOUT)?;
-    let third = with_pair(alloc, second, "check", CHECK_ABOUT, "CERT", CERT_HELP)?;
-    with_pair(
-        alloc,
-        third,
-        "simulate",
-        SIMULATE_ABOUT,
-        "RELEASES",
-        RELEASES_HELP,
-    )
-}
-
-// The program with all its commands.
-fn desk_command<'a>(alloc: Global) -> Result<Command<'a>, AllocError>
-    ensures app { IfOk result (λ c. app_of c ≡ desk_app) }
-    ensures local { IfOk result (λ c. (fields_of c).has_globals ≡ false) }
-{
-    let fourth = first_commands(alloc)?;
-    let fifth = with_set(alloc, fourth, "headroom", HEADROOM_ABOUT)?;
-    let sixth = with_set(alloc, fifth, "settings", SETTINGS_ABOUT)?;
-    let play = one_command(alloc, "play", PLAY_ABOUT, "SCRIPT", SCRIPT_HELP)?;
-    let seventh = with_command(sixth, play)?;
-    let rush = rush_command(alloc)?;
-    with_command(seventh, rush)
-}
-
 // What `clap` makes of the words.
 fn desk_matches<'a>(alloc: Global, words: &'a [&'a str]) -> Result<ArgMatches<'a>, Error>
-    ensures ok { IfOk result (λ m. subcommand_rows_of m ≡ subcommand_of desk_app (map (λ s. s.now) words.entry.now)) }
+    ensures ok { IfOk result (λ m. subcommand_rows_of m
+        ≡ subcommand_of desk_app (map (λ s. s.now) words.entry.now)) }
     ensures command { IfOk result (λ m. IsCommand (subcommand_rows_of m)) }
     ensures kinds { FailsBy (fault_of desk_app (map (λ s. s.now) words.entry.now)) result }
 {
@@ -285,7 +34,7 @@ fn desk_matches<'a>(alloc: Global, words: &'a [&'a str]) -> Result<ArgMatches<'a
 
 // The input that an argument names.
 fn input_at<'a>(matches: &ArgMatches<'a>, id: &str) -> Input<'a>
-    ensures { Names (first_value (found_of matches.now) id.now) result }
+    ensures { Names (first_of id.now (rows_of (found_of matches.now))) result }
 {
     match matches.get_str(id) {
         None => Input::Standard,
@@ -294,79 +43,129 @@ fn input_at<'a>(matches: &ArgMatches<'a>, id: &str) -> Input<'a>
     }
 }
 
-// The number of workers that the argument of that name says.
-fn workers_at(matches: &ArgMatches<'_>) -> usize
-    requires { TakesWorkers (rows_of (found_of matches.now)) }
-    ensures { IsWorkers (first_of (codes "WORKERS") (rows_of (found_of matches.now))) result }
+// Whether the words of the command prefer the order by deadlines. None where they prefer another.
+fn preference_at(matches: &ArgMatches<'_>) -> Option<bool>
+    ensures known { IfSome result (Prefers (rows_of (found_of matches.now))) }
+    ensures none { result ≡ None
+        → (word : _) × (first_of (codes "prefer") (rows_of (found_of matches.now)) ≡ Some word)
+        × (word ≢ codes "deadline") }
 {
-    match matches.get_one::<usize>("WORKERS") {
-        Some(workers) => workers,
+    match matches.get_str("prefer") {
+        None => Some(false),
+        Some("deadline") => Some(true),
+        Some(_) => None,
+    }
+}
+
+// The number that the words of the command say.
+fn number_at(matches: &ArgMatches<'_>, command: OfNumber) -> usize
+    requires { TakesNumber command (rows_of (found_of matches.now)) }
+    ensures { Counts command (first_of (number_of command)
+        (rows_of (found_of matches.now))) result }
+{
+    match matches.get_one::<usize>(command.number()) {
+        Some(number) => number,
         None => unreachable!(),
     }
 }
 
-// The call that a command names.
-fn call_named<'a>(name: &str, found: &ArgMatches<'a>) -> Call<'a>
-    requires { IsCommand (Some (name.now, rows_of (found_of found.now))) }
+// The command of one input that has the word.
+fn one_named(word: &str) -> Option<OfOne>
+    ensures some { IfSome result (λ c. word.now ≡ word_of_one c) }
+    ensures none { result ≡ None → (c : OfOne) → word.now ≢ word_of_one c }
+{
+    match word {
+        "admit" => Some(OfOne::Admit),
+        "certify" => Some(OfOne::Certify),
+        "headroom" => Some(OfOne::Headroom),
+        "settings" => Some(OfOne::Settings),
+        "explain" => Some(OfOne::Explain),
+        "play" => Some(OfOne::Play),
+        _ => None,
+    }
+}
+
+// The command of two inputs that has the word.
+fn two_named(word: &str) -> Option<OfTwo>
+    ensures some { IfSome result (λ c. word.now ≡ word_of_two c) }
+    ensures none { result ≡ None → (c : OfTwo) → word.now ≢ word_of_two c }
+{
+    match word {
+        "check" => Some(OfTwo::Check),
+        "judge" => Some(OfTwo::Judge),
+        "simulate" => Some(OfTwo::Simulate),
+        "draw" => Some(OfTwo::Draw),
+        _ => None,
+    }
+}
+
+// The command of a number that has the word.
+fn number_named(word: &str) -> Option<OfNumber>
+    ensures some { IfSome result (λ c. word.now ≡ word_of_number c) }
+    ensures none { result ≡ None → (c : OfNumber) → word.now ≢ word_of_number c }
+{
+    match word {
+        "releases" => Some(OfNumber::Releases),
+        "rush" => Some(OfNumber::Rush),
+        _ => None,
+    }
+}
+
+// The call of a command that takes a number.
+fn number_call<'a>(name: &str, found: &ArgMatches<'a>, by_deadline: bool) -> Call<'a>
+    requires command { IsCommand (Some (name.now, rows_of (found_of found.now))) }
+    requires one { (c : OfOne) → name.now ≢ word_of_one c }
+    requires two { (c : OfTwo) → name.now ≢ word_of_two c }
+    requires preference { Prefers (rows_of (found_of found.now)) by_deadline }
     ensures { IsCall (Some (name.now, rows_of (found_of found.now))) result }
 {
-    let set = input_at(found, "SET");
-    if name == "certify" {
-        return Call::Certify { set };
+    let command = match number_named(name) {
+        Some(command) => command,
+        None => unreachable!(),
+    };
+    Call::Number {
+        command,
+        input: input_at(found, command.input()),
+        number: number_at(found, command),
+        by_deadline,
     }
-    if name == "check" {
-        let certificate = input_at(found, "CERT");
-        return Call::Check { set, certificate };
-    }
-    if name == "simulate" {
-        let releases = input_at(found, "RELEASES");
-        return Call::Simulate { set, releases };
-    }
-    if name == "headroom" {
-        return Call::Headroom { set };
-    }
-    if name == "settings" {
-        return Call::Settings { set };
-    }
-    if name == "play" {
-        let script = input_at(found, "SCRIPT");
-        return Call::Play { script };
-    }
-    if name == "rush" {
-        let script = input_at(found, "SCRIPT");
-        let workers = workers_at(found);
-        return Call::Rush { script, workers };
-    }
-    Call::Admit { set }
 }
 
-// The call that the matches name.
-fn call_of<'a>(matches: &ArgMatches<'a>) -> Call<'a>
+// The call that a command names.
+fn call_named<'a>(name: &str, found: &ArgMatches<'a>, by_deadline: bool) -> Call<'a>
+    requires command { IsCommand (Some (name.now, rows_of (found_of found.now))) }
+    requires preference { Prefers (rows_of (found_of found.now)) by_deadline }
+    ensures { IsCall (Some (name.now, rows_of (found_of found.now))) result }
+{
+    if let Some(command) = one_named(name) {
+        return Call::One {
+            command,
+            input: input_at(found, command.input()),
+            by_deadline,
+        };
+    }
+    if let Some(command) = two_named(name) {
+        return Call::Two {
+            command,
+            first: input_at(found, "SET"),
+            second: input_at(found, command.second()),
+            by_deadline,
+        };
+    }
+    number_call(name, found, by_deadline)
+}
+
+// The call that the matches name. None where it prefers an order that isn't there.
+fn call_of<'a>(matches: &ArgMatches<'a>) -> Option<Call<'a>>
     requires { IsCommand (subcommand_rows_of matches.now) }
-    ensures { IsCall (subcommand_rows_of matches.now) result }
+    ensures call { IfSome result (IsCall (subcommand_rows_of matches.now)) }
+    ensures none { result ≡ None → PrefersOther (subcommand_rows_of matches.now) }
 {
     match matches.subcommand() {
-        None => Call::Admit {
-            set: Input::Standard,
-        },
-        Some((name, found)) => call_named(name, found),
-    }
-}
-
-impl Call<'_> {
-    // Two inputs of the call are standard input.
-    fn is_twice(&self) -> bool
-        ensures { result ≡ is_twice self.now }
-    {
-        match self {
-            Call::Admit { .. } => false,
-            Call::Certify { .. } => false,
-            Call::Check { set, certificate } => set.is_standard() && certificate.is_standard(),
-            Call::Simulate { set, releases } => set.is_standard() && releases.is_standard(),
-            Call::Headroom { .. } => false,
-            Call::Settings { .. } => false,
-            Call::Play { .. } => false,
-            Call::Rush { .. } => false,
+        None => unreachable!(),
+        Some((name, found)) => {
+            let by_deadline = preference_at(found)?;
+            Some(call_named(name, found, by_deadline))
         }
     }
 }
@@ -376,19 +175,24 @@ pub fn read_words<'a>(alloc: Global, words: &'a [&'a str]) -> Result<Call<'a>, W
     ensures call { IfOk result (Calls (map (λ s. s.now) words.entry.now)) }
     ensures taken { IfOk result (λ _. IsTaken (map (λ s. s.now) words.entry.now)) }
     ensures once { IfOk result (λ call. is_twice call ≡ false) }
-    ensures workers { IfOk result HasWorkers }
+    ensures number { IfOk result HasNumber }
     ensures fault { IfErr result (IsWordsFault (map (λ s. s.now) words.entry.now)) }
 {
     if words.is_empty() {
-        return Ok(Call::Admit {
-            set: Input::Standard,
+        return Ok(Call::One {
+            command: OfOne::Admit,
+            input: Input::Standard,
+            by_deadline: false,
         });
     }
     let matches = match desk_matches(alloc, words) {
         Ok(matches) => matches,
         Err(error) => return Err(WordsFault::Clap(error)),
     };
-    let call = call_of(&matches);
+    let call = match call_of(&matches) {
+        Some(call) => call,
+        None => return Err(WordsFault::NoSuchPreference),
+    };
     if call.is_twice() {
         return Err(WordsFault::InputTwice);
     }

@@ -3,6 +3,7 @@
 
 ghost use Rattle.std.specs.Prelude.{None};
 
+use advice::Advice;
 use command_line::{Input, read_words};
 use desk_cli::{Refusal, Status, refuse, refuse_words};
 use dispatch::{NotOpened, Opens, run_call};
@@ -38,9 +39,25 @@ fn run<T: Threads + Wait + Sync>(rt: &HostRuntime, threads: &T) -> Status {
     }
     // Takes the number of a standard stream that is closed, so that no input gets it: a folder is neither read nor
     // written.
-    let _folder = fs::open(rt, "/");
+    let folder = fs::open(rt, "/");
+    let process = Process {
+        rt,
+        is_guarded: folder.is_ok(),
+    };
     match read_words(rt.alloc(), &texts) {
-        Ok(call) => run_call(threads, rt.alloc(), call, &Process { rt }, &mut output).status,
+        Ok(call) => {
+            let mut people = Advice::new(rt.alloc(), call, Watched::new(rt.stderr()));
+            run_call(
+                threads,
+                rt.alloc(),
+                call,
+                &process,
+                &mut output,
+                &mut errors,
+                &mut people,
+            )
+            .status
+        }
         Err(fault) => refuse_words(&fault, &mut output, &mut errors),
     }
 }
@@ -69,10 +86,12 @@ fn refuse_system(
     }
 }
 
-// The files and the standard input of a process.
+// The files and the standard input of a process. No file is opened unless it is guarded: one that got the number of a
+// closed standard stream would be read as that stream.
 #[derive(Clone, Copy)]
 struct Process<'a> {
     rt: &'a HostRuntime,
+    is_guarded: bool,
 }
 
 impl<'a> Opens for Process<'a> {
@@ -87,6 +106,7 @@ impl<'a> Opens for Process<'a> {
     fn open(&self, input: Input<'_>) -> Result<Source, NotOpened> {
         match input {
             Input::Standard => Ok(Right(self.rt.stdin())),
+            Input::File(_) if !self.is_guarded => Err(NotOpened),
             Input::File(path) => match fs::open(self.rt, path) {
                 Ok(file) => Ok(Left(file)),
                 Err(_) => Err(NotOpened),

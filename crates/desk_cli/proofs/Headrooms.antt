@@ -1,11 +1,25 @@
--- The lines of a set's headrooms, one after the other.
-use Rattle.std.proofs.Common.{◌≡◌, ℕ, suc, ◌+◌, ◌++◌, List, Option, Result, Ok, Err, false, ap, subst, arith}
+-- The lines of a set's headrooms, one after the other, and the order that they speak of.
+use Rattle.std.proofs.Common.{◌≡◌, ℕ, suc, ◌+◌, ◌++◌, List, [], Option, Some, IfSome, Result, Ok, Err, false, refl, sym, ap, subst, arith}
 use Rattle.std.specs.Prelude.{OnOk}
+use Rattle.std.specs.Io.KnownBytes.{Appends}
 use Rattle.std.specs.Result.{is_err}
+use Rattle.streams.specs.Sending.{Sends}
+use Rattle.plays.proofs.PlayLaws.{known_written}
 use Rattle.std.proofs.lemmas.Bool.{true≢false}
-use Rattle.task_sheet.specs.Sheet.{Task, task_at}
-use Rattle.headroom.specs.Costs.{AnswersHeadroom}
-use Rattle.desk_cli.specs.Headroom.{AreLines, headroom_line}
+use Rattle.task_sheet.specs.Sheet.{Task}
+use Rattle.task_sheet.specs.Orders.{IsPassingOrder}
+use Rattle.task_sheet.specs.Verdicts.{IsVerdictOf, order_of}
+use Rattle.task_sheet.proofs.LevelLaws.{IsBest-one}
+use Rattle.assignment.specs.Placings.{IsPlacingOf, tasks_of_places}
+use Rattle.assignment.specs.Verdict.{set_of, verdict_of}
+use Rattle.assignment.specs.declared.placing.Placing.{Placing}
+use Rattle.assignment.specs.declared.placing.Placing.TheVariants.{Best, Stuck}
+use Rattle.assignment.specs.declared.verdict.Verdict.{Verdict}
+use Rattle.assignment.specs.declared.verdict.Verdict.TheVariants.{Admitted, Infeasible}
+use Rattle.desk_cli.specs.Admit.{placing_status, verdict_status}
+use Rattle.desk_cli.specs.Headroom.{AreLines, IsTaskLine, placing_order, verdict_order}
+use Rattle.desk_cli.specs.declared.status.Status.{Status}
+use Rattle.desk_cli.specs.declared.status.Status.TheVariants as status
 
 -- what holds of a value, where there is no error
 pub where_sound : {T E : Type 0} (r : Result T E) (P : Type 0) → is_err r ≡ false → OnOk r P → P
@@ -13,8 +27,34 @@ where_sound (Ok x) P sound holds = holds
 where_sound (Err e) P sound holds = absurd (true≢false sound)
 
 -- one line more
-pub lines_more : (U : List Task) (k : ℕ) (front : List ℕ) (most : Option ℕ) (t : Task) → t ≡ task_at U k → AreLines U k front → AnswersHeadroom U k most
-    → AreLines U (k + 1) (front ++ headroom_line t most)
-lines_more U k front most t is lines answers =
+pub lines_more : (U : List Task) (order : Option (List ℕ)) (k : ℕ) (front line : List ℕ) → AreLines U order k front → IsTaskLine U order k line
+    → AreLines U order (k + 1) (front ++ line)
+lines_more U order k front line lines is =
     let next : suc k ≡ k + 1 = omega arith in
-    subst (λ n. AreLines U n (front ++ headroom_line t most)) next (front, most, lines, answers, ap (λ (x : Task). front ++ headroom_line x most) is)
+    subst (λ n. AreLines U order n (front ++ line)) next (front, line, lines, is, refl)
+
+-- ---- the order of a placing
+pub order_passes : (U : List Task) (p : Placing) → IsPlacingOf U p → IfSome (placing_order p) (IsPassingOrder U)
+order_passes U (Best places) placing = placing.best.passing
+order_passes U (Stuck left) placing = tt
+
+-- the status of a yes
+abbrev WasYes : Status → Type 0
+WasYes status.Done = Unit {0}
+WasYes _ = ⊥
+
+-- the verdict that says what a placing says has its order
+pub order_same : (U : List Task) (p : Placing) (v : Verdict) → IsPlacingOf U p → set_of v ≡ U → IsVerdictOf (set_of v) (verdict_of v) → verdict_status v ≡ placing_status p → verdict_order v ≡ placing_order p
+order_same U (Best places) (Admitted a) placing set verdict same =
+    let best = subst (λ (V : List Task). IsVerdictOf V (verdict_of (Admitted a))) set verdict in
+    ap (λ (o : List ℕ). Some o) (IsBest-one U (order_of a.levels) (tasks_of_places places.items) best.best placing.best)
+order_same U (Stuck left) (Infeasible o) placing set verdict same = refl
+order_same U (Best places) (Infeasible o) placing set verdict same = absurd (subst WasYes (sym same) tt)
+order_same U (Stuck left) (Admitted a) placing set verdict same = absurd (subst WasYes same tt)
+
+-- what was put behind a first text, where nothing was held back, is written once that is sent
+pub known_after : (P : List ℕ → Type 0) (first : List ℕ) (before between after : Option (List ℕ)) (start held : List ℕ) → start ≡ [] → Appends between after held
+    → ((text : List ℕ) × P text × Sends before start between held (first ++ text)) → (text : List ℕ) × P text × Appends before after (first ++ text)
+known_after P first before between after start held empty sent put =
+    let whole = known_written (λ all. all ≡ first ++ put.0) before between after start held empty sent (first ++ put.0, refl, put.2) in
+    (put.0, put.1, subst (λ all. Appends before after all) whole.1 whole.2)

@@ -1,12 +1,14 @@
 -- A placing of a set says what the set's verdict says: the same lines, and the same status.
-use Rattle.std.proofs.Common.{◌≡◌, ◌++◌, ◌∙◌, ℕ, List, [], ◌∷◌, length, codes, refl, sym, ap}
+use Rattle.std.proofs.Common.{◌≡◌, ◌++◌, ◌∙◌, ℕ, List, [], ◌∷◌, length, codes, Option, Ok, refl, sym, ap, subst}
 use Rattle.std.specs.Fmt.{decimal}
+use Rattle.std.specs.Io.KnownBytes.{Appends}
 use Rattle.std.proofs.lemmas.List.{length-map}
 use Rattle.task_sheet.specs.Sheet.{Task}
 use Rattle.task_sheet.specs.TaskSet.{IsTaskSet}
 use Rattle.task_sheet.specs.Verdicts.{LevelData, VerdictData, IsVerdictOf, order_of}
 use Rattle.task_sheet.specs.Verdicts as data_of
 use Rattle.task_sheet.proofs.TaskLaws.{AllTasks-from_set}
+use Rattle.preferences.specs.declared.preferred.Preference.{Preference}
 use Rattle.assignment.specs.Places.{PlaceData}
 use Rattle.assignment.specs.Placings.{IsPlacingOf, SaysSame, places_of, tasks_of_places}
 use Rattle.assignment.specs.Verdict.{set_of, verdict_of}
@@ -16,10 +18,12 @@ use Rattle.assignment.specs.declared.verdict.Verdict.{Verdict}
 use Rattle.assignment.specs.declared.verdict.Verdict.TheVariants.{Admitted, Infeasible}
 use Rattle.assignment.proofs.VerdictPlacings.{some_verdict_says}
 use Rattle.settings.specs.Settings.{settings_lines}
-use Rattle.desk_cli.specs.Admit.{lines_of, placing_status, verdict_status}
+use Rattle.desk_cli.specs.Admit.{Admits, Places, Says, lines_of, placing_status, verdict_status}
 use Rattle.desk_cli.specs.Headroom.{first_line, placing_first}
 use Rattle.desk_cli.specs.Lines.{admitted_lines, infeasible_line, placing_lines}
+use Rattle.desk_cli.specs.Sets.{HasSet}
 use Rattle.desk_cli.specs.Settings.{placing_settings, settings_of}
+use Rattle.desk_cli.specs.declared.status.Status.{Status}
 
 -- the verdict is one on the set, and says the same
 pub record IsSaidBy (U : List Task) (p : Placing) (v : Verdict) : Type 0 where
@@ -59,3 +63,16 @@ said_by U kept p placing =
         (Infeasible (record { set = U; members = members }), record { set = refl; verdict = verdict; lines = line; settings = line; first = line; status = refl })
     by (data_of.Admitted levels) (Stuck left) verdict same = absurd same
     by (data_of.Infeasible members) (Best places) verdict same = absurd same
+
+-- what is printed of a placing is what its verdict says
+pub says_by : (lines : Verdict → List ℕ) (preference : Preference) (known before after : Option (List ℕ)) (U : List Task) (p : Placing) (text : List ℕ) (s : Status)
+    → IsTaskSet U → Places preference known (Ok (U, p)) → ((v : Verdict) → IsSaidBy U p v → lines v ≡ text) → Appends before after text → s ≡ placing_status p
+    → Says lines preference known before after s
+says_by lines preference known before after U p text s kept placed same wrote is =
+    let found = said_by U kept p placed.1 in
+    let says = found.1 in (
+      Ok found.0,
+      (subst (λ (V : List Task). HasSet preference known V) (sym says.set) placed.0, says.verdict),
+      subst (λ (t : List ℕ). Appends before after t) (sym (same found.0 says)) wrote,
+      is ∙ sym says.status,
+    )

@@ -2,7 +2,7 @@
 use Rattle.std.specs.Prelude.{◌≡◌, ℕ, List, Option, Result, Ok, Err}
 use Rattle.std.specs.Io.KnownBytes.{Appends}
 use Rattle.task_sheet.specs.Sheet.{Task}
-use Rattle.task_sheet.specs.ReadsSet.{ReadsSet}
+use Rattle.preferences.specs.declared.preferred.Preference.{Preference}
 use Rattle.task_sheet.specs.Verdicts.{IsVerdictOf}
 use Rattle.assignment.specs.Placings.{IsPlacingOf}
 use Rattle.assignment.specs.Verdict.{set_of, verdict_of}
@@ -10,32 +10,24 @@ use Rattle.assignment.specs.declared.placing.Placing.{Placing}
 use Rattle.assignment.specs.declared.placing.Placing.TheVariants.{Best, Stuck}
 use Rattle.assignment.specs.declared.verdict.Verdict.{Verdict}
 use Rattle.assignment.specs.declared.verdict.Verdict.TheVariants.{Admitted, Infeasible}
-use Rattle.streams.specs.Inputs.{IsReadFrom, IsTooLong}
 use Rattle.desk_cli.specs.Lines.{verdict_lines}
 use Rattle.desk_cli.specs.Refusals.{refusal_line, status_of}
-use Rattle.streams.specs.declared.input.InputFault.TheVariants as input
+use Rattle.desk_cli.specs.Sets.{HasNoSet, HasSet}
 use Rattle.desk_cli.specs.declared.refusal.Refusal.{Refusal}
-use Rattle.desk_cli.specs.declared.refusal.Refusal.TheVariants as refusal
 use Rattle.desk_cli.specs.declared.status.Status.{Status}
 use Rattle.desk_cli.specs.declared.status.Status.TheVariants as status
 
--- the answer on what a reader has: the verdict of the set that its bytes say, or the first fault of its bytes.
--- Want of memory may come at any time, and the function's own clause says where a failed read is answered.
-abbrev pub Admits : Option (List ℕ) → Result Verdict Refusal → Type 0
-Admits known (Ok v) =
-    (bytes : List ℕ) × IsReadFrom known bytes × ReadsSet bytes (Ok (set_of v)) × IsVerdictOf (set_of v) (verdict_of v)
-Admits known (Err (refusal.Set fault)) = (bytes : List ℕ) × IsReadFrom known bytes × ReadsSet bytes (Err fault)
-Admits known (Err (refusal.Input input.TooLong)) = IsTooLong known
-Admits known (Err (refusal.Input input.ReadFailed)) = Unit {0}
-Admits known (Err (refusal.Input input.OutOfMemory)) = Unit {0}
-Admits known (Err refusal.OutOfMemory) = Unit {0}
-Admits known _ = ⊥
+-- the answer on what a reader has: the verdict of its set, or why there is none
+abbrev pub Admits : Preference → Option (List ℕ) → Result Verdict Refusal → Type 0
+Admits preference known (Ok v) =
+    HasSet preference known (set_of v) × IsVerdictOf (set_of v) (verdict_of v)
+Admits preference known (Err r) = HasNoSet known r
 
 -- the same, where the answer is a set with its placing
-abbrev pub Places : Option (List ℕ) → Result (List Task × Placing) Refusal → Type 0
-Places known (Ok placed) =
-    (bytes : List ℕ) × IsReadFrom known bytes × ReadsSet bytes (Ok placed.0) × IsPlacingOf placed.0 placed.1
-Places known (Err r) = Admits known (Err r)
+abbrev pub Places : Preference → Option (List ℕ) → Result (List Task × Placing) Refusal → Type 0
+Places preference known (Ok placed) =
+    HasSet preference known placed.0 × IsPlacingOf placed.0 placed.1
+Places preference known (Err r) = HasNoSet known r
 
 -- the exit status of a verdict
 abbrev pub verdict_status : Verdict → Status
@@ -58,9 +50,12 @@ status_said (Ok v) = verdict_status v
 status_said (Err r) = status_of r
 
 -- an answer on what the reader had is printed after what the writer held, and the status is the answer's
-abbrev pub Says : (Verdict → List ℕ) → Option (List ℕ) → Option (List ℕ) → Option (List ℕ) → Status → Type 0
-Says lines known before after s =
-    (answer : Result Verdict Refusal) × Admits known answer × Appends before after (said lines answer)
+abbrev pub Says :
+    (Verdict → List ℕ) → Preference → Option (List ℕ) → (before after : Option (List ℕ)) → Status
+    → Type 0
+Says lines preference known before after s =
+    (answer : Result Verdict Refusal) × Admits preference known answer
+    × Appends before after (said lines answer)
     × (s ≡ status_said answer)
 
 -- the lines of a verdict

@@ -16,10 +16,12 @@ use Rattle.cert_checker.specs.declared.fault.CheckFault.{CheckFault}
 use Rattle.cert_checker.specs.declared.fault.CheckFault.TheVariants as check
 use Rattle.ceiling_kernel.specs.declared.trace.RunFault.{RunFault}
 use Rattle.ceiling_kernel.specs.declared.trace.RunFault.TheVariants as run
-use Rattle.desk_cli.specs.declared.releases.TextFault.{TextFault}
-use Rattle.desk_cli.specs.declared.releases.TextFault.TheVariants as line
+use Rattle.desk_cli.specs.declared.release_text.TextFault.{TextFault}
+use Rattle.desk_cli.specs.declared.release_text.TextFault.TheVariants as line
 use Rattle.scripts.specs.declared.line.ScriptFault.{ScriptFault}
 use Rattle.scripts.specs.declared.line.ScriptFault.TheVariants as script
+use Rattle.judge.specs.declared.fault.SettingsFault.{SettingsFault}
+use Rattle.judge.specs.declared.fault.SettingsFault.TheVariants as settings
 use Rattle.rushes.specs.declared.fault.RushFault.{RushFault}
 use Rattle.rushes.specs.declared.fault.RushFault.TheVariants as rush
 use Rattle.streams.specs.declared.input.InputFault.TheVariants as input
@@ -133,10 +135,25 @@ run_words run.OutOfMemory = codes "OutOfMemory"
 -- the fault of a script: its line, and there what is wrong with a sheet
 abbrev pub script_words : ScriptFault → List ℕ
 script_words (script.BadLine number) = at_task (codes "BadLine") number
-script_words (script.Sheet number cause) = codes "line " ++ decimal number ++ codes " " ++ lone_cause_words cause
+script_words (script.Sheet number cause) =
+    codes "line " ++ decimal number ++ codes " " ++ lone_cause_words cause
 script_words (script.BadJitter number) = codes "line " ++ decimal number ++ codes " BadJitter"
-script_words (script.Outranks number cause) = codes "line " ++ decimal number ++ codes " " ++ outranks_words cause
+script_words (script.Outranks number cause) =
+    codes "line " ++ decimal number ++ codes " " ++ outranks_words cause
 script_words script.OutOfMemory = codes "OutOfMemory"
+
+-- the fault of settings: its line or its name
+abbrev pub settings_words : SettingsFault → List ℕ
+settings_words (settings.BadLine number) = at_task (codes "BadLine") number
+settings_words (settings.UnknownTask number) = at_task (codes "UnknownTask") number
+settings_words (settings.UnknownLock number) = at_task (codes "UnknownLock") number
+settings_words (settings.SameTask number) = at_task (codes "SameTask") number
+settings_words (settings.SameLock number) = at_task (codes "SameLock") number
+settings_words (settings.SameNumber number) = at_task (codes "SameNumber") number
+settings_words (settings.MissingTask name) = codes "MissingTask " ++ name
+settings_words (settings.MissingLock name) = codes "MissingLock " ++ name
+settings_words (settings.WrongCeiling name) = codes "WrongCeiling " ++ name
+settings_words settings.OutOfMemory = codes "OutOfMemory"
 
 -- why lines were not run to the end of all teams
 abbrev pub rush_words : RushFault → List ℕ
@@ -156,6 +173,7 @@ words_of (refusal.Certificate fault) = certificate_words fault
 words_of (refusal.Check fault) = check_words fault
 words_of (refusal.Text fault) = text_words fault
 words_of (refusal.Run fault) = run_words fault
+words_of (refusal.Settings fault) = settings_words fault
 words_of (refusal.Script fault) = script_words fault
 words_of (refusal.Rush fault) = rush_words fault
 words_of refusal.OutOfMemory = codes "OutOfMemory"
@@ -178,6 +196,8 @@ status_of (refusal.Text line.OutOfMemory) = status.OutOfMemory
 status_of (refusal.Text _) = status.BadInput
 status_of (refusal.Run run.OutOfMemory) = status.OutOfMemory
 status_of (refusal.Run _) = status.BadInput
+status_of (refusal.Settings settings.OutOfMemory) = status.OutOfMemory
+status_of (refusal.Settings _) = status.BadInput
 status_of (refusal.Script script.OutOfMemory) = status.OutOfMemory
 status_of (refusal.Script _) = status.BadInput
 status_of (refusal.Rush _) = status.OutOfMemory

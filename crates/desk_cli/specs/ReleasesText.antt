@@ -16,7 +16,8 @@ abbrev pub release_at : Option ℕ → Option (List ℕ) → Option ℕ → Opti
 release_at None name late = None
 release_at (Some time) None late = None
 release_at (Some time) (Some name) None = None
-release_at (Some time) (Some name) (Some late) = Some (record { time = time; name = name; late = late })
+release_at (Some time) (Some name) (Some late) =
+    Some (record { time = time; name = name; late = late })
 
 -- how late a release is, by the word that may follow its name
 abbrev pub late_in : Option (List ℕ) → Option ℕ
@@ -28,7 +29,8 @@ abbrev pub release_in : List (List ℕ) → Option Release
 release_in [] = None
 release_in (time ∷ []) = None
 release_in (time ∷ name ∷ []) = release_at (number_in time) (name_in name) (late_in None)
-release_in (time ∷ name ∷ late ∷ []) = release_at (number_in time) (name_in name) (late_in (Some late))
+release_in (time ∷ name ∷ late ∷ []) =
+    release_at (number_in time) (name_in name) (late_in (Some late))
 release_in (time ∷ name ∷ late ∷ more ∷ rest) = None
 
 -- these, and then the releases that are found; a faulty line stays the fault

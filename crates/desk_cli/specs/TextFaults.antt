@@ -1,7 +1,7 @@
 -- What a fault of a text says of its reading.
 use Rattle.std.specs.Prelude.{◌≡◌, ℕ, Result, Err}
-use Rattle.desk_cli.specs.declared.releases.TextFault.{TextFault}
-use Rattle.desk_cli.specs.declared.releases.TextFault.TheVariants.{BadLine, OutOfMemory}
+use Rattle.desk_cli.specs.declared.release_text.TextFault.{TextFault}
+use Rattle.desk_cli.specs.declared.release_text.TextFault.TheVariants.{BadLine, OutOfMemory}
 
 -- the fault is the first faulty line of the reading, or want of memory
 abbrev pub IsFault : {X : Type 0} → TextFault → Result X ℕ → Type 0

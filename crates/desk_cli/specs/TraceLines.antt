@@ -9,7 +9,8 @@ use Rattle.ceiling_kernel.specs.declared.trace.Trace.{Trace}
 -- a slice: from when to when, and the name of its job's task
 abbrev pub slice_line : List JobRecord → Slice → List ℕ
 slice_line jobs s =
-    decimal s.start ++ codes " " ++ decimal s.stop ++ codes " " ++ (slice_index_or jobs s.job no_record).name
+    decimal s.start ++ codes " " ++ decimal s.stop ++ codes " "
+    ++ (slice_index_or jobs s.job no_record).name
     ++ codes "\n"
 
 -- a line for each slice
@@ -25,7 +26,8 @@ finish_words (Some time) = decimal time
 -- a job: its task's name, its release, and its finish, or `-`
 abbrev pub job_line : JobRecord → List ℕ
 job_line job =
-    codes "job " ++ job.name ++ codes " " ++ decimal job.release ++ codes " " ++ finish_words job.finish ++ codes "\n"
+    codes "job " ++ job.name ++ codes " " ++ decimal job.release ++ codes " "
+    ++ finish_words job.finish ++ codes "\n"
 
 -- a line for each job
 abbrev pub job_lines : List JobRecord → List ℕ

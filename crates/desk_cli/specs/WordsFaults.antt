@@ -18,6 +18,7 @@ kind_status _ = status.BadArguments
 -- the exit status of refused words
 abbrev pub fault_status : WordsFault → Status
 fault_status (fault.Clap error) = kind_status (kind_of error)
+fault_status fault.NoSuchPreference = status.BadArguments
 fault_status fault.InputTwice = status.BadArguments
 
 -- help, and want of memory, are answered on the output; any mistake is answered on the errors
@@ -30,9 +31,11 @@ kind_goes_out _ = false
 -- the text of the fault goes to the output, and not to the errors
 abbrev pub goes_out : WordsFault → Bool
 goes_out (fault.Clap error) = kind_goes_out (kind_of error)
+goes_out fault.NoSuchPreference = false
 goes_out fault.InputTwice = false
 
 -- memory was wanting
 abbrev pub IsMemory : WordsFault → Type 0
 IsMemory (fault.Clap error) = kind_of error ≡ kind.OutOfMemory
+IsMemory fault.NoSuchPreference = ⊥
 IsMemory fault.InputTwice = ⊥

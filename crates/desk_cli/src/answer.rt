@@ -1,16 +1,23 @@
 //! The lines of a verdict.
-ghost use Rattle.std.specs.Prelude.{◌≡◌, ◌++◌, ◌<◌, ◌≤◌, length, OnOk, IfOk, string_bytes};
+ghost use Rattle.std.specs.Prelude.{◌≡◌, ◌++◌, ◌<◌, ◌≤◌, length, true, false, OnOk, IfOk, string_bytes};
 ghost use Rattle.task_sheet.specs.Sheet.{task_at};
 ghost use Rattle.task_sheet.specs.Indexes.{indexes_of, listed_below};
+ghost use Rattle.desk_cli.specs.Printed.{IsPrinted};
 ghost use Rattle.desk_cli.specs.Lines.{admitted_lines, infeasible_line, level_line, named, placing_lines};
 
+use crate::output::{print, refuse};
+use crate::refusal::Refusal;
+use crate::status::Status;
 use assignment::{Place, Placing};
 use std::alloc::{AllocError, Global};
+use std::io::Write;
+use streams::Watched;
 use task_sheet::{Members, TaskSet};
 
 // The name of the task at an index; nothing past the end of the set.
 fn push_name(text: &mut String, set: &TaskSet, task: usize) -> Result<(), AllocError>
-    ensures { OnOk result (string_bytes text.new ≡ string_bytes text.old ++ (task_at set.now task).name) }
+    ensures { OnOk result (string_bytes text.new ≡ string_bytes text.old
+        ++ (task_at set.now task).name) }
 {
     match set.get(task) {
         Some(sheet) => {
@@ -28,7 +35,8 @@ fn push_level(
     number: usize,
     place: &Place,
 ) -> Result<(), AllocError>
-    ensures { OnOk result (string_bytes text.new ≡ string_bytes text.old ++ level_line set.now number place.now) }
+    ensures { OnOk result (string_bytes text.new ≡ string_bytes text.old
+        ++ level_line set.now number place.now) }
 {
     let response = place.response;
     write!(text, "{number} ")?;
@@ -79,5 +87,26 @@ pub(crate) fn placing_text(
     match placing {
         Placing::Best(places) => admitted_text(alloc, set, places),
         Placing::Stuck(members) => infeasible_text(alloc, set, *members),
+    }
+}
+
+// Prints the line of an obstruction, or that memory was wanting for it.
+pub(crate) fn print_stuck<W: Write + Drop>(
+    alloc: Global,
+    set: &TaskSet,
+    members: Members,
+    output: &mut Watched<W>,
+) -> Status
+    ensures printed { output.new.has_failed ≡ false
+        → IsPrinted (W.contents output.old.inner) (W.contents output.new.inner)
+        (infeasible_line set.now (listed_below (length set.now)
+        (indexes_of members))) Status.Infeasible result }
+    ensures failed { result ≡ Status.InputOrOutputFailed → output.new.has_failed ≡ true }
+    ensures unwritten { output.old.has_failed ≡ false → output.new.has_failed ≡ true
+        → result ≡ Status.InputOrOutputFailed }
+{
+    match infeasible_text(alloc, set, members) {
+        Ok(text) => print(text.as_bytes(), Status::Infeasible, output),
+        Err(_) => refuse(Refusal::OutOfMemory, output),
     }
 }

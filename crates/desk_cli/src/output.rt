@@ -31,7 +31,8 @@ pub(crate) fn print<W: Write + Drop>(text: &[u8], status: Status, output: &mut W
 /// Prints the line of a refusal, and gives its exit status.
 pub fn refuse<W: Write + Drop>(refusal: Refusal, output: &mut Watched<W>) -> Status
     ensures printed { output.new.has_failed ≡ false
-        → Appends (W.contents output.old.inner) (W.contents output.new.inner) (refusal_line refusal) }
+        → Appends (W.contents output.old.inner) (W.contents output.new.inner)
+        (refusal_line refusal) }
     ensures status { output.new.has_failed ≡ false → result ≡ status_of refusal }
     ensures failed { result ≡ Status.InputOrOutputFailed
         → (status_of refusal ≡ Status.InputOrOutputFailed) ⊎ (output.new.has_failed ≡ true) }
@@ -63,17 +64,27 @@ pub fn refuse_words<O: Write + Drop, E: Write + Drop>(
     output: &mut Watched<O>,
     errors: &mut Watched<E>,
 ) -> Status
-    ensures status { output.new.has_failed ≡ false → errors.new.has_failed ≡ false → result ≡ fault_status fault.now }
+    ensures status { output.new.has_failed ≡ false → errors.new.has_failed ≡ false
+        → result ≡ fault_status fault.now }
+    ensures preference { fault.now ≡ WordsFault.NoSuchPreference → errors.new.has_failed ≡ false
+        → Appends (E.contents errors.old.inner) (E.contents errors.new.inner)
+        (codes "no such preference\n") }
     ensures twice { fault.now ≡ WordsFault.InputTwice → errors.new.has_failed ≡ false
-        → Appends (E.contents errors.old.inner) (E.contents errors.new.inner) (codes "standard input named twice\n") }
+        → Appends (E.contents errors.old.inner) (E.contents errors.new.inner)
+        (codes "standard input named twice\n") }
     ensures memory { IsMemory fault.now → output.new.has_failed ≡ false
-        → Appends (O.contents output.old.inner) (O.contents output.new.inner) (refusal_line Refusal.OutOfMemory) }
+        → Appends (O.contents output.old.inner) (O.contents output.new.inner)
+        (refusal_line Refusal.OutOfMemory) }
     ensures output_alone { goes_out fault.now ≡ true → errors.new ≡ errors.old }
     ensures errors_alone { goes_out fault.now ≡ false → output.new ≡ output.old }
     ensures unwritten { output.old.has_failed ≡ false → errors.old.has_failed ≡ false
-        → (output.new.has_failed ≡ true) ⊎ (errors.new.has_failed ≡ true) → result ≡ Status.InputOrOutputFailed }
+        → (output.new.has_failed ≡ true) ⊎ (errors.new.has_failed ≡ true)
+        → result ≡ Status.InputOrOutputFailed }
 {
     match fault {
+        WordsFault::NoSuchPreference => {
+            print(b"no such preference\n", Status::BadArguments, errors)
+        }
         WordsFault::InputTwice => print(
             b"standard input named twice\n",
             Status::BadArguments,

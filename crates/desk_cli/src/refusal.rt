@@ -1,14 +1,15 @@
 //! Why a command was refused, and the line that says so.
 ghost use Rattle.std.specs.Prelude.{◌≡◌, Some};
 ghost use Rattle.std.specs.Fmt.{DisplaysOnOk};
-ghost use Rattle.desk_cli.specs.declared.refusal.Refusal.TheVariants.{Certificate, Check, Input, OutOfMemory, Run, Rush, Script, Set, Text};
-ghost use Rattle.desk_cli.specs.Refusals.{cause_words, certificate_words, check_words, fault_words, lone_cause_words, outranks_words, refusal_line, run_words, rush_words, script_words, status_of, text_words, words_of};
+ghost use Rattle.desk_cli.specs.declared.refusal.Refusal.TheVariants.{Certificate, Check, Input, OutOfMemory, Run, Rush, Script, Set, Settings, Text};
+ghost use Rattle.desk_cli.specs.Refusals.{cause_words, certificate_words, check_words, fault_words, lone_cause_words, outranks_words, refusal_line, run_words, rush_words, script_words, settings_words, status_of, text_words, words_of};
 
-use crate::releases::TextFault;
+use crate::release_text::TextFault;
 use crate::status::Status;
 use ceiling_kernel::RunFault;
 use cert_checker::CheckFault;
 use certificate::CertFault;
+use judge::SettingsFault;
 use rushes::RushFault;
 use scripts::ScriptFault;
 use std::alloc::{AllocError, AllocFailed};
@@ -31,6 +32,8 @@ pub enum Refusal {
     Text(TextFault),
     /// The release list was not run, or a job overran.
     Run(RunFault),
+    /// The settings' input is no settings of the set.
+    Settings(SettingsFault),
     /// The script's input is no script.
     Script(ScriptFault),
     /// The lines of a script were not run to the end of all teams.
@@ -87,6 +90,14 @@ impl From<RunFault> for Refusal {
     }
 }
 
+impl From<SettingsFault> for Refusal {
+    ghost from_gives = { λ fault refusal. refusal ≡ Settings fault };
+
+    fn from(fault: SettingsFault) -> Refusal {
+        Refusal::Settings(fault)
+    }
+}
+
 impl From<ScriptFault> for Refusal {
     ghost from_gives = { λ fault refusal. refusal ≡ Script fault };
 
@@ -137,6 +148,8 @@ impl Refusal {
             Refusal::Text(_) => Status::BadInput,
             Refusal::Run(RunFault::OutOfMemory) => Status::OutOfMemory,
             Refusal::Run(_) => Status::BadInput,
+            Refusal::Settings(SettingsFault::OutOfMemory) => Status::OutOfMemory,
+            Refusal::Settings(_) => Status::BadInput,
             Refusal::Script(ScriptFault::OutOfMemory) => Status::OutOfMemory,
             Refusal::Script(_) => Status::BadInput,
             Refusal::Rush(_) => Status::OutOfMemory,
@@ -305,6 +318,27 @@ fn write_run_fault<W: fmt::Write>(fault: RunFault, f: &mut fmt::Formatter<W>) ->
     }
 }
 
+// The name of a fault of settings, with its line or its name.
+fn write_settings_fault<W: fmt::Write>(
+    fault: SettingsFault,
+    f: &mut fmt::Formatter<W>,
+) -> fmt::Result
+    ensures { DisplaysOnOk W.write_str_gives f.old result (Some (settings_words fault)) f.new }
+{
+    match fault {
+        SettingsFault::BadLine { line } => write!(f, "BadLine {line}"),
+        SettingsFault::UnknownTask { line } => write!(f, "UnknownTask {line}"),
+        SettingsFault::UnknownLock { line } => write!(f, "UnknownLock {line}"),
+        SettingsFault::SameTask { line } => write!(f, "SameTask {line}"),
+        SettingsFault::SameLock { line } => write!(f, "SameLock {line}"),
+        SettingsFault::SameNumber { line } => write!(f, "SameNumber {line}"),
+        SettingsFault::MissingTask { name } => write!(f, "MissingTask {name}"),
+        SettingsFault::MissingLock { name } => write!(f, "MissingLock {name}"),
+        SettingsFault::WrongCeiling { name } => write!(f, "WrongCeiling {name}"),
+        SettingsFault::OutOfMemory => f.write_str("OutOfMemory"),
+    }
+}
+
 // The name of why lines were not run to the end.
 fn write_rush_fault<W: fmt::Write>(fault: RushFault, f: &mut fmt::Formatter<W>) -> fmt::Result
     ensures { DisplaysOnOk W.write_str_gives f.old result (Some (rush_words fault)) f.new }
@@ -331,6 +365,7 @@ fn write_words<W: fmt::Write>(refusal: Refusal, f: &mut fmt::Formatter<W>) -> fm
         Refusal::Check(fault) => write_check_fault(fault, f),
         Refusal::Text(fault) => write_text_fault(fault, f),
         Refusal::Run(fault) => write_run_fault(fault, f),
+        Refusal::Settings(fault) => write_settings_fault(fault, f),
         Refusal::Script(fault) => write_script_fault(fault, f),
         Refusal::Rush(fault) => write_rush_fault(fault, f),
         Refusal::OutOfMemory => f.write_str("OutOfMemory"),

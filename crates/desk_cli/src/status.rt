@@ -9,7 +9,7 @@ pub enum Status {
     Done,
     /// The words of the command line were refused.
     BadArguments,
-    /// No order of the set passes.
+    /// No order of the set passes, or the one that was given doesn't.
     Infeasible,
     /// An input was refused.
     BadInput,

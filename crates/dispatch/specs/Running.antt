@@ -1,26 +1,90 @@
 -- What a call prints and how it ends, on the inputs that it names.
-use Rattle.std.specs.Prelude.{ℕ, List, Option}
+use Rattle.std.specs.Prelude.{ℕ, List, Option, Bool, true, false}
+use Rattle.preferences.specs.declared.preferred.Preference.{Preference}
+use Rattle.preferences.specs.declared.preferred.Preference.TheVariants.{Weights, Deadline}
 use Rattle.desk_cli.specs.Admit.{Says, lines_of}
 use Rattle.desk_cli.specs.Certify.{certificate_lines}
 use Rattle.desk_cli.specs.Check.{SaysChecked}
+use Rattle.desk_cli.specs.Draw.{SaysDrawn}
+use Rattle.desk_cli.specs.Explain.{SaysExplained}
 use Rattle.desk_cli.specs.Headroom.{SaysHeadroom}
+use Rattle.desk_cli.specs.Judge.{SaysJudged}
+use Rattle.desk_cli.specs.Play.{SaysPlayed}
+use Rattle.desk_cli.specs.Releases.{SaysList}
+use Rattle.desk_cli.specs.Rush.{SaysRushed}
 use Rattle.desk_cli.specs.Settings.{settings_of}
 use Rattle.desk_cli.specs.Simulate.{SaysSimulated}
-use Rattle.command_line.specs.declared.words.Input.{Input}
-use Rattle.command_line.specs.declared.words.Call.{Call}
-use Rattle.desk_cli.specs.Playing.{SaysPlayed}
-use Rattle.desk_cli.specs.Rushing.{SaysRushed}
-use Rattle.command_line.specs.declared.words.Call.TheVariants.{Admit, Certify, Check, Simulate, Headroom, Settings, Play, Rush}
+use Rattle.streams.specs.Watching.{WatchedData}
 use Rattle.desk_cli.specs.declared.status.Status.{Status}
+use Rattle.command_line.specs.declared.calls.Input.{Input}
+use Rattle.command_line.specs.declared.calls.OfOne.{OfOne}
+use Rattle.command_line.specs.declared.calls.OfOne.TheVariants.{Admit, Certify, Headroom, Settings, Explain, Play}
+use Rattle.command_line.specs.declared.calls.OfTwo.{OfTwo}
+use Rattle.command_line.specs.declared.calls.OfTwo.TheVariants.{Check, Judge, Simulate, Draw}
+use Rattle.command_line.specs.declared.calls.OfNumber.{OfNumber}
+use Rattle.command_line.specs.declared.calls.OfNumber.TheVariants.{Releases, Rush}
+use Rattle.command_line.specs.declared.calls.Call.{Call}
+use Rattle.command_line.specs.declared.calls.Call.TheVariants.{One, Two, Number}
+
+-- by deadlines where the words say so, else by weights
+abbrev pub preference_of : Bool → Preference
+preference_of true = Deadline
+preference_of false = Weights
+
+-- what the writer held, what it holds then, and the status, are those of the command's answer on what a reader has, by a
+-- preference where that is a set
+abbrev pub OneSays : OfOne → Preference → Option (List ℕ) → (before after : Option (List ℕ))
+    → Status → Type 0
+OneSays Admit preference known before after s = Says lines_of preference known before after s
+OneSays Certify preference known before after s =
+    Says certificate_lines preference known before after s
+OneSays Headroom preference known before after s = SaysHeadroom preference known before after s
+OneSays Settings preference known before after s = Says settings_of preference known before after s
+OneSays Explain preference known before after s = SaysExplained preference known before after s
+OneSays Play preference known before after s = SaysPlayed known before after s
+
+-- the same of a command of two inputs
+abbrev pub TwoSay :
+    OfTwo → Preference → (first second : Option (List ℕ)) → (before after : Option (List ℕ))
+    → Status → Type 0
+TwoSay Check preference first second before after s =
+    SaysChecked preference first second before after s
+TwoSay Judge preference first second before after s =
+    SaysJudged preference first second before after s
+TwoSay Simulate preference first second before after s =
+    SaysSimulated preference first second before after s
+TwoSay Draw preference first second before after s =
+    SaysDrawn preference first second before after s
+
+-- the same of a command with a number; of `rush`, whose commits are tested by at most so many workers, it says what
+-- becomes of the errors, too
+abbrev pub NumberSays :
+    {E : Type 0} → OfNumber → Preference → ℕ → Option (List ℕ) → (before after : Option (List ℕ))
+    → (E → Option (List ℕ)) → (old new : WatchedData E) → Status → Type 0
+NumberSays Releases preference until known before after told old new s =
+    SaysList preference until known before after s
+NumberSays Rush preference workers known before after told old new s =
+    SaysRushed known workers before after told old new s
 
 -- where inputs have some bytes, the answer of the call's command is printed after what the writer held, and
 -- the status is the answer's
-abbrev pub CallSays : (Input → Option (List ℕ)) → Call → Option (List ℕ) → Option (List ℕ) → Status → Type 0
-CallSays has (Admit set) before after s = Says lines_of (has set) before after s
-CallSays has (Certify set) before after s = Says certificate_lines (has set) before after s
-CallSays has (Check set certificate) before after s = SaysChecked (has set) (has certificate) before after s
-CallSays has (Simulate set releases) before after s = SaysSimulated (has set) (has releases) before after s
-CallSays has (Headroom set) before after s = SaysHeadroom (has set) before after s
-CallSays has (Settings set) before after s = Says settings_of (has set) before after s
-CallSays has (Play script) before after s = SaysPlayed (has script) before after s
-CallSays has (Rush script workers) before after s = SaysRushed (has script) before after s
+abbrev pub CallSays :
+    {E : Type 0} → (Input → Option (List ℕ)) → Call → (before after : Option (List ℕ))
+    → (E → Option (List ℕ))
+    → (old new : WatchedData E) → Status → Type 0
+CallSays has (One command input by_deadline) before after told old new s =
+    OneSays command (preference_of by_deadline) (has input) before after s
+CallSays has (Two command first second by_deadline) before after told old new s =
+    TwoSay command (preference_of by_deadline) (has first) (has second) before after s
+CallSays has (Number command input number by_deadline) before after told old new s =
+    NumberSays command (preference_of by_deadline) number (has input) before after told old new s
+
+-- a command with a number may write to the errors
+abbrev pub NumberTells : OfNumber → Type 0
+NumberTells Releases = ⊥
+NumberTells Rush = Unit {0}
+
+-- the call's command may write to the errors
+abbrev pub MayTell : Call → Type 0
+MayTell (Number command input number by_deadline) = NumberTells command
+MayTell _ = ⊥

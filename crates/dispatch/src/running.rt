@@ -1,17 +1,21 @@
 //! Running a call on the inputs that it names.
-ghost use Rattle.std.specs.Prelude.{◌≡◌, ◌≢◌, ◌⊎◌, ℕ, List, Option, None, Some, true, false, IfOk, OnErr, IfSome};
+ghost use Rattle.std.specs.Prelude.{◌≡◌, ◌≢◌, ◌⊎◌, ◌≤◌, ℕ, List, Option, None, Some, true, false, IfOk, OnErr, IfSome};
 ghost use Rattle.std.specs.Io.KnownBytes.{Appends};
-ghost use Rattle.command_line.specs.declared.words.Input.{Input};
-ghost use Rattle.command_line.specs.Calls.{HasWorkers};
-ghost use Rattle.dispatch.specs.Running.{CallSays};
+ghost use Rattle.command_line.specs.declared.calls.Input.{Input};
+ghost use Rattle.command_line.specs.Calls.{HasNumber};
+ghost use Rattle.command_line.specs.Commands.{least_of, most_of};
+ghost use Rattle.dispatch.specs.Running.{CallSays, MayTell, NumberSays, NumberTells, OneSays, TwoSay, preference_of};
+ghost use Rattle.streams.specs.Inputs.{IsDisturbed};
 ghost use Rattle.desk_cli.specs.Refusals.{refusal_line};
 ghost use Rattle.dispatch.specs.Opened.{AreOpened, AreUnread, HasFailed};
 
-use command_line::{Call, Input};
+use command_line::{Call, Input, OfNumber, OfOne, OfTwo};
 use desk_cli::{
-    Refusal, Status, admit, certify, check_files, play, print_headroom, print_settings, refuse,
-    rush, simulate,
+    Audience, Refusal, Status, Which, refuse, run_admit, run_certify, run_check, run_draw,
+    run_explain, run_headroom, run_judge, run_play, run_releases, run_rush, run_settings,
+    run_simulate,
 };
+use preferences::Preference;
 use std::alloc::Global;
 use std::io::{Read, Write};
 use std::sync::Wait;
@@ -37,7 +41,8 @@ pub trait Opens {
     ghost may_refuse: { Self → Input → Type 0 };
 
     fn open(&self, input: Input<'_>) -> Result<Self::Source, NotOpened>
-        ensures source { IfOk result (λ source. Self.Source.remaining source ≡ bytes self.now input.entry) }
+        ensures source { IfOk result (λ source. Self.Source.remaining source
+            ≡ bytes self.now input.entry) }
         ensures refused { OnErr result (may_refuse self.now input.entry) };
 }
 
@@ -51,9 +56,21 @@ pub struct CallEnd<S: Read + Drop> {
     pub second: Option<Watched<S>>,
 }
 
+// By what a set is preferred.
+fn preference_of(by_deadline: bool) -> Preference
+    ensures { result ≡ preference_of by_deadline }
+{
+    if by_deadline {
+        Preference::Deadline
+    } else {
+        Preference::Weights
+    }
+}
+
 // An input, where it is opened.
 fn open_one<O: Opens>(inputs: &O, input: Input<'_>) -> Option<Watched<O::Source>>
-    ensures bytes { IfSome result (λ reader. O.Source.remaining reader.inner ≡ O.bytes inputs.now input.entry) }
+    ensures bytes { IfSome result (λ reader. O.Source.remaining reader.inner
+        ≡ O.bytes inputs.now input.entry) }
     ensures fresh { IfSome result (λ reader. reader.has_failed ≡ false) }
     ensures refused { result ≡ None → O.may_refuse inputs.now input.entry }
 {
@@ -63,32 +80,41 @@ fn open_one<O: Opens>(inputs: &O, input: Input<'_>) -> Option<Watched<O::Source>
     }
 }
 
-// Two inputs, where both are opened. The second is opened only where the first was.
+// Two inputs; or the one that was not opened. The second is opened only where the first was.
 fn open_both<O: Opens>(
     inputs: &O,
     first: Input<'_>,
     second: Input<'_>,
-) -> Option<(Watched<O::Source>, Watched<O::Source>)>
-    ensures first { IfSome result (λ both. (O.Source.remaining both.0.inner ≡ O.bytes inputs.now first.entry)
+) -> Result<(Watched<O::Source>, Watched<O::Source>), Which>
+    ensures first { IfOk result (λ both. (O.Source.remaining both.0.inner
+        ≡ O.bytes inputs.now first.entry)
         × (both.0.has_failed ≡ false)) }
-    ensures second { IfSome result (λ both. (O.Source.remaining both.1.inner ≡ O.bytes inputs.now second.entry)
+    ensures second { IfOk result (λ both. (O.Source.remaining both.1.inner
+        ≡ O.bytes inputs.now second.entry)
         × (both.1.has_failed ≡ false)) }
-    ensures refused { result ≡ None → O.may_refuse inputs.now first.entry ⊎ O.may_refuse inputs.now second.entry }
+    ensures refused { OnErr result (O.may_refuse inputs.now first.entry
+        ⊎ O.may_refuse inputs.now second.entry) }
 {
-    let first = open_one(inputs, first)?;
-    let second = open_one(inputs, second)?;
-    Some((first, second))
+    let first = open_one(inputs, first).ok_or(Which::First)?;
+    let second = open_one(inputs, second).ok_or(Which::Second)?;
+    Ok((first, second))
 }
 
-// A call of which an input was not opened.
-fn not_opened<S: Read + Drop, W: Write + Drop>(output: &mut Watched<W>) -> CallEnd<S>
+// A call of which an input was not opened, which the audience is told.
+fn not_opened<S: Read + Drop, W: Write + Drop, P: Audience>(
+    which: Which,
+    output: &mut Watched<W>,
+    people: &mut P,
+) -> CallEnd<S>
     ensures printed { output.new.has_failed ≡ false
-        → Appends (W.contents output.old.inner) (W.contents output.new.inner) (refusal_line (Refusal.Input InputFault.ReadFailed)) }
+        → Appends (W.contents output.old.inner) (W.contents output.new.inner)
+        (refusal_line (Refusal.Input InputFault.ReadFailed)) }
     ensures status { output.new.has_failed ≡ false → result.status ≡ Status.InputOrOutputFailed }
     ensures unwritten { output.old.has_failed ≡ false → output.new.has_failed ≡ true
         → result.status ≡ Status.InputOrOutputFailed }
     ensures none { (result.first ≡ None) × (result.second ≡ None) }
 {
+    people.refused(which, b"", NOT_OPENED);
     CallEnd {
         status: refuse(NOT_OPENED, output),
         first: None,
@@ -109,7 +135,8 @@ fn ran_one<S: Read + Drop>(status: Status, input: Watched<S>) -> CallEnd<S>
 
 // A call of two inputs.
 fn ran_both<S: Read + Drop>(status: Status, first: Watched<S>, second: Watched<S>) -> CallEnd<S>
-    ensures { (result.status ≡ status) × (result.first ≡ Some first) × (result.second ≡ Some second) }
+    ensures { (result.status ≡ status) × (result.first ≡ Some first)
+        × (result.second ≡ Some second) }
 {
     CallEnd {
         status,
@@ -118,83 +145,193 @@ fn ran_both<S: Read + Drop>(status: Status, first: Watched<S>, second: Watched<S
     }
 }
 
-/// Opens the inputs of a call, in the order in which they are named, and runs its command.
-pub fn run_call<O: Opens, W: Write + Drop, R: Threads + Wait + Sync>(
+// Runs a command on its input.
+fn run_one<S: Read + Drop, W: Write + Drop, P: Audience>(
+    alloc: Global,
+    command: OfOne,
+    preference: Preference,
+    input: &mut Watched<S>,
+    output: &mut Watched<W>,
+    people: &mut P,
+) -> Status
+    ensures printed { output.new.has_failed ≡ false
+        → OneSays command preference (S.remaining input.old.inner)
+        (W.contents output.old.inner) (W.contents output.new.inner) result }
+    ensures failed { result ≡ Status.InputOrOutputFailed
+        → IsDisturbed input.new ⊎ (output.new.has_failed ≡ true) }
+    ensures unread { input.old.has_failed ≡ false → input.new.has_failed ≡ true
+        → output.old.has_failed ≡ false → result ≡ Status.InputOrOutputFailed }
+    ensures unwritten { output.old.has_failed ≡ false → output.new.has_failed ≡ true
+        → result ≡ Status.InputOrOutputFailed }
+{
+    match command {
+        OfOne::Admit => run_admit(alloc, preference, input, output, people),
+        OfOne::Certify => run_certify(alloc, preference, input, output, people),
+        OfOne::Headroom => run_headroom(alloc, preference, input, output, people),
+        OfOne::Settings => run_settings(alloc, preference, input, output, people),
+        OfOne::Explain => run_explain(alloc, preference, input, output, people),
+        OfOne::Play => run_play(alloc, input, output, people),
+    }
+}
+
+// Runs a command on a task set and a second input.
+fn run_two<S: Read + Drop, W: Write + Drop, P: Audience>(
+    alloc: Global,
+    command: OfTwo,
+    preference: Preference,
+    first: &mut Watched<S>,
+    second: &mut Watched<S>,
+    output: &mut Watched<W>,
+    people: &mut P,
+) -> Status
+    ensures printed { output.new.has_failed ≡ false
+        → TwoSay command preference (S.remaining first.old.inner) (S.remaining second.old.inner)
+        (W.contents output.old.inner) (W.contents output.new.inner) result }
+    ensures failed { result ≡ Status.InputOrOutputFailed
+        → (IsDisturbed first.new ⊎ IsDisturbed second.new) ⊎ (output.new.has_failed ≡ true) }
+    ensures unread { first.old.has_failed ≡ false → second.old.has_failed ≡ false
+        → (first.new.has_failed ≡ true) ⊎ (second.new.has_failed ≡ true)
+        → output.old.has_failed ≡ false → result ≡ Status.InputOrOutputFailed }
+    ensures unwritten { output.old.has_failed ≡ false → output.new.has_failed ≡ true
+        → result ≡ Status.InputOrOutputFailed }
+{
+    match command {
+        OfTwo::Check => run_check(alloc, preference, first, second, output, people),
+        OfTwo::Judge => run_judge(alloc, preference, first, second, output, people),
+        OfTwo::Simulate => run_simulate(alloc, preference, first, second, output, people),
+        OfTwo::Draw => run_draw(alloc, preference, first, second, output, people),
+    }
+}
+
+// Runs a command on its input and its number.
+fn run_number<
+    S: Read + Drop,
+    W: Write + Drop,
+    E: Write + Drop,
+    P: Audience,
+    R: Threads + Wait + Sync,
+>(
+    rt: &R,
+    alloc: Global,
+    command: OfNumber,
+    preference: Preference,
+    input: &mut Watched<S>,
+    number: usize,
+    output: &mut Watched<W>,
+    errors: &mut Watched<E>,
+    people: &mut P,
+) -> Status
+    requires { (least_of command ≤ number) × (number ≤ most_of command) }
+    ensures printed { output.new.has_failed ≡ false
+        → NumberSays command preference number (S.remaining input.old.inner)
+        (W.contents output.old.inner)
+        (W.contents output.new.inner) (λ e. E.contents e) errors.old errors.new result }
+    ensures quiet { (NumberTells command → ⊥) ⊎ (output.new.has_failed ≡ true)
+        → errors.new ≡ errors.old }
+    ensures failed { result ≡ Status.InputOrOutputFailed → IsDisturbed input.new
+        ⊎ (output.new.has_failed ≡ true) ⊎ (NumberTells command × (errors.new.has_failed ≡ true)) }
+    ensures unread { input.old.has_failed ≡ false → input.new.has_failed ≡ true
+        → output.old.has_failed ≡ false → result ≡ Status.InputOrOutputFailed }
+    ensures unwritten { output.old.has_failed ≡ false → output.new.has_failed ≡ true
+        → result ≡ Status.InputOrOutputFailed }
+    ensures untold { errors.old.has_failed ≡ false → errors.new.has_failed ≡ true
+        → result ≡ Status.InputOrOutputFailed }
+{
+    match command {
+        OfNumber::Releases => run_releases(alloc, preference, input, number as u64, output, people),
+        OfNumber::Rush => run_rush(rt, alloc, input, number, output, errors, people),
+    }
+}
+
+/// Opens the inputs of a call, in the order in which they are named, and runs its command. What is
+/// for people alone goes to the errors; and the audience is told what became of the inputs.
+pub fn run_call<O: Opens, W: Write + Drop, E: Write + Drop, P: Audience, R: Threads + Wait + Sync>(
     rt: &R,
     alloc: Global,
     call: Call<'_>,
     inputs: &O,
     output: &mut Watched<W>,
+    errors: &mut Watched<E>,
+    people: &mut P,
 ) -> CallEnd<O::Source>
-    requires { HasWorkers call }
+    requires { HasNumber call }
     ensures printed { output.new.has_failed ≡ false
-        → CallSays (O.bytes inputs.now) call.entry (W.contents output.old.inner) (W.contents output.new.inner)
-        result.status }
+        → CallSays (O.bytes inputs.now) call.entry (W.contents output.old.inner)
+        (W.contents output.new.inner) (λ e. E.contents e) errors.old errors.new result.status }
+    ensures quiet { (MayTell call.entry → ⊥) ⊎ (output.new.has_failed ≡ true)
+        → errors.new ≡ errors.old }
     ensures failed { result.status ≡ Status.InputOrOutputFailed
-        → AreUnread (O.may_refuse inputs.now) call.entry result.first result.second ⊎ (output.new.has_failed ≡ true) }
+        → AreUnread (O.may_refuse inputs.now) call.entry result.first result.second
+        ⊎ (output.new.has_failed ≡ true) ⊎ (MayTell call.entry × (errors.new.has_failed ≡ true)) }
     ensures opened { output.old.has_failed ≡ false → result.status ≢ Status.InputOrOutputFailed
         → AreOpened call.entry result.first result.second }
-    ensures unread { HasFailed result.first ⊎ HasFailed result.second → output.old.has_failed ≡ false
-        → result.status ≡ Status.InputOrOutputFailed }
+    ensures unread { HasFailed result.first ⊎ HasFailed result.second
+        → output.old.has_failed ≡ false → result.status ≡ Status.InputOrOutputFailed }
     ensures unwritten { output.old.has_failed ≡ false → output.new.has_failed ≡ true
+        → result.status ≡ Status.InputOrOutputFailed }
+    ensures untold { errors.old.has_failed ≡ false → errors.new.has_failed ≡ true
         → result.status ≡ Status.InputOrOutputFailed }
 {
     match call {
-        Call::Admit { set } => match open_one(inputs, set) {
-            Some(mut set) => {
-                let status = admit(alloc, &mut set, output);
-                ran_one(status, set)
+        Call::One {
+            command,
+            input,
+            by_deadline,
+        } => match open_one(inputs, input) {
+            Some(mut input) => {
+                let status = run_one(
+                    alloc,
+                    command,
+                    preference_of(by_deadline),
+                    &mut input,
+                    output,
+                    people,
+                );
+                ran_one(status, input)
             }
-            None => not_opened(output),
+            None => not_opened(Which::First, output, people),
         },
-        Call::Certify { set } => match open_one(inputs, set) {
-            Some(mut set) => {
-                let status = certify(alloc, &mut set, output);
-                ran_one(status, set)
+        Call::Two {
+            command,
+            first,
+            second,
+            by_deadline,
+        } => match open_both(inputs, first, second) {
+            Ok((mut first, mut second)) => {
+                let status = run_two(
+                    alloc,
+                    command,
+                    preference_of(by_deadline),
+                    &mut first,
+                    &mut second,
+                    output,
+                    people,
+                );
+                ran_both(status, first, second)
             }
-            None => not_opened(output),
+            Err(which) => not_opened(which, output, people),
         },
-        Call::Check { set, certificate } => match open_both(inputs, set, certificate) {
-            Some((mut set, mut certificate)) => {
-                let status = check_files(alloc, &mut set, &mut certificate, output);
-                ran_both(status, set, certificate)
+        Call::Number {
+            command,
+            input,
+            number,
+            by_deadline,
+        } => match open_one(inputs, input) {
+            Some(mut input) => {
+                let status = run_number(
+                    rt,
+                    alloc,
+                    command,
+                    preference_of(by_deadline),
+                    &mut input,
+                    number,
+                    output,
+                    errors,
+                    people,
+                );
+                ran_one(status, input)
             }
-            None => not_opened(output),
-        },
-        Call::Simulate { set, releases } => match open_both(inputs, set, releases) {
-            Some((mut set, mut releases)) => {
-                let status = simulate(alloc, &mut set, &mut releases, output);
-                ran_both(status, set, releases)
-            }
-            None => not_opened(output),
-        },
-        Call::Headroom { set } => match open_one(inputs, set) {
-            Some(mut set) => {
-                let status = print_headroom(alloc, &mut set, output);
-                ran_one(status, set)
-            }
-            None => not_opened(output),
-        },
-        Call::Settings { set } => match open_one(inputs, set) {
-            Some(mut set) => {
-                let status = print_settings(alloc, &mut set, output);
-                ran_one(status, set)
-            }
-            None => not_opened(output),
-        },
-        Call::Play { script } => match open_one(inputs, script) {
-            Some(mut script) => {
-                let status = play(alloc, &mut script, output);
-                ran_one(status, script)
-            }
-            None => not_opened(output),
-        },
-        Call::Rush { script, workers } => match open_one(inputs, script) {
-            Some(mut script) => {
-                let status = rush(rt, alloc, &mut script, workers, output);
-                ran_one(status, script)
-            }
-            None => not_opened(output),
+            None => not_opened(Which::First, output, people),
         },
     }
 }

@@ -3,7 +3,8 @@ use Rattle.std.specs.Prelude.{◌≡◌, ◌⊎◌, ℕ, ◌+◌, ◌^◌, ◌<�
 use Rattle.streams.specs.Watching.{WatchedData}
 use Rattle.streams.specs.declared.input.TheConstants.{INPUT_LIMIT, TURN_LIMIT}
 
--- the bytes are all that a reader had, where it says what it has, and no more than an input may have
+-- the bytes are all that a reader had, where it says what it has, and no more than an input may
+-- have
 pub record IsReadFrom (known : Option (List ℕ)) (bytes : List ℕ) : Type 0 where
   pub whole : IfSome known (λ all. bytes ≡ all)
   pub within : length bytes ≤ INPUT_LIMIT

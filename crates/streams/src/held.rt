@@ -9,9 +9,9 @@ use std::io::Write;
 use std::marker::Model;
 
 // How many bytes are held back at most.
-const ROOM: usize = 4096;
+const ROOM: usize = 65536;
 
-/// Up to 4096 bytes that wait to be written. They lie in the value itself, and take no memory.
+/// Up to 65,536 bytes that wait to be written. They lie in the value itself, and take no memory.
 #[derive(Drop)]
 pub struct Held {
     bytes: [u8; ROOM],
@@ -69,7 +69,8 @@ impl Held {
 
     /// Writes what is held back.
     pub fn send<W: Write + Drop>(&mut self, out: &mut Watched<W>) -> Result<(), WriteFailed>
-        ensures sent { OnOk result (Appends (W.contents out.old.inner) (W.contents out.new.inner) self.old) }
+        ensures sent { OnOk result
+            (Appends (W.contents out.old.inner) (W.contents out.new.inner) self.old) }
         ensures empty { OnOk result (self.new ≡ []) }
         ensures ok { OnOk result (out.new.has_failed ≡ out.old.has_failed) }
         ensures failed { OnErr result (out.new.has_failed ≡ true) }
@@ -88,7 +89,8 @@ impl Held {
         out: &mut Watched<W>,
     ) -> Result<(), WriteFailed>
         ensures sent { OnOk result
-            (Sends (W.contents out.old.inner) self.old (W.contents out.new.inner) self.new text.now) }
+            (Sends (W.contents out.old.inner) self.old
+            (W.contents out.new.inner) self.new text.now) }
         ensures ok { OnOk result (out.new.has_failed ≡ out.old.has_failed) }
         ensures failed { OnErr result (out.new.has_failed ≡ true) }
         ensures stuck { out.old.has_failed ≡ true → out.new ≡ out.old }

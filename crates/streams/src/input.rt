@@ -72,7 +72,8 @@ pub fn read_both<R: Read + Drop, S: Read + Drop>(
         × IsReadFrom (S.remaining second.old.inner) both.1.items) }
     ensures too_long { result ≡ Err InputFault.TooLong
         → IsTooLong (R.remaining first.old.inner) ⊎ IsTooLong (S.remaining second.old.inner) }
-    ensures failed { result ≡ Err InputFault.ReadFailed → IsDisturbed first.new ⊎ IsDisturbed second.new }
+    ensures failed { result ≡ Err InputFault.ReadFailed
+        → IsDisturbed first.new ⊎ IsDisturbed second.new }
     ensures answered { first.old.has_failed ≡ false → second.old.has_failed ≡ false
         → (first.new.has_failed ≡ true) ⊎ (second.new.has_failed ≡ true)
         → result ≡ Err InputFault.ReadFailed }
@@ -80,11 +81,13 @@ pub fn read_both<R: Read + Drop, S: Read + Drop>(
         → first.new.has_failed ≡ false → second.new.has_failed ≡ false
         → AreTurnsSpent first.old first.new ⊎ AreTurnsSpent second.old second.new }
     ensures turns { IsWithinTurns first.old first.new × IsWithinTurns second.old second.new }
-    ensures first_too_long { (all : List ℕ) → R.remaining first.old.inner ≡ Some all → INPUT_LIMIT < length all
+    ensures first_too_long { (all : List ℕ) → R.remaining first.old.inner ≡ Some all
+        → INPUT_LIMIT < length all
         → second.new ≡ second.old }
     ensures first_left { (rest : List ℕ) → R.remaining first.new.inner ≡ Some rest → rest ≢ []
         → second.new ≡ second.old }
-    ensures first_failed { first.old.has_failed ≡ false → first.new.has_failed ≡ true → second.new ≡ second.old }
+    ensures first_failed { first.old.has_failed ≡ false → first.new.has_failed ≡ true
+        → second.new ≡ second.old }
 {
     let front = read_input(alloc, first)?;
     let back = read_input(alloc, second)?;

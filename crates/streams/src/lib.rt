@@ -3,6 +3,7 @@
 
 mod held;
 mod input;
+mod patient;
 mod watched;
 
 pub use held::Held;

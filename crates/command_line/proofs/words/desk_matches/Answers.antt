@@ -2,7 +2,7 @@ use Rattle.std.proofs.Common.{ap, ap₂, refl, subst, ◌∙◌, ◌≡◌, true
 use Rattle.std.proofs.lemmas.Result.{IfOk-weaker}
 use Rattle.clap.specs.Words.{App, FailsBy, Text, app_of, fault_of, is_simple, is_simple_and_free, subcommand_of}
 use Rattle.clap.proofs.OnLiterals.{clap_on_literals}
-use Rattle.command_line.proofs.Commands.{command_of}
+use Rattle.command_line.proofs.Entered.{command_of}
 use Rattle.command_line.specs.App.{desk_app}
 use Rattle.command_line.proofs.words.desk_matches.Goals as goal
 

@@ -1,0 +1,7 @@
+//! What a person is told on standard error beside an answer: a sentence for a refusal, notes on a set.
+#![tactic(auto)]
+
+mod advice;
+mod sentence;
+
+pub use advice::Advice;

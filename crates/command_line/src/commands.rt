@@ -1,0 +1,252 @@
+//! The commands as `clap` takes them.
+ghost use Rattle.std.specs.Prelude.{◌≡◌, IfOk, false};
+ghost use Rattle.clap.specs.Words.{app_of, new_app, rule_of, with_rule, with_subcommand};
+ghost use Rattle.clap.specs.declared.builder.command.Command.TheViews.{out-Command as fields_of};
+ghost use Rattle.command_line.specs.App.{app_of_number, app_of_one, app_of_two, bare_app, desk_app, input_app, input_rule, number_rule, preference_rule, run_commands, set_commands, with_commands};
+ghost use Rattle.command_line.specs.Commands.{least_of, most_of, number_of};
+
+use crate::calls::{LATEST_END, MOST_WORKERS, OfNumber, OfOne, OfTwo};
+use clap::builder::ValueParser;
+use clap::{Arg, ArgAction, Command, value_parser};
+use std::alloc::{AllocError, Global};
+
+// The program's version.
+const VERSION: &str = "0.5.0";
+
+// What an input is.
+fn input_help<'a>(name: &str) -> &'a str {
+    match name {
+        "CERT" => "A certificate: a path, or - for standard input",
+        "RELEASES" => "A release list: a path, or - for standard input",
+        "SCRIPT" => "A script: a path, or - for standard input",
+        "SETTINGS" => "Lines as settings prints them: a path, or - for standard input",
+        _ => "A task set in TOML: a path, or - for standard input",
+    }
+}
+
+// An input that has to be named.
+fn input_arg<'a>(alloc: Global, name: &'a str) -> Arg<'a>
+    ensures rule { rule_of result ≡ input_rule name.entry.now }
+    ensures local { result.global ≡ false }
+{
+    Arg::new(alloc, name)
+        .required(true)
+        .action(ArgAction::Set)
+        .help(input_help(name))
+}
+
+// The option `--prefer`.
+fn preference_arg<'a>(alloc: Global) -> Arg<'a>
+    ensures rule { rule_of result ≡ preference_rule }
+    ensures local { result.global ≡ false }
+{
+    Arg::new(alloc, "prefer")
+        .long("prefer")
+        .action(ArgAction::Set)
+        .value_name("ORDER")
+        .help("What decides among the orders that pass in place of the weights: deadline")
+}
+
+// What reads the number of a command.
+fn number_parser<'a>(command: OfNumber) -> ValueParser<'a>
+    ensures { result ≡ ValueParser.Unsigned (least_of command) (most_of command) }
+{
+    match command {
+        OfNumber::Releases => value_parser!(usize).range(0..=LATEST_END as i64),
+        OfNumber::Rush => value_parser!(usize).range(1..=MOST_WORKERS as i64),
+    }
+}
+
+// The number that a command takes.
+fn number_arg<'a>(alloc: Global, command: OfNumber) -> Arg<'a>
+    ensures rule { rule_of result ≡ number_rule (number_of command) (least_of command)
+        (most_of command) }
+    ensures local { result.global ≡ false }
+{
+    Arg::new(alloc, command.number())
+        .required(true)
+        .action(ArgAction::Set)
+        .help(command.number_help())
+        .value_parser(number_parser(command))
+}
+
+// A command with one input, and with `--prefer` where that is a task set.
+fn input_command<'a>(
+    alloc: Global,
+    word: &'a str,
+    about: &'a str,
+    example: &'a str,
+    input: &'a str,
+) -> Result<Command<'a>, AllocError>
+    ensures app { IfOk result (λ c. app_of c ≡ input_app word.entry.now input.entry.now) }
+    ensures local { IfOk result (λ c. (fields_of c).has_globals ≡ false) }
+{
+    let bare = Command::new(alloc, word).about(about).after_help(example);
+    let command = with_arg(bare, input_arg(alloc, input))?;
+    if input == "SET" {
+        with_arg(command, preference_arg(alloc))
+    } else {
+        Ok(command)
+    }
+}
+
+// A command with one more argument.
+fn with_arg<'a>(command: Command<'a>, arg: Arg<'a>) -> Result<Command<'a>, AllocError>
+    requires command { (fields_of command).has_globals ≡ false }
+    requires arg { arg.global ≡ false }
+    ensures app { IfOk result (λ c. app_of c ≡ with_rule (app_of command.entry)
+        (rule_of arg.entry)) }
+    ensures local { IfOk result (λ c. (fields_of c).has_globals ≡ false) }
+{
+    let both = command.arg(arg)?;
+    Ok(both)
+}
+
+fn command_of_one<'a>(alloc: Global, command: OfOne) -> Result<Command<'a>, AllocError>
+    ensures app { IfOk result (λ c. app_of c ≡ app_of_one command) }
+    ensures local { IfOk result (λ c. (fields_of c).has_globals ≡ false) }
+{
+    input_command(
+        alloc,
+        command.word(),
+        command.about(),
+        command.example(),
+        command.input(),
+    )
+}
+
+fn command_of_two<'a>(alloc: Global, command: OfTwo) -> Result<Command<'a>, AllocError>
+    ensures app { IfOk result (λ c. app_of c ≡ app_of_two command) }
+    ensures local { IfOk result (λ c. (fields_of c).has_globals ≡ false) }
+{
+    let first = input_command(
+        alloc,
+        command.word(),
+        command.about(),
+        command.example(),
+        "SET",
+    )?;
+    with_arg(first, input_arg(alloc, command.second()))
+}
+
+fn command_of_number<'a>(alloc: Global, command: OfNumber) -> Result<Command<'a>, AllocError>
+    ensures app { IfOk result (λ c. app_of c ≡ app_of_number command) }
+    ensures local { IfOk result (λ c. (fields_of c).has_globals ≡ false) }
+{
+    let first = input_command(
+        alloc,
+        command.word(),
+        command.about(),
+        command.example(),
+        command.input(),
+    )?;
+    with_arg(first, number_arg(alloc, command))
+}
+
+// The program with no command yet.
+fn bare_command<'a>(alloc: Global) -> Result<Command<'a>, AllocError>
+    ensures app { IfOk result (λ c. app_of c ≡ bare_app) }
+    ensures local { IfOk result (λ c. (fields_of c).has_globals ≡ false) }
+{
+    let about =
+        "An admission desk for the periodic tasks of one processor; without a command: admit -";
+    let bare = Command::new(alloc, "desk")
+        .about(about)
+        .version(VERSION)
+        .no_binary_name(true)
+        .subcommand_required(true);
+    let desk = bare.bin_name("desk")?;
+    Ok(desk)
+}
+
+// The program with one more command.
+fn with_command<'a>(above: Command<'a>, command: Command<'a>) -> Result<Command<'a>, AllocError>
+    requires above { (fields_of above).has_globals ≡ false }
+    requires command { (fields_of command).has_globals ≡ false }
+    ensures app { IfOk result (λ c. app_of c ≡ with_subcommand (app_of above.entry)
+        (app_of command.entry).top) }
+    ensures local { IfOk result (λ c. (fields_of c).has_globals ≡ false) }
+{
+    let both = above.subcommand(command)?;
+    Ok(both)
+}
+
+fn with_one<'a>(
+    alloc: Global,
+    above: Command<'a>,
+    command: OfOne,
+) -> Result<Command<'a>, AllocError>
+    requires { (fields_of above).has_globals ≡ false }
+    ensures app { IfOk result (λ c. app_of c ≡ with_subcommand (app_of above.entry)
+        (app_of_one command).top) }
+    ensures local { IfOk result (λ c. (fields_of c).has_globals ≡ false) }
+{
+    let command = command_of_one(alloc, command)?;
+    with_command(above, command)
+}
+
+fn with_two<'a>(
+    alloc: Global,
+    above: Command<'a>,
+    command: OfTwo,
+) -> Result<Command<'a>, AllocError>
+    requires { (fields_of above).has_globals ≡ false }
+    ensures app { IfOk result (λ c. app_of c ≡ with_subcommand (app_of above.entry)
+        (app_of_two command).top) }
+    ensures local { IfOk result (λ c. (fields_of c).has_globals ≡ false) }
+{
+    let command = command_of_two(alloc, command)?;
+    with_command(above, command)
+}
+
+fn with_number<'a>(
+    alloc: Global,
+    above: Command<'a>,
+    command: OfNumber,
+) -> Result<Command<'a>, AllocError>
+    requires { (fields_of above).has_globals ≡ false }
+    ensures app { IfOk result (λ c. app_of c ≡ with_subcommand (app_of above.entry)
+        (app_of_number command).top) }
+    ensures local { IfOk result (λ c. (fields_of c).has_globals ≡ false) }
+{
+    let command = command_of_number(alloc, command)?;
+    with_command(above, command)
+}
+
+// The commands that answer on a task set.
+fn with_set_commands<'a>(alloc: Global, bare: Command<'a>) -> Result<Command<'a>, AllocError>
+    requires { (fields_of bare).has_globals ≡ false }
+    ensures app { IfOk result (λ c. app_of c ≡ with_commands (app_of bare.entry) set_commands) }
+    ensures local { IfOk result (λ c. (fields_of c).has_globals ≡ false) }
+{
+    let first = with_one(alloc, bare, OfOne::Admit)?;
+    let second = with_one(alloc, first, OfOne::Explain)?;
+    let third = with_one(alloc, second, OfOne::Headroom)?;
+    let fourth = with_one(alloc, third, OfOne::Settings)?;
+    with_two(alloc, fourth, OfTwo::Judge)
+}
+
+// Those for certificates and runs.
+fn with_run_commands<'a>(alloc: Global, above: Command<'a>) -> Result<Command<'a>, AllocError>
+    requires { (fields_of above).has_globals ≡ false }
+    ensures app { IfOk result (λ c. app_of c ≡ with_commands (app_of above.entry) run_commands) }
+    ensures local { IfOk result (λ c. (fields_of c).has_globals ≡ false) }
+{
+    let first = with_one(alloc, above, OfOne::Certify)?;
+    let second = with_two(alloc, first, OfTwo::Check)?;
+    let third = with_number(alloc, second, OfNumber::Releases)?;
+    let fourth = with_two(alloc, third, OfTwo::Simulate)?;
+    with_two(alloc, fourth, OfTwo::Draw)
+}
+
+// The program with all its commands.
+pub(crate) fn desk_command<'a>(alloc: Global) -> Result<Command<'a>, AllocError>
+    ensures app { IfOk result (λ c. app_of c ≡ desk_app) }
+    ensures local { IfOk result (λ c. (fields_of c).has_globals ≡ false) }
+{
+    let bare = bare_command(alloc)?;
+    let sets = with_set_commands(alloc, bare)?;
+    let runs = with_run_commands(alloc, sets)?;
+    let plays = with_one(alloc, runs, OfOne::Play)?;
+    with_number(alloc, plays, OfNumber::Rush)
+}

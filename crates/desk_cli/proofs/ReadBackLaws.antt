@@ -1,0 +1,177 @@
+-- The lines of a release list are read as that list.
+use Rattle.std.proofs.Common.{◌≡◌, ℕ, ◌+◌, ◌^◌, ◌<◌, ◌==◌, inl, inr, true, false, List, [], ◌∷◌, ◌++◌, length, map, All, Some, None, Ok, refl, sym, ap, ◌∙◌, subst, append_assoc, arith}
+use Rattle.std.specs.Prelude.{codes}
+use Rattle.std.specs.List.{AllByRecursion}
+use Rattle.std.specs.Fmt.{decimal}
+use Rattle.std.proofs.lemmas.Bool.{cases_Bool, cases_eq, ne_eqb}
+use Rattle.std.proofs.lemmas.List.{append-nil, get_or_default}
+use Rattle.std.proofs.lemmas.List.Elements.{All-append, All-from_recursion, recursion_from_All}
+use Rattle.std.proofs.lemmas.List.Splits.{slice_split_at, slice_split_none}
+use Rattle.task_sheet.specs.Sheet.{Task, IsValidSheet, no_task, task_at}
+use Rattle.task_sheet.specs.TaskSet.{IsTaskSet}
+use Rattle.task_sheet.specs.Name.{is_name, IsName}
+use Rattle.lines.specs.Lines.{lines_of, is_skipped, kept_from}
+use Rattle.lines.specs.Words.{number_in, name_in, words}
+use Rattle.lines.proofs.NumberLaws.{number_again}
+use Rattle.lines.proofs.Parts.{line_cut}
+use Rattle.certificate.proofs.FailLaws.{decimal_lacks, name_lacks}
+use Rattle.ceiling_kernel.specs.declared.trace.Release.{Release}
+use Rattle.ceiling_kernel.specs.Releases.{release_at, no_release}
+use Rattle.release_list.specs.Densest.{densest_of, list_refusal}
+use Rattle.release_list.proofs.JobLaws.{before_from, before_end}
+use Rattle.release_list.proofs.AcceptedLaws.{horizon_from}
+use Rattle.release_list.specs.Text.{late_words, release_line, release_lines, list_lines}
+use Rattle.desk_cli.specs.ReleasesText.{until_in, release_in, releases_from}
+use Rattle.desk_cli.specs.ReadBack.{IsWritable, ReadsBack}
+
+-- ---- the lines without their ends
+-- the line of a release
+abbrev row : Release → List ℕ
+row r = decimal r.time ++ 32 ∷ (r.name ++ late_words r.late)
+
+-- the line of the end
+abbrev head : ℕ → List ℕ
+head until = codes "until" ++ 32 ∷ decimal until
+
+abbrev Lacks : ℕ → List ℕ → Type 0
+Lacks b xs = All (λ x. (x == b) ≡ false) xs
+
+lacks_more : (b x : ℕ) (xs : List ℕ) → (x == b) ≡ false → Lacks b xs → Lacks b (x ∷ xs)
+lacks_more b x xs here rest = All-from_recursion (λ y. (y == b) ≡ false) (x ∷ xs) (here, recursion_from_All (λ y. (y == b) ≡ false) xs rest)
+
+number_lacks : (b n : ℕ) → b < 48 → n < 10 ^ 10 → Lacks b (decimal n)
+number_lacks b n small short = decimal_lacks b n small (omega arith)
+
+-- no line end stands in them
+late_lacks : (late : ℕ) → late < 10 ^ 10 → Lacks 10 (late_words late)
+late_lacks late short = elim (cases_Bool (late == 0)) [
+  | inl none ↦ rw none (All-from_recursion (λ y. (y == 10) ≡ false) [] tt)
+  | inr some ↦ rw some (lacks_more 10 32 (decimal late) refl (number_lacks 10 late (omega arith) short))
+]
+
+row_lacks : (r : Release) → IsWritable r → Lacks 10 (row r)
+row_lacks r w =
+    All-append (λ y. (y == 10) ≡ false) (decimal r.time) (32 ∷ (r.name ++ late_words r.late)) (number_lacks 10 r.time (omega arith) w.time)
+    (lacks_more 10 32 (r.name ++ late_words r.late) refl
+    (All-append (λ y. (y == 10) ≡ false) r.name (late_words r.late) (name_lacks 10 r.name (omega arith) w.named) (late_lacks r.late w.late)))
+
+head_lacks : (until : ℕ) → until < 10 ^ 10 → Lacks 10 (head until)
+head_lacks until short =
+    All-append (λ y. (y == 10) ≡ false) (codes "until") (32 ∷ decimal until)
+    (All-from_recursion (λ y. (y == 10) ≡ false) (codes "until") (refl, (refl, (refl, (refl, (refl, tt))))))
+    (lacks_more 10 32 (decimal until) refl (number_lacks 10 until (omega arith) short))
+
+-- ---- the lines of the text
+cut : (line rest : List ℕ) → Lacks 10 line → lines_of (line ++ 10 ∷ rest) ≡ line ∷ lines_of rest
+cut line rest plain = line_cut (line ++ 10 ∷ rest) line rest (slice_split_at (λ b. b == 10) line 10 rest plain refl)
+
+line_is : (r : Release) (rest : List ℕ) → release_line r ++ rest ≡ row r ++ 10 ∷ rest
+line_is r rest = simp append_assoc
+
+lines_are : (rs : List Release) → AllByRecursion IsWritable rs → lines_of (release_lines rs) ≡ map row rs
+lines_are [] all = refl
+lines_are (r ∷ rs) all =
+    ap lines_of (line_is r (release_lines rs))
+    ∙ cut (row r) (release_lines rs) (row_lacks r all.0)
+    ∙ ap (λ (x : List (List ℕ)). row r ∷ x) (lines_are rs all.1)
+
+list_is : (until : ℕ) (rs : List Release) → list_lines until rs ≡ head until ++ 10 ∷ release_lines rs
+list_is until rs = simp append_assoc
+
+all_lines : (until : ℕ) (rs : List Release) → until < 10 ^ 10 → AllByRecursion IsWritable rs → lines_of (list_lines until rs) ≡ head until ∷ map row rs
+all_lines until rs short all =
+    ap lines_of (list_is until rs)
+    ∙ cut (head until) (release_lines rs) (head_lacks until short)
+    ∙ ap (λ (x : List (List ℕ)). head until ∷ x) (lines_are rs all)
+
+-- ---- the words of a line
+
+-- a line that begins with a digit isn't skipped
+not_skipped : (xs ys : List ℕ) → 0 < length xs → Lacks 35 xs → is_skipped (xs ++ ys) ≡ false
+not_skipped [] ys some plain = absurd (omega arith)
+not_skipped (x ∷ xs) ys some plain = (recursion_from_All (λ y. (y == 35) ≡ false) (x ∷ xs) plain).0
+
+some_digit : (n : ℕ) → n < 10 ^ 10 → 0 < length (decimal n)
+some_digit n short = by (decimal n) (number_again n short)
+  where
+    by : (word : List ℕ) → number_in word ≡ Some n → 0 < length word
+    by [] e = absurd cc
+    by (x ∷ xs) e = omega arith
+
+row_kept : (r : Release) → IsWritable r → is_skipped (row r) ≡ false
+row_kept r w = not_skipped (decimal r.time) (32 ∷ (r.name ++ late_words r.late)) (some_digit r.time w.time) (number_lacks 35 r.time (omega arith) w.time)
+
+name_again : (name : List ℕ) → IsName name → name_in name ≡ Some name
+name_again name named = (let e : is_name name ≡ true = named in rw e refl)
+
+plain_number : (n : ℕ) → n < 10 ^ 10 → words (decimal n) ≡ decimal n ∷ []
+plain_number n short = slice_split_none (λ b. b == 32) (decimal n) (number_lacks 32 n (omega arith) short)
+
+row_words : (r : Release) → IsWritable r → words (row r) ≡ decimal r.time ∷ words (r.name ++ late_words r.late)
+row_words r w = slice_split_at (λ b. b == 32) (decimal r.time) 32 (r.name ++ late_words r.late) (number_lacks 32 r.time (omega arith) w.time) refl
+
+prompt_words : (r : Release) → IsWritable r → r.late ≡ 0 → words (row r) ≡ decimal r.time ∷ r.name ∷ []
+prompt_words r w prompt =
+    let none : late_words r.late ≡ [] = ap late_words prompt in
+    row_words r w
+    ∙ ap (λ (x : List ℕ). decimal r.time ∷ words (r.name ++ x)) none
+    ∙ ap (λ (x : List ℕ). decimal r.time ∷ words x) (append-nil r.name)
+    ∙ ap (λ (x : List (List ℕ)). decimal r.time ∷ x) (slice_split_none (λ b. b == 32) r.name (name_lacks 32 r.name (omega arith) w.named))
+
+late_row : (r : Release) → IsWritable r → (r.late ≡ 0 → ⊥) → words (row r) ≡ decimal r.time ∷ r.name ∷ decimal r.late ∷ []
+late_row r w late =
+    let no : (r.late == 0) ≡ false = ne_eqb r.late 0 late in
+    let some : late_words r.late ≡ 32 ∷ decimal r.late = rw no refl in
+    row_words r w
+    ∙ ap (λ (x : List ℕ). decimal r.time ∷ words (r.name ++ x)) some
+    ∙ ap (λ (x : List (List ℕ)). decimal r.time ∷ x) (slice_split_at (λ b. b == 32) r.name 32 (decimal r.late) (name_lacks 32 r.name (omega arith) w.named) refl)
+    ∙ ap (λ (x : List (List ℕ)). decimal r.time ∷ r.name ∷ x) (plain_number r.late w.late)
+
+release_again : (r : Release) → IsWritable r → release_in (words (row r)) ≡ Some r
+release_again r w = elim (cases_eq r.late 0) [
+  | inl prompt ↦
+      ap release_in (prompt_words r w prompt)
+      ∙ (rw (number_again r.time w.time, name_again r.name w.named) (ap (λ late. Some (record { time = r.time; name = r.name; late = late })) (sym prompt)))
+  | inr late ↦
+      ap release_in (late_row r w late)
+      ∙ (rw (number_again r.time w.time, name_again r.name w.named, number_again r.late w.late) refl)
+]
+
+until_again : (until : ℕ) → until < 10 ^ 10 → until_in (words (head until)) ≡ Some until
+until_again until short =
+    let two : words (head until) ≡ codes "until" ∷ decimal until ∷ [] =
+    slice_split_at (λ b. b == 32) (codes "until") 32 (decimal until) (All-from_recursion (λ y. (y == 32) ≡ false) (codes "until") (refl, (refl, (refl, (refl, (refl, tt)))))) refl
+    ∙ ap (λ (x : List (List ℕ)). codes "until" ∷ x) (plain_number until short) in
+    ap until_in two ∙ number_again until short
+
+-- ---- the list
+releases_again : (n : ℕ) (rs : List Release) → AllByRecursion IsWritable rs → releases_from (kept_from n (map row rs)) ≡ Ok rs
+releases_again n [] all = refl
+releases_again n (r ∷ rs) all =
+    let kept : is_skipped (row r) ≡ false = row_kept r all.0 in
+    rw (kept, release_again r all.0, releases_again (n + 1) rs all.1) refl
+
+pub list_again : (until : ℕ) (rs : List Release) → until < 10 ^ 10 → All IsWritable rs → ReadsBack until rs
+list_again until rs short all =
+    let each : AllByRecursion IsWritable rs = recursion_from_All IsWritable rs all in
+    rw (all_lines until rs short each) (rw (until_again until short, releases_again 2 rs each) refl)
+
+-- each release of a densest list can be read back
+densest_writable : (U : List Task) (until : ℕ) → IsTaskSet U → list_refusal U until ≡ None → All IsWritable (densest_of U until)
+densest_writable U until set none = λ k d lt.
+    let rs : List Release = densest_of U until in
+    let b = before_from U until until k lt in
+    let v : IsValidSheet (task_at U b.0) = set.valid b.0 no_task b.1.in_set in
+    let small = (horizon_from U until set none).0 in
+    let in_time = before_end U until set (release_at rs k) b.0 b.1 in
+    let own : (release_at rs k).name ≡ (task_at U b.0).name = ap (λ r. r.name) b.1.is in
+    subst IsWritable (get_or_default rs k no_release d lt) (record {
+      time = omega (arith, b.2, small);
+      named = subst IsName (sym own) v.named;
+      late = omega (arith, in_time, small);
+    })
+
+pub densest_again : (U : List Task) (until : ℕ) → IsTaskSet U → list_refusal U until ≡ None → ReadsBack until (densest_of U until)
+densest_again U until set none =
+    let small = (horizon_from U until set none).0 in
+    list_again until (densest_of U until) (omega (arith, small)) (densest_writable U until set none)

@@ -1,0 +1,6 @@
+use Rattle.std.proofs.Common.{◌≡◌, ◌-◌, length, drop}
+use Rattle.desk_cli.specs.Draw.{rows_of}
+use Rattle.desk_cli.proofs.draw.rows_of.Given as goal
+
+abbrev pub invariant-loop-i : goal.invariant-loop-i
+invariant-loop-i l = l.rows.items ≡ rows_of l.sheets (drop (length l.places - l.i) l.places)

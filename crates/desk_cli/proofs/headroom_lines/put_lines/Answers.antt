@@ -1,0 +1,51 @@
+use Rattle.std.proofs.Common.{◌≡◌, ◌∙◌, ◌++◌, ℕ, List, [], length, option_map, refl, sym, subst, arith, append_assoc, append-nil, string_bytes}
+use Rattle.std.specs.Io.KnownBytes.{Appends, append_known}
+use Rattle.std.proofs.KnownBytes.{Appends-trans}
+use Rattle.desk_cli.specs.Headroom.{AreLines}
+use Rattle.desk_cli.proofs.Headrooms.{lines_more, where_sound}
+use Rattle.desk_cli.proofs.headroom_lines.put_lines.Goals as goal
+
+pub loop-task-init : goal.loop-task-init
+loop-task-init g c =
+    let before = append_known (g.W.Write.contents c.args.output.now.inner) c.args.held.now in
+    let after = append_known (g.W.Write.contents c.put.new.out.inner) c.put.new.self in
+    let ok = sym c.is_err.ensures.value ∙ c.if-is_err.false in
+    let wrote : Appends before after c.args.first.now = where_sound c.put.result (Appends before after c.args.first.now) ok c.put.ensures.sent in
+    record {
+      said = ([], refl, subst (λ bs. Appends before after bs) (sym (append-nil c.args.first.now)) wrote);
+      same_flag = where_sound c.put.result (c.put.new.out.has_failed ≡ c.args.output.now.has_failed) ok c.put.ensures.ok;
+    }
+
+pub loop-task-preserved : goal.loop-task-preserved
+loop-task-preserved g c =
+    let said = c.loop-task.invariant.said in
+    let line : List ℕ = string_bytes c.in-Ok.text in
+    let before = append_known (g.W.Write.contents c.args.output.now.inner) c.args.held.now in
+    let between = append_known (g.W.Write.contents c.loop-task.output.inner) c.loop-task.held in
+    let after = append_known (g.W.Write.contents c.put-in-loop-task.new.out.inner) c.put-in-loop-task.new.self in
+    let ok = sym c.is_err-in-loop-task.ensures.value ∙ c.if-is_err-2.false in
+    let wrote : Appends between after line = subst (λ (bs : List ℕ). Appends between after bs) c.as_bytes.ensures.value (where_sound c.put-in-loop-task.result (Appends between after c.as_bytes.result.now) ok c.put-in-loop-task.ensures.sent) in
+    record {
+      said = (
+        said.0 ++ line,
+        lines_more c.args.set.now (option_map (λ o. o.items) c.args.order.now) c.loop-task.task said.0 line said.1 c.in-Ok.ensures,
+        subst (λ bs. Appends before after bs) (append_assoc c.args.first.now said.0 line) (Appends-trans before between after (c.args.first.now ++ said.0) line said.2 wrote),
+      );
+      same_flag = where_sound c.put-in-loop-task.result (c.put-in-loop-task.new.out.has_failed ≡ c.loop-task.output.has_failed) ok c.put-in-loop-task.ensures.ok ∙ c.loop-task.invariant.same_flag;
+    }
+
+pub returns-in-Ok-put-clause-all : goal.returns-in-Ok-put-clause-all
+returns-in-Ok-put-clause-all g c =
+    let U = c.args.set.now in
+    let order = option_map (λ o. o.items) c.args.order.now in
+    let said = c.loop-task.invariant.said in
+    let last : List ℕ = string_bytes c.in-Ok-last_text.text in
+    let before = append_known (g.W.Write.contents c.args.output.now.inner) c.args.held.now in
+    let between = append_known (g.W.Write.contents c.loop-task.output.inner) c.loop-task.held in
+    let after = append_known (g.W.Write.contents c.put-2.new.out.inner) c.put-2.new.self in
+    let count : c.loop-task.task ≡ length U = omega (arith, c.loop-task-test.false, c.loop-task.auto.task-end, c.len-task-end.ensures.count) in
+    let wrote : Appends between after last = subst (λ (bs : List ℕ). Appends between after bs) c.as_bytes-2.ensures.value c.in-Ok-put.ensures.sent in (
+      said.0 ++ last,
+      (said.0, last, subst (λ n. AreLines U order n said.0) count said.1, c.in-Ok-last_text.ensures, refl),
+      subst (λ bs. Appends before after bs) (append_assoc c.args.first.now said.0 last) (Appends-trans before between after (c.args.first.now ++ said.0) last said.2 wrote),
+    )

@@ -1,0 +1,55 @@
+-- What `desk draw` prints: the answer of `desk simulate`, as a picture.
+use Rattle.std.specs.Prelude.{◌≡◌, ℕ, List, [], ◌∷◌, ◌++◌, length, Option, Result, Ok, Err}
+use Rattle.std.specs.Io.KnownBytes.{Appends}
+use Rattle.preferences.specs.declared.preferred.Preference.{Preference}
+use Rattle.task_sheet.specs.Sheet.{Task, task_at}
+use Rattle.task_sheet.specs.Indexes.{indexes_of, listed_below}
+use Rattle.task_sheet.specs.Orders.{IsOrder}
+use Rattle.assignment.specs.Places.{PlaceData}
+use Rattle.assignment.specs.Placings.{tasks_of_places}
+use Rattle.picture.specs.Document.{document}
+use Rattle.picture.specs.declared.rows.Row.{Row}
+use Rattle.desk_cli.specs.Lines.{infeasible_line}
+use Rattle.desk_cli.specs.Refusals.{refusal_line}
+use Rattle.desk_cli.specs.Simulate.{Simulates, simulated_status}
+use Rattle.desk_cli.specs.declared.refusal.Refusal.{Refusal}
+use Rattle.desk_cli.specs.declared.simulate.Run.{Run}
+use Rattle.desk_cli.specs.declared.simulate.Simulated.{Simulated}
+use Rattle.desk_cli.specs.declared.simulate.Simulated.TheVariants.{Infeasible, Ran}
+use Rattle.desk_cli.specs.declared.status.Status.{Status}
+
+-- the row of a level: its task, and the task's response as the bound
+abbrev pub row_of : List Task → PlaceData → Row
+row_of U place = record { sheet = task_at U place.task; bound = place.response }
+
+-- the rows of an order, the highest level first
+abbrev pub rows_of : List Task → List PlaceData → List Row
+rows_of U [] = []
+rows_of U (place ∷ places) = rows_of U places ++ row_of U place ∷ []
+
+-- the picture of a run of a set
+abbrev pub picture_of : List Task → Run → List ℕ
+picture_of U run = document (rows_of U run.places.items) run.until run.releases.items run.trace
+
+-- a run is one in an order of the set
+abbrev pub IsInOrder : List Task → Simulated → Type 0
+IsInOrder U (Ran run) = IsOrder U (tasks_of_places run.places.items)
+IsInOrder U (Infeasible left) = Unit {0}
+
+-- what is printed of what came of a set
+abbrev pub drawing_said : List Task → Simulated → List ℕ
+drawing_said U (Ran run) = picture_of U run
+drawing_said U (Infeasible left) = infeasible_line U (listed_below (length U) (indexes_of left))
+
+-- what is printed of an answer
+abbrev pub drawn_said : Result (List Task × Simulated) Refusal → List ℕ
+drawn_said (Ok answer) = drawing_said answer.0 answer.1
+drawn_said (Err r) = refusal_line r
+
+-- an answer on what the readers had is printed after what the writer held, and the status is the answer's
+abbrev pub SaysDrawn :
+    Preference → (set releases : Option (List ℕ)) → (before after : Option (List ℕ)) → Status
+    → Type 0
+SaysDrawn preference set releases before after s =
+    (answer : Result (List Task × Simulated) Refusal) × Simulates preference set releases answer
+    × Appends before after (drawn_said answer) × (s ≡ simulated_status answer)

@@ -1,0 +1,58 @@
+-- What `desk judge` answers and prints.
+use Rattle.std.specs.Prelude.{◌≡◌, ℕ, List, Option, Result, Ok, Err, if◌then◌else◌}
+use Rattle.std.specs.Global.{Vec}
+use Rattle.std.specs.Io.KnownBytes.{Appends}
+use Rattle.preferences.specs.declared.preferred.Preference.{Preference}
+use Rattle.task_sheet.specs.Sheet.{Task}
+use Rattle.judge.specs.Faults.{IsFault, settings_fault}
+use Rattle.judge.specs.Judgements.{AllJudged, all_meet, tasks_of}
+use Rattle.judge.specs.Lines.{judged_lines}
+use Rattle.judge.specs.Node.{IsNodeOrder}
+use Rattle.judge.specs.declared.judging.Judged.{Judged}
+use Rattle.desk_cli.specs.Refusals.{refusal_line, status_of}
+use Rattle.desk_cli.specs.Sets.{HaveBoth, OnBoth}
+use Rattle.desk_cli.specs.declared.refusal.Refusal.{Refusal}
+use Rattle.desk_cli.specs.declared.refusal.Refusal.TheVariants as refusal
+use Rattle.desk_cli.specs.declared.status.Status.{Status}
+use Rattle.desk_cli.specs.declared.status.Status.TheVariants as status
+
+-- the text gives the order that a node has, and this becomes of each task of a set
+pub record IsJudgement (U : List Task) (text : List ℕ) (judged : List Judged) : Type 0 where
+  pub order : IsNodeOrder U text (tasks_of judged)
+  pub each : AllJudged U judged
+
+-- the answer on a set and the text of settings
+abbrev pub JudgesText : List Task → List ℕ → Result (Vec Judged) Refusal → Type 0
+JudgesText U text (Ok judged) = IsJudgement U text judged.items
+JudgesText U text (Err (refusal.Settings fault)) = IsFault fault (settings_fault U text)
+JudgesText U text _ = ⊥
+
+-- the answer on what the readers have of a set and of settings, with the set
+abbrev pub Judges : Preference → Option (List ℕ) → Option (List ℕ)
+    → Result (List Task × Vec Judged) Refusal → Type 0
+Judges preference set settings (Ok judged) =
+    (text : List ℕ) × HaveBoth preference set settings judged.0 text
+    × JudgesText judged.0 text (Ok judged.1)
+Judges preference set settings (Err r) = OnBoth JudgesText preference set settings (Err r)
+
+-- what is printed of an answer
+abbrev pub judged_said : Result (List Task × Vec Judged) Refusal → List ℕ
+judged_said (Ok judged) = judged_lines judged.0 judged.1.items
+judged_said (Err r) = refusal_line r
+
+-- the exit status of an order
+abbrev pub judged_status : List Judged → Status
+judged_status judged = if all_meet judged then status.Done else status.Infeasible
+
+-- the exit status of an answer
+abbrev pub judged_code : Result (List Task × Vec Judged) Refusal → Status
+judged_code (Ok judged) = judged_status judged.1.items
+judged_code (Err r) = status_of r
+
+-- an answer on what the readers had is printed after what the writer held, and the status is the answer's
+abbrev pub SaysJudged :
+    Preference → (set settings : Option (List ℕ)) → (before after : Option (List ℕ)) → Status
+    → Type 0
+SaysJudged preference set settings before after s =
+    (answer : Result (List Task × Vec Judged) Refusal) × Judges preference set settings answer
+    × Appends before after (judged_said answer) × (s ≡ judged_code answer)

@@ -1,0 +1,107 @@
+//! `desk admit`.
+ghost use Rattle.std.specs.Prelude.{◌≡◌, ◌⊎◌, true, false, Err, Result};
+ghost use Rattle.std.specs.Io.KnownBytes.{Appends};
+ghost use Rattle.desk_cli.specs.Admit.{Admits, Places, Says, lines_of, placing_status, verdict_status};
+ghost use Rattle.streams.specs.Inputs.{IsDisturbed, IsWithinTurns};
+
+use crate::answer::placing_text;
+use crate::audience::Audience;
+use crate::output::{print, refuse};
+use crate::refusal::Refusal;
+use crate::sets::read_one;
+use crate::status::Status;
+use assignment::{Placing, Verdict, assign, place_all};
+use ceilings::LockTable;
+use preferences::Preference;
+use std::alloc::Global;
+use std::io::{Read, Write};
+use std::sync::Arc;
+use streams::{InputFault, Watched};
+use task_sheet::TaskSet;
+
+// The verdict of the set that the reader has, or why there is none.
+pub(crate) fn decide<R: Read + Drop, P: Audience>(
+    alloc: Global,
+    preference: Preference,
+    set: &mut Watched<R>,
+    people: &mut P,
+) -> Result<Verdict, Refusal>
+    ensures answer { Admits preference (R.remaining set.old.inner) result }
+    ensures failed { result ≡ Err (Refusal.Input InputFault.ReadFailed) → IsDisturbed set.new }
+    ensures answered { set.old.has_failed ≡ false → set.new.has_failed ≡ true
+        → result ≡ Err (Refusal.Input InputFault.ReadFailed) }
+    ensures turns { IsWithinTurns set.old set.new }
+{
+    let tasks = read_one(alloc, preference, set, people)?;
+    let verdict = assign(alloc, Arc::new(alloc, tasks)?)?;
+    people.read(verdict.set());
+    Ok(verdict)
+}
+
+// The set that the reader has, and what becomes of its tasks, with nothing that shows it; or why there is none.
+pub(crate) fn place<R: Read + Drop, P: Audience>(
+    alloc: Global,
+    preference: Preference,
+    set: &mut Watched<R>,
+    people: &mut P,
+) -> Result<(TaskSet, Placing), Refusal>
+    ensures answer { Places preference (R.remaining set.old.inner) result }
+    ensures failed { result ≡ Err (Refusal.Input InputFault.ReadFailed) → IsDisturbed set.new }
+    ensures answered { set.old.has_failed ≡ false → set.new.has_failed ≡ true
+        → result ≡ Err (Refusal.Input InputFault.ReadFailed) }
+    ensures turns { IsWithinTurns set.old set.new }
+{
+    let tasks = read_one(alloc, preference, set, people)?;
+    let table = LockTable::new(alloc, &tasks)?;
+    let placing = place_all(alloc, &tasks, &table)?;
+    people.read(&tasks);
+    Ok((tasks, placing))
+}
+
+pub(crate) fn status_of(verdict: &Verdict) -> Status
+    ensures { result ≡ verdict_status verdict.now }
+{
+    match verdict {
+        Verdict::Admitted(_) => Status::Done,
+        Verdict::Infeasible(_) => Status::Infeasible,
+    }
+}
+
+pub(crate) fn placing_status(placing: &Placing) -> Status
+    ensures { result ≡ placing_status placing.now }
+{
+    match placing {
+        Placing::Best(_) => Status::Done,
+        Placing::Stuck(_) => Status::Infeasible,
+    }
+}
+
+/// `desk admit`: reads a task set by a preference, and prints the levels and responses (in microseconds) of its best
+/// order, or the tasks of its greatest obstruction, or why the input was refused.
+pub fn run_admit<R: Read + Drop, W: Write + Drop, P: Audience>(
+    alloc: Global,
+    preference: Preference,
+    set: &mut Watched<R>,
+    output: &mut Watched<W>,
+    people: &mut P,
+) -> Status
+    ensures printed { output.new.has_failed ≡ false
+        → Says lines_of preference (R.remaining set.old.inner)
+        (W.contents output.old.inner) (W.contents output.new.inner) result }
+    ensures failed { result ≡ Status.InputOrOutputFailed
+        → IsDisturbed set.new ⊎ (output.new.has_failed ≡ true) }
+    ensures unread { set.old.has_failed ≡ false → set.new.has_failed ≡ true
+        → output.old.has_failed ≡ false
+        → result ≡ Status.InputOrOutputFailed }
+    ensures unwritten { output.old.has_failed ≡ false → output.new.has_failed ≡ true
+        → result ≡ Status.InputOrOutputFailed }
+    ensures turns { IsWithinTurns set.old set.new }
+{
+    match place(alloc, preference, set, people) {
+        Ok((tasks, placing)) => match placing_text(alloc, &tasks, &placing) {
+            Ok(text) => print(text.as_bytes(), placing_status(&placing), output),
+            Err(_) => refuse(Refusal::OutOfMemory, output),
+        },
+        Err(refusal) => refuse(refusal, output),
+    }
+}

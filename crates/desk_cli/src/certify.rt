@@ -1,0 +1,69 @@
+//! `desk certify`.
+ghost use Rattle.std.specs.Prelude.{◌≡◌, ◌⊎◌, true, false};
+ghost use Rattle.std.specs.Io.KnownBytes.{Appends};
+ghost use Rattle.certificate.specs.Spelling.{spelling};
+ghost use Rattle.desk_cli.specs.Admit.{Says};
+ghost use Rattle.desk_cli.specs.Certify.{certificate_lines};
+ghost use Rattle.streams.specs.Inputs.{IsDisturbed, IsWithinTurns};
+
+use crate::admit::{decide, status_of};
+use crate::audience::Audience;
+use crate::output::refuse;
+use crate::refusal::Refusal;
+use crate::status::Status;
+use certificate::Certificate;
+use preferences::Preference;
+use std::alloc::Global;
+use std::io::{Read, Write};
+use streams::Watched;
+
+// Prints the certificate, and gives the status that belongs to it; where the writer fails, the status of that.
+fn print_certificate<W: Write + Drop>(
+    certificate: &Certificate,
+    status: Status,
+    output: &mut Watched<W>,
+) -> Status
+    ensures printed { output.new.has_failed ≡ false
+        → Appends (W.contents output.old.inner) (W.contents output.new.inner)
+        (spelling certificate.now) }
+    ensures status { output.new.has_failed ≡ false → result ≡ status }
+    ensures failed { result ≡ Status.InputOrOutputFailed
+        → (status ≡ Status.InputOrOutputFailed) ⊎ (output.new.has_failed ≡ true) }
+    ensures unwritten { output.old.has_failed ≡ false → output.new.has_failed ≡ true
+        → result ≡ Status.InputOrOutputFailed }
+{
+    match certificate.write(output) {
+        Ok(()) => status,
+        Err(_) => Status::InputOrOutputFailed,
+    }
+}
+
+/// `desk certify`: reads a task set by a preference, and prints the certificate of its verdict, or why the input was
+/// refused.
+pub fn run_certify<R: Read + Drop, W: Write + Drop, P: Audience>(
+    alloc: Global,
+    preference: Preference,
+    set: &mut Watched<R>,
+    output: &mut Watched<W>,
+    people: &mut P,
+) -> Status
+    ensures printed { output.new.has_failed ≡ false
+        → Says certificate_lines preference (R.remaining set.old.inner)
+        (W.contents output.old.inner) (W.contents output.new.inner) result }
+    ensures failed { result ≡ Status.InputOrOutputFailed
+        → IsDisturbed set.new ⊎ (output.new.has_failed ≡ true) }
+    ensures unread { set.old.has_failed ≡ false → set.new.has_failed ≡ true
+        → output.old.has_failed ≡ false
+        → result ≡ Status.InputOrOutputFailed }
+    ensures unwritten { output.old.has_failed ≡ false → output.new.has_failed ≡ true
+        → result ≡ Status.InputOrOutputFailed }
+    ensures turns { IsWithinTurns set.old set.new }
+{
+    match decide(alloc, preference, set, people) {
+        Ok(verdict) => match Certificate::of(alloc, &verdict) {
+            Ok(certificate) => print_certificate(&certificate, status_of(&verdict), output),
+            Err(_) => refuse(Refusal::OutOfMemory, output),
+        },
+        Err(refusal) => refuse(refusal, output),
+    }
+}

@@ -1,0 +1,98 @@
+//! `desk check`.
+ghost use Rattle.std.specs.Prelude.{◌≡◌, ◌⊎◌, ◌<◌, ℕ, List, length, Some, true, false, Err};
+ghost use Rattle.desk_cli.specs.Check.{Checks, ChecksText, SaysChecked, checked_line};
+ghost use Rattle.streams.specs.Inputs.{IsDisturbed, IsWithinTurns};
+
+use crate::audience::{Audience, Which};
+use crate::output::{print, refuse};
+use crate::refusal::Refusal;
+use crate::sets::{read_two, tell};
+use crate::status::Status;
+use cert_checker::{Checked, check};
+use certificate::read;
+use preferences::Preference;
+use std::alloc::Global;
+use std::io::{Read, Write};
+use streams::{InputFault, Watched};
+use task_sheet::TaskSet;
+
+// What a certificate's text shows of a set.
+fn check_text(alloc: Global, tasks: &TaskSet, text: &[u8]) -> Result<Checked, Refusal>
+    ensures { ChecksText tasks.now text.now result }
+{
+    let certificate = read(alloc, text)?;
+    let checked = check(tasks, &certificate)?;
+    Ok(checked)
+}
+
+// What the certificate shows of the set, once both are read.
+fn checked<R: Read + Drop, S: Read + Drop, P: Audience>(
+    alloc: Global,
+    preference: Preference,
+    set: &mut Watched<R>,
+    certificate: &mut Watched<S>,
+    people: &mut P,
+) -> Result<Checked, Refusal>
+    ensures answer { Checks preference (R.remaining set.old.inner)
+        (S.remaining certificate.old.inner) result }
+    ensures failed { result ≡ Err (Refusal.Input InputFault.ReadFailed)
+        → IsDisturbed set.new ⊎ IsDisturbed certificate.new }
+    ensures answered { set.old.has_failed ≡ false → certificate.old.has_failed ≡ false
+        → (set.new.has_failed ≡ true) ⊎ (certificate.new.has_failed ≡ true)
+        → result ≡ Err (Refusal.Input InputFault.ReadFailed) }
+    ensures turns { IsWithinTurns set.old set.new × IsWithinTurns certificate.old certificate.new }
+    ensures first_too_long { (all : List ℕ) → R.remaining set.old.inner ≡ Some all
+        → 16777216 < length all
+        → certificate.new ≡ certificate.old }
+    ensures first_failed { set.old.has_failed ≡ false → set.new.has_failed ≡ true
+        → certificate.new ≡ certificate.old }
+{
+    let (tasks, text) = read_two(alloc, preference, set, certificate, people)?;
+    let answer = check_text(alloc, &tasks, &text);
+    tell(&answer, &tasks, Which::Second, &text, people);
+    answer
+}
+
+// The line that says what a certificate shows.
+fn line_of(checked: Checked) -> &'static [u8]
+    ensures { result.now ≡ checked_line checked }
+{
+    match checked {
+        Checked::Best => b"best\n",
+        Checked::NoOrder => b"no order\n",
+    }
+}
+
+/// `desk check`: reads a task set by a preference and a certificate, and prints what the certificate shows of the set,
+/// or why one of them was refused. Both are read before either is parsed, the set first.
+pub fn run_check<R: Read + Drop, S: Read + Drop, W: Write + Drop, P: Audience>(
+    alloc: Global,
+    preference: Preference,
+    set: &mut Watched<R>,
+    certificate: &mut Watched<S>,
+    output: &mut Watched<W>,
+    people: &mut P,
+) -> Status
+    ensures printed { output.new.has_failed ≡ false
+        → SaysChecked preference (R.remaining set.old.inner) (S.remaining certificate.old.inner)
+        (W.contents output.old.inner) (W.contents output.new.inner) result }
+    ensures failed { result ≡ Status.InputOrOutputFailed
+        → IsDisturbed set.new ⊎ (IsDisturbed certificate.new ⊎ (output.new.has_failed ≡ true)) }
+    ensures unread { set.old.has_failed ≡ false → certificate.old.has_failed ≡ false
+        → (set.new.has_failed ≡ true) ⊎ (certificate.new.has_failed ≡ true)
+        → output.old.has_failed ≡ false
+        → result ≡ Status.InputOrOutputFailed }
+    ensures unwritten { output.old.has_failed ≡ false → output.new.has_failed ≡ true
+        → result ≡ Status.InputOrOutputFailed }
+    ensures turns { IsWithinTurns set.old set.new × IsWithinTurns certificate.old certificate.new }
+    ensures first_too_long { (all : List ℕ) → R.remaining set.old.inner ≡ Some all
+        → 16777216 < length all
+        → certificate.new ≡ certificate.old }
+    ensures first_failed { set.old.has_failed ≡ false → set.new.has_failed ≡ true
+        → certificate.new ≡ certificate.old }
+{
+    match checked(alloc, preference, set, certificate, people) {
+        Ok(checked) => print(line_of(checked), Status::Done, output),
+        Err(refusal) => refuse(refusal, output),
+    }
+}

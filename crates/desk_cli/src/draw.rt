@@ -1,0 +1,137 @@
+//! `desk draw`.
+ghost use Rattle.std.specs.Prelude.{◌≡◌, ◌⊎◌, ◌<◌, ◌≤◌, ℕ, List, length, Some, true, false, Err, IfOk, All};
+ghost use Rattle.task_sheet.specs.Orders.{IsOrder};
+ghost use Rattle.assignment.specs.Placings.{tasks_of_places};
+ghost use Rattle.desk_cli.specs.Printed.{IsPrinted};
+ghost use Rattle.desk_cli.specs.Simulate.{simulation_status};
+ghost use Rattle.desk_cli.specs.Draw.{IsInOrder, SaysDrawn, drawing_said, picture_of, row_of, rows_of};
+ghost use Rattle.streams.specs.Inputs.{IsDisturbed, IsWithinTurns};
+
+use crate::answer::print_stuck;
+use crate::audience::Audience;
+use crate::output::refuse;
+use crate::refusal::Refusal;
+use crate::simulate::{Run, Simulated, simulated_of};
+use crate::status::Status;
+use assignment::Place;
+use picture::{DrawFault, Row, draw};
+use preferences::Preference;
+use std::alloc::{AllocError, Global};
+use std::io::{Read, Write};
+use streams::Watched;
+use task_sheet::{Sheet, TaskSet};
+
+// The row of a level.
+fn row_of(alloc: Global, sheets: &[Sheet], place: Place) -> Result<Row, AllocError>
+    requires { place.task < length sheets.now }
+    ensures { IfOk result (λ row. row ≡ row_of sheets.now place) }
+{
+    let sheet = sheets[place.task].copy(alloc)?;
+    Ok(Row {
+        sheet,
+        bound: place.response,
+    })
+}
+
+// The rows of places, the last one first.
+fn rows_of(alloc: Global, sheets: &[Sheet], places: &[Place]) -> Result<Vec<Row>, AllocError>
+    requires { All (λ task. task < length sheets.now) (tasks_of_places places.now) }
+    ensures { IfOk result (λ rows. rows.items ≡ rows_of sheets.now places.now) }
+{
+    let mut rows = Vec::with_capacity(alloc, places.len())?;
+    for i in 0..places.len() {
+        let place = places[places.len() - 1 - i];
+        rows.push(row_of(alloc, sheets, place)?)?;
+    }
+    Ok(rows)
+}
+
+// The rows of an order, the highest level first.
+fn rows_in(alloc: Global, set: &TaskSet, places: &[Place]) -> Result<Vec<Row>, AllocError>
+    requires { IsOrder set.now (tasks_of_places places.now) }
+    ensures rows { IfOk result (λ rows. rows.items ≡ rows_of set.now places.now) }
+    ensures few { IfOk result (λ rows. length rows.items ≤ 32) }
+{
+    rows_of(alloc, set.sheets(), places)
+}
+
+// Draws a run of a set.
+fn draw_run<W: Write + Drop>(
+    alloc: Global,
+    set: &TaskSet,
+    run: &Run,
+    output: &mut Watched<W>,
+) -> Status
+    requires { IsOrder set.now (tasks_of_places run.now.places.items) }
+    ensures printed { output.new.has_failed ≡ false
+        → IsPrinted (W.contents output.old.inner) (W.contents output.new.inner)
+        (picture_of set.now run.now) Status.Done result }
+    ensures failed { result ≡ Status.InputOrOutputFailed → output.new.has_failed ≡ true }
+    ensures unwritten { output.old.has_failed ≡ false → output.new.has_failed ≡ true
+        → result ≡ Status.InputOrOutputFailed }
+{
+    let Ok(rows) = rows_in(alloc, set, &run.places) else {
+        return refuse(Refusal::OutOfMemory, output);
+    };
+    match draw(alloc, &rows, run.until, &run.releases, &run.trace, output) {
+        Ok(()) => Status::Done,
+        Err(DrawFault::OutOfMemory) => refuse(Refusal::OutOfMemory, output),
+        Err(DrawFault::WriteFailed) => Status::InputOrOutputFailed,
+    }
+}
+
+// Draws what came of a set.
+fn draw_simulated<W: Write + Drop>(
+    alloc: Global,
+    set: &TaskSet,
+    simulated: &Simulated,
+    output: &mut Watched<W>,
+) -> Status
+    requires { IsInOrder set.now simulated.now }
+    ensures printed { output.new.has_failed ≡ false
+        → IsPrinted (W.contents output.old.inner) (W.contents output.new.inner)
+        (drawing_said set.now simulated.now) (simulation_status simulated.now) result }
+    ensures failed { result ≡ Status.InputOrOutputFailed → output.new.has_failed ≡ true }
+    ensures unwritten { output.old.has_failed ≡ false → output.new.has_failed ≡ true
+        → result ≡ Status.InputOrOutputFailed }
+{
+    match simulated {
+        Simulated::Ran(run) => draw_run(alloc, set, run, output),
+        Simulated::Infeasible(members) => print_stuck(alloc, set, *members, output),
+    }
+}
+
+/// `desk draw`: reads a task set by a preference and a release list, and prints what the simulated kernel does at the
+/// levels of the set's best order as a picture, an SVG 1.1 document; or the tasks of the set's greatest obstruction; or
+/// why one of them was refused. Both are read before either is parsed, the set first.
+pub fn run_draw<R: Read + Drop, S: Read + Drop, W: Write + Drop, P: Audience>(
+    alloc: Global,
+    preference: Preference,
+    set: &mut Watched<R>,
+    releases: &mut Watched<S>,
+    output: &mut Watched<W>,
+    people: &mut P,
+) -> Status
+    ensures printed { output.new.has_failed ≡ false
+        → SaysDrawn preference (R.remaining set.old.inner) (S.remaining releases.old.inner)
+        (W.contents output.old.inner) (W.contents output.new.inner) result }
+    ensures failed { result ≡ Status.InputOrOutputFailed
+        → IsDisturbed set.new ⊎ (IsDisturbed releases.new ⊎ (output.new.has_failed ≡ true)) }
+    ensures unread { set.old.has_failed ≡ false → releases.old.has_failed ≡ false
+        → (set.new.has_failed ≡ true) ⊎ (releases.new.has_failed ≡ true)
+        → output.old.has_failed ≡ false
+        → result ≡ Status.InputOrOutputFailed }
+    ensures unwritten { output.old.has_failed ≡ false → output.new.has_failed ≡ true
+        → result ≡ Status.InputOrOutputFailed }
+    ensures turns { IsWithinTurns set.old set.new × IsWithinTurns releases.old releases.new }
+    ensures first_too_long { (all : List ℕ) → R.remaining set.old.inner ≡ Some all
+        → 16777216 < length all
+        → releases.new ≡ releases.old }
+    ensures first_failed { set.old.has_failed ≡ false → set.new.has_failed ≡ true
+        → releases.new ≡ releases.old }
+{
+    match simulated_of(alloc, preference, set, releases, people) {
+        Ok((tasks, simulated)) => draw_simulated(alloc, &tasks, &simulated, output),
+        Err(refusal) => refuse(refusal, output),
+    }
+}

@@ -1,0 +1,109 @@
+//! Release lists as text: `until N`, and then a line `TIME NAME` or `TIME NAME LATE` for each release.
+ghost use Rattle.std.specs.Prelude.{◌≡◌, Ok, MatchResult, option_map};
+ghost use Rattle.lines.specs.Lines.{kept_from, lines_of};
+ghost use Rattle.lines.specs.Words.{words};
+ghost use Rattle.desk_cli.specs.ReleasesText.{late_in, list_in, release_in, releases_from, until_in};
+ghost use Rattle.desk_cli.specs.TextFaults.{IsFault};
+ghost use Rattle.desk_cli.specs.declared.release_text.TextFault.TheVariants.{OutOfMemory};
+
+use ceiling_kernel::Release;
+use lines::{Place, Words, name_of, next_kept, number_of};
+use std::alloc::{AllocFailed, Global};
+
+/// Why a text is no release list, or want of memory. Lines are counted from 1.
+#[derive(Clone, Copy, Debug, PartialEq, Eq)]
+pub enum TextFault {
+    /// The line is not one that may stand there; one past the last where the line `until N` is missing.
+    BadLine { line: u64 },
+    /// A growth was refused.
+    OutOfMemory,
+}
+
+impl<T: Drop> From<AllocFailed<T>> for TextFault {
+    ghost from_gives = { λ _ fault. fault ≡ OutOfMemory };
+
+    fn from(_e: AllocFailed<T>) -> TextFault {
+        TextFault::OutOfMemory
+    }
+}
+
+// The number of a line `until N`.
+fn until_of(line: &[u8]) -> Option<u64>
+    ensures { result ≡ until_in (words line.now) }
+{
+    let mut words = Words::of(line);
+    let word = words.next()?;
+    let number = words.next()?;
+    match words.next() {
+        Some(_more) => None,
+        None if word == b"until".as_slice() => number_of(number),
+        None => None,
+    }
+}
+
+// How late a release is, by the word that may follow its name.
+fn late_of(word: Option<&[u8]>) -> Option<u64>
+    ensures { result ≡ late_in (option_map (λ w. w.now) word.entry) }
+{
+    match word {
+        Some(word) => number_of(word),
+        None => Some(0),
+    }
+}
+
+// The release of a line `TIME NAME` or `TIME NAME LATE`.
+fn release_of(line: &[u8]) -> Option<Release>
+    ensures { result ≡ release_in (words line.now) }
+{
+    let mut words = Words::of(line);
+    let time = words.next()?;
+    let name = words.next()?;
+    let late = words.next();
+    match words.next() {
+        Some(_more) => None,
+        None => {
+            let time = number_of(time)?;
+            let name = name_of(name)?;
+            let late = late_of(late)?;
+            Some(Release { time, name, late })
+        }
+    }
+}
+
+// The releases of the lines that are left.
+fn releases_at<'a>(alloc: Global, at: Place<'a>) -> Result<Vec<Release>, TextFault>
+    ensures { MatchResult result
+        (λ releases. releases_from (kept_from at.entry.line (lines_of at.entry.rest.now))
+        ≡ Ok releases.items)
+        (λ fault. IsFault fault (releases_from
+        (kept_from at.entry.line (lines_of at.entry.rest.now)))) }
+{
+    let mut at = at;
+    let mut releases = Vec::new(alloc);
+    while let Ok((line, after)) = next_kept(at) {
+        let Some(release) = release_of(line.text) else {
+            return Err(TextFault::BadLine { line: line.number });
+        };
+        releases.push(release)?;
+        at = after;
+    }
+    Ok(releases)
+}
+
+/// Reads a release list: the time at which the run ends, and the releases, in microseconds. Empty lines and
+/// lines that begin with `#` are skipped and counted; the last line may lack its LF.
+pub fn read_releases(alloc: Global, text: &[u8]) -> Result<(u64, Vec<Release>), TextFault>
+    ensures { MatchResult result
+        (λ list. list_in text.now ≡ Ok (list.0, list.1.items))
+        (λ fault. IsFault fault (list_in text.now)) }
+{
+    let (line, after) = match next_kept(Place::start(text)) {
+        Ok(found) => found,
+        Err(past) => return Err(TextFault::BadLine { line: past }),
+    };
+    let Some(until) = until_of(line.text) else {
+        return Err(TextFault::BadLine { line: line.number });
+    };
+    let releases = releases_at(alloc, after)?;
+    Ok((until, releases))
+}

@@ -1,0 +1,118 @@
+//! Reading the inputs of a command: a set, or a set and a text.
+ghost use Rattle.std.specs.Prelude.{◌≡◌, ◌⊎◌, ◌<◌, ℕ, List, length, Some, true, false, Err, IfOk, MatchResult};
+ghost use Rattle.preferences.specs.ReadsPreferred.{ReadsPreferred};
+ghost use Rattle.desk_cli.specs.Sets.{HasNoSet, HasSet, HaveBoth, HaveNotBoth};
+ghost use Rattle.streams.specs.Inputs.{IsDisturbed, IsReadFrom, IsTooLong, IsWithinTurns};
+
+use crate::audience::{Audience, Which};
+use crate::refusal::Refusal;
+use preferences::{Preference, read_preferred};
+use std::alloc::Global;
+use std::io::Read;
+use streams::{InputFault, Watched, read_input};
+use task_sheet::{SetFault, TaskSet};
+
+// All that an input has; or why it was not read, which the audience is told.
+pub(crate) fn read_told<R: Read + Drop, P: Audience>(
+    alloc: Global,
+    which: Which,
+    input: &mut Watched<R>,
+    people: &mut P,
+) -> Result<Vec<u8>, InputFault>
+    ensures whole { IfOk result (λ bytes. IsReadFrom (R.remaining input.old.inner) bytes.items) }
+    ensures too_long { result ≡ Err InputFault.TooLong → IsTooLong (R.remaining input.old.inner) }
+    ensures failed { result ≡ Err InputFault.ReadFailed → IsDisturbed input.new }
+    ensures answered { input.old.has_failed ≡ false → input.new.has_failed ≡ true
+        → result ≡ Err InputFault.ReadFailed }
+    ensures turns { IsWithinTurns input.old input.new }
+{
+    let bytes = read_input(alloc, input);
+    if let Err(fault) = &bytes {
+        people.refused(which, b"", Refusal::Input(*fault));
+    }
+    bytes
+}
+
+// The set that bytes say, by a preference; or why there is none, which the audience is told.
+fn set_told<P: Audience>(
+    alloc: Global,
+    preference: Preference,
+    bytes: &[u8],
+    people: &mut P,
+) -> Result<TaskSet, SetFault>
+    ensures { ReadsPreferred preference bytes.now result }
+{
+    let tasks = read_preferred(alloc, bytes, preference);
+    if let Err(fault) = &tasks {
+        people.refused(Which::First, bytes, Refusal::Set(*fault));
+    }
+    tasks
+}
+
+// The set that the reader has, by a preference; or why there is none, which the audience is told.
+pub(crate) fn read_one<R: Read + Drop, P: Audience>(
+    alloc: Global,
+    preference: Preference,
+    set: &mut Watched<R>,
+    people: &mut P,
+) -> Result<TaskSet, Refusal>
+    ensures answer { MatchResult result (λ tasks. HasSet preference
+        (R.remaining set.old.inner) tasks)
+        (λ r. HasNoSet (R.remaining set.old.inner) r) }
+    ensures failed { result ≡ Err (Refusal.Input InputFault.ReadFailed) → IsDisturbed set.new }
+    ensures answered { set.old.has_failed ≡ false → set.new.has_failed ≡ true
+        → result ≡ Err (Refusal.Input InputFault.ReadFailed) }
+    ensures turns { IsWithinTurns set.old set.new }
+{
+    let bytes = read_told(alloc, Which::First, set, people)?;
+    let tasks = set_told(alloc, preference, &bytes, people)?;
+    Ok(tasks)
+}
+
+// The set that the first reader has, by a preference, and what the second has; or why there are not both, which the
+// audience is told. Both are read before the set's bytes are, the first one first: where it is refused, nothing is read
+// of the second.
+pub(crate) fn read_two<R: Read + Drop, S: Read + Drop, P: Audience>(
+    alloc: Global,
+    preference: Preference,
+    set: &mut Watched<R>,
+    other: &mut Watched<S>,
+    people: &mut P,
+) -> Result<(TaskSet, Vec<u8>), Refusal>
+    ensures answer { MatchResult result
+        (λ both. HaveBoth preference (R.remaining set.old.inner)
+        (S.remaining other.old.inner) both.0 both.1.items)
+        (λ r. HaveNotBoth (R.remaining set.old.inner) (S.remaining other.old.inner) r) }
+    ensures failed { result ≡ Err (Refusal.Input InputFault.ReadFailed)
+        → IsDisturbed set.new ⊎ IsDisturbed other.new }
+    ensures answered { set.old.has_failed ≡ false → other.old.has_failed ≡ false
+        → (set.new.has_failed ≡ true) ⊎ (other.new.has_failed ≡ true)
+        → result ≡ Err (Refusal.Input InputFault.ReadFailed) }
+    ensures turns { IsWithinTurns set.old set.new × IsWithinTurns other.old other.new }
+    ensures first_too_long { (all : List ℕ) → R.remaining set.old.inner ≡ Some all
+        → 16777216 < length all
+        → other.new ≡ other.old }
+    ensures first_failed { set.old.has_failed ≡ false → set.new.has_failed ≡ true
+        → other.new ≡ other.old }
+{
+    let bytes = read_told(alloc, Which::First, set, people)?;
+    let text = read_told(alloc, Which::Second, other, people)?;
+    let tasks = set_told(alloc, preference, &bytes, people)?;
+    Ok((tasks, text))
+}
+
+// Tells what became of a set: that an answer on it follows, or that the text of an input, or a number beside the set,
+// was refused.
+pub(crate) fn tell<T, P: Audience>(
+    answer: &Result<T, Refusal>,
+    tasks: &TaskSet,
+    which: Which,
+    text: &[u8],
+    people: &mut P,
+) {
+    match answer {
+        Ok(_) => people.read(tasks),
+        Err(Refusal::OutOfMemory) => {}
+        Err(refusal) => people.refused(which, text, *refusal),
+    }
+}

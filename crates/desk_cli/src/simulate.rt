@@ -1,0 +1,182 @@
+//! `desk simulate`.
+ghost use Rattle.std.specs.Prelude.{◌≡◌, ◌⊎◌, ◌<◌, ℕ, List, length, Some, true, false, Err, IfOk};
+ghost use Rattle.task_sheet.specs.Orders.{IsBest};
+ghost use Rattle.assignment.specs.Placings.{tasks_of_places};
+ghost use Rattle.desk_cli.specs.Printed.{IsPrinted};
+ghost use Rattle.desk_cli.specs.Simulate.{RunsOrder, SaysSimulated, Simulates, SimulatesText, simulation_said, simulation_status};
+ghost use Rattle.streams.specs.Inputs.{IsDisturbed, IsWithinTurns};
+
+use crate::answer::print_stuck;
+use crate::audience::{Audience, Which};
+use crate::output::{print, refuse};
+use crate::refusal::Refusal;
+use crate::release_text::read_releases;
+use crate::sets::{read_two, tell};
+use crate::status::Status;
+use crate::trace::trace_text;
+use assignment::{Place, Placing, place_all};
+use ceiling_kernel::{Kernel, KernelFault, Release, Trace};
+use ceilings::LockTable;
+use preferences::Preference;
+use std::alloc::{AllocError, Global};
+use std::io::{Read, Write};
+use streams::{InputFault, Watched};
+use task_sheet::{Members, TaskSet};
+
+/// A run of a set's tasks at the levels of their best order.
+#[derive(Drop)]
+pub struct Run {
+    /// The lowest level first.
+    pub places: Vec<Place>,
+    /// In microseconds.
+    pub until: u64,
+    pub releases: Vec<Release>,
+    /// What happened.
+    pub trace: Trace,
+}
+
+/// What a simulation comes to.
+#[derive(Drop)]
+pub enum Simulated {
+    /// No order of the set passes, and nothing was run: the members of the greatest obstruction.
+    Infeasible(Members),
+    Ran(Run),
+}
+
+// The indexes of the tasks, the lowest level first.
+fn order_of(alloc: Global, places: &[Place]) -> Result<Vec<usize>, AllocError>
+    ensures { IfOk result (λ order. order.items ≡ tasks_of_places places.now) }
+{
+    let mut order = Vec::with_capacity(alloc, places.len())?;
+    for place in places {
+        order.push(place.task)?;
+    }
+    Ok(order)
+}
+
+// Runs the tasks at the levels of their best order.
+fn run_best(
+    alloc: Global,
+    set: &TaskSet,
+    places: &[Place],
+    until: u64,
+    releases: &[Release],
+) -> Result<Trace, Refusal>
+    requires { IsBest set.now (tasks_of_places places.now) }
+    ensures { RunsOrder set.now (tasks_of_places places.now) releases.now until result }
+{
+    let order = order_of(alloc, places)?;
+    let kernel = match Kernel::new(alloc, set, &order) {
+        Ok(kernel) => kernel,
+        Err(KernelFault::OutOfMemory) => return Err(Refusal::OutOfMemory),
+        Err(KernelFault::WrongOrder) => unreachable!(),
+    };
+    let trace = kernel.run(alloc, releases, until)?;
+    Ok(trace)
+}
+
+// What a set and a release list's text come to.
+fn simulate_text(alloc: Global, tasks: &TaskSet, text: &[u8]) -> Result<Simulated, Refusal>
+    ensures { SimulatesText tasks.now text.now result }
+{
+    let (until, releases) = read_releases(alloc, text)?;
+    let table = LockTable::new(alloc, tasks)?;
+    match place_all(alloc, tasks, &table)? {
+        Placing::Stuck(members) => Ok(Simulated::Infeasible(members)),
+        Placing::Best(places) => {
+            let trace = run_best(alloc, tasks, &places, until, &releases)?;
+            Ok(Simulated::Ran(Run {
+                places,
+                until,
+                releases,
+                trace,
+            }))
+        }
+    }
+}
+
+// The set, and what it and the release list come to, once both are read.
+pub(crate) fn simulated_of<R: Read + Drop, S: Read + Drop, P: Audience>(
+    alloc: Global,
+    preference: Preference,
+    set: &mut Watched<R>,
+    releases: &mut Watched<S>,
+    people: &mut P,
+) -> Result<(TaskSet, Simulated), Refusal>
+    ensures answer { Simulates preference (R.remaining set.old.inner)
+        (S.remaining releases.old.inner) result }
+    ensures failed { result ≡ Err (Refusal.Input InputFault.ReadFailed)
+        → IsDisturbed set.new ⊎ IsDisturbed releases.new }
+    ensures answered { set.old.has_failed ≡ false → releases.old.has_failed ≡ false
+        → (set.new.has_failed ≡ true) ⊎ (releases.new.has_failed ≡ true)
+        → result ≡ Err (Refusal.Input InputFault.ReadFailed) }
+    ensures turns { IsWithinTurns set.old set.new × IsWithinTurns releases.old releases.new }
+    ensures first_too_long { (all : List ℕ) → R.remaining set.old.inner ≡ Some all
+        → 16777216 < length all
+        → releases.new ≡ releases.old }
+    ensures first_failed { set.old.has_failed ≡ false → set.new.has_failed ≡ true
+        → releases.new ≡ releases.old }
+{
+    let (tasks, text) = read_two(alloc, preference, set, releases, people)?;
+    let simulated = simulate_text(alloc, &tasks, &text);
+    tell(&simulated, &tasks, Which::Second, &text, people);
+    Ok((tasks, simulated?))
+}
+
+// Prints the lines of what came of a set.
+fn print_simulated<W: Write + Drop>(
+    alloc: Global,
+    set: &TaskSet,
+    simulated: &Simulated,
+    output: &mut Watched<W>,
+) -> Status
+    ensures printed { output.new.has_failed ≡ false
+        → IsPrinted (W.contents output.old.inner) (W.contents output.new.inner)
+        (simulation_said set.now simulated.now) (simulation_status simulated.now) result }
+    ensures failed { result ≡ Status.InputOrOutputFailed → output.new.has_failed ≡ true }
+    ensures unwritten { output.old.has_failed ≡ false → output.new.has_failed ≡ true
+        → result ≡ Status.InputOrOutputFailed }
+{
+    match simulated {
+        Simulated::Ran(run) => match trace_text(alloc, &run.trace) {
+            Ok(text) => print(text.as_bytes(), Status::Done, output),
+            Err(_) => refuse(Refusal::OutOfMemory, output),
+        },
+        Simulated::Infeasible(members) => print_stuck(alloc, set, *members, output),
+    }
+}
+
+/// `desk simulate`: reads a task set by a preference and a release list, and prints what the simulated kernel does at
+/// the levels of the set's best order, in microseconds; or the tasks of its greatest obstruction; or why one of them
+/// was refused. Both are read before either is parsed, the set first.
+pub fn run_simulate<R: Read + Drop, S: Read + Drop, W: Write + Drop, P: Audience>(
+    alloc: Global,
+    preference: Preference,
+    set: &mut Watched<R>,
+    releases: &mut Watched<S>,
+    output: &mut Watched<W>,
+    people: &mut P,
+) -> Status
+    ensures printed { output.new.has_failed ≡ false
+        → SaysSimulated preference (R.remaining set.old.inner) (S.remaining releases.old.inner)
+        (W.contents output.old.inner) (W.contents output.new.inner) result }
+    ensures failed { result ≡ Status.InputOrOutputFailed
+        → IsDisturbed set.new ⊎ (IsDisturbed releases.new ⊎ (output.new.has_failed ≡ true)) }
+    ensures unread { set.old.has_failed ≡ false → releases.old.has_failed ≡ false
+        → (set.new.has_failed ≡ true) ⊎ (releases.new.has_failed ≡ true)
+        → output.old.has_failed ≡ false
+        → result ≡ Status.InputOrOutputFailed }
+    ensures unwritten { output.old.has_failed ≡ false → output.new.has_failed ≡ true
+        → result ≡ Status.InputOrOutputFailed }
+    ensures turns { IsWithinTurns set.old set.new × IsWithinTurns releases.old releases.new }
+    ensures first_too_long { (all : List ℕ) → R.remaining set.old.inner ≡ Some all
+        → 16777216 < length all
+        → releases.new ≡ releases.old }
+    ensures first_failed { set.old.has_failed ≡ false → set.new.has_failed ≡ true
+        → releases.new ≡ releases.old }
+{
+    match simulated_of(alloc, preference, set, releases, people) {
+        Ok((tasks, simulated)) => print_simulated(alloc, &tasks, &simulated, output),
+        Err(refusal) => refuse(refusal, output),
+    }
+}

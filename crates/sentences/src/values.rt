@@ -1,0 +1,89 @@
+//! The values of a task as a document or a line of a script gives them.
+
+use crate::tree::{items_at, number_at, repeated_in, table_at};
+use task_sheet::Key;
+use toml::Table;
+
+/// The numbers of a task; none where they are not at hand. Times are in microseconds.
+#[derive(Clone, Copy)]
+pub(crate) struct Numbers {
+    pub(crate) weight: Option<u64>,
+    pub(crate) period: Option<u64>,
+    pub(crate) deadline: Option<u64>,
+    pub(crate) cost: Option<u64>,
+    pub(crate) jitter: Option<u64>,
+    pub(crate) sections: Option<u64>,
+}
+
+/// The values of a section; none where they are not at hand.
+#[derive(Clone, Copy)]
+pub(crate) struct Span<'a> {
+    pub(crate) at: Option<u64>,
+    pub(crate) len: Option<u64>,
+    pub(crate) locks: Option<u64>,
+    /// A lock that stands twice.
+    pub(crate) twice: Option<&'a str>,
+    /// The end of the section before it.
+    pub(crate) from: Option<u64>,
+}
+
+/// Of a section of which nothing is at hand.
+pub(crate) fn no_span<'a>() -> Span<'a> {
+    Span {
+        at: None,
+        len: None,
+        locks: None,
+        twice: None,
+        from: None,
+    }
+}
+
+// How many items the array at a key has.
+fn count_at(key: Key, table: &Table) -> Option<u64> {
+    match items_at(key, table) {
+        Some(items) => Some(items.len() as u64),
+        None => None,
+    }
+}
+
+/// Those of a task's table.
+pub(crate) fn numbers_in(table: &Table) -> Numbers {
+    Numbers {
+        weight: number_at(Key::Weight, table),
+        period: number_at(Key::Period, table),
+        deadline: number_at(Key::Deadline, table),
+        cost: number_at(Key::Cost, table),
+        jitter: number_at(Key::Jitter, table),
+        sections: count_at(Key::Section, table),
+    }
+}
+
+/// Where a section ends that has both numbers.
+pub(crate) fn end_of(at: Option<u64>, len: Option<u64>) -> Option<u64> {
+    Some(at?.saturating_add(len?))
+}
+
+// The end of the section at a place of a task's table.
+fn end_at(place: usize, table: &Table) -> Option<u64> {
+    let section = table_at(Key::Section, place, table)?;
+    end_of(number_at(Key::At, section), number_at(Key::Len, section))
+}
+
+// The lock that stands twice in a section's table.
+fn twice_in<'a>(section: &'a Table) -> Option<&'a str> {
+    repeated_in(items_at(Key::Locks, section)?)
+}
+
+/// Those of the section at a place of a task's table, from 1.
+pub(crate) fn span_at<'a>(place: usize, table: &'a Table) -> Span<'a> {
+    match table_at(Key::Section, place, table) {
+        Some(section) => Span {
+            at: number_at(Key::At, section),
+            len: number_at(Key::Len, section),
+            locks: count_at(Key::Locks, section),
+            twice: twice_in(section),
+            from: end_at(place.saturating_sub(1), table),
+        },
+        None => no_span(),
+    }
+}
