@@ -2,7 +2,7 @@
 use crate::findings::{A, B, C, level_of};
 use crate::verdicts::line_of;
 use assignment::{Climb, ClimbFault, Level};
-use example_sets::{BLOCKED_OUT, THREE_TASKS, shared_set};
+use example_sets::{BLOCKED_OUT, THREE_TASKS, again, shared_set};
 use std::alloc::Global;
 use std::process::Abort;
 use std::test::Fail;
@@ -28,7 +28,7 @@ type Row = (&'static [usize], &'static [usize], &'static str);
 // The climb on a document's set.
 fn climb_at(alloc: Global, document: &str) -> Result<Climb, Fail> {
     let set = shared_set(alloc, document)?;
-    Ok(Climb::start(alloc, set)?)
+    Ok(again!(Climb::start(alloc, set.clone()?))?)
 }
 
 // The climb on a document's set, after closing these levels in turn.

@@ -4,8 +4,8 @@ ghost use Rattle.std.specs.FinSet.{len};
 ghost use Rattle.task_sheet.specs.Indexes.{IsPart, indexes_of};
 ghost use Rattle.task_sheet.specs.Orders.{all_of};
 
-use assignment::{Closed, Finding, Level, LevelRecord, Reason, TakeFault};
-use example_sets::{THREE_TASKS, THREE_TASKS_TOO_TIGHT, shared_set};
+use assignment::{AnswerFault, Closed, Finding, Level, LevelRecord, Reason, TakeFault};
+use example_sets::{THREE_TASKS, THREE_TASKS_TOO_TIGHT, again, shared_set};
 use std::alloc::Global;
 use std::process::Abort;
 use std::test::Fail;
@@ -38,9 +38,9 @@ fn left_of(rt: &impl Abort, set: &TaskSet, gone: &[usize]) -> Members
 fn finding_on(rt: &impl Abort, alloc: Global, level: &Level, task: usize) -> Result<Finding, Fail> {
     assert!(rt; task < 32);
     assert!(rt; level.left().has(task));
-    let question = level.question(task)?;
-    let finding = question.answer(alloc).ok().ok_or("memory")?;
-    Ok(finding)
+    let question = again!(level.question(task))?;
+    let answer = again!(question.answer(alloc), AnswerFault { question });
+    Ok(answer.ok().ok_or("a finding")?)
 }
 
 /// The level of a document's set where some tasks are gone, with the findings on some of the others, taken in this
@@ -54,7 +54,7 @@ pub fn level_of(
 ) -> Result<Level, Fail> {
     let set = shared_set(alloc, document)?;
     let left = left_of(rt, &set, gone);
-    let mut level = Level::start(alloc, set, left)?;
+    let mut level = again!(Level::start(alloc, set.clone()?, left))?;
     for task in found {
         let finding = finding_on(rt, alloc, &level, *task)?;
         assert!(rt; level.take(finding).is_ok());
@@ -156,12 +156,17 @@ fn deliver(level: &mut Level, finding: Finding) -> &'static str {
 
 // A document, the tasks that are gone at its level, a candidate there, and what comes of the finding on it at the first
 // level of the three tasks, which has those on b and c.
-const DELIVERED: [(&str, &[usize], usize, &str); 5] = [
+const DELIVERED: [(&str, &[usize], usize, &str); 10] = [
     (THREE_TASKS, &[], B, "twice"),
+    (THREE_TASKS, &[], C, "twice"),
     (THREE_TASKS_TOO_TIGHT, &[], A, "stranger"),
+    (THREE_TASKS_TOO_TIGHT, &[], B, "stranger"),
+    (THREE_TASKS_TOO_TIGHT, &[], C, "stranger"),
     (THREE_TASKS, &[C], A, "stranger"),
+    (THREE_TASKS, &[C], B, "stranger"),
     (THREE_TASKS, &[], A, "taken"),
     (THREE_TASKS, &[], A, "twice"),
+    (THREE_TASKS, &[], C, "twice"),
 ];
 
 #[test]

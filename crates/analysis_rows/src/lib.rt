@@ -7,6 +7,8 @@ mod climbs;
 #[cfg(test)]
 mod findings;
 #[cfg(test)]
+mod naming;
+#[cfg(test)]
 mod placings;
 #[cfg(test)]
 mod responses;

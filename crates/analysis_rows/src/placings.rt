@@ -1,21 +1,11 @@
 //! Placings: each level with its response, or the members of the greatest obstruction, as in the verdicts.
+use crate::naming::push_name;
 use assignment::{Place, Placing, place_all};
 use ceilings::LockTable;
-use example_sets::shared_set;
+use example_sets::{again, set_of};
 use std::alloc::{AllocError, Global};
 use std::test::Fail;
 use task_sheet::{Members, TaskSet};
-
-// The name of the task at an index.
-fn push_name(text: &mut String, set: &TaskSet, task: usize) -> Result<(), AllocError> {
-    match set.get(task) {
-        Some(sheet) => {
-            let name = sheet.name();
-            write!(text, "{name}")
-        }
-        None => write!(text, "?"),
-    }
-}
 
 // The name of each level's task and its response.
 fn push_places(text: &mut String, set: &TaskSet, places: &[Place]) -> Result<(), AllocError> {
@@ -51,9 +41,9 @@ fn line_of(alloc: Global, set: &TaskSet, placing: &Placing) -> Result<String, Al
 
 // The placing of the set of a document.
 fn placing_at(alloc: Global, document: &str) -> Result<String, Fail> {
-    let set = shared_set(alloc, document)?;
-    let table = LockTable::new(alloc, &set)?;
-    let placing = place_all(alloc, &set, &table)?;
+    let set = set_of(alloc, document)?;
+    let table = again!(LockTable::new(alloc, &set))?;
+    let placing = again!(place_all(alloc, &set, &table))?;
     Ok(line_of(alloc, &set, &placing)?)
 }
 

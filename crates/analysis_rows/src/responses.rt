@@ -4,7 +4,7 @@ ghost use Rattle.ceilings.specs.IsTableOf.{IsTableOf};
 
 use blocking::blocking;
 use ceilings::LockTable;
-use example_sets::{name, set_of};
+use example_sets::{again, name, set_of};
 use response_time::{Answer, demand, passes, respond};
 use std::alloc::Global;
 use std::process::Abort;
@@ -33,7 +33,7 @@ fn response_in(
     requires table { IsTableOf set.now table.now }
     requires task { task < length set.now }
 {
-    let response = respond(alloc, set, table, task, above)?;
+    let response = again!(respond(alloc, set, table, task, above))?;
     let does_pass = matches!(&response.answer, Answer::Pass { .. });
     assert!(rt; passes(set, table, task, above) == does_pass);
     Ok((does_pass, response.evaluations))
@@ -48,7 +48,7 @@ fn response_of(
     above: &[usize],
 ) -> Result<(bool, usize), Fail> {
     let set = set_of(alloc, document)?;
-    let table = LockTable::new(alloc, &set)?;
+    let table = again!(LockTable::new(alloc, &set))?;
     assert!(rt; task < set.len());
     response_in(rt, alloc, &set, &table, task, members_of(rt, above))
 }
@@ -91,7 +91,7 @@ type LockFacts = (Option<u32>, usize, Option<usize>);
 // What the table of the shared lock says of a lock.
 fn facts_of(alloc: Global, lock: Name) -> Result<LockFacts, Fail> {
     let set = set_of(alloc, example_sets::SHARED_LOCK)?;
-    let table = LockTable::new(alloc, &set)?;
+    let table = again!(LockTable::new(alloc, &set))?;
     let ceiling = table.ceiling(lock, &[0, 1, 2]);
     Ok((ceiling, table.users(lock).len(), table.index_of(lock)))
 }
@@ -110,7 +110,7 @@ fn ceilings_of_the_shared_lock(rt: HostRuntime) -> Result<(), Fail> {
 // What blocks a task of the shared lock, which has three, with these above it.
 fn blocking_in(rt: &impl Abort, alloc: Global, task: usize, above: &[usize]) -> Result<u64, Fail> {
     let set = set_of(alloc, example_sets::SHARED_LOCK)?;
-    let table = LockTable::new(alloc, &set)?;
+    let table = again!(LockTable::new(alloc, &set))?;
     assert!(rt; set.len() == 3);
     assert!(rt; task < 3);
     Ok(blocking(&set, &table, task, members_of(rt, above)))
@@ -138,7 +138,7 @@ fn demand_in(
     time: u64,
 ) -> Result<u64, Fail> {
     let set = set_of(alloc, document)?;
-    let table = LockTable::new(alloc, &set)?;
+    let table = again!(LockTable::new(alloc, &set))?;
     let above = members_of(rt, above);
     assert!(rt; task < set.len());
     assert!(rt; time <= 20001);

@@ -1,10 +1,10 @@
 //! The limits of a sheet and of a set, and sets with one task more or less.
-use example_sets::{name, set_of};
-use std::alloc::Global;
+use example_sets::{again, name, set_of};
+use std::alloc::{AllocError, Global};
 use std::test::Fail;
 use task_sheet::{
-    Key, Name, OutranksCause, Section, SetFault, Sheet, SheetCause, TaskSet, WithCause,
-    WithoutFault, read_set,
+    Key, Name, OutranksCause, Section, SetCause, SetFault, Sheet, SheetCause, SheetsFault, TaskSet,
+    WithCause, WithFault, WithoutFault, read_set,
 };
 
 // Why these values are no sheet.
@@ -267,9 +267,69 @@ fn as_many_tasks_as_a_set_has(rt: HostRuntime) -> Result<(), Fail> {
     Ok(())
 }
 
+// Sheets (10000, 10000, 100), each a name and a weight.
+fn sheets_of(alloc: Global, list: &[(&str, u64)]) -> Result<Vec<Sheet>, Fail> {
+    let mut sheets = Vec::new(alloc);
+    for (text, weight) in list {
+        let sheet = Sheet::new(name(*text)?, *weight, 10000, 10000, 100, Vec::new(alloc));
+        sheets.push(sheet.ok().ok_or("no sheet")?)?;
+    }
+    Ok(sheets)
+}
+
+// The set of some sheets.
+fn set_from(alloc: Global, sheets: Vec<Sheet>) -> Result<TaskSet, SheetsFault> {
+    again!(
+        TaskSet::new(alloc, sheets),
+        SheetsFault {
+            cause: SetCause::OutOfMemory,
+            sheets
+        }
+    )
+}
+
+// The names of a set by rank, or why there is none.
+fn ranked(alloc: Global, set: &Result<TaskSet, SheetsFault>) -> Result<String, AllocError> {
+    let mut text = String::new(alloc);
+    match set {
+        Ok(set) => {
+            for sheet in set.sheets() {
+                let name = sheet.name();
+                write!(text, "{name} ")?;
+            }
+        }
+        Err(fault) => {
+            let cause = fault.cause;
+            write!(text, "{cause}")?;
+        }
+    }
+    Ok(text)
+}
+
+// Sheets, and the names of their set by rank, or why they are none.
+const SETS: [(&[(&str, u64)], &str); 4] = [
+    (&[], ""),
+    (&[("b", 0), ("c", 0), ("a", 0)], "a b c "),
+    (&[("a", 2), ("c", 1), ("b", 1)], "b c a "),
+    (
+        &[("b", 0), ("a", 0), ("a", 1)],
+        "task 3: a task before it has its name",
+    ),
+];
+
+#[test]
+fn sets_by_rank(rt: HostRuntime) -> Result<(), Fail> {
+    for (list, want) in &SETS {
+        let sheets = sheets_of(rt.alloc(), *list)?;
+        let text = ranked(rt.alloc(), &set_from(rt.alloc(), sheets))?;
+        assert_eq!(rt; text.as_str(), *want);
+    }
+    Ok(())
+}
+
 // Why bytes are no set, none where they are one.
 fn refusal_of(alloc: Global, bytes: &[u8]) -> Option<SetFault> {
-    match read_set(alloc, bytes) {
+    match again!(read_set(alloc, bytes), SetFault::OutOfMemory) {
         Ok(_) => None,
         Err(fault) => Some(fault),
     }
@@ -331,18 +391,21 @@ fn refusals_that_want_of_memory_may_not_take(rt: HostRuntime) {
 fn hi_of(alloc: Global, set: &TaskSet) -> Result<Sheet, Fail> {
     let place = set.find(name("hi")?).ok_or("no hi")?;
     let hi = set.get(place).ok_or("no sheet")?;
-    Ok(hi.copy(alloc)?)
+    Ok(again!(hi.copy(alloc))?)
 }
 
 /// The shared lock without hi.
 pub fn without_hi(alloc: Global) -> Result<TaskSet, Fail> {
     let set = set_of(alloc, example_sets::SHARED_LOCK)?;
-    Ok(set.without(alloc, name("hi")?)?)
+    let hi = name("hi")?;
+    let rest = again!(set.without(alloc, hi), WithoutFault::OutOfMemory);
+    Ok(rest?)
 }
 
 // Why hi can't be taken from a set; none where it can be.
 fn kept_hi(alloc: Global, set: &TaskSet) -> Result<Option<WithoutFault>, Fail> {
-    let rest = set.without(alloc, name("hi")?);
+    let hi = name("hi")?;
+    let rest = again!(set.without(alloc, hi), WithoutFault::OutOfMemory);
     Ok(rest.err())
 }
 
@@ -355,19 +418,30 @@ fn shared_lock_without_hi(rt: HostRuntime) -> Result<(), Fail> {
     Ok(())
 }
 
+// The set with one sheet more.
+fn added(alloc: Global, set: &TaskSet, sheet: Sheet) -> Result<TaskSet, WithFault> {
+    again!(
+        set.with(alloc, sheet),
+        WithFault {
+            cause: WithCause::OutOfMemory,
+            sheet
+        }
+    )
+}
+
 // Why the sheet of hi, of a set, can't be added to another set; none where it can be.
 fn refused_hi(alloc: Global, to: &TaskSet, set: &TaskSet) -> Result<Option<WithCause>, Fail> {
     let hi = hi_of(alloc, set)?;
-    Ok(match to.with(alloc, hi) {
-        Ok(_) => None,
-        Err(fault) => Some(fault.cause),
-    })
+    match added(alloc, to, hi) {
+        Ok(_) => Ok(None),
+        Err(fault) => Ok(Some(fault.cause)),
+    }
 }
 
 // A set with the sheet of hi, of another set.
 fn with_hi(alloc: Global, rest: &TaskSet, set: &TaskSet) -> Result<TaskSet, Fail> {
     let hi = hi_of(alloc, set)?;
-    Ok(rest.with(alloc, hi).ok().ok_or("refused")?)
+    Ok(added(alloc, rest, hi).ok().ok_or("refused")?)
 }
 
 #[test]
@@ -383,7 +457,7 @@ fn shared_lock_with_hi_again(rt: HostRuntime) -> Result<(), Fail> {
 #[test]
 fn shared_lock_with_hi_twice(rt: HostRuntime) -> Result<(), Fail> {
     let set = set_of(rt.alloc(), example_sets::SHARED_LOCK)?;
-    let copy = set.copy(rt.alloc())?;
+    let copy = again!(set.copy(rt.alloc()))?;
     assert!(rt; copy.is_same(&set));
     let cause = refused_hi(rt.alloc(), &copy, &set)?;
     assert_eq!(rt; cause, Some(WithCause::SameName));

@@ -1,23 +1,13 @@
 //! Verdicts, whole: each level with its response and the chains of those of smaller rank, or each member with its
 //! chain.
+use crate::naming::push_name;
 use crate::sheets::without_hi;
 use assignment::{Failure, LevelRecord, Reason, Verdict, assign};
-use example_sets::shared_set;
+use example_sets::{again, shared_set};
 use std::alloc::{AllocError, Global};
 use std::sync::Arc;
 use std::test::Fail;
 use task_sheet::TaskSet;
-
-// The name of the task at an index.
-fn push_name(text: &mut String, set: &TaskSet, task: usize) -> Result<(), AllocError> {
-    match set.get(task) {
-        Some(sheet) => {
-            let name = sheet.name();
-            write!(text, "{name}")
-        }
-        None => write!(text, "?"),
-    }
-}
 
 // The numbers of a chain, or the task above which one must stand.
 fn push_reason(text: &mut String, set: &TaskSet, reason: &Reason) -> Result<(), AllocError> {
@@ -78,7 +68,7 @@ pub fn line_of(alloc: Global, verdict: &Verdict) -> Result<String, AllocError> {
 
 // The verdict on a set.
 fn verdict_on(alloc: Global, set: Arc<TaskSet>) -> Result<String, Fail> {
-    let verdict = assign(alloc, set)?;
+    let verdict = again!(assign(alloc, set.clone()?))?;
     Ok(line_of(alloc, &verdict)?)
 }
 

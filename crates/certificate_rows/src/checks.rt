@@ -1,8 +1,8 @@
 //! What the checker says of anybody's certificates.
 use crate::spellings::certified;
 use cert_checker::{CheckFault, Checked, check};
-use certificate::read;
-use example_sets::set_of;
+use certificate::{CertFault, read};
+use example_sets::{again, set_of};
 use std::alloc::{AllocError, Global};
 use std::test::Fail;
 
@@ -32,7 +32,7 @@ fn line_of(alloc: Global, said: Result<Checked, CheckFault>) -> Result<String, A
 // What the checker says of a certificate of a document's set.
 fn checked(alloc: Global, document: &str, text: &str) -> Result<String, Fail> {
     let set = set_of(alloc, document)?;
-    let certificate = read(alloc, text.as_bytes())?;
+    let certificate = again!(read(alloc, text.as_bytes()), CertFault::OutOfMemory)?;
     Ok(line_of(alloc, check(&set, &certificate))?)
 }
 

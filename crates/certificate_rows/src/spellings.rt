@@ -1,7 +1,7 @@
 //! The bytes of certificates.
-use assignment::assign;
+use assignment::{Verdict, assign};
 use certificate::{CertFault, Certificate, read};
-use example_sets::shared_set;
+use example_sets::{again, shared_set};
 use std::alloc::Global;
 use std::test::Fail;
 use streams::Watched;
@@ -87,14 +87,25 @@ best 0
 end
 ";
 
+// The verdict on a document's set.
+fn verdict_on(alloc: Global, document: &str) -> Result<Verdict, Fail> {
+    let set = shared_set(alloc, document)?;
+    Ok(again!(assign(alloc, set.clone()?))?)
+}
+
+// The bytes of a certificate, whose writer has room for all of them.
+fn bytes_of(alloc: Global, own: &Certificate) -> Result<Vec<u8>, Fail> {
+    let mut bytes = Vec::with_capacity(alloc, 1024)?;
+    let mut out = Watched::new(&mut bytes);
+    own.write(&mut out).ok().ok_or("a write")?;
+    Ok(bytes)
+}
+
 /// The bytes of the desk's own certificate of a set.
 pub fn certified(alloc: Global, document: &str) -> Result<String, Fail> {
-    let verdict = assign(alloc, shared_set(alloc, document)?)?;
-    let own = Certificate::of(alloc, &verdict)?;
-    let mut text = Vec::new(alloc);
-    let mut out = Watched::new(&mut text);
-    own.write(&mut out).ok().ok_or("a write")?;
-    Ok(String::from_utf8(text)?)
+    let verdict = verdict_on(alloc, document)?;
+    let own = again!(Certificate::of(alloc, &verdict))?;
+    Ok(String::from_utf8(bytes_of(alloc, &own)?)?)
 }
 
 #[test]
@@ -125,7 +136,7 @@ fn own_certificates(rt: HostRuntime) -> Result<(), Fail> {
 
 // Why bytes are no certificate, none where they are one.
 fn fault_of(alloc: Global, bytes: &[u8]) -> Option<CertFault> {
-    match read(alloc, bytes) {
+    match again!(read(alloc, bytes), CertFault::OutOfMemory) {
         Ok(_) => None,
         Err(fault) => Some(fault),
     }
@@ -159,55 +170,40 @@ fn a_task_may_have_the_name_over(rt: HostRuntime) {
     }
 }
 
-const FAULTY: [(&str, CertFault); 12] = [
-    ("desk-certificate 3\n", CertFault::BadHead),
-    (
-        "desk-certificate 1\nbest 33\n",
-        CertFault::BadLine { line: 2 },
-    ),
-    (
-        "desk-certificate 1\nbest 1\nlevel  1 c 20000\nend\n",
-        CertFault::BadLine { line: 3 },
-    ),
-    (
-        "desk-certificate 1\nbest 1\nlevel 1 c 020\nend\n",
-        CertFault::BadLine { line: 3 },
-    ),
+// Texts with a wrong first line.
+const BAD_HEADS: [&str; 2] = [
+    "desk-certificate 3\n",
+    "desk-certificate 1\r\nbest 0\nend\n",
+];
+
+// A text, and the first line of it that may not stand there.
+const BAD_LINES: [(&str, u64); 10] = [
+    ("desk-certificate 1\nbest 33\n", 2),
+    ("desk-certificate 1\nbest 1\nlevel  1 c 20000\nend\n", 3),
+    ("desk-certificate 1\nbest 1\nlevel 1 c 020\nend\n", 3),
     (
         "desk-certificate 1\nbest 1\nlevel 1 c 12345678901\nend\n",
-        CertFault::BadLine { line: 3 },
+        3,
     ),
-    (
-        "desk-certificate 1\nbest 1\nend\n",
-        CertFault::BadLine { line: 3 },
-    ),
-    (
-        "desk-certificate 1\nbest 0\n\n",
-        CertFault::BadLine { line: 3 },
-    ),
-    ("desk-certificate 1\r\nbest 0\nend\n", CertFault::BadHead),
-    (
-        "desk-certificate 1\nnone 1\nmember a over b\nend\n",
-        CertFault::BadLine { line: 3 },
-    ),
+    ("desk-certificate 1\nbest 1\nend\n", 3),
+    ("desk-certificate 1\nbest 0\n\n", 3),
+    ("desk-certificate 1\nnone 1\nmember a over b\nend\n", 3),
     (
         "desk-certificate 1\nbest 1\nlevel 1 c 20000\nfails a over b\nend\n",
-        CertFault::BadLine { line: 4 },
+        4,
     ),
-    (
-        "desk-certificate 2\nnone 1\nmember a over b c\nend\n",
-        CertFault::BadLine { line: 3 },
-    ),
-    (
-        "desk-certificate 2\nnone 1\nmember a over 1\nend\n",
-        CertFault::BadLine { line: 3 },
-    ),
+    ("desk-certificate 2\nnone 1\nmember a over b c\nend\n", 3),
+    ("desk-certificate 2\nnone 1\nmember a over 1\nend\n", 3),
 ];
 
 #[test]
 fn faults_of_certificates(rt: HostRuntime) {
-    for (text, want) in FAULTY {
+    for text in BAD_HEADS {
         let fault = fault_of(rt.alloc(), text.as_bytes());
-        assert_eq!(rt; fault, Some(want), "at {text}");
+        assert_eq!(rt; fault, Some(CertFault::BadHead), "at {text}");
+    }
+    for (text, line) in BAD_LINES {
+        let fault = fault_of(rt.alloc(), text.as_bytes());
+        assert_eq!(rt; fault, Some(CertFault::BadLine { line }), "at {text}");
     }
 }

@@ -1,16 +1,17 @@
 //! Runs of the core.
 
-use desk_core::{Core, Event, Reply, Standing, run};
+use assignment::{AnswerFault, Finding};
+use desk_core::{Core, Event, Reply, Standing, StepFault, run};
 use drafts::Team;
+use example_sets::{again, name};
 use std::alloc::Global;
 use std::process::Abort;
 use std::test::Fail;
-use task_sheet::{Name, Sheet};
+use task_sheet::Sheet;
 
 // A task without sections, whose deadline is its period.
-fn sheet(alloc: Global, name: &str, period: u64, cost: u64) -> Result<Sheet, Fail> {
-    let name = Name::read(name.as_bytes()).ok().ok_or("name")?;
-    let sheet = Sheet::new(name, 0, period, period, cost, Vec::new(alloc));
+fn sheet(alloc: Global, text: &str, period: u64, cost: u64) -> Result<Sheet, Fail> {
+    let sheet = Sheet::new(name(text)?, 0, period, period, cost, Vec::new(alloc));
     Ok(sheet.ok().ok_or("sheet")?)
 }
 
@@ -47,6 +48,11 @@ fn collision(alloc: Global, cost: u64) -> Result<Vec<Event>, Fail> {
     Ok(events)
 }
 
+// What comes of them.
+fn collided(alloc: Global, cost: u64) -> Result<(Core, Vec<Reply>), Fail> {
+    Ok(again!(run(alloc, collision(alloc, cost)?))?)
+}
+
 fn said(rt: &impl Abort, replies: &[Reply], words: &[&str]) {
     assert_eq!(rt; replies.len(), words.len());
     for (reply, word) in replies.iter().zip(words) {
@@ -60,7 +66,7 @@ fn a_run_answers_each_event(rt: HostRuntime) -> Result<(), Fail> {
         "opened", "opened", "done", "done", "decided", "decided", "refused",
     ];
     for (cost, version) in [(4_000, 2), (6_000, 1)] {
-        let (core, replies) = run(rt.alloc(), collision(rt.alloc(), cost)?)?;
+        let (core, replies) = collided(rt.alloc(), cost)?;
         said(&rt, &replies, &words);
         assert_eq!(rt; core.book().state().version(), version);
     }
@@ -70,7 +76,7 @@ fn a_run_answers_each_event(rt: HostRuntime) -> Result<(), Fail> {
 // The sheet, late by a jitter and above another task.
 fn bound(alloc: Global, sheet: Sheet, jitter: u64, other: &str) -> Result<Sheet, Fail> {
     let mut names = Vec::new(alloc);
-    names.push(Name::read(other.as_bytes()).ok().ok_or("name")?)?;
+    names.push(name(other)?)?;
     let late = sheet.jittered(jitter).ok().ok_or("jitter")?;
     Ok(late.outranking(names).ok().ok_or("names")?)
 }
@@ -88,6 +94,11 @@ fn a_over_b(alloc: Global) -> Result<Vec<Event>, Fail> {
     Ok(events)
 }
 
+// What comes of both commits.
+fn committed(alloc: Global) -> Result<(Core, Vec<Reply>), Fail> {
+    Ok(again!(run(alloc, a_over_b(alloc)?))?)
+}
+
 // The task and the response of each level of the book, the lowest first.
 fn levels_of(alloc: Global, core: &Core) -> Result<Vec<(usize, u64)>, Fail> {
     let mut levels = Vec::new(alloc);
@@ -100,32 +111,51 @@ fn levels_of(alloc: Global, core: &Core) -> Result<Vec<(usize, u64)>, Fail> {
 #[test]
 fn a_name_that_comes_later_binds(rt: HostRuntime) -> Result<(), Fail> {
     let words = ["opened", "done", "decided", "opened", "done", "decided"];
-    let (core, replies) = run(rt.alloc(), a_over_b(rt.alloc())?)?;
+    let (core, replies) = committed(rt.alloc())?;
     said(&rt, &replies, &words);
     let levels = levels_of(rt.alloc(), &core)?;
     assert!(rt; levels.as_slice() == [(1, 6_000), (0, 4_000)].as_slice());
     Ok(())
 }
 
+// One step.
+fn stepped(alloc: Global, core: &mut Core, event: Event) -> Result<Reply, Fail> {
+    let reply = again!(core.step(alloc, event), StepFault { event });
+    Ok(reply.ok().ok_or("a step")?)
+}
+
 // Puts the task a into draft 1 of a new core.
 fn with_a(alloc: Global) -> Result<Core, Fail> {
-    let mut core = Core::new(alloc)?;
+    let mut core = again!(Core::new(alloc))?;
     let sheet = sheet(alloc, "a", 10_000, 1_000)?;
-    let _ = core.step(alloc, open(1)?).ok().ok_or("open")?;
-    let put = Event::Put { draft: 1, sheet };
-    let _ = core.step(alloc, put).ok().ok_or("put")?;
+    let _ = stepped(alloc, &mut core, open(1)?)?;
+    let _ = stepped(alloc, &mut core, Event::Put { draft: 1, sheet })?;
     Ok(core)
+}
+
+// The finding on the question that draft 1 has on a.
+fn found(alloc: Global, core: &mut Core) -> Result<Finding, Fail> {
+    let name = name("a")?;
+    let question = again!(core.question(alloc, 1, name))?.ok_or("a question")?;
+    let finding = again!(core.answer(alloc, 1, question), AnswerFault { question });
+    Ok(finding.ok().ok_or("a finding")?)
+}
+
+// Whether draft 1 is tested and has no question on a.
+fn is_tested(alloc: Global, core: &mut Core) -> Result<bool, Fail> {
+    let name = name("a")?;
+    let standing = again!(core.standing(alloc, 1))?;
+    let question = again!(core.question(alloc, 1, name))?;
+    Ok(matches!(standing, Standing::Tested { .. }) && question.is_none())
 }
 
 #[test]
 fn a_draft_is_asked_for_its_task(rt: HostRuntime) -> Result<(), Fail> {
     let alloc = rt.alloc();
     let mut core = with_a(alloc)?;
-    let name = Name::read(b"a").ok().ok_or("name")?;
-    let question = core.question(alloc, 1, name)?.ok_or("question")?;
-    let finding = core.answer(alloc, 1, question).ok().ok_or("finding")?;
-    assert!(rt; core.step(alloc, Event::Found { draft: 1, finding }).is_ok());
-    assert!(rt; matches!(core.standing(alloc, 1)?, Standing::Tested { .. }));
-    assert!(rt; core.question(alloc, 1, name)?.is_none());
+    assert!(rt; !is_tested(alloc, &mut core)?);
+    let finding = found(alloc, &mut core)?;
+    let _ = stepped(alloc, &mut core, Event::Found { draft: 1, finding })?;
+    assert!(rt; is_tested(alloc, &mut core)?);
     Ok(())
 }

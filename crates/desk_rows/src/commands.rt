@@ -1,6 +1,7 @@
 //! What the commands print, and the statuses that they end with.
-use desk_cli::{Status, admit, certify, check_files, simulate};
+use desk_cli::{Nobody, Status, run_admit, run_certify, run_check, run_simulate};
 use example_sets::{BLOCKED_OUT_REPAIRED, THREE_TASKS};
+use preferences::Preference;
 use std::alloc::Global;
 use std::test::Fail;
 use streams::Watched;
@@ -10,7 +11,13 @@ pub fn admitted(alloc: Global, text: &[u8]) -> Result<(String, Status), Fail> {
     let mut printed = Vec::new(alloc);
     let mut reader = Watched::new(text);
     let mut writer = Watched::new(&mut printed);
-    let status = admit(alloc, &mut reader, &mut writer);
+    let status = run_admit(
+        alloc,
+        Preference::Weights,
+        &mut reader,
+        &mut writer,
+        &mut Nobody,
+    );
     Ok((String::from_utf8(printed)?, status))
 }
 
@@ -19,7 +26,13 @@ pub fn certified(alloc: Global, text: &[u8]) -> Result<(String, Status), Fail> {
     let mut printed = Vec::new(alloc);
     let mut reader = Watched::new(text);
     let mut writer = Watched::new(&mut printed);
-    let status = certify(alloc, &mut reader, &mut writer);
+    let status = run_certify(
+        alloc,
+        Preference::Weights,
+        &mut reader,
+        &mut writer,
+        &mut Nobody,
+    );
     Ok((String::from_utf8(printed)?, status))
 }
 
@@ -29,7 +42,14 @@ pub fn checked(alloc: Global, set: &[u8], cert: &[u8]) -> Result<(String, Status
     let mut set = Watched::new(set);
     let mut cert = Watched::new(cert);
     let mut writer = Watched::new(&mut printed);
-    let status = check_files(alloc, &mut set, &mut cert, &mut writer);
+    let status = run_check(
+        alloc,
+        Preference::Weights,
+        &mut set,
+        &mut cert,
+        &mut writer,
+        &mut Nobody,
+    );
     Ok((String::from_utf8(printed)?, status))
 }
 
@@ -39,7 +59,14 @@ pub fn simulated(alloc: Global, set: &[u8], list: &[u8]) -> Result<(String, Stat
     let mut set = Watched::new(set);
     let mut list = Watched::new(list);
     let mut writer = Watched::new(&mut printed);
-    let status = simulate(alloc, &mut set, &mut list, &mut writer);
+    let status = run_simulate(
+        alloc,
+        Preference::Weights,
+        &mut set,
+        &mut list,
+        &mut writer,
+        &mut Nobody,
+    );
     Ok((String::from_utf8(printed)?, status))
 }
 

@@ -1,6 +1,7 @@
 //! Readers and writers that fail, are interrupted or take little at a time.
-use desk_cli::{Status, admit};
+use desk_cli::{Nobody, Status, run_admit};
 use example_sets::THREE_TASKS;
+use preferences::Preference;
 use std::alloc::Global;
 use std::io::{self, ErrorKind, Read, Write};
 use std::test::Fail;
@@ -67,7 +68,13 @@ fn admitted_with(
         kind,
     });
     let mut writer = Watched::new(&mut printed);
-    let status = admit(alloc, &mut reader, &mut writer);
+    let status = run_admit(
+        alloc,
+        Preference::Weights,
+        &mut reader,
+        &mut writer,
+        &mut Nobody,
+    );
     Ok((String::from_utf8(printed)?, status))
 }
 
@@ -75,7 +82,7 @@ const THREE_TASKS_ADMITTED: &str = "admitted 3\n1 c 20000\n2 a 6000\n3 b 3000\n"
 
 #[test]
 fn a_failed_read_is_answered(rt: HostRuntime) -> Result<(), Fail> {
-    for from in 0..4 {
+    for from in 0..5 {
         let (printed, status) = admitted_with(rt.alloc(), from, 1, ErrorKind::BrokenPipe)?;
         assert_eq!(rt; printed.as_str(), "refused: ReadFailed\n", "at {from}");
         assert_eq!(rt; status, Status::InputOrOutputFailed, "at {from}");
@@ -85,7 +92,7 @@ fn a_failed_read_is_answered(rt: HostRuntime) -> Result<(), Fail> {
 
 #[test]
 fn an_interrupted_read_is_tried_again(rt: HostRuntime) -> Result<(), Fail> {
-    for from in 0..4 {
+    for from in 0..5 {
         let (printed, status) = admitted_with(rt.alloc(), from, 1000, ErrorKind::Interrupted)?;
         assert_eq!(rt; printed.as_str(), THREE_TASKS_ADMITTED, "at {from}");
         assert_eq!(rt; status, Status::Done, "at {from}");
@@ -97,7 +104,13 @@ fn an_interrupted_read_is_tried_again(rt: HostRuntime) -> Result<(), Fail> {
 fn status_after(alloc: Global, writes: usize) -> Status {
     let mut reader = Watched::new(THREE_TASKS.as_bytes());
     let mut writer = Watched::new(FaultyWriter { writes });
-    admit(alloc, &mut reader, &mut writer)
+    run_admit(
+        alloc,
+        Preference::Weights,
+        &mut reader,
+        &mut writer,
+        &mut Nobody,
+    )
 }
 
 #[test]

@@ -1,19 +1,14 @@
 //! Books, drafts and their answers, as the examples have them.
 use assignment::{Failure, Reason};
 use drafts::{
-    Book, Decision, Draft, EditCause, EditRefusal, Entry, NodeState, Proposal, PutFault, Refusal,
-    SettleFault, Settled, Team, propose,
+    Book, Decision, Draft, EditCause, EditRefusal, Entry, HeldFault, NodeState, Proposal,
+    ProposeFault, PutFault, Refusal, SettleFault, Settled, Team, propose,
 };
+use example_sets::{again, name};
 use std::alloc::{AllocError, Global};
 use std::sync::Arc;
 use std::test::Fail;
 use task_sheet::{Name, Sheet, TaskSet};
-
-/// The name of a text.
-pub fn name(text: &str) -> Result<Name, Fail> {
-    let name = Name::read(text.as_bytes())?;
-    Ok(name)
-}
 
 /// The team of a number.
 pub fn team(number: u64) -> Result<Team, Fail> {
@@ -27,9 +22,19 @@ pub fn sheet(alloc: Global, name: Name, cost: u64) -> Result<Sheet, Fail> {
     Ok(sheet)
 }
 
+/// An empty book.
+pub fn new_book(alloc: Global) -> Result<Book, Fail> {
+    Ok(again!(Book::new(alloc))?)
+}
+
+/// The present state.
+pub fn snapshot(book: &Book) -> Result<Arc<NodeState>, Fail> {
+    Ok(again!(book.snapshot())?)
+}
+
 /// A draft on the present state.
 pub fn open(alloc: Global, book: &Book, number: u64) -> Result<Draft, Fail> {
-    let base = book.snapshot()?;
+    let base = snapshot(book)?;
     Ok(Draft::new(alloc, team(number)?, base))
 }
 
@@ -49,9 +54,20 @@ fn word(cause: EditCause) -> &'static str {
     }
 }
 
+// What a draft answers to a put.
+fn put_sheet(draft: &mut Draft, sheet: Sheet) -> Result<(), PutFault> {
+    again!(
+        draft.put(sheet),
+        PutFault {
+            cause: EditCause::OutOfMemory,
+            sheet
+        }
+    )
+}
+
 /// What a draft answers to a put of a sheet (10000, 10000, cost).
 pub fn put(alloc: Global, draft: &mut Draft, text: &str, cost: u64) -> Result<&'static str, Fail> {
-    match draft.put(sheet(alloc, name(text)?, cost)?) {
+    match put_sheet(draft, sheet(alloc, name(text)?, cost)?) {
         Ok(()) => Ok("done"),
         Err(PutFault { cause, sheet: _ }) => Ok(word(cause)),
     }
@@ -59,7 +75,8 @@ pub fn put(alloc: Global, draft: &mut Draft, text: &str, cost: u64) -> Result<&'
 
 /// What a draft answers to a remove.
 pub fn remove(draft: &mut Draft, text: &str) -> Result<&'static str, Fail> {
-    match draft.remove(name(text)?) {
+    let name = name(text)?;
+    match again!(draft.remove(name), EditCause::OutOfMemory) {
         Ok(()) => Ok("done"),
         Err(cause) => Ok(word(cause)),
     }
@@ -73,15 +90,13 @@ pub fn open_with(
     text: &str,
     cost: u64,
 ) -> Result<Draft, Fail> {
-    let mut draft = open(alloc, book, number)?;
-    let _ = put(alloc, &mut draft, text, cost)?;
-    Ok(draft)
+    open_put(alloc, book, number, sheet(alloc, name(text)?, cost)?)
 }
 
 // A draft on the present state that puts a sheet.
 fn open_put(alloc: Global, book: &Book, number: u64, sheet: Sheet) -> Result<Draft, Fail> {
     let mut draft = open(alloc, book, number)?;
-    draft.put(sheet).ok().ok_or("a put")?;
+    put_sheet(&mut draft, sheet).ok().ok_or("a put")?;
     Ok(draft)
 }
 
@@ -105,15 +120,16 @@ pub fn open_full(alloc: Global, book: &Book, number: u64, count: u64) -> Result<
     let mut draft = open(alloc, book, number)?;
     for index in 0..count {
         let text = format!(in alloc; "t{index}")?;
-        let _ = put(alloc, &mut draft, text.as_str(), 1)?;
+        let sheet = sheet(alloc, name(text.as_str())?, 1)?;
+        put_sheet(&mut draft, sheet).ok().ok_or("a put")?;
     }
     Ok(draft)
 }
 
 /// The proposal of a draft.
 pub fn proposed(alloc: Global, draft: Draft) -> Result<Proposal, Fail> {
-    let proposal = propose(alloc, draft).ok().ok_or("out of memory")?;
-    Ok(proposal)
+    let proposal = again!(propose(alloc, draft), ProposeFault { draft });
+    Ok(proposal.ok().ok_or("a proposal")?)
 }
 
 // The name of the task at an index, and the numbers of its chain.
@@ -133,8 +149,8 @@ fn push_failure(text: &mut String, set: &TaskSet, failure: &Failure) -> Result<(
     }
 }
 
-// A refusal, in words.
-fn push_refusal(text: &mut String, refusal: &Refusal) -> Result<(), AllocError> {
+/// Adds a refusal.
+pub fn push_refusal(text: &mut String, refusal: &Refusal) -> Result<(), AllocError> {
     match refusal {
         Refusal::NotYours { name } => write!(text, "NotYours {name}"),
         Refusal::NoSuchTask { name } => write!(text, "NoSuchTask {name}"),
@@ -179,6 +195,14 @@ fn moved_on(
     Ok(Some(proposal.into_draft().rebase(fresh)))
 }
 
+// What a book answers to a proposal.
+fn settled(alloc: Global, book: &mut Book, proposal: Proposal) -> Result<Settled, SettleFault> {
+    again!(
+        book.settle(alloc, proposal),
+        SettleFault::OutOfMemory { proposal }
+    )
+}
+
 /// Settles a proposal and adds what is answered. A proposal that is not settled gives its draft back, which is then on
 /// the fresh state where it was stale.
 pub fn settle(
@@ -187,7 +211,7 @@ pub fn settle(
     proposal: Proposal,
     text: &mut String,
 ) -> Result<Option<Draft>, Fail> {
-    match book.settle(alloc, proposal) {
+    match settled(alloc, book, proposal) {
         Ok(Settled::Stale { fresh, proposal }) => moved_on(text, fresh, proposal),
         Ok(Settled::Decided { place, entry }) => {
             push_decision(text, place, &entry)?;
@@ -200,7 +224,8 @@ pub fn settle(
 
 /// Settles a draft at once and adds the decision.
 pub fn commit(alloc: Global, book: &mut Book, draft: Draft, text: &mut String) -> Result<(), Fail> {
-    let decided = book.settle_held(alloc, draft).ok().ok_or("out of memory")?;
+    let decided = again!(book.settle_held(alloc, draft), HeldFault { draft });
+    let decided = decided.ok().ok_or("a decision")?;
     push_decision(text, decided.place, &decided.entry)?;
     Ok(())
 }

@@ -1,14 +1,17 @@
 //! Edits of drafts.
-use crate::desks::{commit, name, open, open_full, open_with, put, remove};
-use drafts::{Book, Draft};
+use crate::desks::{
+    commit, new_book, open, open_full, open_with, push_refusal, put, remove, snapshot, team,
+};
+use drafts::{Applied, Draft};
+use example_sets::{again, name};
 use std::alloc::Global;
 use std::test::Fail;
 
 // A full draft and its copy.
 fn full_drafts(alloc: Global) -> Result<(Draft, Draft), Fail> {
-    let book = Book::new(alloc)?;
+    let book = new_book(alloc)?;
     let draft = open_full(alloc, &book, 1, 64)?;
-    let copy = draft.copy(alloc)?;
+    let copy = again!(draft.copy(alloc))?;
     Ok((draft, copy))
 }
 
@@ -60,7 +63,7 @@ fn removals(alloc: Global) -> Result<String, Fail> {
 // A draft of team 1 that puts d, where team 1 holds a and team 2 holds c.
 fn draft_beside(alloc: Global) -> Result<Draft, Fail> {
     let mut text = String::new(alloc);
-    let mut book = Book::new(alloc)?;
+    let mut book = new_book(alloc)?;
     let first = open_with(alloc, &book, 1, "a", 1000)?;
     commit(alloc, &mut book, first, &mut text)?;
     let second = open_with(alloc, &book, 2, "c", 1000)?;
@@ -80,11 +83,11 @@ fn removals_in_their_order(rt: HostRuntime) -> Result<(), Fail> {
 
 // Team 1's draft puts a on an empty book, where team 2 then commits a; the draft on the state after it.
 fn draft_of_a_foreign_name(alloc: Global, text: &mut String) -> Result<Draft, Fail> {
-    let mut book = Book::new(alloc)?;
+    let mut book = new_book(alloc)?;
     let draft = open_with(alloc, &book, 1, "a", 1000)?;
     let other = open_with(alloc, &book, 2, "a", 2000)?;
     commit(alloc, &mut book, other, text)?;
-    Ok(draft.rebase(book.snapshot()?))
+    Ok(draft.rebase(snapshot(&book)?))
 }
 
 // What a draft answers to a put and to a remove of a.
@@ -116,7 +119,7 @@ fn holders(alloc: Global) -> Result<String, Fail> {
     let mut text = String::new(alloc);
     let draft = draft_beside(alloc)?;
     for number in [1, 2, 3] {
-        let members = draft.base().tasks_of(crate::desks::team(number)?);
+        let members = draft.base().tasks_of(team(number)?);
         for index in 0..4 {
             if members.has(index) {
                 write!(text, "{number}:{index} ")?;
@@ -130,5 +133,36 @@ fn holders(alloc: Global) -> Result<String, Fail> {
 fn tasks_of_each_team(rt: HostRuntime) -> Result<(), Fail> {
     let found = holders(rt.alloc())?;
     assert_eq!(rt; found.as_str(), "1:0 2:1 ");
+    Ok(())
+}
+
+// What a draft's changes come to: each task with its team, or the refusal.
+fn push_applied(alloc: Global, text: &mut String, draft: &Draft) -> Result<(), Fail> {
+    match again!(draft.applied(alloc))? {
+        Applied::Tasks { set, teams } => {
+            for (sheet, team) in set.sheets().iter().zip(&teams) {
+                let name = sheet.name();
+                let number = team.number();
+                write!(text, "{name} {number}; ")?;
+            }
+        }
+        Applied::Refused { refusal } => push_refusal(text, &refusal)?,
+    }
+    Ok(())
+}
+
+// That of a draft beside another team's task, and that of one which puts such a task.
+fn both_applied(alloc: Global) -> Result<String, Fail> {
+    let mut text = String::new(alloc);
+    push_applied(alloc, &mut text, &draft_beside(alloc)?)?;
+    let foreign = draft_of_a_foreign_name(alloc, &mut text)?;
+    push_applied(alloc, &mut text, &foreign)?;
+    Ok(text)
+}
+
+#[test]
+fn what_changes_come_to(rt: HostRuntime) -> Result<(), Fail> {
+    let found = both_applied(rt.alloc())?;
+    assert_eq!(rt; found.as_str(), "a 1; c 2; d 1; 1 admitted 1; NotYours a");
     Ok(())
 }

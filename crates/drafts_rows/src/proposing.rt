@@ -1,26 +1,42 @@
 //! Verdicts that are brought to drafts.
-use crate::desks::{name, open_with, sheet};
+use crate::desks::{new_book, open_with, sheet};
 use assignment::{Verdict, assign};
-use drafts::{Book, Draft, VerdictFault, propose_with};
+use drafts::{Draft, VerdictFault, propose_with};
+use example_sets::{again, name};
 use std::alloc::Global;
 use std::sync::Arc;
 use std::test::Fail;
-use task_sheet::TaskSet;
+use task_sheet::{SetCause, SheetsFault, TaskSet};
 
-// The verdict on tasks of these names, each (10000, 10000, 1000).
-fn verdict_on(alloc: Global, names: &[&str]) -> Result<Verdict, Fail> {
+// A set of tasks of these names, each (10000, 10000, 1000).
+fn set_with(alloc: Global, names: &[&str]) -> Result<TaskSet, Fail> {
     let mut sheets = Vec::new(alloc);
     for text in names {
         sheets.push(sheet(alloc, name(*text)?, 1000)?)?;
     }
-    let set = TaskSet::new(alloc, sheets)?;
-    let verdict = assign(alloc, Arc::new(alloc, set)?)?;
-    Ok(verdict)
+    let set = again!(
+        TaskSet::new(alloc, sheets),
+        SheetsFault {
+            cause: SetCause::OutOfMemory,
+            sheets
+        }
+    );
+    Ok(set.ok().ok_or("a set")?)
+}
+
+// The verdict on it.
+fn verdict_on(alloc: Global, names: &[&str]) -> Result<Verdict, Fail> {
+    let set = Arc::new(alloc, set_with(alloc, names)?)?;
+    Ok(again!(assign(alloc, set.clone()?))?)
 }
 
 // The word for what becomes of a draft and a verdict.
 fn word(alloc: Global, draft: Draft, verdict: Verdict) -> &'static str {
-    match propose_with(alloc, draft, verdict) {
+    let answer = again!(
+        propose_with(alloc, draft, verdict),
+        VerdictFault::OutOfMemory { draft, verdict }
+    );
+    match answer {
         Ok(_) => "proposal",
         Err(
             VerdictFault::Stranger {
@@ -39,7 +55,7 @@ fn word(alloc: Global, draft: Draft, verdict: Verdict) -> &'static str {
 
 // What becomes of a draft that puts a and the verdict on these names.
 fn brought(alloc: Global, names: &[&str]) -> Result<&'static str, Fail> {
-    let book = Book::new(alloc)?;
+    let book = new_book(alloc)?;
     let draft = open_with(alloc, &book, 1, "a", 1000)?;
     Ok(word(alloc, draft, verdict_on(alloc, names)?))
 }

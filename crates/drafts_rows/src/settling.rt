@@ -1,9 +1,10 @@
 //! Commits: what is answered, and what the book is then.
 use crate::desks::{
-    commit, name, open, open_below, open_bound, open_full, open_with, proposed, push_book, remove,
-    settle, team,
+    commit, new_book, open, open_below, open_bound, open_full, open_with, proposed, push_book,
+    remove, settle, team,
 };
-use drafts::{Book, Draft, Proposal};
+use drafts::{Book, Draft, NodeState, Proposal};
+use example_sets::{again, name};
 use std::alloc::Global;
 use std::test::Fail;
 use task_sheet::Members;
@@ -39,7 +40,7 @@ fn settle_both(alloc: Global, book: &mut Book, cost: u64, text: &mut String) -> 
 // What is answered to both, and what the book is then.
 fn two_teams(alloc: Global, cost: u64) -> Result<String, Fail> {
     let mut text = String::new(alloc);
-    let mut book = Book::new(alloc)?;
+    let mut book = new_book(alloc)?;
     settle_both(alloc, &mut book, cost, &mut text)?;
     push_book(&mut text, &book)?;
     Ok(text)
@@ -66,7 +67,7 @@ fn two_teams_collide_or_fit(rt: HostRuntime) -> Result<(), Fail> {
 // Team 1 puts a (7000, 7000, 3000), with this jitter and above b; then team 2 puts b (12000, 12000, 3000).
 fn a_over_b(alloc: Global, jitter: u64) -> Result<String, Fail> {
     let mut text = String::new(alloc);
-    let mut book = Book::new(alloc)?;
+    let mut book = new_book(alloc)?;
     let first = open_bound(alloc, &book, 1, jitter)?;
     commit(alloc, &mut book, first, &mut text)?;
     let second = open_below(alloc, &book, 2)?;
@@ -96,12 +97,12 @@ fn a_name_that_comes_later_binds(rt: HostRuntime) -> Result<(), Fail> {
 // What a copy of the state says after commits of two teams: its version, and each team's tasks by their indexes.
 fn copied(alloc: Global) -> Result<(u64, Members, Members), Fail> {
     let mut text = String::new(alloc);
-    let mut book = Book::new(alloc)?;
+    let mut book = new_book(alloc)?;
     for (number, task) in [(1, "a"), (2, "b")] {
         let draft = open_with(alloc, &book, number, task, 1000)?;
         commit(alloc, &mut book, draft, &mut text)?;
     }
-    let state = book.state().copy(alloc)?;
+    let state = again!(book.state().copy(alloc))?;
     Ok((
         state.version(),
         state.tasks_of(team(1)?),
@@ -114,6 +115,19 @@ fn a_copy_of_a_state_says_the_same(rt: HostRuntime) -> Result<(), Fail> {
     let (version, first, second) = copied(rt.alloc())?;
     assert_eq!(rt; version, 2);
     assert!(rt; first == Members::empty().with(0) && second == Members::empty().with(1));
+    Ok(())
+}
+
+// The version and the number of tasks that a copy of the empty state says.
+fn empty_copied(alloc: Global) -> Result<(u64, usize), Fail> {
+    let state = again!(NodeState::empty(alloc))?;
+    let copy = again!(state.copy(alloc))?;
+    Ok((copy.version(), copy.set().len()))
+}
+
+#[test]
+fn a_copy_of_the_empty_state(rt: HostRuntime) -> Result<(), Fail> {
+    assert_eq!(rt; empty_copied(rt.alloc())?, (0, 0));
     Ok(())
 }
 
@@ -136,7 +150,7 @@ fn push_removal(alloc: Global, book: &Book, text: &mut String) -> Result<(), Fai
 // What is answered to both commits and to the remove, and what the book is then.
 fn one_name(alloc: Global) -> Result<String, Fail> {
     let mut text = String::new(alloc);
-    let mut book = Book::new(alloc)?;
+    let mut book = new_book(alloc)?;
     commit_one_name(alloc, &mut book, &mut text)?;
     push_removal(alloc, &book, &mut text)?;
     push_book(&mut text, &book)?;
@@ -156,7 +170,7 @@ fn one_name_two_teams(rt: HostRuntime) -> Result<(), Fail> {
 // A book whose version 1 is one put of team 1.
 fn book_with(alloc: Global, name: &str) -> Result<Book, Fail> {
     let mut text = String::new(alloc);
-    let mut book = Book::new(alloc)?;
+    let mut book = new_book(alloc)?;
     let draft = open_with(alloc, &book, 1, name, 1000)?;
     commit(alloc, &mut book, draft, &mut text)?;
     Ok(book)
@@ -189,7 +203,7 @@ fn a_proposal_from_another_book(rt: HostRuntime) -> Result<(), Fail> {
     let alloc = rt.alloc();
     let found = from_another(alloc, book_with(alloc, "a")?)?;
     assert_eq!(rt; found.as_str(), "stranger; 1 back; version 1 of 1 a 1000");
-    let found = from_another(alloc, Book::new(alloc)?)?;
+    let found = from_another(alloc, new_book(alloc)?)?;
     assert_eq!(rt; found.as_str(), "stranger; 1 back; version 0 of 0");
     Ok(())
 }
@@ -197,7 +211,7 @@ fn a_proposal_from_another_book(rt: HostRuntime) -> Result<(), Fail> {
 // A draft with that many puts, committed to an empty book.
 fn commit_full(alloc: Global, count: u64) -> Result<String, Fail> {
     let mut text = String::new(alloc);
-    let mut book = Book::new(alloc)?;
+    let mut book = new_book(alloc)?;
     let draft = open_full(alloc, &book, 1, count)?;
     commit(alloc, &mut book, draft, &mut text)?;
     let version = book.state().version();
@@ -240,7 +254,7 @@ fn push_base(text: &mut String, draft: &Draft) -> Result<(), Fail> {
 // A draft opened at version 0, after three commits of another team; and what the book is then.
 fn old_snapshot(alloc: Global) -> Result<String, Fail> {
     let mut text = String::new(alloc);
-    let mut book = Book::new(alloc)?;
+    let mut book = new_book(alloc)?;
     let old = open(alloc, &book, 1)?;
     commit_thrice(alloc, &mut book, &mut text)?;
     push_base(&mut text, &old)?;

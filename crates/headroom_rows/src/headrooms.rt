@@ -1,68 +1,55 @@
-//! The headroom of each task.
+//! The headroom of each task: with some order, and in the best order as it stands.
+ghost use Rattle.std.specs.Prelude.{◌≡◌, IfOk};
+ghost use Rattle.assignment.specs.Placings.{tasks_of_places};
+ghost use Rattle.ceilings.specs.IsTableOf.{IsTableOf};
+ghost use Rattle.task_sheet.specs.Orders.{IsPassingOrder};
+
+use assignment::{Place, Placing, place_all};
 use ceilings::LockTable;
-use example_sets::set_of;
-use headroom::headroom;
+use example_sets::{again, set_of};
+use headroom::{headroom, headroom_in_order};
 use std::alloc::{AllocError, Global};
 use std::test::Fail;
 use task_sheet::TaskSet;
 
-// `a` every 1000 with cost 300, and `b` every 2000 with cost 500.
-const ADMITTED: &str = "
-[[task]]
-name = 'a'
-period = 1000
-deadline = 1000
-cost = 300
-[[task]]
-name = 'b'
-period = 2000
-deadline = 2000
-cost = 500
+/// `a` every 1000 with cost 300, and `b` every 2000 with cost 500.
+pub const ADMITTED: &str = "
+task = [
+    { name = 'a', period = 1000, deadline = 1000, cost = 300 },
+    { name = 'b', period = 2000, deadline = 2000, cost = 500 },
+]
 ";
 
-// The same, where `b` takes too much.
-const TOO_MUCH: &str = "
-[[task]]
-name = 'a'
-period = 1000
-deadline = 1000
-cost = 300
-[[task]]
-name = 'b'
-period = 2000
-deadline = 2000
-cost = 1500
+/// The same, where `b` takes too much.
+pub const TOO_MUCH: &str = "
+task = [
+    { name = 'a', period = 1000, deadline = 1000, cost = 300 },
+    { name = 'b', period = 2000, deadline = 2000, cost = 1500 },
+]
 ";
 
-// A task that may take its whole period.
-const ALONE: &str = "
-[[task]]
-name = 'a'
-period = 1000
-deadline = 1000
-cost = 1
+/// A task that may take its whole period.
+pub const ALONE: &str = "
+task = [
+    { name = 'a', period = 1000, deadline = 1000, cost = 1 },
+]
 ";
 
-// `a` can't help: `b` takes more than its own deadline.
-const TOO_LATE: &str = "
-[[task]]
-name = 'a'
-period = 1000
-deadline = 1000
-cost = 300
-[[task]]
-name = 'b'
-period = 2000
-deadline = 200
-cost = 500
+/// `a` can't help: `b` takes more than its own deadline.
+pub const TOO_LATE: &str = "
+task = [
+    { name = 'a', period = 1000, deadline = 1000, cost = 300 },
+    { name = 'b', period = 2000, deadline = 200, cost = 500 },
+]
 ";
 
-// The headroom of each task by rank, or `-`.
-fn line_of(alloc: Global, set: &TaskSet) -> Result<String, AllocError> {
-    let table = LockTable::new(alloc, set)?;
+// The headroom of each task of a document's set by rank, or `-`.
+fn line_of(alloc: Global, document: &str) -> Result<String, Fail> {
+    let set = set_of(alloc, document)?;
+    let table = again!(LockTable::new(alloc, &set))?;
     let mut text = String::new(alloc);
     for task in 0..set.len() {
-        match headroom(alloc, set, &table, task)? {
+        match again!(headroom(alloc, &set, &table, task))? {
             Some(cost) => write!(text, "{cost};")?,
             None => write!(text, "-;")?,
         }
@@ -81,9 +68,8 @@ fn headrooms_by_hand(rt: HostRuntime) -> Result<(), Fail> {
         (example_sets::C_OVER_A, "2000;-;3000;"),
         (example_sets::A_OVER_B_OVER_A, "-;-;-;"),
     ] {
-        let set = set_of(rt.alloc(), document)?;
-        let line = line_of(rt.alloc(), &set)?;
-        assert_eq!(rt; line.as_str(), want);
+        let line = line_of(rt.alloc(), document)?;
+        assert_eq!(rt; line.as_str(), want, "at {document}");
     }
     Ok(())
 }
@@ -99,9 +85,71 @@ fn headrooms_of_the_examples(rt: HostRuntime) -> Result<(), Fail> {
         (example_sets::SHARED_LOCK, "80000;14000;6000;"),
         (example_sets::BLOCKED_OUT, "1900;-;"),
     ] {
-        let set = set_of(rt.alloc(), document)?;
-        let line = line_of(rt.alloc(), &set)?;
-        assert_eq!(rt; line.as_str(), want);
+        let line = line_of(rt.alloc(), document)?;
+        assert_eq!(rt; line.as_str(), want, "at {document}");
+    }
+    Ok(())
+}
+
+// The tasks of places.
+fn tasks_of(alloc: Global, places: &[Place]) -> Result<Vec<usize>, AllocError>
+    ensures { IfOk result (λ order. order.items ≡ tasks_of_places places.now) }
+{
+    let mut order = Vec::with_capacity(alloc, places.len())?;
+    for place in places {
+        order.push(place.task)?;
+    }
+    Ok(order)
+}
+
+// The headroom of each task by rank, in an order that passes.
+fn line_in(
+    alloc: Global,
+    set: &TaskSet,
+    table: &LockTable,
+    order: &[usize],
+) -> Result<String, AllocError>
+    requires table { IsTableOf set.now table.now }
+    requires passing { IsPassingOrder set.now order.now }
+{
+    let mut text = String::new(alloc);
+    for task in 0..set.len() {
+        let cost = again!(headroom_in_order(alloc, set, table, order, task))?;
+        write!(text, "{cost};")?;
+    }
+    Ok(text)
+}
+
+// The headroom of each task of a document's set by rank, in the best order.
+fn best_line_of(alloc: Global, document: &str) -> Result<String, Fail> {
+    let set = set_of(alloc, document)?;
+    let table = again!(LockTable::new(alloc, &set))?;
+    match again!(place_all(alloc, &set, &table))? {
+        Placing::Best(places) => {
+            let order = tasks_of(alloc, &places)?;
+            Ok(line_in(alloc, &set, &table, &order)?)
+        }
+        Placing::Stuck(_) => Err("an order")?,
+    }
+}
+
+// In the best order `a` stands below `b`, which takes a job of `b` of it; with `a` above, `b` would have more.
+#[test]
+fn headrooms_in_the_best_order(rt: HostRuntime) -> Result<(), Fail> {
+    for (document, want) in [
+        ("", ""),
+        (ALONE, "1000;"),
+        (ADMITTED, "500;700;"),
+        (example_sets::DEMAND_OF_THE_DEADLINE, "5000;6000;"),
+        (example_sets::THREE_TASKS, "3000;3000;5000;"),
+        (example_sets::THREE_TASKS_LATE, "3000;3000;5000;"),
+        (example_sets::A_OVER_B, "3000;3000;5000;"),
+        (example_sets::SHARED_LOCK, "80000;14000;6000;"),
+        (example_sets::BLOCKED_OUT_REPAIRED, "2000;40000;"),
+        (example_sets::OWN_ORDER, "500;10000;20000;20000;2000;"),
+    ] {
+        let line = best_line_of(rt.alloc(), document)?;
+        assert_eq!(rt; line.as_str(), want, "at {document}");
     }
     Ok(())
 }

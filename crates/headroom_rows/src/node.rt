@@ -1,17 +1,17 @@
 //! What a node is set to.
 use assignment::{Placing, place_all};
 use ceilings::LockTable;
-use example_sets::shared_set;
+use example_sets::{again, set_of};
 use settings::settings_text;
 use std::alloc::Global;
 use std::test::Fail;
 
 // The settings of a document's set, or `none` where no order passes.
 fn settings_of(alloc: Global, document: &str) -> Result<String, Fail> {
-    let set = shared_set(alloc, document)?;
-    let table = LockTable::new(alloc, &set)?;
-    match place_all(alloc, &set, &table)? {
-        Placing::Best(places) => Ok(settings_text(alloc, &set, &places)?),
+    let set = set_of(alloc, document)?;
+    let table = again!(LockTable::new(alloc, &set))?;
+    match again!(place_all(alloc, &set, &table))? {
+        Placing::Best(places) => Ok(again!(settings_text(alloc, &set, &places))?),
         Placing::Stuck(_) => Ok(String::from_str(alloc, "none")?),
     }
 }

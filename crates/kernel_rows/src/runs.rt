@@ -1,8 +1,9 @@
 //! Runs of the simulated kernel.
 use ceiling_kernel::{Kernel, KernelFault, Release, RunFault, Slice, Trace};
-use example_sets::{name, set_of};
+use example_sets::{again, name, set_of};
 use std::alloc::{AllocError, Global};
 use std::test::Fail;
+use task_sheet::TaskSet;
 
 // The releases of a list, each a time, a task's name, and how late it is.
 fn releases_of(alloc: Global, list: &[(u64, &str, u64)]) -> Result<Vec<Release>, Fail> {
@@ -62,6 +63,25 @@ fn line_of(alloc: Global, ran: Result<Trace, RunFault>) -> Result<String, AllocE
     Ok(line)
 }
 
+// The kernel of a set in an order, asked for again where memory was wanting.
+fn kernel_of<'a>(
+    alloc: Global,
+    set: &'a TaskSet,
+    order: &[usize],
+) -> Result<Kernel<'a>, KernelFault> {
+    again!(Kernel::new(alloc, set, order), KernelFault::OutOfMemory)
+}
+
+// What comes of releases, run again where memory was wanting.
+fn ran(
+    alloc: Global,
+    kernel: &Kernel,
+    releases: &[Release],
+    until: u64,
+) -> Result<Trace, RunFault> {
+    again!(kernel.run(alloc, releases, until), RunFault::OutOfMemory)
+}
+
 // What comes of releases of a document's set in an order.
 fn run_of(
     alloc: Global,
@@ -71,54 +91,34 @@ fn run_of(
     until: u64,
 ) -> Result<String, Fail> {
     let set = set_of(alloc, document)?;
-    let kernel = Kernel::new(alloc, &set, order).ok().ok_or("a wrong order")?;
+    let kernel = kernel_of(alloc, &set, order).ok().ok_or("a wrong order")?;
     let releases = releases_of(alloc, list)?;
-    Ok(line_of(alloc, kernel.run(alloc, &releases, until))?)
+    Ok(line_of(alloc, ran(alloc, &kernel, &releases, until))?)
 }
 
 const ONE: &str = "task = [{ name = 'x', period = 10000, deadline = 10000, cost = 1000 }]";
 
 // x below y, which both come every 1000.
 const OVERRUN: &str = "
-[[task]]
-name = 'x'
-period = 1000
-deadline = 1000
-cost = 600
-[[task]]
-name = 'y'
-period = 1000
-deadline = 1000
-cost = 600
+task = [
+    { name = 'x', period = 1000, deadline = 1000, cost = 600 },
+    { name = 'y', period = 1000, deadline = 1000, cost = 600 },
+]
 ";
 
 const NO_OVERRUN: &str = "
-[[task]]
-name = 'x'
-period = 1000
-deadline = 1000
-cost = 600
-[[task]]
-name = 'y'
-period = 1000
-deadline = 1000
-cost = 400
+task = [
+    { name = 'x', period = 1000, deadline = 1000, cost = 600 },
+    { name = 'y', period = 1000, deadline = 1000, cost = 400 },
+]
 ";
 
 // x below y, which both come every 1000 and up to 300 late.
 const LATE_OVERRUN: &str = "
-[[task]]
-name = 'x'
-period = 1000
-deadline = 1000
-cost = 600
-jitter = 300
-[[task]]
-name = 'y'
-period = 1000
-deadline = 1000
-cost = 600
-jitter = 300
+task = [
+    { name = 'x', period = 1000, deadline = 1000, cost = 600, jitter = 300 },
+    { name = 'y', period = 1000, deadline = 1000, cost = 600, jitter = 300 },
+]
 ";
 
 // An example, an order of it, its releases, and until when it runs; then what comes of it.
@@ -307,7 +307,7 @@ fn runs_of_the_examples(rt: HostRuntime) -> Result<(), Fail> {
 fn wrong_orders(rt: HostRuntime) -> Result<(), Fail> {
     let set = set_of(rt.alloc(), example_sets::THREE_TASKS)?;
     for order in [&[0, 1][..], &[0, 0, 1][..], &[0, 1, 2, 3][..]] {
-        let refused = Kernel::new(rt.alloc(), &set, order);
+        let refused = kernel_of(rt.alloc(), &set, order);
         assert!(rt; matches!(&refused, Err(KernelFault::WrongOrder)));
     }
     Ok(())
@@ -317,7 +317,7 @@ fn wrong_orders(rt: HostRuntime) -> Result<(), Fail> {
 fn long_run(alloc: Global, count: u64) -> Result<Result<Trace, RunFault>, Fail> {
     let document = "task = [{ name = 'x', period = 1000, deadline = 1000, cost = 1 }]";
     let set = set_of(alloc, document)?;
-    let kernel = Kernel::new(alloc, &set, &[0]).ok().ok_or("a wrong order")?;
+    let kernel = kernel_of(alloc, &set, &[0]).ok().ok_or("a wrong order")?;
     let mut releases = Vec::new(alloc);
     for place in 0..count {
         releases.push(Release {
@@ -326,7 +326,7 @@ fn long_run(alloc: Global, count: u64) -> Result<Result<Trace, RunFault>, Fail> 
             late: 0,
         })?;
     }
-    Ok(kernel.run(alloc, &releases, 20_000_000))
+    Ok(ran(alloc, &kernel, &releases, 20_000_000))
 }
 
 #[test]
@@ -354,14 +354,16 @@ fn responses_at(
         alloc,
         &[(0, "lo", 0), (offset, "mid", 0), (offset, "hi", 0)],
     )?;
-    let trace = kernel.run(alloc, &releases, 100_000).ok().ok_or("refused")?;
+    let trace = ran(alloc, kernel, &releases, 100_000)
+        .ok()
+        .ok_or("refused")?;
     Ok((response_of(&trace, 1), response_of(&trace, 2)))
 }
 
 #[test]
 fn every_offset(rt: HostRuntime) -> Result<(), Fail> {
     let set = set_of(rt.alloc(), example_sets::SHARED_LOCK)?;
-    let kernel = Kernel::new(rt.alloc(), &set, &[0, 1, 2])
+    let kernel = kernel_of(rt.alloc(), &set, &[0, 1, 2])
         .ok()
         .ok_or("a wrong order")?;
     let mut most = (Some(0), Some(0));

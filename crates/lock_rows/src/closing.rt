@@ -3,6 +3,7 @@ ghost use Rattle.std.specs.Prelude.{◌≡◌};
 
 use crate::desks::{Pair, close, committed, drafted, two_teams, with};
 use book_lock::{CloseCause, Desk, NewFault, Pass};
+use example_sets::again;
 use std::alloc::Global;
 use std::marker::Brand;
 use std::sync::Wait;
@@ -10,24 +11,29 @@ use std::sync::ledger::{Blank, Ledger};
 use std::test::*;
 use std::thread::Threads;
 
-// Whether a desk for so many teams is refused.
-fn refused_on<L: Ledger>(alloc: Global, blank: Blank, teams: u64) -> bool
+// How many passes a desk for so many teams has; none where it is refused.
+fn passes_on<L: Ledger>(alloc: Global, blank: Blank, teams: u64) -> Option<usize>
     requires { (blank.name ≡ L.name) × (blank.parts ≡ L.parts) × (L.parts ≡ 8) }
 {
-    matches!(
+    let answer = again!(
         Desk::<L>::new(alloc, blank, teams),
-        Err(NewFault::BadTeams { blank: _ })
-    )
+        NewFault::OutOfMemory { blank }
+    );
+    match answer {
+        Ok((_, passes)) => Some(passes.len()),
+        Err(NewFault::BadTeams { blank: _ }) => None,
+        Err(NewFault::OutOfMemory { blank: _ }) => Some(0),
+    }
 }
 
-fn refused(alloc: Global, teams: u64) -> bool {
-    refused_on::<Brand>(alloc, Blank::new(8), teams)
+fn passes(alloc: Global, teams: u64) -> Option<usize> {
+    passes_on::<Brand>(alloc, Blank::new(8), teams)
 }
 
 #[test]
 fn numbers_of_teams(rt: HostRuntime) -> Result<(), Fail> {
-    for (teams, bad) in [(0, true), (1, false), (8, false), (9, true)] {
-        assert_eq!(rt; refused(rt.alloc(), teams), bad);
+    for (teams, want) in [(0, None), (1, Some(1)), (8, Some(8)), (9, None)] {
+        assert_eq!(rt; passes(rt.alloc(), teams), want);
     }
     Ok(())
 }

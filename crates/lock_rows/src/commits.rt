@@ -1,18 +1,17 @@
 //! What a commit refuses, a refused receipt, and a commit during an analysis.
 ghost use Rattle.std.specs.Prelude.{◌≡◌};
 
-use crate::desks::{Pair, closed, commit_both, draft_both, said, two_teams};
-use crate::gates::{HoldingGate, ShutGate, wait_for};
-use book_lock::{CommitCause, Desk, Pass};
+use crate::desks::{Pair, answer_to, closed, commit_both, draft_both, said, two_teams};
+use crate::gates::{CrowdGate, ShutGate};
+use crate::workers::commit_at_once;
+use book_lock::{CommitCause, Pass};
 use candidate_workers::OpenGate;
 use drafts::Draft;
 use std::alloc::Global;
 use std::marker::Brand;
 use std::sync::Wait;
-use std::sync::atomic::{AtomicBool, Ordering};
 use std::sync::ledger::{Blank, Ledger};
 use std::test::*;
-use std::thread;
 use std::thread::Threads;
 use task_sheet::Name;
 
@@ -71,11 +70,11 @@ fn cause_of<L: Ledger, R: Threads + Wait>(
     workers: usize,
     shut: bool,
 ) -> Result<(u64, Draft), Fail> {
-    let pass = &mut two.second;
+    let Pair { desk, second, .. } = two;
     let answer = if shut {
-        two.desk.commit(rt, alloc, pass, draft, workers, &ShutGate)
+        answer_to(rt, alloc, desk, second, draft, workers, &ShutGate)
     } else {
-        two.desk.commit(rt, alloc, pass, draft, workers, &OpenGate)
+        answer_to(rt, alloc, desk, second, draft, workers, &OpenGate)
     };
     match answer {
         Ok(_) => Err("a fault")?,
@@ -134,70 +133,7 @@ fn refusals_of_a_commit(rt: HostRuntime) -> Result<(), Fail> {
     Ok(())
 }
 
-// Commits with a gate that holds each question; the place, 0 where there is none, and the pass.
-fn commit_held<L: Ledger, R: Threads + Wait>(
-    rt: &R,
-    alloc: Global,
-    desk: &Desk<L>,
-    mut pass: Pass<L>,
-    draft: Draft,
-    gate: &HoldingGate,
-) -> (usize, Pass<L>) {
-    let place = match desk.commit(rt, alloc, &mut pass, draft, 1, gate) {
-        Ok(place) => place,
-        Err(_) => 0,
-    };
-    (place, pass)
-}
-
-// Commits once a question has come to the other's gate, and lets it go on; the place, 0 where there is none, and the
-// pass.
-fn commit_during<L: Ledger, R: Threads + Wait>(
-    rt: &R,
-    alloc: Global,
-    desk: &Desk<L>,
-    mut pass: Pass<L>,
-    draft: Draft,
-    gate: &HoldingGate,
-) -> (usize, Pass<L>) {
-    let came = wait_for(&gate.asked);
-    let place = match desk.commit(rt, alloc, &mut pass, draft, 1, &OpenGate) {
-        Ok(place) if came => place,
-        _ => 0,
-    };
-    gate.goes_on.store(true, Ordering::SeqCst);
-    (place, pass)
-}
-
-// The places of team 1's draft and of team 2's, which commits while team 1's gate holds a question; and both teams.
-fn commit_at_once<L: Ledger + Send + Sync, R: Threads + Wait + Sync>(
-    rt: &R,
-    alloc: Global,
-    two: Pair<L>,
-    one: Draft,
-    other: Draft,
-    gate: &HoldingGate,
-) -> (usize, usize, Pair<L>) {
-    let Pair {
-        desk,
-        first,
-        second,
-    } = two;
-    let lent = &desk;
-    let ((first_place, first), (second_place, second)) = thread::join(
-        rt,
-        move || commit_held(rt, alloc, lent, first, one, gate),
-        move || commit_during(rt, alloc, lent, second, other, gate),
-    );
-    let two = Pair {
-        desk,
-        first,
-        second,
-    };
-    (first_place, second_place, two)
-}
-
-// The places of a and b, committed so; then the desk is closed.
+// The places of a and b, where b is committed while a gate holds the question on a; then the desk is closed.
 fn during_on<L: Ledger + Send + Sync, R: Threads + Wait + Sync>(
     rt: &R,
     alloc: Global,
@@ -207,11 +143,8 @@ fn during_on<L: Ledger + Send + Sync, R: Threads + Wait + Sync>(
 {
     let two = two_teams::<L>(alloc, blank)?;
     let (one, other) = draft_both(rt, alloc, &two, ("a", 4000), ("b", 4000))?;
-    let gate = HoldingGate {
-        asked: AtomicBool::new(false),
-        goes_on: AtomicBool::new(false),
-    };
-    let (first_place, second_place, two) = commit_at_once(rt, alloc, two, one, other, &gate);
+    let gate = CrowdGate::new(1, 1);
+    let (first_place, second_place, two) = commit_at_once(rt, alloc, two, one, other, 1, &gate);
     let _ = closed(alloc, two)?;
     Ok((first_place, second_place))
 }

@@ -1,15 +1,16 @@
 //! A desk of two teams, and what a team does on it.
 ghost use Rattle.std.specs.Prelude.{◌≡◌};
 
-use book_lock::{Closing, Desk, Pass};
-use candidate_workers::OpenGate;
-use drafts::{Decision, Draft, Entry, NodeState};
+use book_lock::{Closing, CommitCause, CommitFault, Desk, NewFault, OpenFault, Pass};
+use candidate_workers::{Gate, OpenGate};
+use drafts::{Decision, Draft, EditCause, Entry, NodeState, PutFault};
+use example_sets::{again, name};
 use std::alloc::Global;
 use std::sync::Wait;
 use std::sync::ledger::{Blank, Ledger};
 use std::test::Fail;
 use std::thread::Threads;
-use task_sheet::{Name, Sheet};
+use task_sheet::Sheet;
 
 /// A desk, and the passes of its two teams.
 #[derive(Drop)]
@@ -23,7 +24,11 @@ pub struct Pair<L: Ledger> {
 pub fn two_teams<L: Ledger>(alloc: Global, blank: Blank) -> Result<Pair<L>, Fail>
     requires { (blank.name ≡ L.name) × (blank.parts ≡ L.parts) × (L.parts ≡ 8) }
 {
-    let Ok((desk, mut passes)) = Desk::<L>::new(alloc, blank, 2) else {
+    let answer = again!(
+        Desk::<L>::new(alloc, blank, 2),
+        NewFault::OutOfMemory { blank }
+    );
+    let Ok((desk, mut passes)) = answer else {
         return Err("a desk")?;
     };
     let second = passes.pop().ok_or("the second pass")?;
@@ -57,20 +62,25 @@ pub fn closed<L: Ledger>(alloc: Global, two: Pair<L>) -> Result<Closing, Fail> {
     close(two.desk, passes)
 }
 
-/// The name of this text.
-pub fn name(text: &str) -> Result<Name, Fail> {
-    match Name::read(text.as_bytes()) {
-        Ok(name) => Ok(name),
-        Err(_) => Err("a name")?,
-    }
-}
-
-/// A sheet of weight 0 without sections, with a deadline of 10,000, its period.
-pub fn sheet(alloc: Global, text: &str, cost: u64) -> Result<Sheet, Fail> {
-    match Sheet::new(name(text)?, 0, 10000, 10000, cost, Vec::new(alloc)) {
-        Ok(sheet) => Ok(sheet),
-        Err(_) => Err("a sheet")?,
-    }
+/// Puts a task without sections, whose deadline is its period.
+pub fn put(
+    alloc: Global,
+    draft: &mut Draft,
+    text: &str,
+    period: u64,
+    cost: u64,
+) -> Result<(), Fail> {
+    let sheet = Sheet::new(name(text)?, 0, period, period, cost, Vec::new(alloc));
+    let sheet = sheet.ok().ok_or("a sheet")?;
+    let answer = again!(
+        draft.put(sheet),
+        PutFault {
+            cause: EditCause::OutOfMemory,
+            sheet
+        }
+    );
+    answer.ok().ok_or("a put")?;
+    Ok(())
 }
 
 /// An empty draft of the pass's team.
@@ -80,13 +90,13 @@ pub fn opened<L: Ledger, R: Wait>(
     desk: &Desk<L>,
     pass: &Pass<L>,
 ) -> Result<Draft, Fail> {
-    match desk.open(rt, alloc, pass) {
+    match again!(desk.open(rt, alloc, pass), OpenFault::OutOfMemory) {
         Ok(draft) => Ok(draft),
         Err(_) => Err("a draft")?,
     }
 }
 
-/// A draft of the pass's team that puts one task of this cost.
+/// A draft of the pass's team that puts one task of this cost, with a deadline of 10,000, its period.
 pub fn drafted<L: Ledger, R: Wait>(
     rt: &R,
     alloc: Global,
@@ -96,10 +106,41 @@ pub fn drafted<L: Ledger, R: Wait>(
     cost: u64,
 ) -> Result<Draft, Fail> {
     let mut draft = opened(rt, alloc, desk, pass)?;
-    if draft.put(sheet(alloc, text, cost)?).is_err() {
-        return Err("a put")?;
-    }
+    put(alloc, &mut draft, text, 10000, cost)?;
     Ok(draft)
+}
+
+/// What comes of a draft, tested by so many workers with a gate.
+pub fn answer_to<L: Ledger, R: Threads + Wait, G: Gate + Sync>(
+    rt: &R,
+    alloc: Global,
+    desk: &Desk<L>,
+    pass: &mut Pass<L>,
+    draft: Draft,
+    workers: usize,
+    gate: &G,
+) -> Result<usize, CommitFault> {
+    again!(
+        desk.commit(rt, alloc, pass, draft, workers, gate),
+        CommitFault {
+            cause: CommitCause::OutOfMemory | CommitCause::ThreadRefused,
+            draft
+        }
+    )
+}
+
+/// The place of a draft's decision, tested by so many workers with a gate, 0 where there is none; and the pass.
+pub fn placed<L: Ledger, R: Threads + Wait, G: Gate + Sync>(
+    rt: &R,
+    alloc: Global,
+    desk: &Desk<L>,
+    mut pass: Pass<L>,
+    draft: Draft,
+    workers: usize,
+    gate: &G,
+) -> (usize, Pass<L>) {
+    let answer = answer_to(rt, alloc, desk, &mut pass, draft, workers, gate);
+    (answer.unwrap_or(0), pass)
 }
 
 /// The place of a draft's decision, tested by one worker with an open gate.
@@ -110,7 +151,7 @@ pub fn committed<L: Ledger, R: Threads + Wait>(
     pass: &mut Pass<L>,
     draft: Draft,
 ) -> Result<usize, Fail> {
-    match desk.commit(rt, alloc, pass, draft, 1, &OpenGate) {
+    match answer_to(rt, alloc, desk, pass, draft, 1, &OpenGate) {
         Ok(place) => Ok(place),
         Err(_) => Err("a decision")?,
     }

@@ -1,31 +1,9 @@
 //! Gates that hold or shut questions.
 use assignment::Question;
 use candidate_workers::Gate;
+use example_sets::wait_until;
 use std::sync::atomic::{AtomicBool, AtomicU64, Ordering};
-use std::thread;
 use task_sheet::Name;
-
-/// Whether it comes within 1,000,000 turns.
-pub fn wait_for(flag: &AtomicBool) -> bool {
-    for _ in 0..1_000_000u32 {
-        if flag.load(Ordering::SeqCst) {
-            return true;
-        }
-        thread::yield_now();
-    }
-    false
-}
-
-/// Whether the number comes to be at least this within 1,000,000 turns.
-pub fn wait_until(number: &AtomicU64, least: u64) -> bool {
-    for _ in 0..1_000_000u32 {
-        if number.load(Ordering::SeqCst) >= least {
-            return true;
-        }
-        thread::yield_now();
-    }
-    false
-}
 
 /// Shuts all out.
 #[derive(Clone, Copy)]
@@ -40,26 +18,6 @@ impl Gate for ShutGate {
 
     fn pass(&self, _question: &Question) -> bool {
         false
-    }
-}
-
-/// Holds each question until it is told to go on.
-#[derive(Drop)]
-pub struct HoldingGate {
-    pub asked: AtomicBool,
-    pub goes_on: AtomicBool,
-}
-
-impl Gate for HoldingGate {
-    ghost may_shut = { λ gate question. Unit {0} };
-
-    ghost always_shuts = { λ gate question. ⊥ };
-
-    ghost among = { λ gate question never. absurd never };
-
-    fn pass(&self, _question: &Question) -> bool {
-        self.asked.store(true, Ordering::SeqCst);
-        wait_for(&self.goes_on)
     }
 }
 
@@ -102,5 +60,52 @@ impl Gate for CountingGate {
         }
         self.shown.store(commits + 1, Ordering::SeqCst);
         wait_until(&self.made, commits + 1)
+    }
+}
+
+/// Holds each question on the lowest level of a set until so many of them have come, and then until it is told to go on.
+/// Those on a set of so many tasks, or fewer, are counted apart from those on larger sets.
+#[derive(Drop)]
+pub struct CrowdGate {
+    pub wanted: u64,
+    pub tasks: usize,
+    pub first: AtomicU64,
+    pub later: AtomicU64,
+    /// 1 once the questions may go on.
+    pub goes_on: AtomicU64,
+}
+
+impl CrowdGate {
+    /// The gate to which no question came yet.
+    pub fn new(wanted: u64, tasks: usize) -> CrowdGate {
+        CrowdGate {
+            wanted,
+            tasks,
+            first: AtomicU64::new(0),
+            later: AtomicU64::new(0),
+            goes_on: AtomicU64::new(0),
+        }
+    }
+}
+
+impl Gate for CrowdGate {
+    ghost may_shut = { λ gate question. Unit {0} };
+
+    ghost always_shuts = { λ gate question. ⊥ };
+
+    ghost among = { λ gate question never. absurd never };
+
+    fn pass(&self, question: &Question) -> bool {
+        let tasks = question.set().len();
+        if tasks > question.above().len().saturating_add(1) {
+            return true;
+        }
+        let came = if tasks > self.tasks {
+            &self.later
+        } else {
+            &self.first
+        };
+        came.fetch_add(1, Ordering::SeqCst);
+        wait_until(came, self.wanted) && wait_until(&self.goes_on, 1)
     }
 }

@@ -13,3 +13,5 @@ mod gates;
 mod overtaking;
 #[cfg(test)]
 mod settling;
+#[cfg(test)]
+mod workers;

@@ -1,10 +1,11 @@
 //! A commit that is overtaken three times.
 ghost use Rattle.std.specs.Prelude.{◌≡◌};
 
-use crate::desks::{Pair, closed, committed, drafted, name, response, said, two_teams};
-use crate::gates::{CountingGate, wait_until};
+use crate::desks::{Pair, closed, committed, drafted, placed, response, said, two_teams};
+use crate::gates::CountingGate;
 use book_lock::{Desk, Pass};
 use drafts::Draft;
+use example_sets::{name, wait_until};
 use std::alloc::Global;
 use std::marker::Brand;
 use std::sync::Wait;
@@ -13,22 +14,6 @@ use std::sync::ledger::{Blank, Ledger};
 use std::test::*;
 use std::thread;
 use std::thread::Threads;
-
-// Commits with a gate that holds each question; the place, 0 where there is none, and the pass.
-fn commit_counted<L: Ledger, R: Threads + Wait>(
-    rt: &R,
-    alloc: Global,
-    desk: &Desk<L>,
-    mut pass: Pass<L>,
-    draft: Draft,
-    gate: &CountingGate,
-) -> (usize, Pass<L>) {
-    let place = match desk.commit(rt, alloc, &mut pass, draft, 1, gate) {
-        Ok(place) => place,
-        Err(_) => 0,
-    };
-    (place, pass)
-}
 
 // Commits b three times, each once a question that shows the commits before has come to the gate; and the pass.
 fn commit_thrice<L: Ledger, R: Threads + Wait>(
@@ -98,7 +83,7 @@ fn commit_at_once<L: Ledger + Send + Sync, R: Threads + Wait + Sync>(
     let lent = &desk;
     let ((place, first), second) = thread::join(
         rt,
-        move || commit_counted(rt, alloc, lent, first, draft, gate),
+        move || placed(rt, alloc, lent, first, draft, 1, gate),
         move || commit_thrice(rt, alloc, lent, second, gate),
     );
     let second = second?;

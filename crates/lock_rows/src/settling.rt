@@ -2,11 +2,11 @@
 ghost use Rattle.std.specs.Prelude.{◌≡◌};
 
 use crate::desks::{
-    Pair, closed, commit_both, committed, draft_both, drafted, name, opened, response, said,
-    two_teams,
+    Pair, closed, commit_both, committed, draft_both, drafted, opened, response, said, two_teams,
 };
-use book_lock::{Closing, Desk, Outcome, Pass};
-use drafts::{Draft, Proposal, propose};
+use book_lock::{Closing, Desk, DeskFault, Outcome, Pass};
+use drafts::{Draft, EditCause, Proposal, ProposeFault, propose};
+use example_sets::{again, name};
 use std::alloc::Global;
 use std::marker::Brand;
 use std::sync::Wait;
@@ -105,7 +105,9 @@ fn opened_again<L: Ledger, R: Threads + Wait>(
     let mut draft = opened(rt, alloc, &two.desk, &two.first)?;
     let cost = cost_in(&draft, "a")?;
     let version = draft.base_version();
-    Ok((version, cost, draft.remove(name("a")?).is_ok()))
+    let name = name("a")?;
+    let removed = again!(draft.remove(name), EditCause::OutOfMemory);
+    Ok((version, cost, removed.is_ok()))
 }
 
 fn again<R: Threads + Wait>(rt: &R, alloc: Global) -> Result<(u64, u64, bool), Fail> {
@@ -145,7 +147,7 @@ fn a_team_opens_late(rt: HostRuntime) -> Result<(), Fail> {
 }
 
 fn proposed(alloc: Global, draft: Draft) -> Result<Proposal, Fail> {
-    match propose(alloc, draft) {
+    match again!(propose(alloc, draft), ProposeFault { draft }) {
         Ok(proposal) => Ok(proposal),
         Err(_) => Err("a proposal")?,
     }
@@ -169,7 +171,11 @@ fn outcome_of<L: Ledger, R: Wait>(
     pass: &mut Pass<L>,
     proposal: Proposal,
 ) -> Result<Outcome, Fail> {
-    match desk.settle(rt, alloc, pass, proposal) {
+    let answer = again!(
+        desk.settle(rt, alloc, pass, proposal),
+        DeskFault::OutOfMemory { proposal }
+    );
+    match answer {
         Ok(outcome) => Ok(outcome),
         Err(_) => Err("an outcome")?,
     }

@@ -6,7 +6,8 @@ use Rattle.task_sheet.specs.Indexes.{indexes_of, listed_below}
 use Rattle.assignment.specs.Questions.{FindingData}
 use Rattle.assignment.specs.Levels.{LevelState, IsAsked}
 use Rattle.candidate_workers.specs.declared.view.View.{View}
-use Rattle.candidate_workers.specs.Claims.{from_on, late, claimed}
+use Rattle.candidate_workers.specs.Claims.{late, claimed}
+use Rattle.candidate_workers.specs.Counting.{from_on}
 use Rattle.candidate_workers.specs.Seats.{IsFindingAt}
 use Rattle.candidate_workers.proofs.Lists.{from_on-append, from_on_early}
 

@@ -7,7 +7,7 @@ use crate::sets::{lowest_level, three_levels};
 use assignment::Verdict;
 use candidate_workers::{AssayFault, Crew, OpenGate, assay, share_out};
 use ceilings::LockTable;
-use example_sets::{A_OVER_B, THREE_TASKS, THREE_TASKS_LATE, shared_set};
+use example_sets::{A_OVER_B, THREE_TASKS, THREE_TASKS_LATE, again, shared_set};
 use std::alloc::Global;
 use std::process::Abort;
 use std::sync::atomic::{AtomicU64, Ordering};
@@ -40,9 +40,8 @@ fn lowest_crew<R: Threads + Wait + Abort>(
     assert!(rt; 0 < workers && workers <= 8);
     let set = shared_set(alloc, THREE_TASKS)?;
     let level = lowest_level(alloc, &set)?;
-    let table = LockTable::new(alloc, level.set())?;
-    let crew = share_out(rt, alloc, &OpenGate, &table, &level, workers)?;
-    Ok(crew)
+    let table = again!(LockTable::new(alloc, level.set()))?;
+    Ok(again!(share_out(rt, alloc, &OpenGate, &table, &level, workers))?)
 }
 
 // The levels of a document's set by so many workers.
@@ -52,7 +51,12 @@ fn levels_by<R: Threads + Wait>(
     document: &str,
     workers: usize,
 ) -> Result<Option<[(usize, u64); 3]>, Fail> {
-    match assay_openly(rt, alloc, shared_set(alloc, document)?, workers) {
+    let set = shared_set(alloc, document)?;
+    let answer = again!(
+        assay_openly(rt, alloc, set.clone()?, workers),
+        AssayFault::OutOfMemory | AssayFault::ThreadRefused
+    );
+    match answer {
         Ok(verdict) => Ok(three_levels(&verdict)),
         Err(_) => Ok(None),
     }
@@ -95,12 +99,10 @@ fn shut_out<R: Threads + Wait>(
     workers: usize,
     task: usize,
 ) -> Result<Option<usize>, Fail> {
-    let answer = assay(
-        rt,
-        alloc,
-        shared_set(alloc, document)?,
-        workers,
-        &ShutOne { task },
+    let set = shared_set(alloc, document)?;
+    let answer = again!(
+        assay(rt, alloc, set.clone()?, workers, &ShutOne { task }),
+        AssayFault::OutOfMemory | AssayFault::ThreadRefused
     );
     match answer {
         Err(AssayFault::GateShut { task }) => Ok(Some(task)),
@@ -130,18 +132,31 @@ fn a_bound_task_is_asked_too(rt: HostRuntime) -> Result<(), Fail> {
     Ok(())
 }
 
-// The order by so many workers, where this many questions of the lowest level have to be at the gate at the same time.
+// The verdict by so many workers, where this many questions of the lowest level have to be at the gate at the same time.
+fn crowd<R: Threads + Wait>(
+    rt: &R,
+    alloc: Global,
+    set: Arc<TaskSet>,
+    workers: usize,
+    wanted: u64,
+) -> Result<Verdict, AssayFault> {
+    let came = AtomicU64::new(0);
+    assay(rt, alloc, set, workers, &CrowdGate { wanted, came })
+}
+
+// The order by so many workers of such a crowd.
 fn crowded<R: Threads + Wait>(
     rt: &R,
     alloc: Global,
     workers: usize,
     wanted: u64,
 ) -> Result<Option<[(usize, u64); 3]>, Fail> {
-    let gate = CrowdGate {
-        wanted,
-        came: AtomicU64::new(0),
-    };
-    match assay(rt, alloc, shared_set(alloc, THREE_TASKS)?, workers, &gate) {
+    let set = shared_set(alloc, THREE_TASKS)?;
+    let answer = again!(
+        crowd(rt, alloc, set.clone()?, workers, wanted),
+        AssayFault::OutOfMemory | AssayFault::ThreadRefused
+    );
+    match answer {
         Ok(verdict) => Ok(three_levels(&verdict)),
         Err(_) => Ok(None),
     }
@@ -161,16 +176,31 @@ fn workers_at_the_same_time(rt: HostRuntime) -> Result<(), Fail> {
     Ok(())
 }
 
-// How many questions so many workers ask, each once.
-fn questions_asked<R: Threads + Wait>(rt: &R, alloc: Global, workers: usize) -> Result<u64, Fail> {
+// How many questions so many workers ask about a set, each once.
+fn asked_by<R: Threads + Wait>(
+    rt: &R,
+    alloc: Global,
+    set: Arc<TaskSet>,
+    workers: usize,
+) -> Result<u64, AssayFault> {
     let gate = OnceGate {
         asked: AtomicU64::new(0),
         each: AtomicU64::new(0),
     };
-    match assay(rt, alloc, shared_set(alloc, THREE_TASKS)?, workers, &gate) {
+    match assay(rt, alloc, set, workers, &gate) {
         Ok(_) => Ok(gate.asked.load(Ordering::SeqCst)),
-        Err(_) => Err("a verdict")?,
+        Err(fault) => Err(fault),
     }
+}
+
+// The same, about the three tasks.
+fn questions_asked<R: Threads + Wait>(rt: &R, alloc: Global, workers: usize) -> Result<u64, Fail> {
+    let set = shared_set(alloc, THREE_TASKS)?;
+    let asked = again!(
+        asked_by(rt, alloc, set.clone()?, workers),
+        AssayFault::OutOfMemory | AssayFault::ThreadRefused
+    );
+    Ok(asked.ok().ok_or("a verdict")?)
 }
 
 #[test]

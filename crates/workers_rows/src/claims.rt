@@ -1,13 +1,13 @@
 //! Claims at a table by hand.
 ghost use Rattle.std.specs.Prelude.{◌≡◌, ◌<◌, ◌≤◌, false, None, Some, IfOk, OnOk};
 ghost use Rattle.assignment.specs.Levels.{IsAsked};
-ghost use Rattle.candidate_workers.specs.Claims.{count_of, passes_at, late, IsDone};
+ghost use Rattle.candidate_workers.specs.Claims.{count_of, passes_at, late, begun, IsDone};
 ghost use Rattle.candidate_workers.specs.Seats.{seat_view, level_of, SitsAt, IsFindingAt};
 
-use crate::sets::lowest_level;
-use assignment::{Climb, Finding, Level};
+use crate::sets::{climb_on, level_on, lowest_level};
+use assignment::{AnswerFault, Climb, Finding, Level};
 use candidate_workers::{ClaimSeat, ClaimTable};
-use example_sets::{THREE_TASKS, THREE_TASKS_TOO_TIGHT, shared_set};
+use example_sets::{THREE_TASKS, THREE_TASKS_TOO_TIGHT, again, shared_set};
 use std::alloc::Global;
 use std::process::Abort;
 use std::sync::Arc;
@@ -26,14 +26,15 @@ fn finding_at(rt: &impl Abort, alloc: Global, level: &Level, place: u64) -> Resu
 
 // The finding on a candidate.
 fn finding_on(rt: &impl Abort, alloc: Global, level: &Level, task: usize) -> Result<Finding, Fail>
-    ensures { IfOk result (λ finding. IsAsked level.now finding.question × (finding.question.task ≡ task)) }
+    ensures { IfOk result
+        (λ finding. IsAsked level.now finding.question × (finding.question.task ≡ task)) }
 {
     assert!(rt; task < 32);
     assert!(rt; level.left().has(task));
-    let question = level.question(task)?;
-    match question.answer(alloc) {
+    let question = again!(level.question(task))?;
+    match again!(question.answer(alloc), AnswerFault { question }) {
         Ok(finding) => Ok(finding),
-        Err(_) => Err("memory")?,
+        Err(_) => Err("a finding")?,
     }
 }
 
@@ -65,7 +66,8 @@ fn draw(
     ensures spare { OnOk result ((seat_view seat.new).spare ≡ (seat_view seat.old).spare) }
     ensures open { OnOk result (want < count_of level.now →
         (seat.new.held ≡ Some want) × (late (seat_view seat.new) ≡ late (seat_view seat.old))) }
-    ensures past { OnOk result (count_of level.now ≤ want → (seat.new.held ≡ None) × IsDone (seat_view seat.new)) }
+    ensures past { OnOk result
+        (count_of level.now ≤ want → (seat.new.held ≡ None) × IsDone (seat_view seat.new)) }
 {
     if let Some(place) = held {
         fails_at(rt, alloc, level, place)?;
@@ -88,7 +90,8 @@ fn lower_to(
 ) -> Result<(), Fail>
     requires level { level_of claims.now ≡ level.now }
     requires seat { SitsAt claims.now seat.old × (seat.old.held ≡ Some place) }
-    ensures seat { OnOk result (SitsAt claims.now seat.new × (seat.new.held ≡ None) × IsDone (seat_view seat.new)
+    ensures seat { OnOk result (SitsAt claims.now seat.new
+        × (seat.new.held ≡ None) × IsDone (seat_view seat.new)
         × ((seat_view seat.new).spare ≡ (seat_view seat.old).spare)) }
 {
     let finding = finding_at(rt, alloc, level, place)?;
@@ -112,10 +115,10 @@ fn three_candidates(rt: &impl Abort, alloc: Global, text: &str) -> Result<Level,
 fn above_the_lowest(rt: &impl Abort, alloc: Global, set: &Arc<TaskSet>) -> Result<Climb, Fail>
     ensures { IfOk result (λ climb. climb.set ≡ set.now.value) }
 {
-    let mut climb = Climb::start(alloc, set.clone()?)?;
+    let mut climb = climb_on(alloc, set)?;
     let left = climb.left();
     assert!(rt; left.len() == 3);
-    let mut level = Level::start(alloc, set.clone()?, left)?;
+    let mut level = level_on(alloc, set, left)?;
     for task in 0..3usize {
         let finding = finding_on(rt, alloc, &level, task)?;
         assert!(rt; level.take(finding).is_ok());
@@ -132,14 +135,21 @@ fn two_candidates(rt: &impl Abort, alloc: Global) -> Result<Level, Fail>
     let climb = above_the_lowest(rt, alloc, &set)?;
     let left = climb.left();
     assert!(rt; left.len() == 2 && !left.has(2));
-    let level = Level::start(alloc, set, left)?;
-    Ok(level)
+    level_on(alloc, &set, left)
+}
+
+// The table of a level, and its first seat.
+fn claims_of(alloc: Global, level: &Level) -> Result<(ClaimTable, ClaimSeat), Fail>
+    ensures { IfOk result (λ t. (level_of t.0 ≡ level.now)
+        × SitsAt t.0 t.1 × (seat_view t.1 ≡ begun level.now) × (t.1.held ≡ None)) }
+{
+    Ok(again!(ClaimTable::new(alloc, level))?)
 }
 
 // s draws 0, t draws 1, s draws 2 and lowers the least word to it, t draws 3.
 fn two_seats(rt: &impl Abort, alloc: Global) -> Result<(u64, u64), Fail> {
     let level = three_candidates(rt, alloc, THREE_TASKS)?;
-    let (claims, mut s) = ClaimTable::new(alloc, &level)?;
+    let (claims, mut s) = claims_of(alloc, &level)?;
     let mut t = claims.split(&mut s);
     draw(rt, alloc, &level, &claims, &mut s, None, 0)?;
     draw(rt, alloc, &level, &claims, &mut t, None, 1)?;
@@ -153,7 +163,7 @@ fn two_seats(rt: &impl Abort, alloc: Global) -> Result<(u64, u64), Fail> {
 // s draws 0 and lowers the least word to it, t draws 1 and sees that.
 fn cut(rt: &impl Abort, alloc: Global) -> Result<(u64, u64), Fail> {
     let level = two_candidates(rt, alloc)?;
-    let (claims, mut s) = ClaimTable::new(alloc, &level)?;
+    let (claims, mut s) = claims_of(alloc, &level)?;
     let mut t = claims.split(&mut s);
     draw(rt, alloc, &level, &claims, &mut s, None, 0)?;
     lower_to(rt, alloc, &level, &claims, &mut s, 0)?;
@@ -167,7 +177,7 @@ fn cut(rt: &impl Abort, alloc: Global) -> Result<(u64, u64), Fail> {
 // One seat draws 0, 1, 2 and 3, where no candidate passes.
 fn nobody(rt: &impl Abort, alloc: Global) -> Result<(u64, u64), Fail> {
     let level = three_candidates(rt, alloc, THREE_TASKS_TOO_TIGHT)?;
-    let (claims, mut seat) = ClaimTable::new(alloc, &level)?;
+    let (claims, mut seat) = claims_of(alloc, &level)?;
     draw(rt, alloc, &level, &claims, &mut seat, None, 0)?;
     draw(rt, alloc, &level, &claims, &mut seat, Some(0), 1)?;
     draw(rt, alloc, &level, &claims, &mut seat, Some(1), 2)?;

@@ -1,8 +1,8 @@
 //! Gates of the examples.
 use assignment::Question;
 use candidate_workers::Gate;
+use example_sets::wait_until;
 use std::sync::atomic::{AtomicU64, Ordering};
-use std::thread;
 
 /// Shuts one task out.
 #[derive(Clone, Copy)]
@@ -32,17 +32,6 @@ pub struct CrowdGate {
     pub came: AtomicU64,
 }
 
-// Whether the number comes to be at least this within 1,000,000 turns, at each of which another thread may run.
-fn is_reached(number: &AtomicU64, least: u64) -> bool {
-    for _ in 0..1_000_000u32 {
-        if number.load(Ordering::SeqCst) >= least {
-            return true;
-        }
-        thread::yield_now();
-    }
-    false
-}
-
 impl Gate for CrowdGate {
     ghost may_shut = { λ gate question. Unit {0} };
 
@@ -55,7 +44,7 @@ impl Gate for CrowdGate {
             return true;
         }
         self.came.fetch_add(1, Ordering::SeqCst);
-        is_reached(&self.came, self.wanted)
+        wait_until(&self.came, self.wanted)
     }
 }
 

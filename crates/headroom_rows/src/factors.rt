@@ -1,0 +1,39 @@
+//! The greatest factor on all costs.
+use crate::headrooms::{ADMITTED, ALONE, TOO_LATE, TOO_MUCH};
+use ceilings::LockTable;
+use example_sets::{again, set_of};
+use factor::factor;
+use std::alloc::Global;
+use std::test::Fail;
+
+// The greatest factor on all costs of a document's set, in thousandths.
+fn factor_of(alloc: Global, document: &str) -> Result<Option<u64>, Fail> {
+    let set = set_of(alloc, document)?;
+    if set.is_empty() {
+        return Err("a task")?;
+    }
+    let table = again!(LockTable::new(alloc, &set))?;
+    Ok(again!(factor(alloc, &set, &table))?)
+}
+
+#[test]
+fn factors_by_hand(rt: HostRuntime) -> Result<(), Fail> {
+    for (document, want) in [
+        (ALONE, Some(1_000_000)),
+        (ADMITTED, Some(1816)),
+        (TOO_MUCH, Some(952)),
+        (TOO_LATE, Some(400)),
+        (example_sets::FILLS_ITS_PERIOD, Some(1000)),
+        (example_sets::DEMAND_OF_THE_DEADLINE, Some(1111)),
+        (example_sets::OBSTRUCTION_OF_ONE, Some(666)),
+        (example_sets::THREE_TASKS, Some(1000)),
+        (example_sets::SHARED_LOCK, Some(2500)),
+        (example_sets::BLOCKED_OUT, Some(950)),
+        (example_sets::C_OVER_A, Some(857)),
+        (example_sets::A_OVER_B_OVER_A, None),
+    ] {
+        let found = factor_of(rt.alloc(), document)?;
+        assert_eq!(rt; found, want, "at {document}");
+    }
+    Ok(())
+}

@@ -1,0 +1,35 @@
+//! What settings of a document's set come to, as text.
+use example_sets::{again, set_of};
+use judge::{SettingsFault, judge_settings, judged_text};
+use std::alloc::{AllocError, Global};
+use std::test::Fail;
+
+// A fault, by its name and its field.
+fn fault_text(alloc: Global, fault: SettingsFault) -> Result<String, AllocError> {
+    match fault {
+        SettingsFault::BadLine { line } => format!(in alloc; "BadLine {line}"),
+        SettingsFault::UnknownTask { line } => format!(in alloc; "UnknownTask {line}"),
+        SettingsFault::UnknownLock { line } => format!(in alloc; "UnknownLock {line}"),
+        SettingsFault::SameTask { line } => format!(in alloc; "SameTask {line}"),
+        SettingsFault::SameLock { line } => format!(in alloc; "SameLock {line}"),
+        SettingsFault::SameNumber { line } => format!(in alloc; "SameNumber {line}"),
+        SettingsFault::MissingTask { name } => format!(in alloc; "MissingTask {name}"),
+        SettingsFault::MissingLock { name } => format!(in alloc; "MissingLock {name}"),
+        SettingsFault::WrongCeiling { name } => format!(in alloc; "WrongCeiling {name}"),
+        SettingsFault::OutOfMemory => format!(in alloc; "OutOfMemory"),
+    }
+}
+
+/// The lines of the judgements, or the fault.
+pub fn answer_to(alloc: Global, document: &str, settings: &str) -> Result<String, Fail> {
+    let set = set_of(alloc, document)?;
+    let answer = again!(
+        judge_settings(alloc, &set, settings.as_bytes()),
+        SettingsFault::OutOfMemory
+    );
+    let text = match answer {
+        Ok(judged) => again!(judged_text(alloc, &set, &judged))?,
+        Err(fault) => fault_text(alloc, fault)?,
+    };
+    Ok(text)
+}

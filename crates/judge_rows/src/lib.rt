@@ -1,0 +1,9 @@
+//! Orders that a node has, judged by hand, and each refusal of settings, as tests.
+#![tactic(auto)]
+
+#[cfg(test)]
+mod answers;
+#[cfg(test)]
+mod orders;
+#[cfg(test)]
+mod refusals;
