@@ -1,0 +1,28 @@
+-- What a call leaves in its caller's memory.
+use Rattle.std.specs.Prelude.{◌≡◌, ◌⊎◌, ◌<◌, ◌≤◌, ◌++◌, ℕ, List, [], Option, Some, length, drop}
+use Rattle.desk_cli.specs.Statuses.{code_of}
+use Rattle.desk_cli.specs.declared.status.Status.{Status}
+use Rattle.desk_cli.specs.declared.status.Status.TheVariants.{OutOfMemory}
+
+-- a text stands at the start of a room, if it fits, and all else is as it was
+abbrev pub Fills : List ℕ → List ℕ → List ℕ → Type 0
+Fills text before after =
+    (length text ≤ length before → after ≡ text ++ drop (length text) before)
+    × (length before < length text → after ≡ before)
+
+-- the room, the count and the number are those of what a command prints, and of its status
+abbrev pub Gives : (Option (List ℕ) → Option (List ℕ) → Status → Type 0) → List ℕ → List ℕ → ℕ → ℕ
+    → Type 0
+Gives says before after count number =
+    (text : List ℕ) × (s : Status) × says (Some []) (Some text) s
+    × Fills text before after × (count ≡ length text) × (number ≡ code_of s)
+
+-- there was no memory for what a command prints, and the room is as it was
+abbrev pub GivesUp : List ℕ → List ℕ → ℕ → ℕ → Type 0
+GivesUp before after count number = (after ≡ before) × (count ≡ 0) × (number ≡ code_of OutOfMemory)
+
+-- what a call answers, by a command over its inputs
+abbrev pub Answers : (Option (List ℕ) → Option (List ℕ) → Status → Type 0) → List ℕ → List ℕ → ℕ → ℕ
+    → Type 0
+Answers says before after count number =
+    Gives says before after count number ⊎ GivesUp before after count number

@@ -1,0 +1,155 @@
+//! The commands over one input.
+ghost use Rattle.std.specs.Prelude.{◌≡◌, length, Some};
+ghost use Rattle.desk_cli.specs.Admit.{Says, lines_of};
+ghost use Rattle.desk_cli.specs.Certify.{certificate_lines};
+ghost use Rattle.desk_cli.specs.Explain.{SaysExplained};
+ghost use Rattle.desk_cli.specs.Headroom.{SaysHeadroom};
+ghost use Rattle.desk_cli.specs.Play.{SaysPlayed};
+ghost use Rattle.desk_cli.specs.Releases.{SaysList};
+ghost use Rattle.desk_cli.specs.Settings.{settings_of};
+ghost use Rattle.preferences.specs.declared.preferred.Preference.TheVariants.{Weights};
+ghost use Rattle.libdesk.specs.Answers.{Answers};
+
+use crate::hand_out::hand_out;
+use desk_cli::{
+    Nobody, run_admit, run_certify, run_explain, run_headroom, run_play, run_releases, run_settings,
+};
+use preferences::Preference;
+use std::alloc::Global;
+use streams::Watched;
+
+/// What `desk admit` prints of a task set.
+#[unsafe(no_mangle)]
+pub extern "C" fn desk_admit(alloc: Global, set: &[u8], room: &mut [u8], status: &mut u8) -> usize
+    ensures room { length room.new ≡ length room.old }
+    ensures answer { Answers (Says lines_of Weights
+        (Some set.now)) room.old room.new result status.new }
+{
+    let mut output = Watched::new(Vec::new(alloc));
+    let ended = run_admit(
+        alloc,
+        Preference::Weights,
+        &mut Watched::new(set),
+        &mut output,
+        &mut Nobody,
+    );
+    hand_out(ended, output, room, status)
+}
+
+/// What `desk certify` prints of a task set.
+#[unsafe(no_mangle)]
+pub extern "C" fn desk_certify(alloc: Global, set: &[u8], room: &mut [u8], status: &mut u8) -> usize
+    ensures room { length room.new ≡ length room.old }
+    ensures answer { Answers (Says certificate_lines Weights
+        (Some set.now)) room.old room.new result status.new }
+{
+    let mut output = Watched::new(Vec::new(alloc));
+    let ended = run_certify(
+        alloc,
+        Preference::Weights,
+        &mut Watched::new(set),
+        &mut output,
+        &mut Nobody,
+    );
+    hand_out(ended, output, room, status)
+}
+
+/// What `desk headroom` prints of a task set.
+#[unsafe(no_mangle)]
+pub extern "C" fn desk_headroom(
+    alloc: Global,
+    set: &[u8],
+    room: &mut [u8],
+    status: &mut u8,
+) -> usize
+    ensures room { length room.new ≡ length room.old }
+    ensures answer { Answers (SaysHeadroom Weights
+        (Some set.now)) room.old room.new result status.new }
+{
+    let mut output = Watched::new(Vec::new(alloc));
+    let ended = run_headroom(
+        alloc,
+        Preference::Weights,
+        &mut Watched::new(set),
+        &mut output,
+        &mut Nobody,
+    );
+    hand_out(ended, output, room, status)
+}
+
+/// What `desk settings` prints of a task set.
+#[unsafe(no_mangle)]
+pub extern "C" fn desk_settings(
+    alloc: Global,
+    set: &[u8],
+    room: &mut [u8],
+    status: &mut u8,
+) -> usize
+    ensures room { length room.new ≡ length room.old }
+    ensures answer { Answers (Says settings_of Weights
+        (Some set.now)) room.old room.new result status.new }
+{
+    let mut output = Watched::new(Vec::new(alloc));
+    let ended = run_settings(
+        alloc,
+        Preference::Weights,
+        &mut Watched::new(set),
+        &mut output,
+        &mut Nobody,
+    );
+    hand_out(ended, output, room, status)
+}
+
+/// What `desk explain` prints of a task set.
+#[unsafe(no_mangle)]
+pub extern "C" fn desk_explain(alloc: Global, set: &[u8], room: &mut [u8], status: &mut u8) -> usize
+    ensures room { length room.new ≡ length room.old }
+    ensures answer { Answers (SaysExplained Weights
+        (Some set.now)) room.old room.new result status.new }
+{
+    let mut output = Watched::new(Vec::new(alloc));
+    let ended = run_explain(
+        alloc,
+        Preference::Weights,
+        &mut Watched::new(set),
+        &mut output,
+        &mut Nobody,
+    );
+    hand_out(ended, output, room, status)
+}
+
+/// What `desk play` prints of a script.
+#[unsafe(no_mangle)]
+pub extern "C" fn desk_play(alloc: Global, script: &[u8], room: &mut [u8], status: &mut u8) -> usize
+    ensures room { length room.new ≡ length room.old }
+    ensures answer { Answers (SaysPlayed (Some script.now)) room.old room.new result status.new }
+{
+    let mut output = Watched::new(Vec::new(alloc));
+    let ended = run_play(alloc, &mut Watched::new(script), &mut output, &mut Nobody);
+    hand_out(ended, output, room, status)
+}
+
+/// What `desk releases` prints of a task set, up to `until` in microseconds.
+#[unsafe(no_mangle)]
+pub extern "C" fn desk_releases(
+    alloc: Global,
+    set: &[u8],
+    until: u64,
+    room: &mut [u8],
+    status: &mut u8,
+) -> usize
+    ensures room { length room.new ≡ length room.old }
+    ensures answer { Answers (SaysList Weights until
+        (Some set.now)) room.old room.new result status.new }
+{
+    let mut output = Watched::new(Vec::new(alloc));
+    let ended = run_releases(
+        alloc,
+        Preference::Weights,
+        &mut Watched::new(set),
+        until,
+        &mut output,
+        &mut Nobody,
+    );
+    hand_out(ended, output, room, status)
+}

@@ -1,0 +1,86 @@
+/* The commands of `desk` as functions of bytes, for C and for whatever calls C. docs/FORMATS.md says what they read and
+ * print.
+ *
+ * Each function takes the bytes of its inputs, room for the answer, and where the status goes. It puts what the command of
+ * its name prints of these bytes at the start of the room, the command's exit status into *status, and returns how many
+ * bytes the answer has.
+ *
+ * Room. Where the count is more than the room has, the room is as it was, and so many bytes suffice: ask with no room
+ * first, then with what the count says. (Where memory runs out in one of the two calls, their counts may differ.) What the
+ * room has past the answer is as it was, too. No byte 0 ends an answer.
+ *
+ * Memory. The functions take memory by malloc and realloc, and free all of it before they return. Where it runs out, the
+ * status is DESK_OUT_OF_MEMORY, and the answer is what the command prints then; or the count is 0, where there was no
+ * memory for that either. The count 0 with another status is an empty answer, as desk_settings gives of no tasks.
+ *
+ * Who owns what. All that is passed stays the caller's, and no pointer is kept after the return. Inputs are only read, and
+ * may overlap each other. Neither the room nor *status may overlap anything else that is passed, and each pointer has as
+ * many bytes as the length behind it says. NULL is taken with the length 0: an empty input, or no room. status may not be
+ * NULL.
+ *
+ * Threads. The functions share nothing but malloc, keep nothing between calls, start no thread and wait for none. Several
+ * threads may call them at once, also on the same inputs, each with its own room and status. They may not be called from a
+ * signal handler, nor after a fork in a process that has threads. A stack of 256 KiB has sufficed for all that was tried.
+ */
+#ifndef DESK_H
+#define DESK_H
+
+#include <stddef.h>
+#include <stdint.h>
+
+#ifdef __cplusplus
+extern "C" {
+#endif
+
+/* The exit statuses. Those of the command line's words and of files, 2 and 7, do not come here. */
+enum {
+    DESK_DONE = 0,
+    DESK_INFEASIBLE = 3,      /* no order passes, or the one that was given does not */
+    DESK_BAD_INPUT = 4,       /* an input was refused */
+    DESK_BAD_CERTIFICATE = 5, /* a certificate was refused */
+    DESK_OUT_OF_MEMORY = 6,
+};
+
+/* The best order of a task set, or the tasks of its greatest obstruction. */
+size_t desk_admit(const uint8_t *set, size_t set_length, uint8_t *room, size_t room_length, uint8_t *status);
+
+/* The certificate of that verdict. */
+size_t desk_certify(const uint8_t *set, size_t set_length, uint8_t *room, size_t room_length, uint8_t *status);
+
+/* What a certificate shows of a task set. */
+size_t desk_check(const uint8_t *set, size_t set_length, const uint8_t *certificate, size_t certificate_length,
+                  uint8_t *room, size_t room_length, uint8_t *status);
+
+/* How far each cost may grow, and all costs together. */
+size_t desk_headroom(const uint8_t *set, size_t set_length, uint8_t *room, size_t room_length, uint8_t *status);
+
+/* The level of each thread and the ceiling of each mutex. */
+size_t desk_settings(const uint8_t *set, size_t set_length, uint8_t *room, size_t room_length, uint8_t *status);
+
+/* Of what each response is made, or why each task cannot stand lowest. */
+size_t desk_explain(const uint8_t *set, size_t set_length, uint8_t *room, size_t room_length, uint8_t *status);
+
+/* Which tasks miss their deadlines at the levels and ceilings that settings give. */
+size_t desk_judge(const uint8_t *set, size_t set_length, const uint8_t *settings, size_t settings_length, uint8_t *room,
+                  size_t room_length, uint8_t *status);
+
+/* The densest release list that a task set allows up to a time in microseconds. */
+size_t desk_releases(const uint8_t *set, size_t set_length, uint64_t until, uint8_t *room, size_t room_length,
+                     uint8_t *status);
+
+/* What a simulated kernel does with a release list at the levels of the best order. */
+size_t desk_simulate(const uint8_t *set, size_t set_length, const uint8_t *releases, size_t releases_length,
+                     uint8_t *room, size_t room_length, uint8_t *status);
+
+/* The same as a picture, an SVG document. */
+size_t desk_draw(const uint8_t *set, size_t set_length, const uint8_t *releases, size_t releases_length, uint8_t *room,
+                 size_t room_length, uint8_t *status);
+
+/* The replies to a script of drafts, findings and commits, and the book after them. */
+size_t desk_play(const uint8_t *script, size_t script_length, uint8_t *room, size_t room_length, uint8_t *status);
+
+#ifdef __cplusplus
+}
+#endif
+
+#endif
