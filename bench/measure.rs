@@ -105,6 +105,57 @@ impl Bench {
         }
     }
 
+    // Commands of `desk` beside others of it, in turn.
+    fn beside(&self, name: &str, first: &[String], second: &[String]) {
+        let desk = Bench {
+            desk: self.desk.clone(),
+            plain: self.desk.clone(),
+            folder: self.folder.clone(),
+            runs: self.runs,
+        };
+        self.print(name, desk.pair(first, second, false));
+    }
+
+    // `explain`, `judge` and `headroom` beside `admit`. Of a set without an order `judge` reads no settings.
+    fn beside_admit(&self) {
+        for set in [
+            "chains", "harmonic", "late-no", "longest", "sections", "document",
+        ] {
+            let (file, settings) = (format!("{set}.toml"), format!("{set}.settings"));
+            let (_, text) = run(&self.desk, &self.words("settings", &[&file]));
+            fs::write(format!("{}/{settings}", self.folder), text).unwrap();
+            let admit = self.words("admit", &[&file]);
+            let judge = self.words("judge", &[&file, &settings]);
+            for (command, words) in [
+                ("explain", self.words("explain", &[&file])),
+                ("judge", judge),
+                ("headroom", self.words("headroom", &[&file])),
+            ] {
+                self.beside(&format!("{command} {set}, beside admit"), &admit, &words);
+            }
+        }
+    }
+
+    // A script's run by more workers beside that by one, and of twice as many commits.
+    fn scripts(&self) {
+        let rush = |script: &str, workers: &str| {
+            let mut words = self.words("rush", &[script]);
+            words.push(workers.to_string());
+            words
+        };
+        for script in ["longest.script", "teams.script"] {
+            for workers in ["2", "4", "8"] {
+                let (one, more) = (rush(script, "1"), rush(script, workers));
+                let name = format!("rush {script}, workers: {workers}, beside 1");
+                self.beside(&name, &one, &more);
+            }
+        }
+        let (half, whole) = (rush("one-40000.script", "1"), rush("one-80000.script", "1"));
+        self.beside("rush 80,000 commits, beside 40,000", &half, &whole);
+        let play = self.words("play", &["one-80000.script"]);
+        self.beside("rush 80,000 commits, beside play", &play, &whole);
+    }
+
     fn against_reading(&self) {
         for name in ["first", "both"] {
             let files = ["held.toml", &format!("{name}.releases")];
@@ -150,4 +201,7 @@ fn main() {
     bench.certificates();
     bench.workers();
     bench.against_reading();
+    println!("\n| Work | first, ms | second, ms | ratio |\n|---|---|---|---|");
+    bench.beside_admit();
+    bench.scripts();
 }

@@ -165,6 +165,29 @@ fn releases(tasks: &[Task], count: usize) -> String {
     text
 }
 
+// Eight teams with 200 commits each of one task, on a node of at most 32.
+fn teams() -> String {
+    let mut text = String::new();
+    for count in 0..1600 {
+        let (round, team, draft) = (count / 8, count % 8 + 1, count + 1);
+        let (kind, cost) = (round % 4, 100 + (round * 7 + team) % 150);
+        let period = 10_000 << kind;
+        writeln!(
+            text,
+            "open {team}\nput {draft} t{team}_{kind} {kind} {period} {period} {cost}\ncommit {draft}"
+        )
+        .unwrap();
+    }
+    text
+}
+
+// So many commits of one team that change nothing.
+fn commits(count: usize) -> String {
+    (1..=count)
+        .map(|draft| format!("open 1\ncommit {draft}\n"))
+        .collect()
+}
+
 fn hostile(folder: &str) {
     let size = 16_000_000;
     let save = |name: &str, text: String| fs::write(format!("{folder}/{name}.toml"), text).unwrap();
@@ -236,5 +259,9 @@ fn main() {
     fs::write(format!("{folder}/first.releases"), releases(&held, 5_000)).unwrap();
     fs::write(format!("{folder}/both.releases"), releases(&held, 10_000)).unwrap();
     save("held", held);
+    fs::write(format!("{folder}/teams.script"), teams()).unwrap();
+    for count in [40_000, 80_000] {
+        fs::write(format!("{folder}/one-{count}.script"), commits(count)).unwrap();
+    }
     hostile(folder);
 }

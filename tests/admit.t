@@ -82,6 +82,7 @@ Without hi nobody shares the lock, and mid isn't blocked:
   admitted 2
   1 lo 24000
   2 mid 2000
+  (on standard error) note: lock m has one user, lo
 
 lo passes lowest, and then blocks hi for 2500: hi needs 4500 and has 4400.
 

@@ -348,10 +348,10 @@ One space between fields and none around them, no leading zero, at most ten digi
 Each proper prefix of a certificate is Truncated, one byte more is Trailing:
 
   $ for n in $(seq 0 113); do
-  >   head -c $n examples/three-tasks.cert | desk check examples/three-tasks.toml -
+  >   head -c $n examples/three-tasks.cert | desk check examples/three-tasks.toml - 2> told
   > done | grep -c '^refused: Truncated$'
   114
-  $ { cat examples/three-tasks.cert; printf e; } | desk check examples/three-tasks.toml -
+  $ { cat examples/three-tasks.cert; printf e; } | desk check examples/three-tasks.toml - 2> told
   refused: Trailing
   [5]
 

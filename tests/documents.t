@@ -56,6 +56,7 @@ Numbers in any spelling that TOML has, and tables in any spelling:
   > END
   admitted 1
   1 a 5000
+  (on standard error) note: lock m has one user, a
 
   $ document 'task = [{\n  name = "a", period = 10000,\n  deadline = 10000, cost = 5000,\n}]'
   admitted 1
@@ -81,15 +82,22 @@ A section may end at the cost, and begin at the end of the one before it. 8 sect
   $ sections "{ locks = ['m'], at = 1000, len = 4000 }"
   admitted 1
   1 a 5000
+  (on standard error) note: lock m has one user, a
   $ sections "{ locks = ['m'], at = 0, len = 500 }, { locks = ['m'], at = 500, len = 500 }"
   admitted 1
   1 a 5000
+  (on standard error) note: lock m has one user, a
   $ sections "$(for n in 0 1 2 3 4 5 6 7; do echo "{ locks = ['m'], at = $n, len = 1 },"; done)"
   admitted 1
   1 a 5000
+  (on standard error) note: lock m has one user, a
   $ sections "{ locks = ['k', 'l', 'm', 'n'], at = 0, len = 1 }"
   admitted 1
   1 a 5000
+  (on standard error) note: lock k has one user, a
+  (on standard error) note: lock l has one user, a
+  (on standard error) note: lock m has one user, a
+  (on standard error) note: lock n has one user, a
 
 A name has 1 to 24 bytes and begins with a letter:
 
@@ -137,7 +145,7 @@ A byte 00 or FF at any place:
   $ for n in $(seq 0 96); do
   >   for byte in '\000' '\377'; do
   >     { head -c $n examples/fills-its-period.toml; printf $byte; tail -c +$((n + 2)) examples/fills-its-period.toml
-  >     } | desk admit -
+  >     } | desk admit - 2> told
   >   done
   > done | sort -u
   refused: Syntax
@@ -145,7 +153,7 @@ A byte 00 or FF at any place:
 Each proper prefix of a set is a set or is refused:
 
   $ for n in $(seq 0 340); do
-  >   head -c $n examples/blocked-out.toml | desk admit - | head -n 1 | cut -d ' ' -f 1
+  >   head -c $n examples/blocked-out.toml | desk admit - 2> told | head -n 1 | cut -d ' ' -f 1
   > done | sort -u
   admitted
   infeasible

@@ -200,10 +200,13 @@ Also where the status would be another one:
   $ desk simulate examples/blocked-out.toml $list > /dev/full
   [7]
   $ echo 'x = 1' | desk admit - > /dev/full
+  (on standard error) standard input: unknown key x; a set has tasks alone, each headed by [[task]]
   [7]
   $ desk check empty $cert > /dev/full
+  (on standard error) examples/three-tasks.cert: its levels don't name each task of the set once, or a member is no task or named twice
   [7]
   $ desk admit missing > /dev/full
+  (on standard error) missing: can't be opened or read
   [7]
 
 A closed output
@@ -218,10 +221,12 @@ A closed output
   $ desk simulate $node $list >&-
   [7]
   $ desk admit missing >&-
+  (on standard error) missing: can't be opened or read
   [7]
   $ desk admit $set <&- >&-
   [7]
   $ desk admit - <&- >&-
+  (on standard error) standard input: can't be opened or read
   [7]
 
 Standard error isn't needed where the words are right:

@@ -1,15 +1,19 @@
 `desk rush SCRIPT WORKERS` runs the lines of each team of a script on a thread of its own: one printed line for each entry
 of the log, and then the book. What no thread of another team can change is compared as it is printed.
 
-Two teams collide: the one that comes first is admitted, and the other is refused.
+Two teams collide: the one that comes first is admitted, and the other is refused. Standard error tells of the line that comes
+after the end of its draft.
 
   $ printf '1 team 1 admitted 1\n2 team 2 infeasible a b\nversion 1\nlevel 1 a 1 6000\n' > one
   $ printf '1 team 2 admitted 1\n2 team 1 infeasible a b\nversion 1\nlevel 1 b 2 6000\n' > other
-  $ for workers in 1 2 8; do desk rush examples/two-teams-collide.script $workers > printed || echo $?; cmp -s printed one || cmp -s printed other || cat printed; done
+  $ for workers in 1 2 8; do desk rush examples/two-teams-collide.script $workers > printed 2> told || echo $?; cmp -s printed one || cmp -s printed other || cat printed; cat told; done
+  line 11: skipped, draft 2 has ended
+  line 11: skipped, draft 2 has ended
+  line 11: skipped, draft 2 has ended
 
 Two teams fit: both are admitted, in either order, and the book is the same.
 
-  $ for workers in 1 2 8; do desk rush examples/two-teams-fit.script $workers | sed 's/team [12]/team N/'; done
+  $ for workers in 1 2 8; do desk rush examples/two-teams-fit.script $workers 2> told | sed 's/team [12]/team N/'; done
   1 team N admitted 1
   2 team N admitted 2
   version 2
@@ -25,9 +29,12 @@ Two teams fit: both are admitted, in either order, and the book is the same.
   version 2
   level 1 a 1 8000
   level 2 b 2 4000
-  $ desk rush examples/two-teams-fit.script 2 | grep -o 'team [12]' | sort
+  $ desk rush examples/two-teams-fit.script 2 2> told | grep -o 'team [12]' | sort
   team 1
   team 2
+  $ cat told
+  line 10: skipped, draft 2 has ended
+  line 11: skipped, draft 2 has ended
 
 One team alone: its entries come in the order of its lines. Its second draft is stale at its commit, which goes on until it
 is decided.
@@ -46,20 +53,55 @@ Findings and tests do nothing, also where they are on no candidate:
   version 1
   level 1 a 8 4000
 
-Lines on a draft that has ended are skipped: after its commit, and after it was abandoned.
+Lines on a draft that has ended are skipped: after its commit, and after it was abandoned. Standard error tells of each.
 
-  $ printf 'open 1\ncommit 1\nput 1 a 0 10000 10000 4000\ncommit 1\ntest 1\nabandon 1\n' | desk rush - 2
+  $ printf 'open 1\ncommit 1\n# its end\nput 1 a 0 10000 10000 4000\ncommit 1\ntest 1\nfound 1 a\nremove 1 a\nabandon 1\n' > ended
+  $ desk rush ended 2 2> told
   1 team 1 admitted 1
   version 1
-  $ printf 'open 1\nput 1 a 0 10000 10000 4000\nabandon 1\nput 1 a 0 10000 10000 4000\ncommit 1\n' | desk rush - 2
+  $ cat told
+  line 4: skipped, draft 1 has ended
+  line 5: skipped, draft 1 has ended
+  line 6: skipped, draft 1 has ended
+  line 7: skipped, draft 1 has ended
+  line 8: skipped, draft 1 has ended
+  line 9: skipped, draft 1 has ended
+  $ printf 'open 1\nput 1 a 0 10000 10000 4000\nabandon 1\nput 1 a 0 10000 10000 4000\ncommit 1\n' | desk rush - 2 2> told
   version 0
+  $ cat told
+  line 4: skipped, draft 1 has ended
+  line 5: skipped, draft 1 has ended
 
-An edit that is refused leaves its draft, and nothing is printed of it:
+An edit that is refused leaves its draft, and standard error tells of it:
 
-  $ printf 'open 1\nput 1 a 0 10000 10000 4000\nremove 1 x\ncommit 1\n' | desk rush - 2
+  $ printf 'open 1\nput 1 a 0 10000 10000 4000\nremove 1 x\ncommit 1\n' | desk rush - 2 2> told
   1 team 1 admitted 1
   version 1
   level 1 a 1 4000
+  $ cat told
+  line 3: remove x: NoSuchTask
+  $ (echo 'open 1'; for i in $(seq 1 65); do echo "put 1 t$i 0 10000 10000 1"; done; echo 'abandon 1') | desk rush - 2 2> told
+  version 0
+  $ cat told
+  line 66: put t65: DraftFull
+
+What is told comes by team, and then by line:
+
+  $ printf 'open 2\nopen 1\nremove 1 x\nremove 2 y\nremove 1 z\nput 1 a 0 10000 10000 1\n' | desk rush - 2 2> told
+  version 0
+  $ cat told
+  line 4: remove y: NoSuchTask
+  line 3: remove x: NoSuchTask
+  line 5: remove z: NoSuchTask
+
+Two teams put `a`, twice. The one whose first commit comes second finds the other's `a` at its second put, whose line is told
+last; its draft is empty then.
+
+  $ twice() { printf "open $1\nput $2 a 0 10000 10000 4000\ncommit $2\nopen $1\nput $3 a 0 10000 10000 4000\ncommit $3\n"; }
+  $ (twice 1 1 2; twice 2 3 4) > both-put
+  $ for workers in 1 2 8; do desk rush both-put $workers > printed 2> told || echo $?; tail -n 1 told > last; tail -n 1 printed >> last; case $(cat last) in 'line 11: put a: NotYours
+  > level 1 a 1 4000' | 'line 5: put a: NotYours
+  > level 1 a 2 4000') ;; *) cat told printed ;; esac; done
 
 A commit that is refused stands in the log, and the book stays:
 
@@ -189,4 +231,21 @@ Where the answer can't be written:
   $ desk rush examples/two-teams-fit.script 2 >&-
   [7]
   $ printf 'open 9\n' | desk rush - 2 > /dev/full
+  (on standard error) standard input: line 1, "open 9" has to be open TEAM, with TEAM from 1 to 8
   [7]
+
+Where what is told can't be written, the log stands; and where the log can't be written, nothing is told:
+
+  $ desk rush ended 2 2> /dev/full
+  1 team 1 admitted 1
+  version 1
+  [7]
+  $ desk rush ended 2 2>&-
+  1 team 1 admitted 1
+  version 1
+  [7]
+  $ desk rush eight 2 2> /dev/full | tail -n 1
+  level 8 t8 8 1000
+  $ desk rush ended 2 > /dev/full 2> told
+  [7]
+  $ cat told

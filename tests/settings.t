@@ -21,6 +21,9 @@ Tasks by rank, sections in order, locks as written; a lock of one user has that 
   mutex p 3
   mutex q 3
   mutex m 3
+  (on standard error) note: lock r has one user, low
+  (on standard error) note: lock q has one user, high
+  (on standard error) note: lock m has one user, high
 
 Without locks there is no mutex, and the empty set has nothing to set:
 

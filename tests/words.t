@@ -19,13 +19,20 @@ Help is no mistake:
   output
   $ desk_says help
   output
-  $ for command in admit certify check simulate headroom settings play rush; do desk_says $command --help; desk_says help $command; done | uniq
+  $ for command in admit explain headroom settings judge certify check releases simulate draw play rush; do desk_says $command --help; desk_says help $command; done | uniq
   output
 
-It names each command, and of a command its inputs:
+So is the version:
+
+  $ desk_says --version
+  output
+  $ desk --version
+  desk 0.5.0
+
+Help names each command, and of a command its inputs, an example and its statuses:
 
   $ desk --help > output
-  $ for command in admit certify check simulate headroom settings play rush; do grep -q "^  $command  *[A-Z]" output || echo $command; done
+  $ for command in admit explain headroom settings judge certify check releases simulate draw play rush; do grep -q "^  $command  *[A-Z]" output || echo $command; done
   $ desk admit --help | grep -c '<SET>$'
   1
   $ desk certify --help | grep -c '<SET>$'
@@ -34,8 +41,18 @@ It names each command, and of a command its inputs:
   1
   $ desk simulate --help | grep -c '<SET> <RELEASES>$'
   1
+  $ desk judge --help | grep -c '<SET> <SETTINGS>$'
+  1
+  $ desk releases --help | grep -c '<SET> <UNTIL>$'
+  1
   $ desk rush --help | grep -c '<SCRIPT> <WORKERS>$'
   1
+  $ for command in admit explain headroom settings judge certify check releases simulate draw play rush; do desk $command --help | grep -q "^Example: .*desk $command " || echo $command; desk $command --help | grep -q '^Status: 0 ' || echo $command; done
+
+That of each command that reads a task set names its option:
+
+  $ for command in admit explain headroom settings judge certify check releases simulate draw; do desk $command --help | grep -q -e '^ *--prefer <ORDER>  *[A-Z].*deadline$' || echo $command; done
+  $ for command in play rush; do ! desk $command --help | grep -e --prefer; done
 
 No such command, also in other letters; a word too few; a word too many; an option that isn't there:
 
@@ -52,9 +69,6 @@ No such command, also in other letters; a word too few; a word too many; an opti
   errors
   [2]
   $ desk_says examples/three-tasks.toml
-  errors
-  [2]
-  $ desk_says --version
   errors
   [2]
   $ desk_says admit
@@ -86,6 +100,7 @@ No such command, also in other letters; a word too few; a word too many; an opti
   [2]
   $ desk_says admit -- --help
   output
+  errors
   [7]
 
 That last one is a file with the name `--help`, which isn't there:
@@ -109,6 +124,45 @@ Standard input can't be named twice:
   errors
   [2]
 
+The option stands before the inputs or behind them:
+
+  $ desk admit --prefer deadline examples/three-tasks.toml > before
+  $ desk admit examples/three-tasks.toml --prefer=deadline > behind
+  $ cmp before behind
+
+An order that isn't there is refused before any input is opened, also where standard input is named twice:
+
+  $ desk admit --prefer weights nowhere 2>&1
+  no such preference
+  [2]
+  $ desk_says admit --prefer weights nowhere
+  errors
+  [2]
+  $ desk releases examples/three-tasks.toml 1000 --prefer Deadline 2>&1
+  no such preference
+  [2]
+  $ desk check --prefer= - - 2>&1 < examples/three-tasks.toml
+  no such preference
+  [2]
+
+No word to the option, the option twice, before its command, or at a script:
+
+  $ desk_says admit examples/three-tasks.toml --prefer
+  errors
+  [2]
+  $ desk_says admit --prefer deadline --prefer deadline examples/three-tasks.toml
+  errors
+  [2]
+  $ desk_says --prefer deadline admit examples/three-tasks.toml
+  errors
+  [2]
+  $ desk_says play --prefer deadline examples/two-teams-fit.script
+  errors
+  [2]
+  $ desk_says rush --prefer deadline examples/two-teams-fit.script 4
+  errors
+  [2]
+
 A word that isn't UTF-8:
 
   $ desk admit "$(printf 'a\377')" 2>&1
@@ -128,6 +182,8 @@ Where what is wrong can't be said, a write has failed:
   $ desk x 2>&-
   [7]
   $ desk check - - 2> /dev/full
+  [7]
+  $ desk admit --prefer weights nowhere 2> /dev/full
   [7]
   $ desk admit "$(printf 'a\377')" 2> /dev/full
   [7]

@@ -1,0 +1,399 @@
+What a person is told on standard error: after a refusal a sentence that names the input, the place, the value and what it
+has to be; beside an answer a note on each lock that one task alone uses. No answer and no status depends on it.
+
+`said` prints what a command writes to standard error:
+
+  $ said() { desk "$@" 2>&1 > /dev/null; }
+  $ document() { printf "$1" | said admit -; }
+  $ task() { document "task = [{ $1 }]"; }
+  $ more() { task "name = 'a', period = 10000, deadline = 10000, cost = 5000, $1"; }
+  $ sections() { more "section = [$1]"; }
+
+Inputs
+------
+
+  $ said admit nosuch.toml
+  nosuch.toml: can't be opened or read
+  [7]
+  $ said admit - < examples
+  standard input: can't be opened or read
+  [7]
+  $ said check examples/three-tasks.toml nosuch.cert
+  nosuch.cert: can't be opened or read
+  [7]
+  $ head -c 16777217 /dev/zero > long
+  $ said admit long
+  long: longer than the 16777216 bytes that an input may have
+  [4]
+  $ said check examples/three-tasks.toml long
+  long: longer than the 16777216 bytes that an input may have
+  [4]
+
+What a terminal could take for a command is shown as `?`:
+
+  $ said admit "$(printf 'a\033[31m')"
+  a?[31m: can't be opened or read
+  [7]
+
+The refusal itself stays on standard output:
+
+  $ printf 'task = [{}]' | desk admit -
+  refused: MissingKey 1 0 name
+  (on standard error) standard input: task 1: no key name; a task needs name, period, deadline, cost
+  [4]
+
+Syntax
+------
+
+What the parser says, with the line and the column at which it stopped, and the line itself:
+
+  $ document '[[task]]\nname = "a"\nperiod 10000\n'
+  standard input: line 3, column 8: key with no value, expected `=`, in "period 10000"
+  [4]
+  $ document '[[task]]\nname = "a\n'
+  standard input: line 2, column 10: invalid string, in "name = "a"
+  [4]
+  $ document '[[task]\nname = "a"\n'
+  standard input: line 1, column 8: unclosed array table, expected `]]`, in "[[task]"
+  [4]
+  $ document '# \377'
+  standard input: line 1, column 3: invalid UTF-8, in "# ?"
+  [4]
+
+Keys
+----
+
+  $ document 'tasks = []'
+  standard input: unknown key tasks; a set has tasks alone, each headed by [[task]]
+  [4]
+  $ more 'deadlin = 3'
+  standard input: task 1 (a): unknown key deadlin; a task has name, weight, period, deadline, cost, section, jitter, outranks
+  [4]
+  $ sections '{ locks = ["m"], at = 0, length = 10 }'
+  standard input: task 1 (a), section 1: unknown key length; a section has locks, at, len
+  [4]
+  $ task 'name = "a", period = 10000, cost = 5000'
+  standard input: task 1 (a): no key deadline; a task needs name, period, deadline, cost
+  [4]
+  $ sections '{ locks = ["m"], at = 0 }'
+  standard input: task 1 (a), section 1: no key len; a section needs locks, at, len
+  [4]
+
+Kinds
+-----
+
+  $ document '[task]\nname = "a"\n'
+  standard input: task has to be an array of tables, each headed by [[task]]; it is a single table
+  [4]
+  $ document 'task = [{}, 3]'
+  standard input: task has to be an array of tables, each headed by [[task]]; it is an array with 3
+  [4]
+  $ task 'name = 3, period = 10000, deadline = 10000, cost = 5000'
+  standard input: task 1: name has to be a string, in quotes; it is 3
+  [4]
+  $ task 'name = "a", period = "10ms", deadline = 10000, cost = 5000'
+  standard input: task 1 (a): period has to be a whole number of microseconds from 0, without quotes; it is the string "10ms"
+  [4]
+  $ task 'name = "a", period = 10000, deadline = 10000.5, cost = 5000'
+  standard input: task 1 (a): deadline has to be a whole number of microseconds from 0, without quotes; it is a number with a fraction
+  [4]
+  $ more 'weight = -1'
+  standard input: task 1 (a): weight has to be a whole number from 0; it is -1
+  [4]
+  $ more 'jitter = true'
+  standard input: task 1 (a): jitter has to be a whole number of microseconds from 0, without quotes; it is true
+  [4]
+  $ more 'section = { locks = ["m"], at = 0, len = 1 }'
+  standard input: task 1 (a): section has to be an array of tables, each headed by [[task.section]]; it is a single table
+  [4]
+  $ more 'outranks = "b"'
+  standard input: task 1 (a): outranks has to be an array of strings, as ["a", "b"]; it is the string "b"
+  [4]
+  $ sections '{ locks = ["m", 2], at = 0, len = 10 }'
+  standard input: task 1 (a), section 1: locks has to be an array of strings, as ["a", "b"]; it is an array with 2
+  [4]
+  $ sections '{ locks = ["m"], at = 12:00:00, len = 10 }'
+  standard input: task 1 (a), section 1: at has to be a whole number of microseconds from 0, without quotes; it is a date or time
+  [4]
+
+Names
+-----
+
+  $ task 'name = "4a", period = 10000, deadline = 10000, cost = 5000'
+  standard input: task 1 (4a): name: "4a" is no name; a name is 1 to 24 of the letters a to z and A to Z, digits, _ and -, a letter first
+  [4]
+  $ more 'outranks = ["b", "c d"]'
+  standard input: task 1 (a): outranks: "c d" is no name; a name is 1 to 24 of the letters a to z and A to Z, digits, _ and -, a letter first
+  [4]
+  $ sections '{ locks = ["m", "a-lock-with-a-name-too-long"], at = 0, len = 10 }'
+  standard input: task 1 (a), section 1: locks: "a-lock-with-a-name-too-long" is no name; a name is 1 to 24 of the letters a to z and A to Z, digits, _ and -, a letter first
+  [4]
+
+A long text is cut after 60 characters, and has `?` for what isn't shown:
+
+  $ task "name = '$(printf '%0100d' 0)', period = 10000, deadline = 10000, cost = 5000" | cut -c 1-100
+  standard input: task 1 (000000000000000000000000000000000000000000000000000000000000..): name: "0000
+  $ more '"\\u001b[31m" = 3'
+  standard input: task 1 (a): unknown key ?[31m; a task has name, weight, period, deadline, cost, section, jitter, outranks
+  [4]
+
+Values
+------
+
+  $ more 'weight = 1001'
+  standard input: task 1 (a): the weight is above 1000: weight 1001
+  [4]
+  $ task 'name = "a", period = 10, deadline = 10, cost = 5'
+  standard input: task 1 (a): the period is not from 1000 to 10000000 microseconds: period 10
+  [4]
+  $ task 'name = "a", period = 10000, deadline = 0, cost = 5000'
+  standard input: task 1 (a): the deadline is 0
+  [4]
+  $ task 'name = "a", period = 10000, deadline = 10001, cost = 5000'
+  standard input: task 1 (a): the deadline is above the period: deadline 10001, period 10000
+  [4]
+  $ task 'name = "a", period = 10000, deadline = 10000, cost = 0'
+  standard input: task 1 (a): the cost is 0
+  [4]
+  $ task 'name = "a", period = 10000, deadline = 10000, cost = 10001'
+  standard input: task 1 (a): the cost is above the period: cost 10001, period 10000
+  [4]
+  $ s='{ locks = ["m"], at = 0, len = 1 }'
+  $ sections "$s, $s, $s, $s, $s, $s, $s, $s, $s"
+  standard input: task 1 (a): more than 8 sections: there are 9
+  [4]
+  $ sections '{ locks = [], at = 0, len = 10 }'
+  standard input: task 1 (a): section 1: no locks
+  [4]
+  $ sections '{ locks = ["a", "b", "c", "d", "e"], at = 0, len = 10 }'
+  standard input: task 1 (a): section 1: more than 4 locks: there are 5
+  [4]
+  $ sections '{ locks = ["m", "n", "m"], at = 0, len = 10 }'
+  standard input: task 1 (a): section 1: a lock twice: m
+  [4]
+  $ sections '{ locks = ["m"], at = 0, len = 0 }'
+  standard input: task 1 (a): section 1: its length is 0
+  [4]
+  $ sections '{ locks = ["m"], at = 100, len = 50 }, { locks = ["n"], at = 149, len = 10 }'
+  standard input: task 1 (a): section 2: it begins before the end of the one before it: at 149, that one ends at 150
+  [4]
+  $ sections '{ locks = ["m"], at = 4000, len = 1001 }'
+  standard input: task 1 (a): section 1: it ends past the cost: at 4000 and len 1001 make 5001, cost 5000
+  [4]
+  $ more 'jitter = 10000'
+  standard input: task 1 (a): the jitter is not below the deadline: jitter 10000, deadline 10000
+  [4]
+  $ more 'outranks = ["b", "c", "d", "e", "f", "g", "h", "i", "j"]'
+  standard input: task 1 (a): outranks: it must stand above more than 8 tasks: there are 9
+  [4]
+  $ more 'outranks = ["b", "c", "b"]'
+  standard input: task 1 (a): outranks: it must stand above a task twice: b
+  [4]
+  $ more 'outranks = ["b", "a"]'
+  standard input: task 1 (a): outranks: it must stand above itself
+  [4]
+  $ one='period = 10000, deadline = 10000, cost = 1'
+  $ document "task = [{ name = 'a', $one }, { name = 'b', $one }, { name = 'a', $one }]"
+  standard input: task 3 (a): a task before it has its name: task 1
+  [4]
+  $ for i in $(seq 1 33); do printf '[[task]]\nname="t%d"\nperiod=1000\ndeadline=1000\ncost=1\n' $i; done | said admit -
+  standard input: more than 32 tasks: there are 33
+  [4]
+
+Certificates
+------------
+
+  $ certificate() { printf "$1" | said check examples/three-tasks.toml -; }
+  $ certificate 'desk-certificate 3\nnone 0\nend\n'
+  standard input: line 1 has to be desk-certificate 1 or desk-certificate 2; it is "desk-certificate 3"
+  [5]
+  $ certificate 'desk-certificate 1\r\nnone 0\r\nend\r\n'
+  standard input: line 1 has to be desk-certificate 1 or desk-certificate 2; it is "desk-certificate 1?"; it ends with CR and LF, where LF alone is wanted
+  [5]
+  $ certificate 'desk-certificate 1\nbest 3\nlevel 2 c 20000\n'
+  standard input: line 3, "level 2 c 20000": no such line may stand here; after the head come best N, for each level from 1 level K NAME NUMBER and lines fails NAME REASON, or none N and lines member NAME REASON, then end
+  [5]
+  $ certificate 'desk-certificate 1\nnone 0\n'
+  standard input: the complete lines stop before the line end; each line ends with LF, the last, too
+  [5]
+  $ certificate 'desk-certificate 1\nnone 0\nend\n\n'
+  standard input: something follows the line end, which has to be the last
+  [5]
+  $ certificate 'desk-certificate 1\nnone 0\nend\n'
+  standard input: none without members shows nothing
+  [5]
+  $ said check examples/jitter.toml examples/three-tasks.cert
+  examples/three-tasks.cert: it is of version 1, which is for sets without jitter and outranks; this set has one of them
+  [5]
+  $ certificate 'desk-certificate 1\nbest 0\nend\n'
+  standard input: its levels don't name each task of the set once, or a member is no task or named twice
+  [5]
+  $ sed 's/^fails a .*/fails c 1 11000/' examples/three-tasks.cert | said check examples/three-tasks.toml -
+  standard input: level 1: its lines fails have to name tasks that are left and of smaller rank, by rank
+  [5]
+  $ sed 's/c 20000/c 20001/' examples/three-tasks.cert | said check examples/three-tasks.toml -
+  standard input: level 1: its number is past the deadline less the jitter, or below what the task may need; or its task has to outrank one above it
+  [5]
+  $ sed 's/^fails b 1/fails b 2/' examples/three-tasks.cert | said check examples/three-tasks.toml -
+  standard input: level 1, fails b: its numbers have to begin with 1, to rise by no more than the task's demand, and to end with the first past the deadline less the jitter; after over stands a task above it that it has to outrank
+  [5]
+  $ certificate 'desk-certificate 1\nnone 1\nmember a 1\nend\n'
+  standard input: member a: its numbers have to begin with 1, to rise by no more than the task's demand, and to end with the first past the deadline less the jitter; after over stands a task above it that it has to outrank
+  [5]
+  $ sed '/^fails b/d' examples/three-tasks.cert | said check examples/three-tasks.toml -
+  standard input: level 1: b is left and of smaller rank than the level's task, but no line fails says why it can't have the level
+  [5]
+
+Release lists
+-------------
+
+  $ releases() { printf "$1" | said simulate examples/jitter.toml -; }
+  $ releases ''
+  standard input: there is no line until N
+  [4]
+  $ releases '# a list\n0 a\n'
+  standard input: line 2, "0 a" has to be until N, with a time of 1 to 10 digits
+  [4]
+  $ releases 'until 100\n0  a\n'
+  standard input: line 2, "0  a" has to be TIME NAME or TIME NAME LATE, with times of 1 to 10 digits; one space stands between words, none before or after them
+  [4]
+  $ releases 'until 100\n\n10 a\n9 b\n'
+  standard input: line 4, "9 b" arrives before the one above it
+  [4]
+  $ releases 'until 100\n0 a\n# three\n1 d\n'
+  standard input: line 4, "1 d": the set has no task of that name
+  [4]
+  $ releases 'until 20000\n0 a\n6999 a\n'
+  standard input: line 3, "6999 a" arrives less than the task's period after the one before it
+  [4]
+  $ releases 'until 20000\n0 a 1001\n'
+  standard input: line 2, "0 a 1001" is later than the task's jitter allows
+  [4]
+  $ releases 'until 60000001\n'
+  standard input: until 60000001 is above 60000000 microseconds
+  [4]
+  $ releases 'until 1000\n0 b\n0 a 1000\n'
+  standard input: line 3, "0 a 1000": a job has to become ready before until, 1000
+  [4]
+  $ (echo 'until 60000000'; for i in $(seq 0 10000); do echo "$((i * 7000)) a"; done) | said simulate examples/jitter.toml - 
+  standard input: line 8574, "60004000 a": a job has to become ready before until, 60000000
+  [4]
+  $ printf '[[task]]\nname="a"\nperiod=1000\ndeadline=1000\ncost=1\n' > fast.toml
+  $ said releases fast.toml 60000000
+  fast.toml: more than 10000 releases
+  [4]
+
+Settings
+--------
+
+  $ settings() { printf "$1" | said judge examples/shared-lock.toml -; }
+  $ settings 'thread lo 1\nthreat mid 2\n'
+  standard input: line 2, "threat mid 2" has to be thread NAME NUMBER or mutex NAME NUMBER, with a number from 1 to 1000000
+  [4]
+  $ settings 'thread low 1\n'
+  standard input: line 1, "thread low 1": the set has no task of that name
+  [4]
+  $ settings 'mutex n 1\n'
+  standard input: line 1, "mutex n 1": no task of the set uses that lock
+  [4]
+  $ settings 'thread lo 1\nthread lo 2\n'
+  standard input: line 2, "thread lo 2": a thread line before it has that name
+  [4]
+  $ settings 'mutex m 1\nmutex m 2\n'
+  standard input: line 2, "mutex m 2": a mutex line before it has that name
+  [4]
+  $ settings 'thread lo 1\nthread mid 1\n'
+  standard input: line 2, "thread mid 1": a thread line before it has that number
+  [4]
+  $ settings 'thread lo 1\nthread mid 2\n'
+  standard input: no line thread hi NUMBER
+  [4]
+  $ settings 'thread lo 1\nthread mid 2\nthread hi 3\nmutex m 2\n'
+  standard input: line 4, "mutex m 2" isn't at the number of the highest thread that uses it
+  [4]
+  $ sed 's/"m"/"m", "n"/' examples/shared-lock.toml > two-locks.toml
+  $ printf 'thread lo 1\nthread mid 2\nthread hi 3\nmutex m 3\n' | said judge two-locks.toml -
+  standard input: no line mutex n NUMBER; there is one for each lock or for none
+  [4]
+
+Scripts
+-------
+
+  $ script() { printf "$1" | said play -; }
+  $ script 'opn 1\n'
+  standard input: line 1, "opn 1" has to be of open, put, remove, found, test, commit or abandon
+  [4]
+  $ script 'open 9\n'
+  standard input: line 1, "open 9" has to be open TEAM, with TEAM from 1 to 8
+  [4]
+  $ script 'open 1\nput 2 a 0 1000 1000 1\n'
+  standard input: line 2, "put 2 a 0 1000 1000 1" has to be put DRAFT NAME WEIGHT PERIOD DEADLINE COST, then j=JITTER, over=NAME+NAME and LOCK+LOCK@AT:LEN where there are such; DRAFT is the number of an open line above it
+  [4]
+  $ script 'open 1\nremove 1\n'
+  standard input: line 2, "remove 1" has to be remove DRAFT NAME; DRAFT is the number of an open line above it
+  [4]
+  $ script 'open 1\ncommit 1 \n'
+  standard input: line 2, "commit 1 " has to be commit DRAFT; DRAFT is the number of an open line above it; one space stands between words, none before or after them
+  [4]
+  $ script '# one\nopen 1\nput 1 a 0 999 999 1\n'
+  standard input: line 3, "put 1 a 0 999 999 1": the period is not from 1000 to 10000000 microseconds: period 999
+  [4]
+  $ script 'open 1\nput 1 a 0 1000 1000 100 m@0:60 n@50:10\n'
+  standard input: line 2, "put 1 a 0 1000 1000 100 m@0:60 n@50:10": section 2: it begins before the end of the one before it: at 50, that one ends at 60, in "n@50:10"
+  [4]
+  $ script 'open 1\nput 1 a 0 1000 1000 100 m@60:41\n'
+  standard input: line 2, "put 1 a 0 1000 1000 100 m@60:41": section 1: it ends past the cost: at 60 and len 41 make 101, cost 100, in "m@60:41"
+  [4]
+  $ script 'open 1\nput 1 a 0 1000 1000 100 j=1000\n'
+  standard input: line 2, "put 1 a 0 1000 1000 100 j=1000": the jitter is not below the deadline: jitter 1000, deadline 1000
+  [4]
+  $ script 'open 1\nput 1 a 0 1000 1000 100 over=b+a\n'
+  standard input: line 2, "put 1 a 0 1000 1000 100 over=b+a": over: it must stand above itself
+  [4]
+  $ printf 'open 9\n' | said rush - 1
+  standard input: line 1, "open 9" has to be open TEAM, with TEAM from 1 to 8
+  [4]
+
+Notes
+-----
+
+  $ cat > robot.toml <<END
+  > [[task]]
+  > name = "motion"
+  > period = 10000
+  > deadline = 10000
+  > cost = 1000
+  > section = [{ locks = ["state", "can"], at = 0, len = 100 }]
+  > [[task]]
+  > name = "diagnostics"
+  > period = 100000
+  > deadline = 100000
+  > cost = 1000
+  > section = [{ locks = ["sate", "can"], at = 0, len = 10 }, { locks = ["log", "sate"], at = 10, len = 10 }]
+  > END
+  $ desk admit robot.toml
+  admitted 2
+  1 diagnostics 2000
+  2 motion 1010
+  (on standard error) note: lock sate has one user, diagnostics
+  (on standard error) note: lock log has one user, diagnostics
+  (on standard error) note: lock state has one user, motion
+
+An infeasible set has its notes, and every command that answers on a set; where standard error is closed or full, the
+answer is the same:
+
+  $ said certify robot.toml | wc -l
+  3
+  $ said releases robot.toml 10 | wc -l
+  3
+  $ desk admit robot.toml 2> /dev/full
+  admitted 2
+  1 diagnostics 2000
+  2 motion 1010
+  $ desk admit robot.toml 2>&-
+  admitted 2
+  1 diagnostics 2000
+  2 motion 1010
+  $ printf 'task = [{}]' | desk admit - 2> /dev/full
+  refused: MissingKey 1 0 name
+  [4]

@@ -1,0 +1,58 @@
+`desk explain SET` prints what each bound of the best order is made of; or a least conflict, with what each of its tasks
+needs. Every part stands once, and they add up.
+
+  $ desk explain examples/shared-lock.toml
+  admitted 3
+  1 lo 27000 of 100000
+    cost 20000
+    above hi 3 jobs 3000
+    above mid 2 jobs 4000
+  2 mid 7000 of 20000
+    cost 2000
+    blocked 4000 by lo section 1 lock m
+    above hi 1 jobs 1000
+  3 hi 5000 of 10000
+    cost 1000
+    blocked 4000 by lo section 1 lock m
+  load 400000
+  $ desk explain examples/blocked-out.toml
+  infeasible hi
+  conflict hi
+  hi 4500 of 4400
+    cost 2000
+    blocked 2500 by lo section 1 lock m
+  load 400000
+  [3]
+
+No task, and a set that is refused:
+
+  $ desk explain examples/empty-set.toml
+  admitted 0
+  load 0
+  $ echo 'task = [{ name = "a", period = 10000, deadline = 10000, cost = 0 }]' | desk explain -
+  refused: CostZero 1
+  [4]
+
+One of two tasks that must stand above each other can't be left out; a third is none of the conflict:
+
+  $ for name in a b c; do printf '[[task]]\nname = "%s"\nperiod = 10000\ndeadline = 10000\ncost = 100\n' $name; case $name in a) echo 'outranks = ["b"]';; b) echo 'outranks = ["a"]';; esac; done > circle.toml
+  $ desk explain circle.toml
+  infeasible a b
+  conflict a b
+  a must be above b
+  b must be above a
+  load 30000
+  [3]
+
+The jitter of a task is a part of its own response; that of a task above brings a job more:
+
+  $ desk admit examples/jitter.toml
+  admitted 3
+  1 c 20000
+  2 a 7000
+  3 b 3000
+  $ desk explain examples/jitter.toml | grep -A 3 '^2 a'
+  2 a 7000 of 7000
+    cost 3000
+    jitter 1000
+    above b 1 jobs 3000

@@ -1,0 +1,73 @@
+`desk judge SET SETTINGS` says what becomes of each task at priorities that a node has: lines as `desk settings` prints
+them, by any distinct numbers from 1 to 1,000,000, of which a greater one is higher.
+
+What `settings` prints is judged to meet all deadlines, with the responses of `admit`:
+
+  $ desk settings examples/shared-lock.toml | desk judge examples/shared-lock.toml -
+  meets 3
+  1 lo 27000 of 100000
+  2 mid 7000 of 20000
+  3 hi 5000 of 10000
+  $ for set in three-tasks three-tasks-weighted jitter watchdog own-order fills-its-period blocked-out-repaired demand-of-the-deadline; do desk settings examples/$set.toml | desk judge examples/$set.toml - > judged || echo $?; desk admit examples/$set.toml | sed 1d > admitted; sed '1d; s/ of .*//' judged | cmp - admitted; done
+
+Any numbers, in any order of lines; comments and empty lines are skipped; mutexes may be left out:
+
+  $ printf '# today\nthread hi 90\n\nthread lo 7\nthread mid 8\n' > today
+  $ desk judge examples/shared-lock.toml today
+  meets 3
+  1 lo 27000 of 100000
+  2 mid 7000 of 20000
+  3 hi 5000 of 10000
+
+An order that doesn't pass:
+
+  $ printf 'thread lo 3\nthread mid 2\nthread hi 1\n' > low
+  $ desk judge examples/shared-lock.toml low
+  misses mid hi
+  1 hi misses 10000
+  2 mid misses 20000
+  3 lo 20200 of 100000
+  [3]
+
+A task that stands below one that it must outrank:
+
+  $ printf 'thread watchdog 1\nthread sensors 2\nthread motion 3\nthread log 4\n' > low
+  $ desk judge examples/watchdog.toml low
+  misses watchdog sensors motion
+  1 watchdog below sensors
+  2 sensors misses 20000
+  3 motion misses 10000
+  4 log 30500 of 200000
+  [3]
+
+Refused, each over the whole text before the next:
+
+  $ judge() { printf "$1" | desk judge examples/shared-lock.toml -; }
+  $ judge 'thread lo 1\nthread x 0\n'
+  refused: BadLine 2
+  [4]
+  $ judge 'thread lo 1\nthread x 1\nmutex n 1\n'
+  refused: UnknownTask 2
+  [4]
+  $ judge 'thread lo 1\nthread lo 1\nmutex n 1\n'
+  refused: UnknownLock 3
+  [4]
+  $ judge 'mutex m 1\nmutex m 1\nthread lo 1\nthread lo 1\n'
+  refused: SameTask 4
+  [4]
+  $ judge 'mutex m 1\nmutex m 1\nthread lo 1\nthread mid 1\n'
+  refused: SameLock 2
+  [4]
+  $ judge 'thread lo 1\nthread mid 1\n'
+  refused: SameNumber 2
+  [4]
+  $ judge 'thread lo 1\n'
+  refused: MissingTask mid
+  [4]
+  $ judge 'thread lo 1\nthread mid 2\nthread hi 3\nmutex m 2\n'
+  refused: WrongCeiling m
+  [4]
+  $ printf '[[task]]\nname = "a"\nperiod = 9000\ndeadline = 9000\ncost = 9\nsection = [{ locks = ["n", "m"], at = 0, len = 1 }]\n' > a.toml
+  $ printf 'thread a 5\nmutex m 5\n' | desk judge a.toml -
+  refused: MissingLock n
+  [4]

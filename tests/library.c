@@ -1,0 +1,133 @@
+/* Calls the static library as include/desk.h says: `library COMMAND FILE [FILE|UNTIL]` prints the answer and ends with its
+ * status. Each answer is asked for with no room, with one byte too few, and with bytes to spare, by four threads at once;
+ * the program aborts where these answers or their surroundings are not as the header says.
+ */
+#include "desk.h"
+#include <pthread.h>
+#include <stdio.h>
+#include <stdlib.h>
+#include <string.h>
+
+enum { THREADS = 4, SPARE = 16, MARK = 0xa5, STACK = 1 << 18 };
+
+struct bytes {
+    uint8_t *at;
+    size_t length;
+};
+
+struct question {
+    const char *command;
+    struct bytes first, second;
+    uint64_t until;
+};
+
+struct answer {
+    const struct question *question;
+    struct bytes text;
+    uint8_t status;
+};
+
+static void hold(int fact, const char *what)
+{
+    if (!fact) {
+        fprintf(stderr, "not as desk.h says: %s\n", what);
+        abort();
+    }
+}
+
+static void *taken(size_t length)
+{
+    void *at = malloc(length + 1);
+    hold(at != NULL, "malloc");
+    return at;
+}
+
+/* An empty file is NULL with the length 0. */
+static struct bytes read_file(const char *path)
+{
+    struct bytes read = {NULL, 0};
+    FILE *file = fopen(path, "rb");
+    hold(file != NULL, path);
+    for (int byte = getc(file); byte != EOF; byte = getc(file)) {
+        if ((read.length & (read.length - 1)) == 0) {
+            read.at = realloc(read.at, 2 * read.length + 1);
+            hold(read.at != NULL, "realloc");
+        }
+        read.at[read.length++] = (uint8_t)byte;
+    }
+    fclose(file);
+    return read;
+}
+
+static size_t ask(const struct question *it, uint8_t *room, size_t length, uint8_t *status)
+{
+    struct bytes a = it->first, b = it->second;
+    const char *command = it->command;
+    if (!strcmp(command, "admit")) return desk_admit(a.at, a.length, room, length, status);
+    if (!strcmp(command, "certify")) return desk_certify(a.at, a.length, room, length, status);
+    if (!strcmp(command, "headroom")) return desk_headroom(a.at, a.length, room, length, status);
+    if (!strcmp(command, "settings")) return desk_settings(a.at, a.length, room, length, status);
+    if (!strcmp(command, "explain")) return desk_explain(a.at, a.length, room, length, status);
+    if (!strcmp(command, "play")) return desk_play(a.at, a.length, room, length, status);
+    if (!strcmp(command, "releases")) return desk_releases(a.at, a.length, it->until, room, length, status);
+    if (!strcmp(command, "check")) return desk_check(a.at, a.length, b.at, b.length, room, length, status);
+    if (!strcmp(command, "judge")) return desk_judge(a.at, a.length, b.at, b.length, room, length, status);
+    if (!strcmp(command, "simulate")) return desk_simulate(a.at, a.length, b.at, b.length, room, length, status);
+    if (!strcmp(command, "draw")) return desk_draw(a.at, a.length, b.at, b.length, room, length, status);
+    hold(0, command);
+    return 0;
+}
+
+static int is_marked(const uint8_t *from, size_t length)
+{
+    while (length > 0 && from[length - 1] == MARK) length--;
+    return length == 0;
+}
+
+static void *answered(void *argument)
+{
+    struct answer *it = argument;
+    uint8_t status = MARK;
+    size_t needed = ask(it->question, NULL, 0, &it->status);
+    size_t length = needed + SPARE;
+    uint8_t *room = taken(length);
+    memset(room, MARK, length);
+    if (needed > 0) {
+        hold(ask(it->question, room, needed - 1, &status) == needed && status == it->status, "the same count and status");
+        hold(is_marked(room, length), "too little room is left as it was");
+    }
+    hold(ask(it->question, room, length, &status) == needed && status == it->status, "the same count and status again");
+    hold(is_marked(room + needed, SPARE), "the rest of the room is left as it was");
+    it->text = (struct bytes){room, needed};
+    return NULL;
+}
+
+int main(int count, char **words)
+{
+    hold(count == 3 || count == 4, "usage: library COMMAND FILE [FILE|UNTIL]");
+    struct question question = {words[1], read_file(words[2]), {NULL, 0}, 0};
+    if (!strcmp(words[1], "releases")) {
+        question.until = strtoull(words[3], NULL, 10);
+    } else if (count == 4) {
+        question.second = read_file(words[3]);
+    }
+    struct answer answers[THREADS];
+    pthread_t threads[THREADS];
+    pthread_attr_t small;
+    hold(!pthread_attr_init(&small) && !pthread_attr_setstacksize(&small, STACK), "a small stack");
+    for (int i = 0; i < THREADS; i++) {
+        answers[i].question = &question;
+        hold(!pthread_create(&threads[i], &small, answered, &answers[i]), "a thread");
+    }
+    for (int i = 0; i < THREADS; i++) {
+        hold(!pthread_join(threads[i], NULL), "a thread's end");
+        hold(answers[i].status == answers[0].status && answers[i].text.length == answers[0].text.length
+                 && !memcmp(answers[i].text.at, answers[0].text.at, answers[0].text.length),
+             "the same answer in each thread");
+    }
+    fwrite(answers[0].text.at, 1, answers[0].text.length, stdout);
+    for (int i = 0; i < THREADS; i++) free(answers[i].text.at);
+    free(question.first.at);
+    free(question.second.at);
+    return answers[0].status;
+}
