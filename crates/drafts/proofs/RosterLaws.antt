@@ -149,6 +149,11 @@ pub owned_of-parts : (ts : List Owned) → owned_of (set_of ts) (teams_of ts) �
 owned_of-parts [] = refl
 owned_of-parts (x ∷ ts) = ap (λ xs. x ∷ xs) (owned_of-parts ts)
 
+-- tasks are the same where their sheets and their teams are
+pub same-tasks : (xs ys : List Owned) → set_of xs ≡ set_of ys → teams_of xs ≡ teams_of ys → xs ≡ ys
+same-tasks xs ys set teams =
+    sym (owned_of-parts xs) ∙ ap (λ U. owned_of U (teams_of xs)) set ∙ ap (owned_of (set_of ys)) teams ∙ owned_of-parts ys
+
 pub same_count : (ts : List Owned) → length (teams_of ts) ≡ length (set_of ts)
 same_count [] = refl
 same_count (x ∷ ts) = omega (arith, same_count ts)

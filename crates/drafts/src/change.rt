@@ -1,5 +1,5 @@
 //! Changes, and why they are refused.
-ghost use Rattle.std.specs.Prelude.{◌≡◌, IfOk};
+ghost use Rattle.std.specs.Prelude.{◌≡◌, ◌↔◌, IsTrue, IfOk};
 
 use std::alloc::{AllocError, Global};
 use task_sheet::{Name, Sheet};
@@ -32,4 +32,18 @@ pub enum Refusal {
     NoSuchTask { name: Name },
     /// More than 32 tasks.
     TooManyTasks,
+}
+
+impl Refusal {
+    /// Whether two refusals are the same.
+    pub fn is_same(&self, other: &Refusal) -> bool
+        ensures { IsTrue result ↔ (self.now ≡ other.now) }
+    {
+        match (self, other) {
+            (Refusal::NotYours { name: a }, Refusal::NotYours { name: b }) => a == b,
+            (Refusal::NoSuchTask { name: a }, Refusal::NoSuchTask { name: b }) => a == b,
+            (Refusal::TooManyTasks, Refusal::TooManyTasks) => true,
+            _ => false,
+        }
+    }
 }

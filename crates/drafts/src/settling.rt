@@ -7,7 +7,6 @@ ghost use Rattle.drafts.specs.Settling.{IsSettled};
 
 use crate::applying::{Applied, apply};
 use crate::book::{Book, Decided};
-use crate::change::Refusal;
 use crate::draft::Draft;
 use crate::entry::Entry;
 use crate::judging::Judged;
@@ -45,26 +44,20 @@ pub struct HeldFault {
     pub draft: Draft,
 }
 
-// Whether two refusals are the same.
-fn is_same_refusal(first: &Refusal, second: &Refusal) -> bool
-    ensures { IsTrue result ↔ (first.now ≡ second.now) }
-{
-    match (first, second) {
-        (Refusal::NotYours { name: a }, Refusal::NotYours { name: b }) => a == b,
-        (Refusal::NoSuchTask { name: a }, Refusal::NoSuchTask { name: b }) => a == b,
-        (Refusal::TooManyTasks, Refusal::TooManyTasks) => true,
-        _ => false,
-    }
-}
-
-// Whether a proposal's changes come to the same on the present state.
+// Whether a proposal's changes come to the same on the present state. They do where its tasks are those of the base, and
+// then nothing is applied again.
 fn still_holds(alloc: Global, book: &Book, proposal: &Proposal) -> Result<bool, AllocError>
     ensures { IfOk result (λ holds. IsTrue holds ↔ StillHolds book.now proposal.now) }
 {
     let draft = proposal.draft();
+    if draft.base().has_same_tasks(book.state()) {
+        // What was judged is right for the base: the proof has it from the judgement.
+        let _ = proposal.judged();
+        return Ok(true);
+    }
     match apply(alloc, draft.team(), book.state(), draft.changes())? {
         Applied::Refused { refusal } => match proposal.judged() {
-            Judged::Refused { refusal: told } => Ok(is_same_refusal(told, &refusal)),
+            Judged::Refused { refusal: told } => Ok(told.is_same(&refusal)),
             _ => Ok(false),
         },
         Applied::Tasks { set, teams: _ } => match proposal.judged() {

@@ -1,6 +1,6 @@
 //! The state of the node.
 
-ghost use Rattle.std.specs.Prelude.{◌≡◌, ◌==◌, ◌&&◌, ◌||◌, ℕ, ◌+◌, ◌<◌, ◌≤◌, length, IfOk, IfSome, OnOk, map, option_map};
+ghost use Rattle.std.specs.Prelude.{◌≡◌, ◌↔◌, ◌==◌, ◌&&◌, ◌||◌, ℕ, ◌+◌, ◌<◌, ◌≤◌, length, IsTrue, IfOk, IfSome, OnOk, map, option_map};
 ghost use Rattle.std.specs.FinSet.{contains};
 ghost use Rattle.task_sheet.specs.TaskSet.{IsTaskSet};
 ghost use Rattle.task_sheet.specs.Verdicts.{IsBestOrder};
@@ -189,6 +189,13 @@ impl NodeState {
     {
         let tasks = join(alloc, self.assignment.set().sheets(), &self.teams)?;
         Ok(tasks)
+    }
+
+    // Whether two states have the same tasks of the same teams.
+    pub(crate) fn has_same_tasks(&self, other: &NodeState) -> bool
+        ensures { IsTrue result ↔ (self.now.tasks ≡ other.now.tasks) }
+    {
+        self.set().is_same(other.set()) && self.teams.as_slice() == other.teams.as_slice()
     }
 
     /// The same state again.
