@@ -1,27 +1,114 @@
 //! What is odd in a set, though it is no fault.
+ghost use Rattle.std.specs.Prelude.{◌<◌, IfSome};
+ghost use Rattle.sentences.specs.declared.notes.TheConstants.{SLOTS};
 
 use std::io::Write;
 use streams::{Held, Watched, WriteFailed};
 use task_sheet::{Name, Section, Sheet, TaskSet};
 
-// Whether one of some sections takes the lock.
-fn take(sections: &[Section], lock: &Name) -> bool {
-    for section in sections {
-        if section.locks.iter().any(|other| other == lock) {
-            return true;
-        }
-    }
-    false
+// How many slots a table has: twice as many as a set has uses of locks at most, by 32 tasks of 8 sections of 4 locks.
+// So a lock of a set always finds its slot.
+const SLOTS: usize = 2048;
+
+// What is known of a lock.
+#[derive(Clone, Copy)]
+struct Known {
+    lock: Name,
+    // The index of the first task that uses it.
+    user: usize,
+    // Whether a note on it is owed: no other task uses it, and none was written.
+    is_owed: bool,
 }
 
-// Whether a task but the one at an index uses the lock.
-fn others_use(sheets: &[Sheet], index: usize, lock: &Name) -> bool {
-    for (i, sheet) in sheets.iter().enumerate() {
-        if i != index && take(sheet.sections(), lock) {
-            return true;
+// The locks that are known, each in the first slot that was free from its home on.
+#[derive(Drop)]
+struct Table {
+    slots: [Option<Known>; SLOTS],
+}
+
+// The slot from which on a lock is looked for: its home, by the hash FNV-1a of its bytes.
+fn home(lock: &Name) -> usize
+    ensures { result < SLOTS }
+{
+    let mut hash: u32 = 0x811c_9dc5;
+    for byte in lock.bytes() {
+        hash = (hash ^ u32::from(*byte)).wrapping_mul(0x0100_0193);
+    }
+    hash as usize % SLOTS
+}
+
+impl Table {
+    // With no lock.
+    fn new() -> Table {
+        Table {
+            slots: [None; SLOTS],
         }
     }
-    false
+
+    // The slot of a lock, or the free one that is to be its own; none where others have all slots.
+    fn slot_of(&self, lock: &Name) -> Option<usize>
+        ensures { IfSome result (λ slot. slot < SLOTS) }
+    {
+        let home = home(lock);
+        for step in 0..SLOTS {
+            let slot = (home + step) % SLOTS;
+            match &self.slots[slot] {
+                Some(known) if known.lock != *lock => {}
+                _ => return Some(slot),
+            }
+        }
+        None
+    }
+
+    // The task at an index uses a lock.
+    fn record(&mut self, lock: &Name, user: usize) {
+        let Some(slot) = self.slot_of(lock) else {
+            return;
+        };
+        match &mut self.slots[slot] {
+            Some(known) => known.is_owed = known.is_owed && known.user == user,
+            free => {
+                *free = Some(Known {
+                    lock: *lock,
+                    user,
+                    is_owed: true,
+                })
+            }
+        }
+    }
+
+    // Whether a note on a lock is owed; from then on it is not.
+    fn take_note(&mut self, lock: &Name) -> bool {
+        let Some(slot) = self.slot_of(lock) else {
+            return false;
+        };
+        match &mut self.slots[slot] {
+            Some(known) => {
+                let is_owed = known.is_owed;
+                known.is_owed = false;
+                is_owed
+            }
+            None => false,
+        }
+    }
+
+    // The task at an index has the sections.
+    fn record_all(&mut self, sections: &[Section], user: usize) {
+        for section in sections {
+            for lock in &section.locks {
+                self.record(lock, user);
+            }
+        }
+    }
+}
+
+// The locks of some sheets.
+fn table_of(sheets: &[Sheet]) -> Table {
+    let mut table = Table::new();
+    for (user, sheet) in sheets.iter().enumerate() {
+        table.record_all(sheet.sections(), user);
+    }
+    table
 }
 
 // The note on a lock that one task alone uses.
@@ -38,36 +125,32 @@ fn put_note<W: Write + Drop>(
     held.put(b"\n", out)
 }
 
-// The notes on the locks of a section of the task at an index, but those of the sections before it.
+// The notes that are owed on the locks of a section of a task.
 fn put_section<W: Write + Drop>(
-    sheets: &[Sheet],
-    index: usize,
+    table: &mut Table,
     user: &Name,
-    before: &[Section],
     section: &Section,
     held: &mut Held,
     out: &mut Watched<W>,
 ) -> Result<(), WriteFailed> {
     for lock in &section.locks {
-        if !take(before, lock) && !others_use(sheets, index, lock) {
+        if table.take_note(lock) {
             put_note(lock, user, held, out)?;
         }
     }
     Ok(())
 }
 
-// The notes on the locks of the task at an index.
+// The notes that are owed on the locks of a task.
 fn put_task<W: Write + Drop>(
-    sheets: &[Sheet],
-    index: usize,
+    table: &mut Table,
     sheet: &Sheet,
     held: &mut Held,
     out: &mut Watched<W>,
 ) -> Result<(), WriteFailed> {
     let user = sheet.name();
-    let sections = sheet.sections();
-    for (i, section) in sections.iter().enumerate() {
-        put_section(sheets, index, &user, &sections[..i], section, held, out)?;
+    for section in sheet.sections() {
+        put_section(table, &user, section, held, out)?;
     }
     Ok(())
 }
@@ -76,8 +159,9 @@ fn put_task<W: Write + Drop>(
 pub fn put_notes<W: Write + Drop>(set: &TaskSet, out: &mut Watched<W>) -> Result<(), WriteFailed> {
     let mut held = Held::new();
     let sheets = set.sheets();
-    for (index, sheet) in sheets.iter().enumerate() {
-        put_task(sheets, index, sheet, &mut held, out)?;
+    let mut table = table_of(sheets);
+    for sheet in sheets {
+        put_task(&mut table, sheet, &mut held, out)?;
     }
     held.send(out)
 }
