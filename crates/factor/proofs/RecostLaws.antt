@@ -1,15 +1,15 @@
 -- A set with each cost scaled has the same ranks, the same locks, and no more demand with a lesser factor.
-use Rattle.std.proofs.Common.{◌≡◌, ◌↔◌, ℕ, zero, suc, inl, inr, ◌<◌, ◌≤◌, false, nat_lt, Option, None, List, [], ◌∷◌, ◌++◌, length, Less, refl, sym, ◌∙◌, ap, subst, arith, flat_map}
+use Rattle.std.proofs.Common.{◌≡◌, ◌↔◌, ℕ, zero, suc, inl, inr, ◌<◌, ◌≤◌, false, None, List, [], ◌∷◌, ◌++◌, length, Less, refl, sym, ◌∙◌, ap, subst, arith, flat_map}
 use Rattle.std.proofs.Math.ListN.{get_or-eq_default}
 use Rattle.std.specs.List.{AllByRecursion, list_any}
 use Rattle.std.specs.List.Sorted.{IsStrictlySortedBy}
-use Rattle.std.proofs.lemmas.Bool.{cases_lt, le-ltb}
+use Rattle.std.proofs.lemmas.Bool.{cases_lt}
 use Rattle.std.proofs.lemmas.List.{length-map, get_or-map}
 use Rattle.std.proofs.lemmas.List.Elements.{recursion_from_All}
 use Rattle.std.proofs.lemmas.List.Sorted.{IsPermutation-refl}
 use Rattle.task_sheet.specs.Sheet.{CriticalSection, Task, IsValidSheet, no_task, task_at}
-use Rattle.task_sheet.specs.TaskSet.{rank_cmp, same_name, first_repeat, AreDistinct, IsTaskSet, IsByRank}
-use Rattle.task_sheet.specs.SheetsFault.{set_cause, sheets_fault}
+use Rattle.task_sheet.specs.TaskSet.{rank_cmp, same_name, AreDistinct, IsTaskSet, IsByRank}
+use Rattle.task_sheet.specs.SheetsFault.{sheets_fault}
 use Rattle.task_sheet.specs.Indexes.{indexes_of}
 use Rattle.task_sheet.specs.Locks.{names_lock}
 use Rattle.task_sheet.specs.Orders.{must_outrank, IsFeasible}

@@ -1,27 +1,12 @@
 -- Factors and costs: a cost rises with the factor, and is within its period up to a greatest factor.
-use Rattle.std.proofs.Common.{◌≡◌, ℕ, ◌+◌, ◌*◌, ◌/◌, ◌≤◌, ◌↔◌, List, [], ◌∷◌, arith}
+use Rattle.std.proofs.Common.{◌≡◌, ℕ, ◌*◌, ◌/◌, ◌≤◌, ◌↔◌, arith}
 use Rattle.std.proofs.Math.Nat.{le-div_iff_mul-le, mul-le-mul_right}
 use Rattle.std.specs.Int.{div_ceil}
-use Rattle.std.specs.List.{AllByRecursion}
-use Rattle.std.proofs.lemmas.List.Elements.{All-from_recursion}
-use Rattle.task_sheet.specs.Sheet.{CriticalSection, Task, IsValidSheet}
-use Rattle.task_sheet.specs.Demand.{greatest_of}
-use Rattle.task_sheet.proofs.Below.{greatest_of-le}
+use Rattle.task_sheet.specs.Sheet.{Task, IsValidSheet}
 use Rattle.task_sheet.proofs.Releases.{div_ceil-mono}
 use Rattle.headroom.specs.Costs.{with_cost}
-use Rattle.headroom.proofs.CostLaws.{may_cost, sections-end}
-use Rattle.factor.specs.Factors.{end_of, scaled_cost}
-
--- ---- the end of the last section
-abbrev section_end : CriticalSection → ℕ
-section_end s = s.at + s.len
-
-pub end-within : (t : Task) → IsValidSheet t → end_of t ≤ t.cost
-end-within t valid = greatest_of-le section_end t.cost t.sections (sections-end 0 t.cost t.sections valid.sections)
-
-ends-below : (m : ℕ) (xs : List CriticalSection) → greatest_of section_end xs ≤ m → AllByRecursion (λ (s : CriticalSection). s.at + s.len ≤ m) xs
-ends-below m [] le = tt
-ends-below m (x ∷ xs) le = (omega (arith, le), ends-below m xs (omega (arith, le)))
+use Rattle.headroom.proofs.CostLaws.{last_end-within, may_cost}
+use Rattle.factor.specs.Factors.{scaled_cost}
 
 -- ---- thousandths
 -- rounded up, they are no less than the number's, and less than one more
@@ -38,21 +23,20 @@ scaled_cost-mono low high t le =
 
 -- with 1000 a cost is as it was
 pub scaled_cost-same : (t : Task) → IsValidSheet t → scaled_cost 1000 t ≡ t.cost
-scaled_cost-same t valid = omega (arith, end-within t valid, thousand-covers (1000 * t.cost), thousand-least (1000 * t.cost) t.cost (omega arith))
+scaled_cost-same t valid = omega (arith, last_end-within t valid, thousand-covers (1000 * t.cost), thousand-least (1000 * t.cost) t.cost (omega arith))
 
 -- a cost that is scaled is a cost that the sheet may have
 pub may_scale : (t : Task) (factor : ℕ) → IsValidSheet t → 1 ≤ factor → scaled_cost factor t ≤ t.period → IsValidSheet (with_cost t (scaled_cost factor t))
 may_scale t factor valid some to =
     let times : 1 * t.cost ≤ factor * t.cost = mul-le-mul_right t.cost some in
-    may_cost t (scaled_cost factor t) valid (omega (arith, times, thousand-covers (factor * t.cost), valid.cost_from)) to
-    (λ k d lt. All-from_recursion (λ (s : CriticalSection). s.at + s.len ≤ scaled_cost factor t) t.sections (ends-below (scaled_cost factor t) t.sections (omega arith)) k d lt)
+    may_cost t (scaled_cost factor t) valid (omega (arith, times, thousand-covers (factor * t.cost), valid.cost_from)) to (omega arith)
 
 -- the greatest factor that takes the cost no further than the period
 pub scale-limit : (t : Task) (factor : ℕ) → IsValidSheet t → (factor ≤ t.period * 1000 / t.cost) ↔ (scaled_cost factor t ≤ t.period)
 scale-limit t factor valid = (
   λ le.
       let times : factor * t.cost ≤ t.period * 1000 = (le-div_iff_mul-le valid.cost_from).0 le in
-      omega (arith, thousand-least (factor * t.cost) t.period times, end-within t valid, valid.cost_to),
+      omega (arith, thousand-least (factor * t.cost) t.period times, last_end-within t valid, valid.cost_to),
   λ within.
       (le-div_iff_mul-le valid.cost_from).1 (omega (arith, within, thousand-covers (factor * t.cost))),
 )

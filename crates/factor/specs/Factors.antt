@@ -1,22 +1,17 @@
 -- All costs of a set taken so many thousandths of themselves, and the greatest such factor with which some order passes.
-use Rattle.std.specs.Prelude.{ℕ, ◌+◌, ◌*◌, ◌<◌, ◌≤◌, max, List, map, All, Option, Some, None}
+use Rattle.std.specs.Prelude.{ℕ, ◌*◌, ◌<◌, ◌≤◌, max, List, map, All, Option, Some, None}
 use Rattle.std.specs.Int.{div_ceil}
 use Rattle.task_sheet.specs.Sheet.{Task}
-use Rattle.task_sheet.specs.Demand.{greatest_of}
 use Rattle.task_sheet.specs.Orders.{IsFeasible}
-use Rattle.headroom.specs.Costs.{with_cost}
+use Rattle.headroom.specs.Costs.{with_cost, last_end}
 
 -- so many thousandths of a number, rounded up
 abbrev pub thousandths : (factor number : ℕ) → ℕ
 thousandths factor number = div_ceil (factor * number) 1000
 
--- the end of a task's last section, and 0 of none
-abbrev pub end_of : Task → ℕ
-end_of t = greatest_of (λ s. s.at + s.len) t.sections
-
 -- a task's cost, taken so many thousandths of itself, and at least the end of its last section
 abbrev pub scaled_cost : ℕ → Task → ℕ
-scaled_cost factor t = max (thousandths factor t.cost) (end_of t)
+scaled_cost factor t = max (thousandths factor t.cost) (last_end t)
 
 -- the set with each cost scaled
 abbrev pub scaled : ℕ → List Task → List Task

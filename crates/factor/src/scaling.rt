@@ -1,26 +1,13 @@
 //! Sets with each cost scaled.
-ghost use Rattle.std.specs.Prelude.{◌≡◌, ◌<◌, ◌≤◌, ◌*◌, ◌+◌, ℕ, length, IfOk};
+ghost use Rattle.std.specs.Prelude.{◌≡◌, ◌<◌, ◌≤◌, ℕ, length, IfOk};
 ghost use Rattle.task_sheet.specs.Sheet.{IsValidSheet};
 ghost use Rattle.task_sheet.specs.TaskSet.{IsTaskSet};
 ghost use Rattle.headroom.specs.Costs.{with_cost};
-ghost use Rattle.factor.specs.Factors.{end_of, scaled_cost, scaled, MayScale};
+ghost use Rattle.factor.specs.Factors.{scaled_cost, scaled, MayScale};
 
-use headroom::with_cost;
+use headroom::{last_end, with_cost};
 use std::alloc::{AllocError, Global};
 use task_sheet::{SetCause, Sheet, TaskSet};
-
-// The end of a task's last section, in microseconds; 0 where it has none.
-fn end_of(sheet: &Sheet) -> u64
-    requires { IsValidSheet sheet.now }
-    ensures is { result ≡ end_of sheet.now }
-    ensures within { result ≤ sheet.now.cost }
-{
-    let mut end = 0;
-    for section in sheet.sections() {
-        end = end.max(section.at + section.len);
-    }
-    end
-}
 
 // A task's cost, taken so many thousandths of itself, in microseconds.
 fn scaled_cost(sheet: &Sheet, factor: u64) -> u64
@@ -29,7 +16,7 @@ fn scaled_cost(sheet: &Sheet, factor: u64) -> u64
     ensures { result ≡ scaled_cost factor sheet.now }
 {
     let cost = (factor * sheet.cost()).div_ceil(1000);
-    cost.max(end_of(sheet))
+    cost.max(last_end(sheet))
 }
 
 // The sheets with each cost scaled.

@@ -1,10 +1,9 @@
 -- Less cost and jitter: the same blocking, no more demand, no shorter limit, and the same orders.
-use Rattle.std.proofs.Common.{◌≡◌, ℕ, ◌+◌, ◌<◌, ◌≤◌, Bool, inl, inr, cond, ◌&&◌, List, [], ◌∷◌, length, get_or, slice_set, refl, sym, ◌∙◌, ap, subst, arith}
+use Rattle.std.proofs.Common.{◌≡◌, ℕ, ◌+◌, ◌<◌, ◌≤◌, Bool, inl, inr, cond, ◌&&◌, List, [], ◌∷◌, length, slice_set, refl, sym, ◌∙◌, ap, subst, arith}
 use Rattle.std.proofs.Math.Path.{fun_ext}
 use Rattle.std.proofs.Math.ListN.{get_or-eq_default}
 use Rattle.std.proofs.Math.Nat.{mul-le-mul}
 use Rattle.std.specs.List.{list_any, AllByRecursion}
-use Rattle.std.proofs.lemmas.List.Elements.{recursion_from_All, All-from_recursion}
 use Rattle.std.proofs.lemmas.Bool.{cases_Bool, cases_eq, cases_lt}
 use Rattle.std.proofs.lemmas.List.{get_or-set_same, get_or-set_other, length-set}
 use Rattle.task_sheet.specs.Sheet.{CriticalSection, Task, with_jitter, AreSections, IsValidSheet, no_task, task_at}
@@ -12,10 +11,10 @@ use Rattle.task_sheet.specs.Indexes.{Indexes, with_index, some_below, greatest_b
 use Rattle.task_sheet.specs.Locks.{names_lock}
 use Rattle.task_sheet.specs.Demand.{limit_of, greatest_of, blocking_of, demand_of, releases_within, interference_of, Passes}
 use Rattle.task_sheet.specs.Orders.{must_outrank, is_bound, Stands, AllStand, IsPassingOrder, IsFeasible}
-use Rattle.task_sheet.proofs.Below.{sum_below-le}
+use Rattle.task_sheet.proofs.Below.{sum_below-le, greatest_of-le}
 use Rattle.task_sheet.proofs.Releases.{div_ceil-mono}
 use Rattle.ceilings.specs.Holds.{longest_outside}
-use Rattle.headroom.specs.Costs.{with_cost, IsLighter, AreLighter, costed, delayed}
+use Rattle.headroom.specs.Costs.{with_cost, last_end, IsLighter, AreLighter, costed, delayed}
 
 -- ---- blocking speaks of sections alone
 abbrev sections_of : List Task → ℕ → List CriticalSection
@@ -160,19 +159,24 @@ sections-within from cost other (x ∷ xs) h ends = (
   sections-within (x.at + x.len) cost other xs h.1 ends.1,
 )
 
-pub sections-end : (from cost : ℕ) (xs : List CriticalSection) → AreSections from cost xs → AllByRecursion (λ (s : CriticalSection). s.at + s.len ≤ cost) xs
+sections-end : (from cost : ℕ) (xs : List CriticalSection) → AreSections from cost xs → AllByRecursion (λ (s : CriticalSection). s.at + s.len ≤ cost) xs
 sections-end from cost [] h = tt
 sections-end from cost (x ∷ xs) h = (h.0.within, sections-end (x.at + x.len) cost xs h.1)
 
--- a section of a valid sheet ends within its cost
-pub section_within : (t : Task) (cost k : ℕ) (d : CriticalSection) → IsValidSheet (with_cost t cost) → k < length t.sections → (get_or t.sections k d).at + (get_or t.sections k d).len ≤ cost
-section_within t cost k d valid lt =
-    All-from_recursion (λ (s : CriticalSection). s.at + s.len ≤ cost) t.sections (sections-end 0 cost t.sections valid.sections) k d lt
+abbrev pub section_end : CriticalSection → ℕ
+section_end s = s.at + s.len
 
--- a sheet may have each cost from 1 and from the ends of its sections to its period
-pub may_cost : (t : Task) (cost : ℕ) → IsValidSheet t → 0 < cost → cost ≤ t.period → ((k : ℕ) (d : CriticalSection) → k < length t.sections → (get_or t.sections k d).at + (get_or t.sections k d).len ≤ cost)
-    → IsValidSheet (with_cost t cost)
-may_cost t cost valid from to ends = record {
+-- the last section of a valid sheet ends within its cost
+pub last_end-within : (t : Task) → IsValidSheet t → last_end t ≤ t.cost
+last_end-within t valid = greatest_of-le section_end t.cost t.sections (sections-end 0 t.cost t.sections valid.sections)
+
+ends-below : (m : ℕ) (xs : List CriticalSection) → greatest_of section_end xs ≤ m → AllByRecursion (λ (s : CriticalSection). s.at + s.len ≤ m) xs
+ends-below m [] le = tt
+ends-below m (x ∷ xs) le = (omega (arith, le), ends-below m xs (omega (arith, le)))
+
+-- a sheet may have each cost from 1 and from the end of its last section to its period
+pub may_cost : (t : Task) (cost : ℕ) → IsValidSheet t → 0 < cost → cost ≤ t.period → last_end t ≤ cost → IsValidSheet (with_cost t cost)
+may_cost t cost valid from to end = record {
   named = valid.named;
   weight = valid.weight;
   period_from = valid.period_from;
@@ -182,7 +186,7 @@ may_cost t cost valid from to ends = record {
   cost_from = from;
   cost_to = to;
   few = valid.few;
-  sections = sections-within 0 t.cost cost t.sections valid.sections (recursion_from_All (λ (s : CriticalSection). s.at + s.len ≤ cost) t.sections (λ k d lt. ends k d lt));
+  sections = sections-within 0 t.cost cost t.sections valid.sections (ends-below cost t.sections end);
   jitter = valid.jitter;
   outranked = valid.outranked;
 }
@@ -190,14 +194,7 @@ may_cost t cost valid from to ends = record {
 -- and each cost between one that it may have and its period
 pub may_cost-more : (t : Task) (low cost : ℕ) → IsValidSheet t → IsValidSheet (with_cost t low) → low ≤ cost → cost ≤ t.period → IsValidSheet (with_cost t cost)
 may_cost-more t low cost valid may le to =
-    may_cost t cost valid (omega (arith, may.cost_from)) to (λ k d lt. omega (arith, section_within t low k d may lt))
-
--- a section that is read from a valid sheet's sections ends within its cost
-pub item_within : (t : Task) (cost : ℕ) (items : List CriticalSection) (i : ℕ) (x : CriticalSection) → IsValidSheet (with_cost t cost) → items ≡ t.sections → i < length items → x ≡ get_or items i x → x.at + x.len ≤ cost
-item_within t cost items i x valid same lt is =
-    let P : List CriticalSection → Type 0 = λ xs. i < length xs → (get_or xs i x).at + (get_or xs i x).len ≤ cost in
-    let within = subst P (sym same) (λ h. section_within t cost i x valid h) lt in
-    omega (arith, within, ap (λ (s : CriticalSection). s.at) is, ap (λ (s : CriticalSection). s.len) is)
+    may_cost t cost valid (omega (arith, may.cost_from)) to (omega (arith, last_end-within (with_cost t low) may))
 
 -- less cost of one task keeps an order
 pub IsFeasible-less : (U : List Task) (i low high : ℕ) → low ≤ high → IsFeasible (costed U i high) → IsFeasible (costed U i low)

@@ -1,17 +1,16 @@
 -- A set with another cost of one task has the same ranks and the same locks.
-use Rattle.std.proofs.Common.{◌≡◌, ◌↔◌, ℕ, zero, suc, inl, inr, ◌+◌, ◌<◌, ◌≤◌, false, nat_lt, Option, None, List, [], ◌∷◌, ◌++◌, length, Less, refl, sym, ◌∙◌, ap, subst, arith, flat_map}
-use Rattle.std.proofs.lemmas.Bool.{cases_lt, le-ltb}
+use Rattle.std.proofs.Common.{◌≡◌, ◌↔◌, ℕ, zero, suc, inl, inr, ◌<◌, ◌≤◌, false, None, List, [], ◌∷◌, ◌++◌, length, Less, refl, sym, ◌∙◌, ap, subst, arith, flat_map}
+use Rattle.std.proofs.lemmas.Bool.{cases_lt}
 use Rattle.task_sheet.specs.Orders.{must_outrank, IsFeasible}
 use Rattle.task_sheet.proofs.TaskLaws.{valid_at}
 use Rattle.headroom.proofs.CostLaws.{IsFeasible-less, longest-same}
 use Rattle.std.specs.List.{AllByRecursion, list_any}
 use Rattle.std.specs.List.Sorted.{IsStrictlySortedBy}
 use Rattle.std.proofs.lemmas.List.{length-set, set-get_or}
-use Rattle.std.proofs.lemmas.List.Folds.{list_any-append}
 use Rattle.std.proofs.lemmas.List.Sorted.{IsPermutation-refl}
-use Rattle.task_sheet.specs.Sheet.{CriticalSection, Task, no_task, same_bytes, task_at}
-use Rattle.task_sheet.specs.TaskSet.{rank_cmp, same_name, has_name, first_repeat, AreDistinct, IsTaskSet, IsByRank}
-use Rattle.task_sheet.specs.SheetsFault.{set_cause, sheets_fault}
+use Rattle.task_sheet.specs.Sheet.{CriticalSection, Task, no_task, task_at}
+use Rattle.task_sheet.specs.TaskSet.{rank_cmp, same_name, AreDistinct, IsTaskSet, IsByRank}
+use Rattle.task_sheet.specs.SheetsFault.{sheets_fault}
 use Rattle.task_sheet.specs.Locks.{names_lock}
 use Rattle.task_sheet.proofs.SetLaws.{by_rank_one, no_fault}
 use Rattle.task_sheet.specs.Indexes.{indexes_of}

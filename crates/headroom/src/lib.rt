@@ -13,7 +13,7 @@ mod in_order;
 pub mod laws;
 mod some_order;
 
-pub use crate::costs::with_cost;
+pub use crate::costs::{last_end, with_cost};
 use crate::costs::{costed, least_cost};
 pub use crate::in_order::headroom_in_order;
 use crate::some_order::some_order;
