@@ -1,10 +1,11 @@
 //! Lines of a text, their words, and the numbers and names that words are: what certificates, release lists and
-//! scripts share.
+//! scripts share. The names of a set's tasks in a line that is written.
 #![tactic(auto)]
 
 mod cutting;
 mod kept;
 pub mod laws;
+mod naming;
 mod next;
 mod numbers;
 mod place;
@@ -12,6 +13,7 @@ mod words;
 
 pub use cutting::cut;
 pub use kept::{KeptLine, next_kept};
+pub use naming::{push_name, push_names};
 pub use next::{complete_line, next_line};
 pub use numbers::{name_of, number_of};
 pub use place::Place;
