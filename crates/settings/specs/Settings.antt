@@ -2,14 +2,15 @@
 -- SCHED_FIFO and PTHREAD_PRIO_PROTECT). A level is counted from 1, the lowest.
 use Rattle.std.specs.Prelude.{ℕ, ◌+◌, List, [], ◌∷◌, ◌++◌, Option, Some, None, codes}
 use Rattle.std.specs.Fmt.{decimal}
-use Rattle.task_sheet.specs.Sheet.{Task, task_at}
+use Rattle.task_sheet.specs.Sheet.{Task}
 use Rattle.task_sheet.specs.Locks.{ceiling_of}
 use Rattle.ceilings.specs.IsTableOf.{locks_of}
+use Rattle.lines.specs.Naming.{name_at}
 
 -- the thread of a task, and the level that it runs at
 abbrev pub thread_line : List Task → ℕ → ℕ → List ℕ
 thread_line U level task =
-    codes "thread " ++ (task_at U task).name ++ codes " " ++ decimal level ++ codes "\n"
+    codes "thread " ++ name_at U task ++ codes " " ++ decimal level ++ codes "\n"
 
 -- a line for each task of an order, of which the first stands at a level
 abbrev pub thread_lines : List Task → ℕ → List ℕ → List ℕ

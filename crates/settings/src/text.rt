@@ -1,6 +1,6 @@
 //! The lines of an order's settings.
 ghost use Rattle.std.specs.Prelude.{◌≡◌, ◌++◌, ◌<◌, ◌≤◌, ℕ, List, length, slice_get, Some, All, OnOk, IfOk, string_bytes};
-ghost use Rattle.task_sheet.specs.Sheet.{Task, task_at};
+ghost use Rattle.task_sheet.specs.Sheet.{Task};
 ghost use Rattle.task_sheet.specs.Locks.{ceiling_of};
 ghost use Rattle.task_sheet.specs.Orders.{IsOrder};
 ghost use Rattle.ceilings.specs.IsTableOf.{IsTableOf, locks_of};
@@ -9,22 +9,9 @@ ghost use Rattle.settings.specs.Settings.{mutex_line, mutex_lines, settings_line
 
 use assignment::Place;
 use ceilings::LockTable;
+use lines::push_name;
 use std::alloc::{AllocError, Global};
 use task_sheet::{Name, TaskSet};
-
-// The name of the task at an index; nothing past the end of the set.
-fn push_name(text: &mut String, set: &TaskSet, task: usize) -> Result<(), AllocError>
-    ensures { OnOk result (string_bytes text.new ≡ string_bytes text.old
-        ++ (task_at set.now task).name) }
-{
-    match set.get(task) {
-        Some(sheet) => {
-            let name = sheet.name();
-            write!(text, "{name}")
-        }
-        None => Ok(()),
-    }
-}
 
 // The line of a task's thread.
 fn push_thread(

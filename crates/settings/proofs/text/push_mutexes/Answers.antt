@@ -1,4 +1,4 @@
-use Rattle.std.proofs.Common.{◌++◌, ◌+◌, ◌<◌, ◌∙◌, ℕ, List, [], length, get_or, slice_get, drop, ap, sym, append_assoc, arith, string_bytes}
+use Rattle.std.proofs.Common.{◌++◌, ◌+◌, ◌<◌, ◌∙◌, ℕ, List, [], length, get_or, drop, ap, sym, append_assoc, arith, string_bytes}
 use Rattle.std.proofs.lemmas.List.{drop_more}
 use Rattle.std.proofs.lemmas.Option.{slice_get-get_or}
 use Rattle.ceilings.specs.IsTableOf.{locks_of}
