@@ -1,15 +1,14 @@
 -- The lines of judgements, one task after the other.
-use Rattle.std.proofs.Common.{◌≡◌, ◌++◌, ◌∙◌, ◌+◌, ◌<◌, ◌==◌, ◌&&◌, ◌||◌, not, ℕ, Bool, true, false, cond, List, [], ◌∷◌, length, get_or, take, codes, refl, ap, sym, append_assoc, append-nil}
+use Rattle.std.proofs.Common.{◌≡◌, ◌++◌, ◌∙◌, ◌+◌, ◌<◌, ◌==◌, ◌&&◌, ◌||◌, not, ℕ, Bool, true, false, cond, List, [], ◌∷◌, length, get_or, take, refl, ap, sym}
 use Rattle.std.proofs.Math.Path.{fun_ext}
 use Rattle.std.specs.Ordering.{nat_cmp}
 use Rattle.std.specs.FinSet as set
 use Rattle.std.proofs.lemmas.List.{take_more}
 use Rattle.std.proofs.lemmas.List.Folds.{list_any-append}
-use Rattle.task_sheet.specs.Sheet.{Task, task_at}
 use Rattle.task_sheet.specs.Indexes.{indexes_of, with_index}
 use Rattle.task_sheet.proofs.MembersIndexes.{indexes_of-insert}
 use Rattle.judge.specs.Judgements.{does_meet}
-use Rattle.judge.specs.Lines.{missed_of, named}
+use Rattle.judge.specs.Lines.{missed_of}
 use Rattle.judge.specs.declared.judging.Judged.{Judged}
 use Rattle.judge.specs.declared.judging.Judgement.TheVariants.{Meets}
 use Rattle.judge.proofs.JudgedLaws.{turned}
@@ -17,12 +16,6 @@ use Rattle.judge.proofs.JudgedLaws.{turned}
 -- stands past the end of a list
 abbrev pub no_judged : Judged
 no_judged = record { task = 0; judgement = Meets 0 }
-
-pub named_push : (U : List Task) (tasks : List ℕ) (task : ℕ) → named U (tasks ++ task ∷ []) ≡ named U tasks ++ (codes " " ++ (task_at U task).name)
-named_push U [] task = append-nil (codes " " ++ (task_at U task).name)
-named_push U (first ∷ tasks) task =
-    ap (λ (rest : List ℕ). (codes " " ++ (task_at U first).name) ++ rest) (named_push U tasks task)
-    ∙ sym (append_assoc (codes " " ++ (task_at U first).name) (named U tasks) (codes " " ++ (task_at U task).name))
 
 -- one task more, which meets its deadline or misses it
 kept : (b c : Bool) → (b || ((c && not true) || false)) ≡ b

@@ -4,6 +4,7 @@ use Rattle.std.specs.List.{list_any}
 use Rattle.std.specs.Fmt.{decimal}
 use Rattle.task_sheet.specs.Sheet.{Task, task_at}
 use Rattle.task_sheet.specs.Indexes.{Indexes, listed_below}
+use Rattle.lines.specs.Naming.{name_at, named}
 use Rattle.judge.specs.Judgements.{all_meet, does_meet}
 use Rattle.judge.specs.declared.judging.Judged.{Judged}
 use Rattle.judge.specs.declared.judging.Judgement.{Judgement}
@@ -13,11 +14,6 @@ use Rattle.judge.specs.declared.judging.Judgement.TheVariants.{Meets, Misses, Be
 -- the tasks that don't meet their deadlines
 abbrev pub missed_of : List Judged → Indexes
 missed_of judged k = list_any (λ j. (j.task == k) && not (does_meet j.judgement)) judged
-
--- the names of tasks, each after one space
-abbrev pub named : List Task → List ℕ → List ℕ
-named U [] = []
-named U (task ∷ tasks) = codes " " ++ (task_at U task).name ++ named U tasks
 
 -- the tasks that don't meet their deadlines, by rank
 abbrev pub missed_line : List Task → Indexes → List ℕ
@@ -34,12 +30,12 @@ first_line U judged =
 abbrev pub judgement_words : List Task → ℕ → Judgement → List ℕ
 judgement_words U deadline (Meets response) = decimal response ++ codes " of " ++ decimal deadline
 judgement_words U deadline Misses = codes "misses " ++ decimal deadline
-judgement_words U deadline (Below other) = codes "below " ++ (task_at U other).name
+judgement_words U deadline (Below other) = codes "below " ++ name_at U other
 
 -- the line of a level
 abbrev pub judged_line : List Task → ℕ → Judged → List ℕ
 judged_line U level j =
-    decimal level ++ codes " " ++ (task_at U j.task).name ++ codes " "
+    decimal level ++ codes " " ++ name_at U j.task ++ codes " "
     ++ judgement_words U (task_at U j.task).deadline j.judgement ++ codes "\n"
 
 -- a line for each level, of which the first has a number

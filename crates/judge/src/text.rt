@@ -1,26 +1,13 @@
 //! The lines that say what becomes of the tasks of an order.
-ghost use Rattle.std.specs.Prelude.{◌≡◌, ◌++◌, ◌<◌, length, All, OnOk, IfOk, string_bytes};
+ghost use Rattle.std.specs.Prelude.{◌≡◌, ◌++◌, ◌<◌, All, OnOk, IfOk, string_bytes};
 ghost use Rattle.task_sheet.specs.Sheet.{task_at};
-ghost use Rattle.task_sheet.specs.Indexes.{indexes_of, listed_below};
-ghost use Rattle.judge.specs.Lines.{first_line, judged_line, judged_lines, judgement_words, level_lines, missed_line, missed_of, named};
+ghost use Rattle.task_sheet.specs.Indexes.{indexes_of};
+ghost use Rattle.judge.specs.Lines.{first_line, judged_line, judged_lines, judgement_words, level_lines, missed_line, missed_of};
 
 use crate::judging::{Judged, Judgement, all_meet, does_meet};
+use lines::{push_name, push_names};
 use std::alloc::{AllocError, Global};
 use task_sheet::{Members, TaskSet};
-
-// The name of the task at an index; nothing past the end of the set.
-fn push_name(text: &mut String, set: &TaskSet, task: usize) -> Result<(), AllocError>
-    ensures { OnOk result (string_bytes text.new
-        ≡ string_bytes text.old ++ (task_at set.now task).name) }
-{
-    match set.get(task) {
-        Some(sheet) => {
-            let name = sheet.name();
-            write!(text, "{name}")
-        }
-        None => Ok(()),
-    }
-}
 
 // The deadline of the task at an index, in microseconds; 0 past the end of the set.
 fn deadline_of(set: &TaskSet, task: usize) -> u64
@@ -44,21 +31,6 @@ fn missed_of(judged: &[Judged]) -> Members
         }
     }
     missed
-}
-
-// The names of tasks by rank, each after one space.
-fn push_names(text: &mut String, set: &TaskSet, tasks: Members) -> Result<(), AllocError>
-    ensures { OnOk result (string_bytes text.new
-        ≡ string_bytes text.old
-        ++ named set.now (listed_below (length set.now) (indexes_of tasks))) }
-{
-    for task in 0..set.len() {
-        if tasks.has(task) {
-            text.push_str(" ")?;
-            push_name(text, set, task)?;
-        }
-    }
-    Ok(())
 }
 
 // The first line where these tasks don't meet their deadlines.
