@@ -1,8 +1,9 @@
 -- The lines of an explanation.
 use Rattle.std.specs.Prelude.{◌==◌, ℕ, ◌+◌, List, [], ◌∷◌, ◌++◌, length, codes, Option, Some, None, if◌then◌else◌}
 use Rattle.std.specs.Fmt.{decimal}
-use Rattle.task_sheet.specs.Sheet.{Task, task_at}
+use Rattle.task_sheet.specs.Sheet.{Task}
 use Rattle.task_sheet.specs.Indexes.{indexes_of, listed_below}
+use Rattle.lines.specs.Naming.{name_at, named}
 use Rattle.explain.specs.Parts.{AboveData, BlockerData, PartsData}
 use Rattle.explain.specs.Accounts.{AccountData}
 use Rattle.explain.specs.Load.{load_of}
@@ -10,10 +11,6 @@ use Rattle.explain.specs.declared.needs.Need.{Need}
 use Rattle.explain.specs.declared.needs.Need.TheVariants.{Needs, MustBeAbove}
 use Rattle.explain.specs.declared.explanation.Explanation.{Explanation}
 use Rattle.explain.specs.declared.explanation.Explanation.TheVariants.{Responses, Conflict}
-
--- the name of the task at an index
-abbrev pub name_at : List Task → ℕ → List ℕ
-name_at U task = (task_at U task).name
 
 -- ---- parts
 -- the task's own cost
@@ -83,11 +80,6 @@ needs_lines U [] = []
 needs_lines U (n ∷ needs) = need_lines U n ++ needs_lines U needs
 
 -- ---- the whole
--- the names of tasks, each after one space
-abbrev pub named : List Task → List ℕ → List ℕ
-named U [] = []
-named U (task ∷ tasks) = codes " " ++ name_at U task ++ named U tasks
-
 -- the tasks of a conflict, by rank
 abbrev pub conflict_line : List Task → List ℕ → List ℕ
 conflict_line U tasks = codes "conflict" ++ named U tasks ++ codes "\n"

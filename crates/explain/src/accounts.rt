@@ -1,5 +1,6 @@
 //! Times of tasks, each with what it is made of.
 ghost use Rattle.std.specs.Prelude.{◌≡◌, ◌<◌, length, reverse, All, IfOk};
+ghost use Rattle.task_sheet.specs.declared.set.TheConstants.{TASK_LIMIT};
 ghost use Rattle.task_sheet.specs.Indexes.{indexes_of, among};
 ghost use Rattle.ceilings.specs.IsTableOf.{IsTableOf};
 ghost use Rattle.assignment.specs.Placings.{tasks_of_places};
@@ -31,7 +32,7 @@ impl Model for Account {
 
 // The tasks of some places.
 fn members_of(places: &[Place]) -> Members
-    requires { All (λ p. p.task < 32) places.now }
+    requires { All (λ p. p.task < TASK_LIMIT) places.now }
     ensures { indexes_of result ≡ among (tasks_of_places places.now) }
 {
     let mut members = Members::empty();

@@ -1,5 +1,6 @@
 //! A least conflict of a set (Audsley 1991).
 ghost use Rattle.std.specs.Prelude.{◌≡◌, ◌<◌, length, IsTrue, IsFalse, IfSome, IfNone};
+ghost use Rattle.task_sheet.specs.declared.set.TheConstants.{TASK_LIMIT};
 ghost use Rattle.task_sheet.specs.Indexes.{indexes_of, IsPart};
 ghost use Rattle.task_sheet.specs.Orders.{all_of};
 ghost use Rattle.task_sheet.specs.Levels.{IsObstruction};
@@ -30,7 +31,7 @@ pub fn greatest_within(set: &TaskSet, table: &LockTable, tasks: Members) -> Opti
 // What some tasks become where one of them is gone through.
 fn gone_through(set: &TaskSet, table: &LockTable, task: usize, tasks: Members) -> Members
     requires table { IsTableOf set.now table.now }
-    requires task { task < 32 }
+    requires task { task < TASK_LIMIT }
     requires part { IsPart (indexes_of tasks) (all_of set.now) }
     ensures { IsGoneThrough set.now task (indexes_of tasks) (indexes_of result) }
 {

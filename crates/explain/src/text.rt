@@ -1,6 +1,5 @@
 //! The lines of an explanation.
 ghost use Rattle.std.specs.Prelude.{◌≡◌, ◌++◌, length, IfOk, OnOk, string_bytes};
-ghost use Rattle.task_sheet.specs.Sheet.{task_at};
 ghost use Rattle.task_sheet.specs.Indexes.{indexes_of, listed_below};
 ghost use Rattle.explain.specs.Lines.{above_line, above_lines, account_lines, blocked_line, blocker_line, conflict_line, explained_lines, explanation_lines, jitter_line, level_lines, load_line, need_lines, needs_lines, parts_lines, response_lines};
 
@@ -10,22 +9,9 @@ use crate::explanation::Explanation;
 use crate::needs::Need;
 use crate::parts::{Above, Parts};
 use crate::shares::load;
+use lines::{push_name, push_names};
 use std::alloc::{AllocError, Global};
 use task_sheet::{Members, TaskSet};
-
-// The name of the task at an index; nothing past the end of the set.
-fn push_name(text: &mut String, set: &TaskSet, task: usize) -> Result<(), AllocError>
-    ensures { OnOk result (string_bytes text.new ≡ string_bytes text.old
-        ++ (task_at set.now task).name) }
-{
-    match set.get(task) {
-        Some(sheet) => {
-            let name = sheet.name();
-            write!(text, "{name}")
-        }
-        None => Ok(()),
-    }
-}
 
 // The line of a jitter, unless it is 0.
 fn push_jitter(text: &mut String, jitter: u64) -> Result<(), AllocError>
@@ -171,12 +157,7 @@ fn push_conflict(text: &mut String, set: &TaskSet, left: Members) -> Result<(), 
         (listed_below (length set.now) (indexes_of left))) }
 {
     text.push_str("conflict")?;
-    for task in 0..set.len() {
-        if left.has(task) {
-            text.push_str(" ")?;
-            push_name(text, set, task)?;
-        }
-    }
+    push_names(text, set, left)?;
     text.push_str("\n")
 }
 
