@@ -4,6 +4,7 @@ use Rattle.std.specs.List.{list_any}
 use Rattle.std.specs.Option.{option_or, option_map}
 use Rattle.task_sheet.specs.Sheet.{Task, same_bytes, task_at}
 use Rattle.task_sheet.specs.Indexes.{some_below}
+use Rattle.ceiling_kernel.specs.declared.accept.TheConstants.{HORIZON, RELEASE_LIMIT}
 use Rattle.ceiling_kernel.specs.declared.trace.Release.{Release}
 use Rattle.ceiling_kernel.specs.declared.trace.RunFault.{RunFault}
 use Rattle.ceiling_kernel.specs.declared.trace.RunFault.TheVariants as fault
@@ -93,8 +94,8 @@ refusal_of U rs until =
     (first_where (is_too_soon U (jobs_of U rs)) (length rs)))
     (option_or (option_map (λ k. fault.TooLate (k + 1))
     (first_where (is_too_late U rs) (length rs)))
-    (option_or (refuse_if (nat_lt 60000000 until || list_any (is_past until) rs) fault.PastHorizon)
-    (refuse_if (nat_lt 10000 (length rs)) fault.TooMany)))))
+    (option_or (refuse_if (nat_lt HORIZON until || list_any (is_past until) rs) fault.PastHorizon)
+    (refuse_if (nat_lt RELEASE_LIMIT (length rs)) fault.TooMany)))))
 
 -- ---- how they are found
 -- a fault is want of memory, or the refusal

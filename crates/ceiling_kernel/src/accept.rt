@@ -7,7 +7,7 @@ ghost use Rattle.std.specs.Option.{ForSome};
 
 use crate::trace::{Release, RunFault};
 use std::alloc::Global;
-use task_sheet::TaskSet;
+use task_sheet::{TASK_LIMIT, TaskSet};
 
 /// The last time at which a run may end, in microseconds.
 pub const HORIZON: u64 = 60_000_000;
@@ -74,7 +74,7 @@ fn first_too_soon(set: &TaskSet, releases: &[Release], places: &[usize]) -> Opti
     ensures in_list { IfSome result (λ k. k < length releases.now) }
 {
     let sheets = set.sheets();
-    let mut last: [Option<u64>; 32] = [None; 32];
+    let mut last: [Option<u64>; TASK_LIMIT] = [None; TASK_LIMIT];
     for k in 0..releases.len() {
         let task = places[k];
         let time = releases[k].time;

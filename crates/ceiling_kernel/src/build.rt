@@ -1,6 +1,7 @@
 //! How a kernel's tasks are kept.
 ghost use Rattle.std.specs.Prelude.{◌≡◌, ◌<◌, ◌≤◌, ◌+◌, ◌^◌, ℕ, List, length, All, IfOk};
 ghost use Rattle.task_sheet.specs.Sheet.{Task};
+ghost use Rattle.task_sheet.specs.declared.set.TheConstants.{TASK_LIMIT};
 ghost use Rattle.task_sheet.specs.TaskSet.{IsTaskSet};
 ghost use Rattle.ceilings.specs.IsTableOf.{IsTableOf, locks_of};
 ghost use Rattle.ceiling_kernel.specs.Tick.{node_in};
@@ -33,8 +34,8 @@ fn sections_of(
     order: &[usize],
     sections: &[Section],
 ) -> Result<Vec<NodeSection>, AllocError>
-    requires within { All (λ index. index < 32) order.now }
-    requires few { length order.now ≤ 32 }
+    requires within { All (λ index. index < TASK_LIMIT) order.now }
+    requires few { length order.now ≤ TASK_LIMIT }
     requires fit { All (λ s. s.at + s.len < 2 ^ 64) sections.now }
     requires run { All (λ s. 0 < s.len) sections.now }
     ensures { (U : List Task) → IsTableOf U table.now
@@ -60,8 +61,8 @@ pub fn tasks_of(
     set: &TaskSet,
 ) -> Result<Vec<NodeTask>, AllocError>
     requires table { IsTableOf set.now table.now }
-    requires within { All (λ index. index < 32) order.now }
-    requires few { length order.now ≤ 32 }
+    requires within { All (λ index. index < TASK_LIMIT) order.now }
+    requires few { length order.now ≤ TASK_LIMIT }
     ensures tasks { IfOk result (λ kept. HasTasks (node_in set.now order.now) kept.items) }
     ensures set { IsTaskSet set.now }
 {

@@ -1,6 +1,7 @@
 //! Orders, and the levels and ceilings that they give.
 ghost use Rattle.std.specs.Prelude.{◌≡◌, ◌<◌, ◌≤◌, ℕ, List, length, count_by, ◌==◌, IsTrue, ◌↔◌, All};
 ghost use Rattle.task_sheet.specs.Sheet.{Task};
+ghost use Rattle.task_sheet.specs.declared.set.TheConstants.{TASK_LIMIT};
 ghost use Rattle.task_sheet.specs.Orders.{IsOrderOf};
 ghost use Rattle.task_sheet.specs.Indexes.{below};
 ghost use Rattle.ceilings.specs.IsTableOf.{IsTableOf};
@@ -45,7 +46,7 @@ pub fn is_order(order: &[usize], count: usize) -> bool
 
 // The level of the task at an index: its place in the order, from 1.
 pub fn level_of(order: &[usize], index: usize) -> u32
-    requires { length order.now ≤ 32 }
+    requires { length order.now ≤ TASK_LIMIT }
     ensures { result ≡ level_from 1 order.now index }
 {
     for (place, other) in order.iter().enumerate() {
@@ -58,8 +59,8 @@ pub fn level_of(order: &[usize], index: usize) -> u32
 
 // The highest ceiling of some locks.
 pub fn top_of(table: &LockTable, order: &[usize], locks: &[Name]) -> u32
-    requires within { All (λ index. index < 32) order.now }
-    requires few { length order.now ≤ 32 }
+    requires within { All (λ index. index < TASK_LIMIT) order.now }
+    requires few { length order.now ≤ TASK_LIMIT }
     ensures { (U : List Task) → IsTableOf U table.now
         → result ≡ top_ceiling (node_in U order.now) locks.now }
 {

@@ -1,6 +1,7 @@
 //! The lists of the tasks whose jobs are pending: SCHED_FIFO of POSIX.1-2017, with one list per priority,
 //! the lowest first.
 ghost use Rattle.std.specs.Prelude.{◌≡◌, ◌<◌, ◌≤◌, ℕ, length, vec_len, slice_index_or, replicate, IfOk, None, []};
+ghost use Rattle.task_sheet.specs.declared.set.TheConstants.{TASK_LIMIT};
 ghost use Rattle.ceiling_kernel.specs.States.{best_slot};
 ghost use Rattle.ceiling_kernel.specs.Lists.{listed, list_at, Queues, with_tail, with_head, without_head, moved_to, head_of_highest};
 
@@ -93,7 +94,7 @@ pub(crate) fn first(lists: &[VecDeque<usize>]) -> Option<usize>
 
 // The pending job that goes first: that of the head of the highest list that isn't empty.
 pub(crate) fn pick(slots: &[Option<Pending>], lists: &[VecDeque<usize>]) -> Option<Pending>
-    requires few { length slots.now ≤ 32 }
+    requires few { length slots.now ≤ TASK_LIMIT }
     requires queues { Queues (λ i. slice_index_or slots.now i None) (list_at (listed lists.now)) }
     ensures { result ≡ best_slot slots.now None }
 {
