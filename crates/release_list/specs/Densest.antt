@@ -5,6 +5,7 @@ use Rattle.std.specs.List.{filter}
 use Rattle.std.specs.Option.{option_or}
 use Rattle.task_sheet.specs.Sheet.{Task, task_at}
 use Rattle.task_sheet.specs.Demand.{greatest_of}
+use Rattle.ceiling_kernel.specs.declared.accept.TheConstants.{HORIZON, RELEASE_LIMIT}
 use Rattle.ceiling_kernel.specs.declared.trace.Release.{Release}
 use Rattle.ceiling_kernel.specs.declared.trace.RunFault.{RunFault}
 use Rattle.ceiling_kernel.specs.declared.trace.RunFault.TheVariants as fault
@@ -56,8 +57,8 @@ densest_of U until = releases_before U until until
 -- why there is none: the end is past the horizon, or there are more releases than a run takes
 abbrev pub list_refusal : List Task → ℕ → Option RunFault
 list_refusal U until =
-    option_or (refuse_if (nat_lt 60000000 until) fault.PastHorizon)
-    (refuse_if (nat_lt 10000 (length (densest_of U until))) fault.TooMany)
+    option_or (refuse_if (nat_lt HORIZON until) fault.PastHorizon)
+    (refuse_if (nat_lt RELEASE_LIMIT (length (densest_of U until))) fault.TooMany)
 
 -- ---- the same, by the number of a job
 -- when job k of a task arrives, from 0: each a period after the one before

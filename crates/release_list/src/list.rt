@@ -1,6 +1,7 @@
 //! The densest release list of a set.
 ghost use Rattle.std.specs.Prelude.{◌≡◌, ◌<◌, ◌≤◌, ℕ, ◌+◌, ◌++◌, ◌-◌, length, List, [], false, None, Option, MatchResult, IfOk, nat_lt};
 ghost use Rattle.task_sheet.specs.TaskSet.{IsTaskSet};
+ghost use Rattle.ceiling_kernel.specs.declared.accept.TheConstants.{HORIZON, RELEASE_LIMIT};
 ghost use Rattle.ceiling_kernel.specs.Releases.{IsRefusal, refusal_of, refuse_if};
 ghost use Rattle.release_list.specs.Densest.{instant_of, first_arrival, arrives, late_at, release_of, is_listed, releases_at, densest_of, list_refusal};
 
@@ -70,7 +71,7 @@ fn release_of(sheet: &Sheet, instant: u64, time: u64) -> Release
 fn next_arrival(sheet: &Sheet, instant: u64, time: u64) -> u64
     requires period { 0 < sheet.now.period }
     requires small { sheet.now.period ≤ 10000000 }
-    requires before { time ≤ 60000000 }
+    requires before { time ≤ HORIZON }
     ensures after { time < result }
     ensures none { (t : ℕ) → time < t → t < result → arrives instant t sheet.now ≡ false }
 {
@@ -87,7 +88,7 @@ fn next_time(sheets: &[Sheet], instant: u64, time: u64, until: u64) -> u64
     requires set { IsTaskSet sheets.now }
     requires instant { instant ≡ instant_of sheets.now }
     requires before { time < until }
-    requires horizon { until ≤ 60000000 }
+    requires horizon { until ≤ HORIZON }
     ensures after { time < result }
     ensures until { result ≤ until }
     ensures none { (t : ℕ) → time < t → t < result → releases_at sheets.now t until ≡ [] }
@@ -110,13 +111,13 @@ fn push_releases(
     requires set { IsTaskSet sheets.now }
     requires instant { instant ≡ instant_of sheets.now }
     requires before { time < until }
-    requires few { length releases.old.items ≤ 10000 }
+    requires few { length releases.old.items ≤ RELEASE_LIMIT }
     ensures { MatchResult result
         (λ _. (releases.new.items ≡ releases.old.items ++ releases_at sheets.now time until)
-        × (length releases.new.items ≤ 10000))
+        × (length releases.new.items ≤ RELEASE_LIMIT))
         (λ e. IsRefusal e
-        (refuse_if (nat_lt 10000 (length (releases.old.items ++ releases_at sheets.now time until)))
-        RunFault.TooMany)) }
+        (refuse_if (nat_lt RELEASE_LIMIT
+        (length (releases.old.items ++ releases_at sheets.now time until))) RunFault.TooMany)) }
 {
     for sheet in sheets {
         if is_listed(sheet, instant, time, until) {
