@@ -5,6 +5,7 @@
 ghost use Rattle.std.specs.Prelude.{◌≡◌, ◌↔◌, ◌<◌, ◌≤◌, ℕ, length, IsTrue, IfOk};
 ghost use Rattle.task_sheet.specs.Orders.{IsFeasible};
 ghost use Rattle.ceilings.specs.IsTableOf.{IsTableOf};
+ghost use Rattle.factor.specs.declared.scaling.TheConstants.{FACTOR_LIMIT};
 ghost use Rattle.factor.specs.Factors.{scaled, MayScale, AnswersFactor};
 
 pub mod laws;
@@ -25,7 +26,7 @@ fn passes_at(
 ) -> Result<bool, AllocError>
     requires table { IsTableOf set.now table.now }
     requires may { MayScale set.now factor }
-    requires short { factor ≤ 10000000000 }
+    requires short { factor ≤ FACTOR_LIMIT }
     ensures { IfOk result (λ passes. IsTrue passes ↔ IsFeasible (scaled factor set.now)) }
 {
     let other = scaled(alloc, set, factor)?;
