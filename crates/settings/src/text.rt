@@ -1,6 +1,7 @@
 //! The lines of an order's settings.
 ghost use Rattle.std.specs.Prelude.{◌≡◌, ◌++◌, ◌<◌, ◌≤◌, ℕ, List, length, slice_get, Some, All, OnOk, IfOk, string_bytes};
 ghost use Rattle.task_sheet.specs.Sheet.{Task};
+ghost use Rattle.task_sheet.specs.declared.set.TheConstants.{TASK_LIMIT};
 ghost use Rattle.task_sheet.specs.Locks.{ceiling_of};
 ghost use Rattle.task_sheet.specs.Orders.{IsOrder};
 ghost use Rattle.ceilings.specs.IsTableOf.{IsTableOf, locks_of};
@@ -30,7 +31,7 @@ fn push_thread(
 
 // A line for each task of an order.
 fn push_threads(text: &mut String, set: &TaskSet, order: &[usize]) -> Result<(), AllocError>
-    requires { length order.now ≤ 32 }
+    requires { length order.now ≤ TASK_LIMIT }
     ensures { OnOk result (string_bytes text.new ≡ string_bytes text.old
         ++ thread_lines set.now 1 order.now) }
 {
@@ -58,8 +59,8 @@ fn push_lock(
     place: usize,
     order: &[usize],
 ) -> Result<(), AllocError>
-    requires within { All (λ index. index < 32) order.now }
-    requires few { length order.now ≤ 32 }
+    requires within { All (λ index. index < TASK_LIMIT) order.now }
+    requires few { length order.now ≤ TASK_LIMIT }
     ensures { OnOk result ((U : List Task) → IsTableOf U table.now
         → (lock : List ℕ) → slice_get (locks_of U) place ≡ Some lock
         → string_bytes text.new ≡ string_bytes text.old
@@ -73,8 +74,8 @@ fn push_lock(
 
 // A line for each lock of the table, with its ceiling in an order.
 fn push_mutexes(text: &mut String, table: &LockTable, order: &[usize]) -> Result<(), AllocError>
-    requires within { All (λ index. index < 32) order.now }
-    requires few { length order.now ≤ 32 }
+    requires within { All (λ index. index < TASK_LIMIT) order.now }
+    requires few { length order.now ≤ TASK_LIMIT }
     ensures { OnOk result ((U : List Task) → IsTableOf U table.now
         → string_bytes text.new ≡ string_bytes text.old ++ mutex_lines U order.now (locks_of U)) }
 {
