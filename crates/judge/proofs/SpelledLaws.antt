@@ -18,6 +18,7 @@ use Rattle.lines.proofs.Parts.{line_cut}
 use Rattle.judge.specs.Rows.{in_range, number_in_range, row_in, row_of, rows_from}
 use Rattle.judge.specs.declared.rows.Row.{Row}
 use Rattle.judge.specs.declared.rows.Row.TheVariants.{Thread, Mutex}
+use Rattle.judge.specs.declared.rows.TheConstants.{NUMBER_LIMIT}
 use Rattle.judge.specs.declared.rows.Setting.{Setting}
 
 -- ---- bytes that do not stand in a text
@@ -56,7 +57,7 @@ pub record Entry : Type 0 where
 pub record IsEntry (e : Entry) : Type 0 where
   pub named : IsName e.name
   pub some : 1 ≤ e.number
-  pub within : e.number ≤ 1000000
+  pub within : e.number ≤ NUMBER_LIMIT
 
 abbrev pub word_of : Bool → List ℕ
 word_of true = codes "thread"
@@ -89,10 +90,10 @@ spelled : (kind : Bool) (s : Setting) → row_of (word_of kind) s ≡ Some (row_
 spelled true s = refl
 spelled false s = refl
 
-range_is : (n : ℕ) → 1 ≤ n → n ≤ 1000000 → in_range (Some n) ≡ Some n
-range_is n some within = rw (le-leb 1 n some, le-leb n 1000000 within) refl
+range_is : (n : ℕ) → 1 ≤ n → n ≤ NUMBER_LIMIT → in_range (Some n) ≡ Some n
+range_is n some within = rw (le-leb 1 n some, le-leb n NUMBER_LIMIT within) refl
 
-number_is : (n : ℕ) → 1 ≤ n → n ≤ 1000000 → number_in_range (decimal n) ≡ Some n
+number_is : (n : ℕ) → 1 ≤ n → n ≤ NUMBER_LIMIT → number_in_range (decimal n) ≡ Some n
 number_is n some within = ap in_range (number_again n (omega arith)) ∙ range_is n some within
 
 name_is : (name : List ℕ) → IsName name → name_in name ≡ Some name

@@ -5,13 +5,14 @@ use Rattle.lines.specs.Lines.{kept_lines}
 use Rattle.lines.specs.Words.{name_in, number_in, words}
 use Rattle.judge.specs.declared.rows.Row.{Row}
 use Rattle.judge.specs.declared.rows.Row.TheVariants.{Thread, Mutex}
+use Rattle.judge.specs.declared.rows.TheConstants.{NUMBER_LIMIT}
 use Rattle.judge.specs.declared.rows.Setting.{Setting}
 
 -- ---- a line
--- the number, where it is from 1 to 1,000,000
+-- the number, where it is from 1 to the limit
 abbrev pub in_range : Option ℕ → Option ℕ
 in_range None = None
-in_range (Some n) = if nat_le 1 n && nat_le n 1000000 then Some n else None
+in_range (Some n) = if nat_le 1 n && nat_le n NUMBER_LIMIT then Some n else None
 
 -- the number of a priority that a word is
 abbrev pub number_in_range : List ℕ → Option ℕ

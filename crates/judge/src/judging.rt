@@ -1,5 +1,6 @@
 //! Whether each task of an order meets its deadline (Audsley et al. 1993).
 ghost use Rattle.std.specs.Prelude.{◌≡◌, ◌<◌, ◌+◌, length, slice_index, drop, All, IfOk};
+ghost use Rattle.task_sheet.specs.declared.set.TheConstants.{TASK_LIMIT};
 ghost use Rattle.task_sheet.specs.Indexes.{among, indexes_of};
 ghost use Rattle.ceilings.specs.IsTableOf.{IsTableOf};
 ghost use Rattle.judge.specs.Judgements.{AllJudged, IsJudged, all_meet, does_meet, tasks_of};
@@ -30,7 +31,7 @@ pub struct Judged {
 
 // The tasks of a list.
 fn members_of(order: &[usize]) -> Members
-    requires { All (λ index. index < 32) order.now }
+    requires { All (λ index. index < TASK_LIMIT) order.now }
     ensures { indexes_of result ≡ among order.now }
 {
     let mut members = Members::empty();

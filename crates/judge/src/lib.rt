@@ -16,5 +16,5 @@ pub use crate::fault::SettingsFault;
 pub use crate::judging::{Judged, Judgement, all_meet, judge_order};
 pub use crate::node::judge_settings;
 pub use crate::reading::read_settings;
-pub use crate::rows::{Row, Setting};
+pub use crate::rows::{NUMBER_LIMIT, Row, Setting};
 pub use crate::text::judged_text;

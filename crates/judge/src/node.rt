@@ -1,5 +1,6 @@
 //! What becomes of the tasks of a node.
 ghost use Rattle.std.specs.Prelude.{◌≡◌, ◌<◌, All, MatchResult, IfOk};
+ghost use Rattle.task_sheet.specs.declared.set.TheConstants.{TASK_LIMIT};
 ghost use Rattle.judge.specs.Faults.{IsFault, settings_fault};
 ghost use Rattle.judge.specs.Judgements.{AllJudged, tasks_of};
 ghost use Rattle.judge.specs.Node.{IsNodeOrder};
@@ -22,7 +23,7 @@ pub fn judge_settings(
         (λ judged. IsNodeOrder set.now text.now (tasks_of judged.items)
         × AllJudged set.now judged.items)
         (λ fault. IsFault fault (settings_fault set.now text.now)) }
-    ensures within { IfOk result (λ judged. All (λ j. j.task < 32) judged.items) }
+    ensures within { IfOk result (λ judged. All (λ j. j.task < TASK_LIMIT) judged.items) }
 {
     let table = LockTable::new(alloc, set)?;
     let order = read_settings(alloc, set, &table, text)?;

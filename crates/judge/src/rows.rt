@@ -9,6 +9,9 @@ use lines::{Place, Words, name_of, next_kept, number_of};
 use std::alloc::{AllocError, Global};
 use task_sheet::Name;
 
+/// The greatest number of a thread or a mutex.
+pub const NUMBER_LIMIT: u64 = 1_000_000;
+
 /// What a line sets: a thread's priority or a mutex's priority ceiling.
 #[derive(Clone, Copy)]
 pub struct Setting {
@@ -16,7 +19,7 @@ pub struct Setting {
     pub line: u64,
     /// That of the thread's task, or of the mutex's lock.
     pub name: Name,
-    /// From 1 to 1,000,000; a greater one is higher.
+    /// From 1 to `NUMBER_LIMIT`; a greater one is higher.
     pub number: u64,
 }
 
@@ -27,12 +30,12 @@ pub enum Row {
     Mutex(Setting),
 }
 
-// The number from 1 to 1,000,000 that a word is.
+// The number from 1 to the limit that a word is.
 fn number_in_range(word: &[u8]) -> Option<u64>
     ensures { result ≡ number_in_range word.now }
 {
     let number = number_of(word)?;
-    if 1 <= number && number <= 1_000_000 {
+    if 1 <= number && number <= NUMBER_LIMIT {
         Some(number)
     } else {
         None

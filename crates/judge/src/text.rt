@@ -1,5 +1,6 @@
 //! The lines that say what becomes of the tasks of an order.
 ghost use Rattle.std.specs.Prelude.{◌≡◌, ◌++◌, ◌<◌, All, OnOk, IfOk, string_bytes};
+ghost use Rattle.task_sheet.specs.declared.set.TheConstants.{TASK_LIMIT};
 ghost use Rattle.task_sheet.specs.Sheet.{task_at};
 ghost use Rattle.task_sheet.specs.Indexes.{indexes_of};
 ghost use Rattle.judge.specs.Lines.{first_line, judged_line, judged_lines, judgement_words, level_lines, missed_line, missed_of};
@@ -21,7 +22,7 @@ fn deadline_of(set: &TaskSet, task: usize) -> u64
 
 // The tasks that don't meet their deadlines.
 fn missed_of(judged: &[Judged]) -> Members
-    requires { All (λ j. j.task < 32) judged.now }
+    requires { All (λ j. j.task < TASK_LIMIT) judged.now }
     ensures { indexes_of result ≡ missed_of judged.now }
 {
     let mut missed = Members::empty();
@@ -45,7 +46,7 @@ fn push_missed(text: &mut String, set: &TaskSet, missed: Members) -> Result<(), 
 
 // The first line.
 fn push_first(text: &mut String, set: &TaskSet, judged: &[Judged]) -> Result<(), AllocError>
-    requires { All (λ j. j.task < 32) judged.now }
+    requires { All (λ j. j.task < TASK_LIMIT) judged.now }
     ensures { OnOk result (string_bytes text.new
         ≡ string_bytes text.old ++ first_line set.now judged.now) }
 {
@@ -96,7 +97,7 @@ fn push_judged(
 /// The lines that say what becomes of the tasks of an order, the lowest first: whether all meet their deadlines, and then
 /// each. The error is want of memory.
 pub fn judged_text(alloc: Global, set: &TaskSet, judged: &[Judged]) -> Result<String, AllocError>
-    requires { All (λ j. j.task < 32) judged.now }
+    requires { All (λ j. j.task < TASK_LIMIT) judged.now }
     ensures { IfOk result (λ text. string_bytes text ≡ judged_lines set.now judged.now) }
 {
     let mut text = String::new(alloc);
