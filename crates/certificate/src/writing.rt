@@ -6,7 +6,7 @@ ghost use Rattle.certificate.specs.Body.{Cert};
 ghost use Rattle.certificate.specs.ReasonOf.{reason_of};
 ghost use Rattle.certificate.specs.BodyOf.{body_of};
 ghost use Rattle.certificate.specs.Spelling.{numbers_text, reason_text, fail_line, fail_lines, level_line, level_lines, head_line, count_line, body_text, spelling};
-ghost use Rattle.streams.specs.Sending.{Sends};
+ghost use Rattle.streams.specs.Sending.{Writes};
 
 use crate::body::CertBody;
 use crate::digits::Digits;
@@ -16,34 +16,27 @@ use std::io::Write;
 use streams::{Held, Watched, WriteFailed};
 use task_sheet::Name;
 
+// A text.
+fn put_text<W: Write + Drop>(
+    text: &[u8],
+    held: &mut Held,
+    out: &mut Watched<W>,
+) -> Result<(), WriteFailed>
+    ensures { Writes W.contents out.old held.old out.new held.new result text.now }
+{
+    held.put(text, out)
+}
+
 // A number in decimal digits.
 fn put_number<W: Write + Drop>(
     number: u64,
     held: &mut Held,
     out: &mut Watched<W>,
 ) -> Result<(), WriteFailed>
-    ensures sent { OnOk result
-        (Sends (W.contents out.old.inner) held.old (W.contents out.new.inner) held.new
-        (decimal number)) }
-    ensures ok { OnOk result (out.new.has_failed ≡ out.old.has_failed) }
-    ensures failed { OnErr result (out.new.has_failed ≡ true) }
+    ensures { Writes W.contents out.old held.old out.new held.new result (decimal number) }
 {
     let digits = Digits::of(number);
-    held.put(digits.bytes(), out)
-}
-
-// A name.
-fn put_name<W: Write + Drop>(
-    name: Name,
-    held: &mut Held,
-    out: &mut Watched<W>,
-) -> Result<(), WriteFailed>
-    ensures sent { OnOk result (Sends (W.contents out.old.inner) held.old
-        (W.contents out.new.inner) held.new name) }
-    ensures ok { OnOk result (out.new.has_failed ≡ out.old.has_failed) }
-    ensures failed { OnErr result (out.new.has_failed ≡ true) }
-{
-    held.put(name.bytes(), out)
+    put_text(digits.bytes(), held, out)
 }
 
 // Each number after a space.
@@ -52,14 +45,11 @@ fn put_numbers<W: Write + Drop>(
     held: &mut Held,
     out: &mut Watched<W>,
 ) -> Result<(), WriteFailed>
-    ensures sent { OnOk result
-        (Sends (W.contents out.old.inner) held.old (W.contents out.new.inner) held.new
-        (numbers_text numbers.now)) }
-    ensures ok { OnOk result (out.new.has_failed ≡ out.old.has_failed) }
-    ensures failed { OnErr result (out.new.has_failed ≡ true) }
+    ensures { Writes W.contents out.old held.old out.new held.new result
+        (numbers_text numbers.now) }
 {
     for number in numbers {
-        held.put(b" ", out)?;
+        put_text(b" ", held, out)?;
         put_number(*number, held, out)?;
     }
     Ok(())
@@ -71,16 +61,14 @@ fn put_reason<W: Write + Drop>(
     held: &mut Held,
     out: &mut Watched<W>,
 ) -> Result<(), WriteFailed>
-    ensures sent { OnOk result (Sends (W.contents out.old.inner) held.old
-        (W.contents out.new.inner) held.new (reason_text (reason_of reason.now))) }
-    ensures ok { OnOk result (out.new.has_failed ≡ out.old.has_failed) }
-    ensures failed { OnErr result (out.new.has_failed ≡ true) }
+    ensures { Writes W.contents out.old held.old out.new held.new result
+        (reason_text (reason_of reason.now)) }
 {
     match reason {
         CertReason::Chain(numbers) => put_numbers(numbers, held, out),
         CertReason::Over(other) => {
-            held.put(b" over ", out)?;
-            put_name(*other, held, out)
+            put_text(b" over ", held, out)?;
+            put_text(other.bytes(), held, out)
         }
     }
 }
@@ -92,16 +80,14 @@ fn put_fail<W: Write + Drop>(
     held: &mut Held,
     out: &mut Watched<W>,
 ) -> Result<(), WriteFailed>
-    ensures sent { OnOk result (Sends (W.contents out.old.inner) held.old
-        (W.contents out.new.inner) held.new (fail_line word.now fail.now)) }
-    ensures ok { OnOk result (out.new.has_failed ≡ out.old.has_failed) }
-    ensures failed { OnErr result (out.new.has_failed ≡ true) }
+    ensures { Writes W.contents out.old held.old out.new held.new result
+        (fail_line word.now fail.now) }
 {
-    held.put(word, out)?;
-    held.put(b" ", out)?;
-    put_name(fail.name, held, out)?;
+    put_text(word, held, out)?;
+    put_text(b" ", held, out)?;
+    put_text(fail.name.bytes(), held, out)?;
     put_reason(&fail.reason, held, out)?;
-    held.put(b"\n", out)
+    put_text(b"\n", held, out)
 }
 
 // A line for each failure, behind a word.
@@ -111,10 +97,8 @@ fn put_fails<W: Write + Drop>(
     held: &mut Held,
     out: &mut Watched<W>,
 ) -> Result<(), WriteFailed>
-    ensures sent { OnOk result (Sends (W.contents out.old.inner) held.old
-        (W.contents out.new.inner) held.new (fail_lines word.now fails.now)) }
-    ensures ok { OnOk result (out.new.has_failed ≡ out.old.has_failed) }
-    ensures failed { OnErr result (out.new.has_failed ≡ true) }
+    ensures { Writes W.contents out.old held.old out.new held.new result
+        (fail_lines word.now fails.now) }
 {
     for fail in fails {
         put_fail(word, fail, held, out)?;
@@ -129,14 +113,12 @@ fn put_place<W: Write + Drop>(
     held: &mut Held,
     out: &mut Watched<W>,
 ) -> Result<(), WriteFailed>
-    ensures sent { OnOk result (Sends (W.contents out.old.inner) held.old
-        (W.contents out.new.inner) held.new (word.now ++ decimal k ++ 32 ∷ [])) }
-    ensures ok { OnOk result (out.new.has_failed ≡ out.old.has_failed) }
-    ensures failed { OnErr result (out.new.has_failed ≡ true) }
+    ensures { Writes W.contents out.old held.old out.new held.new result
+        (word.now ++ decimal k ++ 32 ∷ []) }
 {
-    held.put(word, out)?;
+    put_text(word, held, out)?;
     put_number(k, held, out)?;
-    held.put(b" ", out)
+    put_text(b" ", held, out)
 }
 
 // A name, a space, a number and the end of the line.
@@ -146,15 +128,13 @@ fn put_time<W: Write + Drop>(
     held: &mut Held,
     out: &mut Watched<W>,
 ) -> Result<(), WriteFailed>
-    ensures sent { OnOk result (Sends (W.contents out.old.inner) held.old
-        (W.contents out.new.inner) held.new (name ++ 32 ∷ decimal t ++ 10 ∷ [])) }
-    ensures ok { OnOk result (out.new.has_failed ≡ out.old.has_failed) }
-    ensures failed { OnErr result (out.new.has_failed ≡ true) }
+    ensures { Writes W.contents out.old held.old out.new held.new result
+        (name ++ 32 ∷ decimal t ++ 10 ∷ []) }
 {
-    put_name(name, held, out)?;
-    held.put(b" ", out)?;
+    put_text(name.bytes(), held, out)?;
+    put_text(b" ", held, out)?;
     put_number(t, held, out)?;
-    held.put(b"\n", out)
+    put_text(b"\n", held, out)
 }
 
 // The line of a level.
@@ -164,11 +144,7 @@ fn put_level<W: Write + Drop>(
     held: &mut Held,
     out: &mut Watched<W>,
 ) -> Result<(), WriteFailed>
-    ensures sent { OnOk result
-        (Sends (W.contents out.old.inner) held.old (W.contents out.new.inner) held.new
-        (level_line k level.now)) }
-    ensures ok { OnOk result (out.new.has_failed ≡ out.old.has_failed) }
-    ensures failed { OnErr result (out.new.has_failed ≡ true) }
+    ensures { Writes W.contents out.old held.old out.new held.new result (level_line k level.now) }
 {
     put_place(b"level ", k, held, out)?;
     put_time(level.name, level.t, held, out)
@@ -180,11 +156,8 @@ fn put_levels<W: Write + Drop>(
     held: &mut Held,
     out: &mut Watched<W>,
 ) -> Result<(), WriteFailed>
-    ensures sent { OnOk result
-        (Sends (W.contents out.old.inner) held.old (W.contents out.new.inner) held.new
-        (level_lines 1 levels.now)) }
-    ensures ok { OnOk result (out.new.has_failed ≡ out.old.has_failed) }
-    ensures failed { OnErr result (out.new.has_failed ≡ true) }
+    ensures { Writes W.contents out.old held.old out.new held.new result
+        (level_lines 1 levels.now) }
 {
     for (i, level) in levels.iter().enumerate() {
         put_level((i + 1) as u64, level, held, out)?;
@@ -200,16 +173,13 @@ fn put_count<W: Write + Drop>(
     held: &mut Held,
     out: &mut Watched<W>,
 ) -> Result<(), WriteFailed>
-    ensures sent { OnOk result
-        (Sends (W.contents out.old.inner) held.old (W.contents out.new.inner) held.new
-        (count_line word.now count)) }
-    ensures ok { OnOk result (out.new.has_failed ≡ out.old.has_failed) }
-    ensures failed { OnErr result (out.new.has_failed ≡ true) }
+    ensures { Writes W.contents out.old held.old out.new held.new result
+        (count_line word.now count) }
 {
-    held.put(word, out)?;
-    held.put(b" ", out)?;
+    put_text(word, held, out)?;
+    put_text(b" ", held, out)?;
     put_number(count as u64, held, out)?;
-    held.put(b"\n", out)
+    put_text(b"\n", held, out)
 }
 
 // What follows the head of a `best` certificate.
@@ -218,16 +188,13 @@ fn put_best<W: Write + Drop>(
     held: &mut Held,
     out: &mut Watched<W>,
 ) -> Result<(), WriteFailed>
-    ensures sent { OnOk result (Sends (W.contents out.old.inner) held.old
-        (W.contents out.new.inner) held.new
+    ensures { Writes W.contents out.old held.old out.new held.new result
         (count_line (codes "best") (length levels.now)
-        ++ (level_lines 1 levels.now ++ codes "end\n"))) }
-    ensures ok { OnOk result (out.new.has_failed ≡ out.old.has_failed) }
-    ensures failed { OnErr result (out.new.has_failed ≡ true) }
+        ++ (level_lines 1 levels.now ++ codes "end\n")) }
 {
     put_count(b"best", levels.len(), held, out)?;
     put_levels(levels, held, out)?;
-    held.put(b"end\n", out)
+    put_text(b"end\n", held, out)
 }
 
 // What follows the head of a `none` certificate.
@@ -236,16 +203,13 @@ fn put_none<W: Write + Drop>(
     held: &mut Held,
     out: &mut Watched<W>,
 ) -> Result<(), WriteFailed>
-    ensures sent { OnOk result (Sends (W.contents out.old.inner) held.old
-        (W.contents out.new.inner) held.new
+    ensures { Writes W.contents out.old held.old out.new held.new result
         (count_line (codes "none") (length members.now)
-        ++ (fail_lines (codes "member") members.now ++ codes "end\n"))) }
-    ensures ok { OnOk result (out.new.has_failed ≡ out.old.has_failed) }
-    ensures failed { OnErr result (out.new.has_failed ≡ true) }
+        ++ (fail_lines (codes "member") members.now ++ codes "end\n")) }
 {
     put_count(b"none", members.len(), held, out)?;
     put_fails(b"member", members, held, out)?;
-    held.put(b"end\n", out)
+    put_text(b"end\n", held, out)
 }
 
 // What follows the first line.
@@ -254,11 +218,8 @@ fn put_body<W: Write + Drop>(
     held: &mut Held,
     out: &mut Watched<W>,
 ) -> Result<(), WriteFailed>
-    ensures sent { OnOk result
-        (Sends (W.contents out.old.inner) held.old (W.contents out.new.inner) held.new
-        (body_text (body_of body.now))) }
-    ensures ok { OnOk result (out.new.has_failed ≡ out.old.has_failed) }
-    ensures failed { OnErr result (out.new.has_failed ≡ true) }
+    ensures { Writes W.contents out.old held.old out.new held.new result
+        (body_text (body_of body.now)) }
 {
     match body {
         CertBody::Best(levels) => put_best(levels, held, out),
@@ -272,15 +233,11 @@ fn put_head<W: Write + Drop>(
     held: &mut Held,
     out: &mut Watched<W>,
 ) -> Result<(), WriteFailed>
-    ensures sent { OnOk result
-        (Sends (W.contents out.old.inner) held.old (W.contents out.new.inner) held.new
-        (head_line version)) }
-    ensures ok { OnOk result (out.new.has_failed ≡ out.old.has_failed) }
-    ensures failed { OnErr result (out.new.has_failed ≡ true) }
+    ensures { Writes W.contents out.old held.old out.new held.new result (head_line version) }
 {
     match version {
-        CertVersion::First => held.put(b"desk-certificate 1\n", out),
-        CertVersion::Second => held.put(b"desk-certificate 2\n", out),
+        CertVersion::First => put_text(b"desk-certificate 1\n", held, out),
+        CertVersion::Second => put_text(b"desk-certificate 2\n", held, out),
     }
 }
 
@@ -291,11 +248,8 @@ pub fn put_certificate<W: Write + Drop>(
     held: &mut Held,
     out: &mut Watched<W>,
 ) -> Result<(), WriteFailed>
-    ensures sent { let c : Cert = record { version = version; body = body_of body.now } in OnOk result
-        (Sends (W.contents out.old.inner) held.old (W.contents out.new.inner) held.new
-        (spelling c)) }
-    ensures ok { OnOk result (out.new.has_failed ≡ out.old.has_failed) }
-    ensures failed { OnErr result (out.new.has_failed ≡ true) }
+    ensures { let c : Cert = record { version = version; body = body_of body.now } in
+        Writes W.contents out.old held.old out.new held.new result (spelling c) }
 {
     put_head(version, held, out)?;
     put_body(body, held, out)

@@ -1,13 +1,5 @@
-use Rattle.std.specs.Fmt.{decimal}
-use Rattle.std.specs.Io.KnownBytes.{append_known}
-use Rattle.certificate.proofs.Sent.{line_sent}
+use Rattle.streams.proofs.Writes.{writes_both}
 use Rattle.certificate.proofs.writing.put_count.Goals as goal
 
-pub returns-clause-sent : goal.returns-clause-sent
-returns-clause-sent g c =
-    let start = append_known (g.W.Write.contents c.args.out.now.inner) c.args.held.now in
-    let word = append_known (g.W.Write.contents c.put.new.out.inner) c.put.new.self in
-    let space = append_known (g.W.Write.contents c.put-2.new.out.inner) c.put-2.new.self in
-    let count = append_known (g.W.Write.contents c.put_number.new.out.inner) c.put_number.new.held in
-    let end = append_known (g.W.Write.contents c.put-3.new.out.inner) c.put-3.new.self in
-    line_sent c.put-3.result start word space count end c.args.word.now (decimal c.args.count) c.in_ok-put.ensures.sent c.in_ok-put-2.ensures.sent c.in_ok-put_number.ensures.sent c.put-3.ensures.sent
+pub returns : goal.returns
+returns g c = writes_both (writes_both c.in_ok-put_text.ensures (writes_both c.in_ok-put_text-2.ensures c.in_ok-put_number.ensures)) c.put_text-3.ensures

@@ -1,10 +1,7 @@
-use Rattle.std.proofs.Common.{◌≡◌, take}
+use Rattle.std.proofs.Common.{take, Ok}
 use Rattle.certificate.specs.Spelling.{level_lines}
-use Rattle.streams.specs.Sending.{Sends}
+use Rattle.streams.specs.Sending.{Writes}
 use Rattle.certificate.proofs.writing.put_levels.Given as goal
 
 abbrev pub invariant-loop-i : goal.invariant-loop-i
-invariant-loop-i g l = record {
-  sent : Sends (g.W.Write.contents l.fn.out.inner) l.fn.held (g.W.Write.contents l.out.inner) l.held (level_lines 1 (take l.i l.levels));
-  same_flag : l.out.has_failed ≡ l.fn.out.has_failed;
-}
+invariant-loop-i g l = Writes g.W.Write.contents l.fn.out l.fn.held l.out l.held (Ok tt) (level_lines 1 (take l.i l.levels))
