@@ -1,5 +1,5 @@
 //! Writing, piece after piece, through bytes that are held back.
-ghost use Rattle.std.specs.Prelude.{◌≡◌, ◌++◌, ◌∷◌, [], ◌+◌, ◌<◌, ◌≤◌, ◌^◌, length, List, OnOk, OnErr, true, codes};
+ghost use Rattle.std.specs.Prelude.{◌++◌, ◌∷◌, [], length, codes};
 ghost use Rattle.std.specs.Fmt.{decimal};
 ghost use Rattle.certificate.specs.Body.{Fail, Level, Body};
 ghost use Rattle.certificate.specs.Body.{Cert};
