@@ -14,7 +14,6 @@ use crate::value::{CertFail, CertLevel, CertReason};
 use crate::version::CertVersion;
 use std::io::Write;
 use streams::{Held, Watched, WriteFailed};
-use task_sheet::Name;
 
 // A text.
 fn put_text<W: Write + Drop>(
@@ -121,19 +120,19 @@ fn put_place<W: Write + Drop>(
     put_text(b" ", held, out)
 }
 
-// A name, a space, a number and the end of the line.
-fn put_time<W: Write + Drop>(
-    name: Name,
-    t: u64,
+// A line of a word and a number.
+fn put_line<W: Write + Drop>(
+    word: &[u8],
+    number: u64,
     held: &mut Held,
     out: &mut Watched<W>,
 ) -> Result<(), WriteFailed>
     ensures { Writes W.contents out.old held.old out.new held.new result
-        (name ++ 32 ∷ decimal t ++ 10 ∷ []) }
+        (count_line word.now number) }
 {
-    put_text(name.bytes(), held, out)?;
+    put_text(word, held, out)?;
     put_text(b" ", held, out)?;
-    put_number(t, held, out)?;
+    put_number(number, held, out)?;
     put_text(b"\n", held, out)
 }
 
@@ -147,7 +146,7 @@ fn put_level<W: Write + Drop>(
     ensures { Writes W.contents out.old held.old out.new held.new result (level_line k level.now) }
 {
     put_place(b"level ", k, held, out)?;
-    put_time(level.name, level.t, held, out)
+    put_line(level.name.bytes(), level.t, held, out)
 }
 
 // The levels with their failures, the lowest first.
@@ -166,22 +165,6 @@ fn put_levels<W: Write + Drop>(
     Ok(())
 }
 
-// The line with a count.
-fn put_count<W: Write + Drop>(
-    word: &[u8],
-    count: usize,
-    held: &mut Held,
-    out: &mut Watched<W>,
-) -> Result<(), WriteFailed>
-    ensures { Writes W.contents out.old held.old out.new held.new result
-        (count_line word.now count) }
-{
-    put_text(word, held, out)?;
-    put_text(b" ", held, out)?;
-    put_number(count as u64, held, out)?;
-    put_text(b"\n", held, out)
-}
-
 // What follows the head of a `best` certificate.
 fn put_best<W: Write + Drop>(
     levels: &[CertLevel],
@@ -192,7 +175,7 @@ fn put_best<W: Write + Drop>(
         (count_line (codes "best") (length levels.now)
         ++ (level_lines 1 levels.now ++ codes "end\n")) }
 {
-    put_count(b"best", levels.len(), held, out)?;
+    put_line(b"best", levels.len() as u64, held, out)?;
     put_levels(levels, held, out)?;
     put_text(b"end\n", held, out)
 }
@@ -207,7 +190,7 @@ fn put_none<W: Write + Drop>(
         (count_line (codes "none") (length members.now)
         ++ (fail_lines (codes "member") members.now ++ codes "end\n")) }
 {
-    put_count(b"none", members.len(), held, out)?;
+    put_line(b"none", members.len() as u64, held, out)?;
     put_fails(b"member", members, held, out)?;
     put_text(b"end\n", held, out)
 }

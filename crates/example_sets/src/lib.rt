@@ -8,6 +8,27 @@ use std::test::Fail;
 use std::thread;
 use task_sheet::{Name, SetFault, TaskSet, read_set};
 
+// The three tasks a, b and c, each with what follows its cost.
+macro_rules! three_tasks {
+    ($a:literal, $b:literal, $c:literal) => {
+        concat!(
+            "
+task = [
+    { name = 'a', period = 7000, deadline = 7000, cost = 3000",
+            $a,
+            " },
+    { name = 'b', period = 12000, deadline = 12000, cost = 3000",
+            $b,
+            " },
+    { name = 'c', period = 20000, deadline = 20000, cost = 5000",
+            $c,
+            " },
+]
+"
+        )
+    };
+}
+
 /// One task whose cost is its period.
 pub const FILLS_ITS_PERIOD: &str = "
 task = [{ name = 'x', period = 1000, deadline = 1000, cost = 1000 }]
@@ -35,49 +56,19 @@ task = [
 ";
 
 /// The three tasks below, where a must stand above b.
-pub const A_OVER_B: &str = "
-task = [
-    { name = 'a', period = 7000, deadline = 7000, cost = 3000, outranks = ['b'] },
-    { name = 'b', period = 12000, deadline = 12000, cost = 3000 },
-    { name = 'c', period = 20000, deadline = 20000, cost = 5000 },
-]
-";
+pub const A_OVER_B: &str = three_tasks!(", outranks = ['b']", "", "");
 
 /// The same, where a has jitter too.
-pub const A_LATE_OVER_B: &str = "
-task = [
-    { name = 'a', period = 7000, deadline = 7000, cost = 3000, jitter = 1000, outranks = ['b'] },
-    { name = 'b', period = 12000, deadline = 12000, cost = 3000 },
-    { name = 'c', period = 20000, deadline = 20000, cost = 5000 },
-]
-";
+pub const A_LATE_OVER_B: &str = three_tasks!(", jitter = 1000, outranks = ['b']", "", "");
 
 /// The three tasks, where c must stand above a.
-pub const C_OVER_A: &str = "
-task = [
-    { name = 'a', period = 7000, deadline = 7000, cost = 3000 },
-    { name = 'b', period = 12000, deadline = 12000, cost = 3000 },
-    { name = 'c', period = 20000, deadline = 20000, cost = 5000, outranks = ['a'] },
-]
-";
+pub const C_OVER_A: &str = three_tasks!("", "", ", outranks = ['a']");
 
 /// The three tasks, where a and b must stand above each other.
-pub const A_OVER_B_OVER_A: &str = "
-task = [
-    { name = 'a', period = 7000, deadline = 7000, cost = 3000, outranks = ['b'] },
-    { name = 'b', period = 12000, deadline = 12000, cost = 3000, outranks = ['a'] },
-    { name = 'c', period = 20000, deadline = 20000, cost = 5000 },
-]
-";
+pub const A_OVER_B_OVER_A: &str = three_tasks!(", outranks = ['b']", ", outranks = ['a']", "");
 
 /// The three tasks, where a names a task that isn't there.
-pub const A_OVER_Z: &str = "
-task = [
-    { name = 'a', period = 7000, deadline = 7000, cost = 3000, outranks = ['z'] },
-    { name = 'b', period = 12000, deadline = 12000, cost = 3000 },
-    { name = 'c', period = 20000, deadline = 20000, cost = 5000 },
-]
-";
+pub const A_OVER_Z: &str = three_tasks!(", outranks = ['z']", "", "");
 
 /// An order of one's own: each task must stand above the next, and log meets its bound exactly.
 pub const OWN_ORDER: &str = "
@@ -102,31 +93,13 @@ task = [
 ";
 
 /// Three tasks, of which c alone passes at the lowest level.
-pub const THREE_TASKS: &str = "
-task = [
-    { name = 'a', period = 7000, deadline = 7000, cost = 3000 },
-    { name = 'b', period = 12000, deadline = 12000, cost = 3000 },
-    { name = 'c', period = 20000, deadline = 20000, cost = 5000 },
-]
-";
+pub const THREE_TASKS: &str = three_tasks!("", "", "");
 
 /// The same, where a may become ready late: a and c meet their bounds exactly.
-pub const THREE_TASKS_LATE: &str = "
-task = [
-    { name = 'a', period = 7000, deadline = 7000, cost = 3000, jitter = 1000 },
-    { name = 'b', period = 12000, deadline = 12000, cost = 3000 },
-    { name = 'c', period = 20000, deadline = 20000, cost = 5000 },
-]
-";
+pub const THREE_TASKS_LATE: &str = three_tasks!(", jitter = 1000", "", "");
 
 /// The same, later by a tick: no order passes.
-pub const THREE_TASKS_TOO_LATE: &str = "
-task = [
-    { name = 'a', period = 7000, deadline = 7000, cost = 3000, jitter = 1001 },
-    { name = 'b', period = 12000, deadline = 12000, cost = 3000 },
-    { name = 'c', period = 20000, deadline = 20000, cost = 5000 },
-]
-";
+pub const THREE_TASKS_TOO_LATE: &str = three_tasks!(", jitter = 1001", "", "");
 
 /// The same three tasks without jitter, where a is wanted higher than b.
 pub const THREE_TASKS_WEIGHTED: &str = "

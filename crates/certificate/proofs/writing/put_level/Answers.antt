@@ -3,4 +3,4 @@ use Rattle.certificate.proofs.Sent.{level_pieces}
 use Rattle.certificate.proofs.writing.put_level.Goals as goal
 
 pub returns : goal.returns
-returns g c = rw (← level_pieces c.args.k c.args.level.now) (rw (← c.level.view_is) (writes_both c.in_ok-put_place.ensures c.put_time.ensures))
+returns g c = rw (← level_pieces c.args.k c.args.level.now) (rw (← c.level.view_is) (rw (← c.bytes.ensures.same) (writes_both c.in_ok-put_place.ensures c.put_line.ensures)))

@@ -1,6 +1,0 @@
-use Rattle.streams.proofs.Writes.{writes_both}
-use Rattle.certificate.proofs.writing.put_time.Goals as goal
-
-pub returns : goal.returns
-returns g c =
-    rw (← c.bytes.ensures.same) (writes_both (writes_both c.in_ok-put_text.ensures (writes_both c.in_ok-put_text-2.ensures c.in_ok-put_number.ensures)) c.put_text-3.ensures)
