@@ -36,8 +36,8 @@ pub level_sent : {W : Type 0} {contents : W → Option (List ℕ)} {a b c d : Wa
 level_sent {contents = contents} {a = a} {d = d} {h = h} {k = k} ls n l lt e so_far line fails =
     subst (Writes contents a h d k (Ok tt)) (sym (lines_more ls n l lt e)) (writes_both so_far (writes_both line fails))
 
-pieces : (word digits name time : List ℕ) → (word ++ digits ++ 32 ∷ []) ++ (name ++ 32 ∷ time ++ 10 ∷ []) ≡ word ++ digits ++ 32 ∷ name ++ 32 ∷ time ++ 10 ∷ []
+pieces : (word digits name time : List ℕ) → (word ++ digits) ++ (32 ∷ (name ++ 32 ∷ time ++ 10 ∷ [])) ≡ word ++ digits ++ 32 ∷ name ++ 32 ∷ time ++ 10 ∷ []
 pieces word digits name time = simp append_assoc
 
-pub level_pieces : (k : ℕ) (l : Level) → (codes "level " ++ decimal k ++ 32 ∷ []) ++ (l.name ++ 32 ∷ decimal l.time ++ 10 ∷ []) ≡ level_line k l
+pub level_pieces : (k : ℕ) (l : Level) → (codes "level " ++ decimal k) ++ (32 ∷ (l.name ++ 32 ∷ decimal l.time ++ 10 ∷ [])) ≡ level_line k l
 level_pieces k l = pieces (codes "level ") (decimal k) l.name (decimal l.time)

@@ -105,21 +105,6 @@ fn put_fails<W: Write + Drop>(
     Ok(())
 }
 
-// A word, a number and a space.
-fn put_place<W: Write + Drop>(
-    word: &[u8],
-    k: u64,
-    held: &mut Held,
-    out: &mut Watched<W>,
-) -> Result<(), WriteFailed>
-    ensures { Writes W.contents out.old held.old out.new held.new result
-        (word.now ++ decimal k ++ 32 ∷ []) }
-{
-    put_text(word, held, out)?;
-    put_number(k, held, out)?;
-    put_text(b" ", held, out)
-}
-
 // A line of a word and a number.
 fn put_line<W: Write + Drop>(
     word: &[u8],
@@ -145,7 +130,9 @@ fn put_level<W: Write + Drop>(
 ) -> Result<(), WriteFailed>
     ensures { Writes W.contents out.old held.old out.new held.new result (level_line k level.now) }
 {
-    put_place(b"level ", k, held, out)?;
+    put_text(b"level ", held, out)?;
+    put_number(k, held, out)?;
+    put_text(b" ", held, out)?;
     put_line(level.name.bytes(), level.t, held, out)
 }
 
