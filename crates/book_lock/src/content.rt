@@ -4,7 +4,7 @@ ghost use Rattle.std.specs.Prelude.{◌≡◌, ◌↔◌, IsTrue};
 ghost use Rattle.drafts.specs.Rulings.{ruling_of};
 
 use assignment::Obstruction;
-use drafts::{Change, Decision, Entry, Refusal};
+use drafts::{Change, Decision, Entry};
 use task_sheet::Name;
 
 // Whether two changes are the same.
@@ -40,18 +40,6 @@ fn are_same_changes(first: &[(Name, Change)], second: &[(Name, Change)]) -> bool
     true
 }
 
-// Whether two refusals are the same.
-fn is_same_refusal(first: &Refusal, second: &Refusal) -> bool
-    ensures { IsTrue result ↔ (first.now ≡ second.now) }
-{
-    match (first, second) {
-        (Refusal::NotYours { name: a }, Refusal::NotYours { name: b }) => a == b,
-        (Refusal::NoSuchTask { name: a }, Refusal::NoSuchTask { name: b }) => a == b,
-        (Refusal::TooManyTasks, Refusal::TooManyTasks) => true,
-        _ => false,
-    }
-}
-
 // Whether two obstructions say the same: a set has one that is greatest.
 fn is_same_obstruction(first: &Obstruction, second: &Obstruction) -> bool
     ensures { IsTrue result ↔ (first.now ≡ second.now) }
@@ -68,9 +56,7 @@ fn is_same_decision(first: &Decision, second: &Decision) -> bool
 {
     match (first, second) {
         (Decision::Admitted { version: a }, Decision::Admitted { version: b }) => a == b,
-        (Decision::Refused { refusal: a }, Decision::Refused { refusal: b }) => {
-            is_same_refusal(a, b)
-        }
+        (Decision::Refused { refusal: a }, Decision::Refused { refusal: b }) => a.is_same(b),
         (Decision::Infeasible { obstruction: a }, Decision::Infeasible { obstruction: b }) => {
             is_same_obstruction(a, b)
         }
