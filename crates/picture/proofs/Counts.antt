@@ -6,7 +6,7 @@ use Rattle.std.proofs.lemmas.List.{length-set, get_or-set_same, get_or-set_other
 use Rattle.std.proofs.lemmas.Option.{slice_get_past}
 use Rattle.ceiling_kernel.specs.declared.trace.JobRecord.{JobRecord}
 use Rattle.ceiling_kernel.specs.declared.trace.Slice.{Slice}
-use Rattle.picture.specs.declared.frame.Frame.{Frame}
+use Rattle.picture.specs.Frame.{Frame}
 use Rattle.picture.specs.declared.rows.Row.{Row}
 use Rattle.picture.specs.Sections.{slice_at, executed_in, executed_with, counted, ticks_of}
 use Rattle.picture.specs.Rows.{on_row}

@@ -1,12 +1,13 @@
 -- Puts one after the other.
-use Rattle.std.proofs.Common.{◌≡◌, ℕ, ◌+◌, List, [], ◌++◌, sym, ap, ◌∙◌, subst, Option, refl, append-nil, add-one}
+use Rattle.std.proofs.Common.{◌≡◌, ℕ, ◌+◌, ◌<◌, List, length, get_or, [], ◌++◌, sym, ap, ◌∙◌, subst, Option, refl, append-nil, add-one}
 use Rattle.std.specs.Prelude.{⊤, Bool, Some, None, Result, Ok, Err, OnOk}
 use Rattle.std.specs.Io.KnownBytes.{Appends, append_known}
+use Rattle.std.proofs.lemmas.List.{get_or_read}
 use Rattle.std.proofs.KnownBytes.{Appends-trans}
 use Rattle.picture.specs.Rows.{each}
 use Rattle.picture.specs.Puts.{Puts}
+use Rattle.picture.specs.declared.page.Page.{Page}
 use Rattle.streams.specs.Sending.{Sends}
-use Rattle.streams.specs.Watching.{WatchedData}
 use Rattle.streams.specs.declared.watched.WriteFailed.{WriteFailed}
 
 each_more : (text : ℕ → List ℕ) (n : ℕ) → each (n + 1) text ≡ each n text ++ text n
@@ -28,24 +29,38 @@ keeps_flag (Ok x) a b c one two = two ∙ one
 keeps_flag (Err x) a b c one two = tt
 
 -- two texts, the last of which may have failed
-pub puts_both : {W : Type 0} {contents : W → Option (List ℕ)} {a b c : WatchedData W} {h i j : List ℕ} {u : ⊤} {r : Result ⊤ WriteFailed} {xs ys : List ℕ}
-    → Puts contents a h b i (Ok u) xs → Puts contents b i c j r ys → Puts contents a h c j r (xs ++ ys)
-puts_both {contents = contents} {a = a} {b = b} {c = c} {h = h} {i = i} {j = j} {r = r} {xs = xs} {ys = ys} one two = record {
-  sent = sends_both r (append_known (contents a.inner) h) (append_known (contents b.inner) i) (append_known (contents c.inner) j) xs ys one.sent two.sent;
-  ok = keeps_flag r a.has_failed b.has_failed c.has_failed one.ok two.ok;
+pub puts_both : {W : Type 0} {contents : W → Option (List ℕ)} {a b c : Page W} {u : ⊤} {r : Result ⊤ WriteFailed} {xs ys : List ℕ}
+    → Puts contents a b (Ok u) xs → Puts contents b c r ys → Puts contents a c r (xs ++ ys)
+puts_both {contents = contents} {a = a} {b = b} {c = c} {r = r} {xs = xs} {ys = ys} one two = record {
+  sent = sends_both r (append_known (contents a.out.now.inner) a.held) (append_known (contents b.out.now.inner) b.held) (append_known (contents c.out.now.inner) c.held) xs ys one.sent two.sent;
+  ok = keeps_flag r a.out.now.has_failed b.out.now.has_failed c.out.now.has_failed one.ok two.ok;
   failed = two.failed;
+  same = two.same ∙ one.same;
 }
 
+-- a text, and a put that failed
+pub puts_failed : {W : Type 0} {contents : W → Option (List ℕ)} {a b c : Page W} {u : ⊤} {e d : WriteFailed} {xs ys zs : List ℕ}
+    → Puts contents a b (Ok u) xs → Puts contents b c (Err e) ys → Puts contents a c (Err d) zs
+puts_failed one two = record { sent = tt; ok = tt; failed = two.failed; same = two.same ∙ one.same }
+
 -- nothing was put yet
-pub puts_none : {W : Type 0} (contents : W → Option (List ℕ)) (a : WatchedData W) (h : List ℕ) (text : ℕ → List ℕ) → Puts contents a h a h (Ok tt) (each 0 text)
+pub puts_none : {W : Type 0} (contents : W → Option (List ℕ)) (a : Page W) (text : ℕ → List ℕ) → Puts contents a a (Ok tt) (each 0 text)
 unfolding each
-puts_none contents a h text = record { sent = sends_nothing (contents a.inner) h; ok = refl; failed = tt }
+puts_none contents a text = record { sent = sends_nothing (contents a.out.now.inner) a.held; ok = refl; failed = tt; same = refl }
 
 -- one text more
-pub puts_one_more : {W : Type 0} {contents : W → Option (List ℕ)} {a b c : WatchedData W} {h i j : List ℕ} {u v : ⊤} (text : ℕ → List ℕ) (n : ℕ)
-    → Puts contents a h b i (Ok u) (each n text) → Puts contents b i c j (Ok v) (text n) → Puts contents a h c j (Ok v) (each (n + 1) text)
-puts_one_more {contents = contents} {a = a} {c = c} {h = h} {j = j} {v = v} text n so_far next =
-    subst (Puts contents a h c j (Ok v)) (sym (each_more text n)) (puts_both so_far next)
+pub puts_one_more : {W : Type 0} {contents : W → Option (List ℕ)} {a b c : Page W} {u v : ⊤} (text : ℕ → List ℕ) (n : ℕ)
+    → Puts contents a b (Ok u) (each n text) → Puts contents b c (Ok v) (text n) → Puts contents a c (Ok v) (each (n + 1) text)
+puts_one_more {contents = contents} {a = a} {c = c} {v = v} text n so_far next =
+    subst (Puts contents a c (Ok v)) (sym (each_more text n)) (puts_both so_far next)
+
+-- one item's text more
+pub puts_item : {W : Type 0} {contents : W → Option (List ℕ)} {a b c : Page W} {u v : ⊤} {X : Type 0} (text : ℕ → X → List ℕ) (items : List X) (none : X) (n : ℕ) (x : X)
+    → n < length items → x ≡ get_or items n x
+    → Puts contents a b (Ok u) (each n (λ i. text i (get_or items i none))) → Puts contents b c (Ok v) (text n x)
+    → Puts contents a c (Ok v) (each (n + 1) (λ i. text i (get_or items i none)))
+puts_item {contents = contents} {b = b} {c = c} {v = v} {X = X} text items none n x lt is so_far next =
+    puts_one_more (λ i. text i (get_or items i none)) n so_far (subst (λ (y : X). Puts contents b c (Ok v) (text n y)) (get_or_read items n x lt is none) next)
 
 -- what is held back at the end was sent as well
 pub all_sent : (r : Result ⊤ WriteFailed) (a b c : Option (List ℕ)) (held text : List ℕ)

@@ -8,12 +8,11 @@ use Rattle.ceiling_kernel.specs.declared.trace.Slice.{Slice}
 use Rattle.ceiling_kernel.specs.declared.trace.Trace.{Trace}
 use Rattle.ceiling_kernel.specs.Releases.{release_at}
 use Rattle.ceiling_kernel.specs.Runs.{no_record}
-use Rattle.picture.specs.declared.frame.Frame.{Frame}
 use Rattle.picture.specs.declared.rows.Row.{Row}
 use Rattle.picture.specs.declared.marks.Mark.{Mark}
 use Rattle.picture.specs.declared.marks.Mark.TheVariants.{Arrival, Ready, Bound, Deadline}
 use Rattle.picture.specs.declared.ground.TheConstants.{STYLE}
-use Rattle.picture.specs.Frame.{frame_of, step_of, top_of}
+use Rattle.picture.specs.Frame.{Frame, frame_of, step_of, top_of}
 use Rattle.picture.specs.Rows.{each, row_at, on_row}
 use Rattle.picture.specs.Sections.{slice_at, executed_in}
 use Rattle.picture.specs.Elements.{tick_text, line_text, name_text, again_text, job_text, slice_text, mark_text, mark_head}

@@ -6,11 +6,10 @@ use Rattle.task_sheet.specs.Sheet.{CriticalSection}
 use Rattle.ceiling_kernel.specs.declared.trace.Release.{Release}
 use Rattle.ceiling_kernel.specs.declared.trace.JobRecord.{JobRecord}
 use Rattle.ceiling_kernel.specs.declared.trace.Slice.{Slice}
-use Rattle.picture.specs.declared.frame.Frame.{Frame}
 use Rattle.picture.specs.declared.rows.Row.{Row}
 use Rattle.picture.specs.declared.marks.Mark.{Mark}
 use Rattle.picture.specs.declared.marks.Mark.TheVariants.{Arrival, Ready, Bound, Deadline}
-use Rattle.picture.specs.Frame.{x_of, end_of, right_of, top_of, unit_of, unit_name}
+use Rattle.picture.specs.Frame.{Frame, x_of, end_of, right_of, top_of, unit_of, unit_name}
 use Rattle.picture.specs.Rows.{each}
 use Rattle.picture.specs.Sections.{dark_from, dark_to, section_at, fits}
 

@@ -1,9 +1,13 @@
 -- How time and rows lie in the picture, in units of which ten are a pixel.
 use Rattle.std.specs.Prelude.{ℕ, ◌+◌, ◌*◌, ◌/◌, ◌%◌, ◌<◌, ◌≤◌, min, max, Bool, nat_le, ◌==◌, if◌then◌else◌, List, [], ◌∷◌, codes}
-use Rattle.picture.specs.declared.frame.Frame.{Frame}
 use Rattle.picture.specs.declared.rows.Row.{Row}
 
--- a span of time, and its width
+-- a span of time in microseconds, and its width
+pub record Frame : Type 0 where
+  pub until : ℕ
+  pub span : ℕ
+
+-- there is some time, within the horizon, and the width is within its limits
 pub record IsFrame (f : Frame) : Type 0 where
   pub some : 0 < f.until
   pub within : f.until ≤ 60000000

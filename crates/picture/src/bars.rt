@@ -1,90 +1,18 @@
 //! Slices, as bars.
 ghost use Rattle.std.specs.Prelude.{◌≡◌, ◌+◌, ◌≤◌, ◌<◌, ℕ, length, slice_index};
 ghost use Rattle.picture.specs.Puts.{Puts};
-ghost use Rattle.picture.specs.Frame.{IsFrame};
 ghost use Rattle.picture.specs.Sections.{counted};
 ghost use Rattle.picture.specs.Elements.{bar_text, slice_text};
 ghost use Rattle.picture.specs.Document.{slice_by, slices_text};
 
 use crate::boxes::bar_of;
 use crate::frame::{Frame, x_of};
-use crate::line::put;
-use crate::parts::put_darks;
+use crate::page::Page;
 use crate::rows::{Row, find_row};
 use crate::ticks::executed_after;
 use ceiling_kernel::{JobRecord, Slice};
 use std::io::Write;
-use streams::{Held, Watched, WriteFailed};
-
-// A slice.
-fn put_bar<W: Write + Drop>(
-    frame: Frame,
-    slice: Slice,
-    k: usize,
-    row: &Row,
-    held: &mut Held,
-    out: &mut Watched<W>,
-) -> Result<(), WriteFailed>
-    requires frame { IsFrame frame }
-    requires row { k ≤ 32 }
-    ensures { Puts W.contents out.old held.old out.new held.new result
-        (bar_text frame slice k row.now) }
-{
-    let bar = bar_of(x_of(frame, slice.start), x_of(frame, slice.stop), k);
-    let name = row.sheet.name();
-    let start = slice.start;
-    let stop = slice.stop;
-    put(
-        &format_args!(
-            "<path class=\"e\" d=\"{bar}\"><title>{name} {start} to {stop} us</title></path>\n"
-        ),
-        held,
-        out,
-    )
-}
-
-// A slice and its darker parts.
-fn put_whole<W: Write + Drop>(
-    frame: Frame,
-    executed: u64,
-    slice: Slice,
-    k: usize,
-    row: &Row,
-    held: &mut Held,
-    out: &mut Watched<W>,
-) -> Result<(), WriteFailed>
-    requires frame { IsFrame frame }
-    requires row { k ≤ 32 }
-    ensures { Puts W.contents out.old held.old out.new held.new result
-        (slice_text frame executed slice k row.now) }
-{
-    put_bar(frame, slice, k, row, held, out)?;
-    put_darks(frame, executed, slice, k, row, held, out)
-}
-
-// A slice in the row of the task of its job.
-fn put_slice<W: Write + Drop>(
-    frame: Frame,
-    rows: &[Row],
-    jobs: &[JobRecord],
-    executed: u64,
-    slice: Slice,
-    held: &mut Held,
-    out: &mut Watched<W>,
-) -> Result<(), WriteFailed>
-    requires frame { IsFrame frame }
-    requires few { length rows.now ≤ 32 }
-    ensures { Puts W.contents out.old held.old out.new held.new result
-        (slice_by frame rows.now jobs.now executed slice) }
-{
-    match jobs.get(slice.job) {
-        None => Ok(()),
-        Some(job) => match find_row(rows, job.name) {
-            None => Ok(()),
-            Some(k) => put_whole(frame, executed, slice, k, &rows[k], held, out),
-        },
-    }
-}
+use streams::WriteFailed;
 
 // How many ticks a job has executed; none where there is no such job.
 fn executed_by(executed: &[u64], job: usize) -> u64
@@ -105,27 +33,87 @@ fn count_slice(executed: &mut [u64], slice: Slice)
     }
 }
 
-// Each slice, by time. The ticks that each job has executed are counted; none were before.
-pub(crate) fn put_slices<W: Write + Drop>(
-    frame: Frame,
-    rows: &[Row],
-    jobs: &[JobRecord],
-    slices: &[Slice],
-    executed: &mut [u64],
-    held: &mut Held,
-    out: &mut Watched<W>,
-) -> Result<(), WriteFailed>
-    requires frame { IsFrame frame }
-    requires few { length rows.now ≤ 32 }
-    requires jobs { length executed.old ≡ length jobs.now }
-    requires none { (j : ℕ) → slice_index executed.old j ≡ 0 }
-    ensures { Puts W.contents out.old held.old out.new held.new result
-        (slices_text frame rows.now jobs.now slices.now) }
-{
-    for slice in slices {
-        let before = executed_by(executed, slice.job);
-        put_slice(frame, rows, jobs, before, *slice, held, out)?;
-        count_slice(executed, *slice);
+impl<W: Write + Drop> Page<'_, W> {
+    // A slice.
+    fn put_bar(
+        &mut self,
+        frame: Frame,
+        slice: Slice,
+        k: usize,
+        row: &Row,
+    ) -> Result<(), WriteFailed>
+        requires { k ≤ 32 }
+        ensures { Puts W.contents self.old self.new result (bar_text frame slice k row.now) }
+    {
+        let bar = bar_of(x_of(frame, slice.start), x_of(frame, slice.stop), k);
+        let name = row.sheet.name();
+        let start = slice.start;
+        let stop = slice.stop;
+        write!(
+            self,
+            "<path class=\"e\" d=\"{bar}\"><title>{name} {start} to {stop} us</title></path>\n"
+        )
     }
-    Ok(())
+
+    // A slice and its darker parts.
+    fn put_whole(
+        &mut self,
+        frame: Frame,
+        executed: u64,
+        slice: Slice,
+        k: usize,
+        row: &Row,
+    ) -> Result<(), WriteFailed>
+        requires { k ≤ 32 }
+        ensures { Puts W.contents self.old self.new result
+            (slice_text frame executed slice k row.now) }
+    {
+        self.put_bar(frame, slice, k, row)?;
+        self.put_darks(frame, executed, slice, k, row)
+    }
+
+    // A slice in the row of the task of its job.
+    fn put_slice(
+        &mut self,
+        frame: Frame,
+        rows: &[Row],
+        jobs: &[JobRecord],
+        executed: u64,
+        slice: Slice,
+    ) -> Result<(), WriteFailed>
+        requires { length rows.now ≤ 32 }
+        ensures { Puts W.contents self.old self.new result
+            (slice_by frame rows.now jobs.now executed slice) }
+    {
+        match jobs.get(slice.job) {
+            None => Ok(()),
+            Some(job) => match find_row(rows, job.name) {
+                None => Ok(()),
+                Some(k) => self.put_whole(frame, executed, slice, k, &rows[k]),
+            },
+        }
+    }
+
+    // Each slice, by time. The ticks that each job has executed are counted; none were before.
+    pub(crate) fn put_slices(
+        &mut self,
+        frame: Frame,
+        rows: &[Row],
+        jobs: &[JobRecord],
+        slices: &[Slice],
+        executed: &mut [u64],
+    ) -> Result<(), WriteFailed>
+        requires few { length rows.now ≤ 32 }
+        requires jobs { length executed.old ≡ length jobs.now }
+        requires none { (j : ℕ) → slice_index executed.old j ≡ 0 }
+        ensures { Puts W.contents self.old self.new result
+            (slices_text frame rows.now jobs.now slices.now) }
+    {
+        for slice in slices {
+            let before = executed_by(executed, slice.job);
+            self.put_slice(frame, rows, jobs, before, *slice)?;
+            count_slice(executed, *slice);
+        }
+        Ok(())
+    }
 }

@@ -1,21 +1,16 @@
 //! The whole picture.
 ghost use Rattle.std.specs.Prelude.{◌≡◌, ◌+◌, ◌≤◌, ℕ, length, slice_index, OnOk, OnErr, Err, IfOk, true};
 ghost use Rattle.picture.specs.Puts.{Puts};
-ghost use Rattle.picture.specs.Frame.{IsFrame};
 ghost use Rattle.std.specs.Io.KnownBytes.{Appends};
 ghost use Rattle.picture.specs.Document.{framed, document};
 
-use crate::bars::put_slices;
 use crate::frame::{Frame, frame_of};
-use crate::ground::put_ground;
-use crate::jobs::put_jobs;
-use crate::line::put_bytes;
-use crate::marks::put_all_marks;
+use crate::page::Page;
 use crate::rows::Row;
 use ceiling_kernel::{JobRecord, Release, Trace};
 use std::alloc::{AllocError, Global};
 use std::io::Write;
-use streams::{Held, Watched, WriteFailed};
+use streams::{Watched, WriteFailed};
 
 /// Why there is no picture.
 #[derive(Clone, Copy, Debug, PartialEq, Eq)]
@@ -46,28 +41,26 @@ fn no_ticks(alloc: Global, jobs: usize) -> Result<Vec<u64>, AllocError>
 
 // The document, with the counts of the ticks that each job executed.
 fn put_document<W: Write + Drop>(
+    page: &mut Page<'_, W>,
     frame: Frame,
     rows: &[Row],
     until: u64,
     releases: &[Release],
     trace: &Trace,
     executed: &mut [u64],
-    held: &mut Held,
-    out: &mut Watched<W>,
 ) -> Result<(), WriteFailed>
-    requires frame { IsFrame frame }
     requires few { length rows.now ≤ 32 }
     requires jobs { length executed.old ≡ length trace.now.jobs.items }
     requires none { (j : ℕ) → slice_index executed.old j ≡ 0 }
-    ensures { Puts W.contents out.old held.old out.new held.new result
+    ensures { Puts W.contents page.old page.new result
         (framed frame rows.now until releases.now trace.now) }
 {
     let jobs: &[JobRecord] = &trace.jobs;
-    put_ground(frame, rows, jobs.len(), until, held, out)?;
-    put_jobs(frame, rows, jobs, held, out)?;
-    put_slices(frame, rows, jobs, &trace.slices, executed, held, out)?;
-    put_all_marks(frame, rows, releases, held, out)?;
-    put_bytes(b"</svg>\n", held, out)
+    page.put_ground(frame, rows, jobs.len(), until)?;
+    page.put_jobs(frame, rows, jobs)?;
+    page.put_slices(frame, rows, jobs, &trace.slices, executed)?;
+    page.put_all_marks(frame, rows, releases)?;
+    page.put("</svg>\n")
 }
 
 // The document, sent whole.
@@ -88,11 +81,9 @@ fn put_all<W: Write + Drop>(
     ensures failed { OnErr result (output.new.has_failed ≡ true) }
 {
     let frame = frame_of(rows, until);
-    let mut held = Held::new();
-    put_document(
-        frame, rows, until, releases, trace, executed, &mut held, output,
-    )?;
-    held.send(output)
+    let mut page = Page::new(output);
+    put_document(&mut page, frame, rows, until, releases, trace, executed)?;
+    page.send()
 }
 
 /// Writes the picture of a run of these rows, the highest level first, whose trace ends at `until`, in microseconds:

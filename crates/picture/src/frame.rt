@@ -1,14 +1,27 @@
 //! How time and rows lie in the picture.
 ghost use Rattle.std.specs.Prelude.{◌≡◌, ◌+◌, ◌*◌, ◌<◌, ◌≤◌};
-ghost use Rattle.picture.specs.Frame.{IsFrame, frame_of, least_period, x_of, end_of, right_of, top_of, is_wide, decade_of, step_in, step_of, unit_of, unit_name};
+ghost use Rattle.picture.specs.Frame.{frame_of, least_period, x_of, end_of, right_of, top_of, is_wide, decade_of, step_in, step_of, unit_of, unit_name};
 
 use crate::rows::Row;
+use std::marker::Model;
 
 // A span of time in microseconds, and its width.
-#[derive(Clone, Copy, Debug, PartialEq, Eq)]
+#[derive(Clone, Copy)]
 pub(crate) struct Frame {
     pub(crate) until: u64,
     pub(crate) span: u64,
+}
+
+impl Model for Frame {
+    ghost use Rattle.picture.specs.Frame.{Frame, IsFrame};
+
+    ghost Value = { Frame };
+
+    ghost view = { λ f. record { until = f.until; span = f.span } };
+
+    ghost inverse = { λ f. record { until = f.until; span = f.span } };
+
+    ghost invariant = { λ f. IsFrame (record { until = f.until; span = f.span }) };
 }
 
 // The shortest period of the rows.
@@ -24,8 +37,7 @@ fn least_period(rows: &[Row]) -> u64
 
 // The frame of a run of the rows.
 pub(crate) fn frame_of(rows: &[Row], until: u64) -> Frame
-    ensures value { result ≡ frame_of rows.now until }
-    ensures frame { IsFrame result }
+    ensures { result ≡ frame_of rows.now until }
 {
     let least = least_period(rows).max(1);
     let until = until.min(60_000_000).max(1);
@@ -35,7 +47,6 @@ pub(crate) fn frame_of(rows: &[Row], until: u64) -> Frame
 
 // Where a time lies.
 pub(crate) fn x_of(frame: Frame, time: u64) -> u64
-    requires { IsFrame frame }
     ensures value { result ≡ x_of frame time }
     ensures within { result ≤ 159660 }
 {
@@ -44,7 +55,6 @@ pub(crate) fn x_of(frame: Frame, time: u64) -> u64
 
 // Where the time lies that comes so long after another.
 pub(crate) fn x_after(frame: Frame, time: u64, len: u64) -> u64
-    requires { IsFrame frame }
     ensures value { result ≡ x_of frame (time + len) }
     ensures within { result ≤ 159660 }
 {
@@ -55,7 +65,6 @@ pub(crate) fn x_after(frame: Frame, time: u64, len: u64) -> u64
 
 // Where the end lies.
 pub(crate) fn end_of(frame: Frame) -> u64
-    requires { IsFrame frame }
     ensures { result ≡ end_of frame }
 {
     160 + frame.span
@@ -72,7 +81,6 @@ pub(crate) fn top_of(k: usize) -> u64
 
 // Whether a step is wide enough.
 fn is_wide(frame: Frame, step: u64) -> bool
-    requires frame { IsFrame frame }
     requires step { step ≤ 5000000 }
     ensures { result ≡ is_wide frame step }
 {
@@ -81,7 +89,6 @@ fn is_wide(frame: Frame, step: u64) -> bool
 
 // The least power of ten of which five are wide enough.
 fn decade_of(frame: Frame) -> u64
-    requires { IsFrame frame }
     ensures value { result ≡ decade_of frame }
     ensures some { 0 < result }
     ensures within { result ≤ 1000000 }
@@ -105,7 +112,6 @@ fn decade_of(frame: Frame) -> u64
 
 // The first of a power of ten, two of it and five of it that is wide enough.
 fn step_in(frame: Frame, power: u64) -> u64
-    requires frame { IsFrame frame }
     requires some { 0 < power }
     requires within { power ≤ 1000000 }
     ensures value { result ≡ step_in frame power }
@@ -123,7 +129,6 @@ fn step_in(frame: Frame, power: u64) -> u64
 
 // The scale's step.
 pub(crate) fn step_of(frame: Frame) -> u64
-    requires { IsFrame frame }
     ensures value { result ≡ step_of frame }
     ensures some { 0 < result }
     ensures within { result ≤ 5000000 }

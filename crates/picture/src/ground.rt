@@ -1,288 +1,200 @@
 //! What stands still.
 ghost use Rattle.std.specs.Prelude.{◌≤◌, ◌<◌, length};
 ghost use Rattle.picture.specs.Puts.{Puts};
-ghost use Rattle.picture.specs.Frame.{IsFrame};
 ghost use Rattle.picture.specs.Elements.{tick_text, line_text, name_text, again_text};
 ghost use Rattle.picture.specs.declared.ground.TheConstants.{STYLE};
 ghost use Rattle.picture.specs.Document.{measures_text, title_text, head_text, ticks_text, lines_text, own_names, names_group, names_again, rows_text, ground_text};
 
 use crate::frame::{Frame, end_of, step_of, top_of, unit_name, unit_of, x_of};
-use crate::line::{put, put_bytes};
+use crate::page::Page;
 use crate::rows::Row;
 use std::io::Write;
-use streams::{Held, Watched, WriteFailed};
+use streams::WriteFailed;
 
 // How the elements look, the white ground, and what the marks mean.
 const STYLE: &str =
     "<style type=\"text/css\">text{font-family:sans-serif;font-size:110px;fill:#595959}.n{font-family:monospace;font-size:130px;font-weight:bold;fill:#1a1a1a}.k{font-family:monospace;font-size:110px;fill:#fff;text-anchor:middle;pointer-events:none}.s{text-anchor:middle}.g{stroke:#dcdcdc;stroke-width:10}.l{stroke:#8c8c8c;stroke-width:10}.w{fill:#e8eef4}.e{fill:#86b2dc}.h{fill:#17375e}.a{stroke:#1a1a1a;stroke-width:12;fill:none}.r{stroke:#8c8c8c;stroke-width:12;fill:none}.d{stroke:#1a1a1a;stroke-width:12;fill:#1a1a1a}.b{fill:#c24a00}</style>\n<rect width=\"100%\" height=\"100%\" fill=\"#fff\"/>\n<path class=\"e\" d=\"M160 70h280v160h-280z\"/><text x=\"540\" y=\"200\">executes</text>\n<path class=\"h\" d=\"M160 310h280v160h-280z\"/><text x=\"540\" y=\"440\">holds a lock</text>\n<path class=\"w\" d=\"M160 550h280v160h-280z\"/><text x=\"540\" y=\"680\">arrival to bound</text>\n<path class=\"w\" d=\"M160 790h220l60 26-60 27 60 27-60 27 60 26-60 27h-220z\"/><text x=\"540\" y=\"920\">not done</text>\n<path class=\"a\" d=\"M2200 100v100m-35-50l35-50 35 50\"/><text x=\"2440\" y=\"200\">arrival</text>\n<path class=\"r\" d=\"M2120 430H2280v-95\"/><text x=\"2440\" y=\"440\">ready later</text>\n<path class=\"d\" d=\"M2200 680v-100m0 100l-35-50h70z\"/><text x=\"2440\" y=\"680\">deadline</text>\n<path class=\"b\" d=\"M2230 960v-195h-60v15h40v180z\"/><text x=\"2440\" y=\"920\">bound on the response</text>\n";
 
-// The measures.
-fn put_measures<W: Write + Drop>(
-    frame: Frame,
-    high: u64,
-    held: &mut Held,
-    out: &mut Watched<W>,
-) -> Result<(), WriteFailed>
-    requires { IsFrame frame }
-    ensures { Puts W.contents out.old held.old out.new held.new result (measures_text frame high) }
-{
-    let wide = frame.span + 500;
-    let width = wide / 10;
-    let height = high / 10;
-    put(
-        &format_args!(
+impl<W: Write + Drop> Page<'_, W> {
+    // The measures.
+    fn put_measures(&mut self, frame: Frame, high: u64) -> Result<(), WriteFailed>
+        ensures { Puts W.contents self.old self.new result (measures_text frame high) }
+    {
+        let wide = frame.span + 500;
+        let width = wide / 10;
+        let height = high / 10;
+        write!(
+            self,
             "xmlns:xlink=\"http://www.w3.org/1999/xlink\" version=\"1.1\" width=\"{width}\" height=\"{height}\" viewBox=\"0 0 {wide} {high}\">\n"
-        ),
-        held,
-        out,
-    )
-}
+        )
+    }
 
-// The title.
-fn put_title<W: Write + Drop>(
-    rows: usize,
-    jobs: usize,
-    until: u64,
-    held: &mut Held,
-    out: &mut Watched<W>,
-) -> Result<(), WriteFailed>
-    ensures { Puts W.contents out.old held.old out.new held.new result
-        (title_text rows jobs until) }
-{
-    put(
-        &format_args!("<title>tasks: {rows}, jobs: {jobs}, until {until} us</title>\n"),
-        held,
-        out,
-    )
-}
+    // The title.
+    fn put_title(&mut self, rows: usize, jobs: usize, until: u64) -> Result<(), WriteFailed>
+        ensures { Puts W.contents self.old self.new result (title_text rows jobs until) }
+    {
+        write!(
+            self,
+            "<title>tasks: {rows}, jobs: {jobs}, until {until} us</title>\n"
+        )
+    }
 
-// The first lines.
-fn put_head<W: Write + Drop>(
-    frame: Frame,
-    rows: usize,
-    jobs: usize,
-    until: u64,
-    held: &mut Held,
-    out: &mut Watched<W>,
-) -> Result<(), WriteFailed>
-    requires frame { IsFrame frame }
-    requires few { rows ≤ 32 }
-    ensures { Puts W.contents out.old held.old out.new held.new result
-        (head_text frame rows jobs until) }
-{
-    put_bytes(
-        b"<?xml version=\"1.0\" encoding=\"UTF-8\"?>\n<svg xmlns=\"http://www.w3.org/2000/svg\" ",
-        held,
-        out,
-    )?;
-    put_measures(frame, top_of(rows) + 60, held, out)?;
-    put_title(rows, jobs, until, held, out)
-}
+    // The first lines.
+    fn put_head(
+        &mut self,
+        frame: Frame,
+        rows: usize,
+        jobs: usize,
+        until: u64,
+    ) -> Result<(), WriteFailed>
+        requires { rows ≤ 32 }
+        ensures { Puts W.contents self.old self.new result (head_text frame rows jobs until) }
+    {
+        self.put(
+            "<?xml version=\"1.0\" encoding=\"UTF-8\"?>\n<svg xmlns=\"http://www.w3.org/2000/svg\" ",
+        )?;
+        self.put_measures(frame, top_of(rows) + 60)?;
+        self.put_title(rows, jobs, until)
+    }
 
-// A line down through the rows, and its time.
-fn put_tick<W: Write + Drop>(
-    frame: Frame,
-    bottom: u64,
-    step: u64,
-    time: u64,
-    held: &mut Held,
-    out: &mut Watched<W>,
-) -> Result<(), WriteFailed>
-    requires { IsFrame frame }
-    ensures { Puts W.contents out.old held.old out.new held.new result
-        (tick_text frame bottom step time) }
-{
-    let x = x_of(frame, time);
-    let number = time / unit_of(step);
-    let unit = unit_name(step);
-    put(
-        &format_args!(
+    // A line down through the rows, and its time.
+    fn put_tick(
+        &mut self,
+        frame: Frame,
+        bottom: u64,
+        step: u64,
+        time: u64,
+    ) -> Result<(), WriteFailed>
+        ensures { Puts W.contents self.old self.new result (tick_text frame bottom step time) }
+    {
+        let x = x_of(frame, time);
+        let number = time / unit_of(step);
+        let unit = unit_name(step);
+        write!(
+            self,
             "<path class=\"g\" d=\"M{x} 1300V{bottom}\"/><text class=\"s\" x=\"{x}\" y=\"1260\">{number} {unit}</text>\n"
-        ),
-        held,
-        out,
-    )
-}
-
-// The scale.
-fn put_ticks<W: Write + Drop>(
-    frame: Frame,
-    bottom: u64,
-    step: u64,
-    held: &mut Held,
-    out: &mut Watched<W>,
-) -> Result<(), WriteFailed>
-    requires frame { IsFrame frame }
-    requires some { 0 < step }
-    requires within { step ≤ 5000000 }
-    ensures { Puts W.contents out.old held.old out.new held.new result
-        (ticks_text frame bottom step) }
-{
-    let count = frame.until / step + 1;
-    for i in 0..count {
-        put_tick(frame, bottom, step, i * step, held, out)?;
+        )
     }
-    Ok(())
-}
 
-// The line of a row.
-fn put_line<W: Write + Drop>(
-    frame: Frame,
-    k: usize,
-    held: &mut Held,
-    out: &mut Watched<W>,
-) -> Result<(), WriteFailed>
-    requires frame { IsFrame frame }
-    requires row { k ≤ 32 }
-    ensures { Puts W.contents out.old held.old out.new held.new result (line_text frame k) }
-{
-    let y = top_of(k) + 490;
-    let end = end_of(frame);
-    put(
-        &format_args!("<path class=\"l\" d=\"M160 {y}H{end}\"/>\n"),
-        held,
-        out,
-    )
-}
-
-// The lines of the rows.
-fn put_lines<W: Write + Drop>(
-    frame: Frame,
-    rows: &[Row],
-    held: &mut Held,
-    out: &mut Watched<W>,
-) -> Result<(), WriteFailed>
-    requires frame { IsFrame frame }
-    requires few { length rows.now ≤ 32 }
-    ensures { Puts W.contents out.old held.old out.new held.new result
-        (lines_text frame rows.now) }
-{
-    for k in 0..rows.len() {
-        put_line(frame, k, held, out)?;
+    // The scale.
+    fn put_ticks(&mut self, frame: Frame, bottom: u64, step: u64) -> Result<(), WriteFailed>
+        requires some { 0 < step }
+        requires within { step ≤ 5000000 }
+        ensures { Puts W.contents self.old self.new result (ticks_text frame bottom step) }
+    {
+        let count = frame.until / step + 1;
+        for i in 0..count {
+            self.put_tick(frame, bottom, step, i * step)?;
+        }
+        Ok(())
     }
-    Ok(())
-}
 
-// The name of a row.
-fn put_name<W: Write + Drop>(
-    k: usize,
-    row: &Row,
-    held: &mut Held,
-    out: &mut Watched<W>,
-) -> Result<(), WriteFailed>
-    requires { k ≤ 32 }
-    ensures { Puts W.contents out.old held.old out.new held.new result (name_text k row.now) }
-{
-    let y = top_of(k) + 140;
-    let name = row.sheet.name();
-    put(
-        &format_args!("<text class=\"n\" x=\"160\" y=\"{y}\">{name}</text>\n"),
-        held,
-        out,
-    )
-}
-
-// The names of the rows.
-fn put_own_names<W: Write + Drop>(
-    rows: &[Row],
-    held: &mut Held,
-    out: &mut Watched<W>,
-) -> Result<(), WriteFailed>
-    requires { length rows.now ≤ 32 }
-    ensures { Puts W.contents out.old held.old out.new held.new result (own_names rows.now) }
-{
-    for k in 0..rows.len() {
-        put_name(k, &rows[k], held, out)?;
+    // The line of a row.
+    fn put_line(&mut self, frame: Frame, k: usize) -> Result<(), WriteFailed>
+        requires { k ≤ 32 }
+        ensures { Puts W.contents self.old self.new result (line_text frame k) }
+    {
+        let y = top_of(k) + 490;
+        let end = end_of(frame);
+        write!(self, "<path class=\"l\" d=\"M160 {y}H{end}\"/>\n")
     }
-    Ok(())
-}
 
-// All names again, 300 pixels further.
-fn put_again<W: Write + Drop>(
-    i: u64,
-    held: &mut Held,
-    out: &mut Watched<W>,
-) -> Result<(), WriteFailed>
-    requires { i ≤ 60 }
-    ensures { Puts W.contents out.old held.old out.new held.new result (again_text i) }
-{
-    let x = 3000 * (i + 1);
-    put(
-        &format_args!("<use xlink:href=\"#n\" x=\"{x}\"/>\n"),
-        held,
-        out,
-    )
-}
-
-// The names again, wherever there is room.
-fn put_all_again<W: Write + Drop>(
-    frame: Frame,
-    held: &mut Held,
-    out: &mut Watched<W>,
-) -> Result<(), WriteFailed>
-    requires { IsFrame frame }
-    ensures { Puts W.contents out.old held.old out.new held.new result (names_again frame) }
-{
-    let count = (frame.span - 2000) / 3000;
-    for i in 0..count {
-        put_again(i, held, out)?;
+    // The lines of the rows.
+    fn put_lines(&mut self, frame: Frame, rows: &[Row]) -> Result<(), WriteFailed>
+        requires { length rows.now ≤ 32 }
+        ensures { Puts W.contents self.old self.new result (lines_text frame rows.now) }
+    {
+        for k in 0..rows.len() {
+            self.put_line(frame, k)?;
+        }
+        Ok(())
     }
-    Ok(())
-}
 
-// The names of the rows, as a group.
-fn put_group<W: Write + Drop>(
-    rows: &[Row],
-    held: &mut Held,
-    out: &mut Watched<W>,
-) -> Result<(), WriteFailed>
-    requires { length rows.now ≤ 32 }
-    ensures { Puts W.contents out.old held.old out.new held.new result (names_group rows.now) }
-{
-    put_bytes(b"<g id=\"n\">\n", held, out)?;
-    put_own_names(rows, held, out)?;
-    put_bytes(b"</g>\n", held, out)
-}
+    // The name of a row.
+    fn put_row_name(&mut self, k: usize, row: &Row) -> Result<(), WriteFailed>
+        requires { k ≤ 32 }
+        ensures { Puts W.contents self.old self.new result (name_text k row.now) }
+    {
+        let y = top_of(k) + 140;
+        let name = row.sheet.name();
+        write!(
+            self,
+            "<text class=\"n\" x=\"160\" y=\"{y}\">{name}</text>\n"
+        )
+    }
 
-// The scale, the lines and the names of the rows, and the names again.
-fn put_rows<W: Write + Drop>(
-    frame: Frame,
-    rows: &[Row],
-    held: &mut Held,
-    out: &mut Watched<W>,
-) -> Result<(), WriteFailed>
-    requires frame { IsFrame frame }
-    requires few { length rows.now ≤ 32 }
-    ensures { Puts W.contents out.old held.old out.new held.new result (rows_text frame rows.now) }
-{
-    put_ticks(frame, top_of(rows.len()), step_of(frame), held, out)?;
-    put_lines(frame, rows, held, out)?;
-    put_group(rows, held, out)?;
-    put_all_again(frame, held, out)
-}
+    // The names of the rows.
+    fn put_own_names(&mut self, rows: &[Row]) -> Result<(), WriteFailed>
+        requires { length rows.now ≤ 32 }
+        ensures { Puts W.contents self.old self.new result (own_names rows.now) }
+    {
+        for k in 0..rows.len() {
+            self.put_row_name(k, &rows[k])?;
+        }
+        Ok(())
+    }
 
-// How the elements look, and what they mean.
-fn put_style<W: Write + Drop>(held: &mut Held, out: &mut Watched<W>) -> Result<(), WriteFailed>
-    ensures { Puts W.contents out.old held.old out.new held.new result (STYLE.now) }
-{
-    put_bytes(STYLE.as_bytes(), held, out)
-}
+    // All names again, 300 pixels further.
+    fn put_again(&mut self, i: u64) -> Result<(), WriteFailed>
+        requires { i ≤ 60 }
+        ensures { Puts W.contents self.old self.new result (again_text i) }
+    {
+        let x = 3000 * (i + 1);
+        write!(self, "<use xlink:href=\"#n\" x=\"{x}\"/>\n")
+    }
 
-// What stands still.
-pub(crate) fn put_ground<W: Write + Drop>(
-    frame: Frame,
-    rows: &[Row],
-    jobs: usize,
-    until: u64,
-    held: &mut Held,
-    out: &mut Watched<W>,
-) -> Result<(), WriteFailed>
-    requires frame { IsFrame frame }
-    requires few { length rows.now ≤ 32 }
-    ensures { Puts W.contents out.old held.old out.new held.new result
-        (ground_text frame rows.now jobs until) }
-{
-    put_head(frame, rows.len(), jobs, until, held, out)?;
-    put_style(held, out)?;
-    put_rows(frame, rows, held, out)
+    // The names again, wherever there is room.
+    fn put_all_again(&mut self, frame: Frame) -> Result<(), WriteFailed>
+        ensures { Puts W.contents self.old self.new result (names_again frame) }
+    {
+        let count = (frame.span - 2000) / 3000;
+        for i in 0..count {
+            self.put_again(i)?;
+        }
+        Ok(())
+    }
+
+    // The names of the rows, as a group.
+    fn put_group(&mut self, rows: &[Row]) -> Result<(), WriteFailed>
+        requires { length rows.now ≤ 32 }
+        ensures { Puts W.contents self.old self.new result (names_group rows.now) }
+    {
+        self.put("<g id=\"n\">\n")?;
+        self.put_own_names(rows)?;
+        self.put("</g>\n")
+    }
+
+    // The scale, the lines and the names of the rows, and the names again.
+    fn put_rows(&mut self, frame: Frame, rows: &[Row]) -> Result<(), WriteFailed>
+        requires { length rows.now ≤ 32 }
+        ensures { Puts W.contents self.old self.new result (rows_text frame rows.now) }
+    {
+        self.put_ticks(frame, top_of(rows.len()), step_of(frame))?;
+        self.put_lines(frame, rows)?;
+        self.put_group(rows)?;
+        self.put_all_again(frame)
+    }
+
+    // How the elements look, and what they mean.
+    fn put_style(&mut self) -> Result<(), WriteFailed>
+        ensures { Puts W.contents self.old self.new result (STYLE.now) }
+    {
+        self.put(STYLE)
+    }
+
+    // What stands still.
+    pub(crate) fn put_ground(
+        &mut self,
+        frame: Frame,
+        rows: &[Row],
+        jobs: usize,
+        until: u64,
+    ) -> Result<(), WriteFailed>
+        requires { length rows.now ≤ 32 }
+        ensures { Puts W.contents self.old self.new result (ground_text frame rows.now jobs until) }
+    {
+        self.put_head(frame, rows.len(), jobs, until)?;
+        self.put_style()?;
+        self.put_rows(frame, rows)
+    }
 }

@@ -10,6 +10,7 @@ mod jobs;
 pub mod laws;
 mod line;
 mod marks;
+mod page;
 mod parts;
 mod rows;
 mod ticks;

@@ -1,18 +1,15 @@
-//! Texts, line after line, through bytes that are held back.
-ghost use Rattle.std.specs.Prelude.{◌≡◌, ◌+◌, ◌++◌, ◌≤◌, [], length, IfSome, OnOk, OnErr, true};
-ghost use Rattle.picture.specs.Puts.{Puts};
+//! Lines.
+ghost use Rattle.std.specs.Prelude.{◌≡◌, ◌+◌, ◌++◌, ◌≤◌, [], length, true};
 ghost use Rattle.picture.specs.declared.line.TheConstants.{ROOM};
 
-use std::fmt::Display;
 use std::io::{self, ErrorKind, Write};
-use streams::{Held, Watched, WriteFailed};
 
 // How long a line is at most.
 const ROOM: usize = 512;
 
 // A line. It lies in the value itself, and takes no memory.
 #[derive(Drop)]
-struct Line {
+pub(crate) struct Line {
     bytes: [u8; ROOM],
     len: usize,
 }
@@ -29,7 +26,7 @@ impl std::marker::Model for Line {
 }
 
 impl Line {
-    fn new() -> Line
+    pub(crate) fn new() -> Line
         ensures { result ≡ [] }
     {
         Line {
@@ -38,7 +35,7 @@ impl Line {
         }
     }
 
-    fn bytes(&self) -> &[u8]
+    pub(crate) fn bytes(&self) -> &[u8]
         ensures { result.now ≡ self.now }
     {
         &self.bytes[..self.len]
@@ -77,36 +74,4 @@ impl Write for Line {
     fn flush(&mut self) -> io::Result<()> {
         Ok(())
     }
-}
-
-// Puts a text behind what is held back. One that is longer than a line is written piece after piece.
-pub(crate) fn put<D: Display, W: Write + Drop>(
-    text: &D,
-    held: &mut Held,
-    out: &mut Watched<W>,
-) -> Result<(), WriteFailed>
-    ensures put { IfSome (D.output text.now)
-        (Puts W.contents out.old held.old out.new held.new result) }
-    ensures ok { OnOk result (out.new.has_failed ≡ out.old.has_failed) }
-    ensures failed { OnErr result (out.new.has_failed ≡ true) }
-{
-    let mut line = Line::new();
-    match write!(line, "{text}") {
-        Ok(()) => held.put(line.bytes(), out),
-        Err(_) => {
-            held.send(out)?;
-            write!(out, "{text}")
-        }
-    }
-}
-
-// Puts bytes behind what is held back.
-pub(crate) fn put_bytes<W: Write + Drop>(
-    text: &[u8],
-    held: &mut Held,
-    out: &mut Watched<W>,
-) -> Result<(), WriteFailed>
-    ensures { Puts W.contents out.old held.old out.new held.new result text.now }
-{
-    held.put(text, out)
 }

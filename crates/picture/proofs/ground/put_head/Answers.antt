@@ -1,5 +1,0 @@
-use Rattle.picture.proofs.Puts.{puts_both}
-use Rattle.picture.proofs.ground.put_head.Goals as goal
-
-pub returns : goal.returns
-returns g c = puts_both (puts_both c.in_ok-put_bytes.ensures (rw c.top_of.ensures.value at c.in_ok-put_measures.ensures)) c.put_title.ensures

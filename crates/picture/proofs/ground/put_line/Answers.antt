@@ -1,4 +1,0 @@
-use Rattle.picture.proofs.ground.put_line.Goals as goal
-
-pub returns : goal.returns
-returns g c = rw (← c.top_of.ensures.value) (rw (← c.end_of-end.ensures) c.put.ensures.put)

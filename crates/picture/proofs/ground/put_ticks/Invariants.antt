@@ -1,9 +1,0 @@
-use Rattle.std.specs.Prelude.{Ok}
-use Rattle.picture.specs.Rows.{each}
-use Rattle.picture.specs.Puts.{Puts}
-use Rattle.std.proofs.Common.{◌*◌}
-use Rattle.picture.specs.Elements.{tick_text}
-use Rattle.picture.proofs.ground.put_ticks.Given as goal
-
-abbrev pub invariant-loop-i : goal.invariant-loop-i
-invariant-loop-i g l = Puts g.W.Write.contents l.fn.out l.fn.held l.out l.held (Ok tt) (each l.i (λ i. tick_text l.fn.frame l.fn.bottom l.fn.step (i * l.fn.step)))

@@ -1,0 +1,12 @@
+use Rattle.std.specs.Prelude.{Ok}
+use Rattle.picture.specs.Rows.{each}
+use Rattle.picture.specs.Puts.{Puts}
+use Rattle.picture.specs.Document.{slice_in}
+use Rattle.picture.proofs.Counts.{AreCounts}
+use Rattle.picture.proofs.page.Page.put_slices.Given as goal
+
+abbrev pub invariant-loop-slice : goal.invariant-loop-slice
+invariant-loop-slice g l = record {
+  put : Puts g.W.Write.contents l.fn.self l.self (Ok tt) (each l.slice-index (slice_in l.fn.frame l.fn.rows l.fn.jobs l.fn.slices));
+  counts : AreCounts l.executed l.fn.jobs l.fn.slices l.slice-index;
+}
