@@ -16,8 +16,12 @@ use Rattle.assignment.specs.declared.placing.Placing.{Placing}
 use Rattle.assignment.specs.declared.placing.Placing.TheVariants.{Best, Stuck}
 use Rattle.assignment.specs.declared.verdict.Verdict.{Verdict}
 use Rattle.assignment.specs.declared.verdict.Verdict.TheVariants.{Admitted, Infeasible}
-use Rattle.desk_cli.specs.Admit.{placing_status, verdict_status}
-use Rattle.desk_cli.specs.Headroom.{AreLines, IsTaskLine, placing_order, verdict_order}
+use Rattle.preferences.specs.declared.preferred.Preference.{Preference}
+use Rattle.desk_cli.specs.Admit.{Admits, Places, placing_status, verdict_status}
+use Rattle.desk_cli.specs.Headroom.{AreLines, IsTaskLine, TellsPlaced, placing_order, verdict_order}
+use Rattle.desk_cli.specs.Sets.{HasSet}
+use Rattle.desk_cli.specs.declared.refusal.Refusal.{Refusal}
+use Rattle.desk_cli.specs.declared.refusal.Refusal.TheVariants as refusal
 use Rattle.desk_cli.specs.declared.status.Status.{Status}
 use Rattle.desk_cli.specs.declared.status.Status.TheVariants as status
 
@@ -51,6 +55,13 @@ order_same U (Best places) (Admitted a) placing set verdict same =
 order_same U (Stuck left) (Infeasible o) placing set verdict same = refl
 order_same U (Best places) (Infeasible o) placing set verdict same = absurd (subst WasYes (sym same) tt)
 order_same U (Stuck left) (Admitted a) placing set verdict same = absurd (subst WasYes same tt)
+
+-- what is told of a placed set is the answer on what the reader has
+pub admits_placed : (preference : Preference) (known : Option (List ℕ)) (U : List Task) (p : Placing) → Places preference known (Ok (U, p)) → (answer : Result Verdict Refusal) → TellsPlaced U answer
+    → Admits preference known answer
+admits_placed preference known U p placed (Ok v) told = (subst (λ (V : List Task). HasSet preference known V) (sym told.0) placed.0, told.1)
+admits_placed preference known U p placed (Err refusal.OutOfMemory) told = tt
+admits_placed preference known U p placed (Err _) told = absurd told
 
 -- what was put behind a first text, where nothing was held back, is written once that is sent
 pub known_after : (P : List ℕ → Type 0) (first : List ℕ) (before between after : Option (List ℕ)) (start held : List ℕ) → start ≡ [] → Appends between after held

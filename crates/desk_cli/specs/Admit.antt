@@ -1,6 +1,5 @@
 -- What `desk admit` answers and prints.
-use Rattle.std.specs.Prelude.{◌≡◌, ℕ, List, Option, Result, Ok, Err}
-use Rattle.std.specs.Io.KnownBytes.{Appends}
+use Rattle.std.specs.Prelude.{ℕ, List, Option, Result, Ok, Err}
 use Rattle.task_sheet.specs.Sheet.{Task}
 use Rattle.preferences.specs.declared.preferred.Preference.{Preference}
 use Rattle.task_sheet.specs.Verdicts.{IsVerdictOf}
@@ -11,7 +10,7 @@ use Rattle.assignment.specs.declared.placing.Placing.TheVariants.{Best, Stuck}
 use Rattle.assignment.specs.declared.verdict.Verdict.{Verdict}
 use Rattle.assignment.specs.declared.verdict.Verdict.TheVariants.{Admitted, Infeasible}
 use Rattle.desk_cli.specs.Lines.{verdict_lines}
-use Rattle.desk_cli.specs.Refusals.{refusal_line, status_of}
+use Rattle.desk_cli.specs.Printed.{Prints}
 use Rattle.desk_cli.specs.Sets.{HasNoSet, HasSet}
 use Rattle.desk_cli.specs.declared.refusal.Refusal.{Refusal}
 use Rattle.desk_cli.specs.declared.status.Status.{Status}
@@ -39,24 +38,12 @@ abbrev pub placing_status : Placing → Status
 placing_status (Best places) = status.Done
 placing_status (Stuck left) = status.Infeasible
 
--- what is printed of an answer, where a verdict has some lines
-abbrev pub said : (Verdict → List ℕ) → Result Verdict Refusal → List ℕ
-said lines (Ok v) = lines v
-said lines (Err r) = refusal_line r
-
--- the exit status of an answer
-abbrev pub status_said : Result Verdict Refusal → Status
-status_said (Ok v) = verdict_status v
-status_said (Err r) = status_of r
-
--- an answer on what the reader had is printed after what the writer held, and the status is the answer's
+-- the answer on what the reader had is printed after what the writer held, where a verdict has some lines
 abbrev pub Says :
     (Verdict → List ℕ) → Preference → Option (List ℕ) → (before after : Option (List ℕ)) → Status
     → Type 0
 Says lines preference known before after s =
-    (answer : Result Verdict Refusal) × Admits preference known answer
-    × Appends before after (said lines answer)
-    × (s ≡ status_said answer)
+    Prints (Admits preference known) lines verdict_status before after s
 
 -- the lines of a verdict
 abbrev pub lines_of : Verdict → List ℕ

@@ -1,6 +1,5 @@
 -- What `desk check` answers and prints.
 use Rattle.std.specs.Prelude.{◌≡◌, ℕ, List, codes, Option, Some, Result, Ok, Err}
-use Rattle.std.specs.Io.KnownBytes.{Appends}
 use Rattle.preferences.specs.declared.preferred.Preference.{Preference}
 use Rattle.task_sheet.specs.Sheet.{Task}
 use Rattle.task_sheet.specs.Orders.{IsBest, IsFeasible}
@@ -11,7 +10,7 @@ use Rattle.cert_checker.specs.Faults.{check_fault}
 use Rattle.cert_checker.specs.Answers.{kind_of, order_in}
 use Rattle.cert_checker.specs.declared.checking.Checked.{Checked}
 use Rattle.cert_checker.specs.declared.checking.Checked.TheVariants.{Best, NoOrder}
-use Rattle.desk_cli.specs.Refusals.{refusal_line, status_of}
+use Rattle.desk_cli.specs.Printed.{Prints}
 use Rattle.desk_cli.specs.Sets.{OnBoth}
 use Rattle.desk_cli.specs.declared.refusal.Refusal.{Refusal}
 use Rattle.desk_cli.specs.declared.refusal.Refusal.TheVariants as refusal
@@ -43,20 +42,9 @@ abbrev pub checked_line : Checked → List ℕ
 checked_line Best = codes "best\n"
 checked_line NoOrder = codes "no order\n"
 
--- what is printed of an answer
-abbrev pub checked_said : Result Checked Refusal → List ℕ
-checked_said (Ok kind) = checked_line kind
-checked_said (Err r) = refusal_line r
-
--- the exit status of an answer
-abbrev pub checked_status : Result Checked Refusal → Status
-checked_status (Ok kind) = status.Done
-checked_status (Err r) = status_of r
-
--- an answer on what the readers had is printed after what the writer held, and the status is the answer's
+-- the answer on what the readers had is printed after what the writer held, and the status is the answer's
 abbrev pub SaysChecked :
     Preference → (set certificate : Option (List ℕ)) → (before after : Option (List ℕ)) → Status
     → Type 0
 SaysChecked preference set certificate before after s =
-    (answer : Result Checked Refusal) × Checks preference set certificate answer
-    × Appends before after (checked_said answer) × (s ≡ checked_status answer)
+    Prints (Checks preference set certificate) checked_line (λ _. status.Done) before after s

@@ -1,6 +1,5 @@
 -- What `desk draw` prints: the answer of `desk simulate`, as a picture.
-use Rattle.std.specs.Prelude.{◌≡◌, ℕ, List, [], ◌∷◌, ◌++◌, length, Option, Result, Ok, Err}
-use Rattle.std.specs.Io.KnownBytes.{Appends}
+use Rattle.std.specs.Prelude.{ℕ, List, [], ◌∷◌, ◌++◌, length, Option}
 use Rattle.preferences.specs.declared.preferred.Preference.{Preference}
 use Rattle.task_sheet.specs.Sheet.{Task, task_at}
 use Rattle.task_sheet.specs.Indexes.{indexes_of, listed_below}
@@ -10,9 +9,8 @@ use Rattle.assignment.specs.Placings.{tasks_of_places}
 use Rattle.picture.specs.Document.{document}
 use Rattle.picture.specs.declared.rows.Row.{Row}
 use Rattle.desk_cli.specs.Lines.{infeasible_line}
-use Rattle.desk_cli.specs.Refusals.{refusal_line}
-use Rattle.desk_cli.specs.Simulate.{Simulates, simulated_status}
-use Rattle.desk_cli.specs.declared.refusal.Refusal.{Refusal}
+use Rattle.desk_cli.specs.Printed.{Prints}
+use Rattle.desk_cli.specs.Simulate.{Simulates, simulation_status}
 use Rattle.desk_cli.specs.declared.simulate.Run.{Run}
 use Rattle.desk_cli.specs.declared.simulate.Simulated.{Simulated}
 use Rattle.desk_cli.specs.declared.simulate.Simulated.TheVariants.{Infeasible, Ran}
@@ -41,15 +39,10 @@ abbrev pub drawing_said : List Task → Simulated → List ℕ
 drawing_said U (Ran run) = picture_of U run
 drawing_said U (Infeasible left) = infeasible_line U (listed_below (length U) (indexes_of left))
 
--- what is printed of an answer
-abbrev pub drawn_said : Result (List Task × Simulated) Refusal → List ℕ
-drawn_said (Ok answer) = drawing_said answer.0 answer.1
-drawn_said (Err r) = refusal_line r
-
--- an answer on what the readers had is printed after what the writer held, and the status is the answer's
+-- the answer on what the readers had is printed after what the writer held, and the status is the answer's
 abbrev pub SaysDrawn :
     Preference → (set releases : Option (List ℕ)) → (before after : Option (List ℕ)) → Status
     → Type 0
 SaysDrawn preference set releases before after s =
-    (answer : Result (List Task × Simulated) Refusal) × Simulates preference set releases answer
-    × Appends before after (drawn_said answer) × (s ≡ simulated_status answer)
+    Prints (Simulates preference set releases) (λ found. drawing_said found.0 found.1)
+    (λ found. simulation_status found.1) before after s

@@ -1,6 +1,5 @@
 -- What `desk explain` answers and prints.
-use Rattle.std.specs.Prelude.{◌≡◌, ℕ, List, ◌++◌, Option, Result, Ok, Err}
-use Rattle.std.specs.Io.KnownBytes.{Appends}
+use Rattle.std.specs.Prelude.{ℕ, List, ◌++◌, Option, Result, Ok, Err}
 use Rattle.preferences.specs.declared.preferred.Preference.{Preference}
 use Rattle.task_sheet.specs.Sheet.{Task}
 use Rattle.assignment.specs.declared.placing.Placing.{Placing}
@@ -9,7 +8,7 @@ use Rattle.explain.specs.Lines.{explanation_lines}
 use Rattle.explain.specs.declared.explanation.Explanation.{Explanation}
 use Rattle.desk_cli.specs.Admit.{Places, placing_status}
 use Rattle.desk_cli.specs.Headroom.{placing_first}
-use Rattle.desk_cli.specs.Refusals.{refusal_line, status_of}
+use Rattle.desk_cli.specs.Printed.{Prints}
 use Rattle.desk_cli.specs.declared.refusal.Refusal.{Refusal}
 use Rattle.desk_cli.specs.declared.status.Status.{Status}
 
@@ -25,19 +24,13 @@ AnswersExplained preference known (Ok e) =
     Places preference known (Ok (e.set, e.placing)) × Explains e.set e.placing e.explanation
 AnswersExplained preference known (Err r) = Places preference known (Err r)
 
--- what is printed of an answer: the first line of the placing, and then what explains it
-abbrev pub explained_text : Result ExplainedData Refusal → List ℕ
-explained_text (Ok e) = placing_first e.set e.placing ++ explanation_lines e.set e.explanation
-explained_text (Err r) = refusal_line r
+-- what is printed of an explained placing: its first line, and then what explains it
+abbrev pub explained_lines : ExplainedData → List ℕ
+explained_lines e = placing_first e.set e.placing ++ explanation_lines e.set e.explanation
 
--- the exit status of an answer
-abbrev pub explained_status : Result ExplainedData Refusal → Status
-explained_status (Ok e) = placing_status e.placing
-explained_status (Err r) = status_of r
-
--- an answer on what the reader had is printed after what the writer held, and the status is the answer's
+-- the answer on what the reader had is printed after what the writer held, and the status is the answer's
 abbrev pub SaysExplained : Preference → Option (List ℕ) → (before after : Option (List ℕ)) → Status
     → Type 0
 SaysExplained preference known before after s =
-    (answer : Result ExplainedData Refusal) × AnswersExplained preference known answer
-    × Appends before after (explained_text answer) × (s ≡ explained_status answer)
+    Prints (AnswersExplained preference known) explained_lines (λ e. placing_status e.placing)
+    before after s

@@ -114,6 +114,13 @@ TellsPlaced U (Ok v) = (set_of v ≡ U) × IsVerdictOf (set_of v) (verdict_of v)
 TellsPlaced U (Err refusal.OutOfMemory) = Unit {0}
 TellsPlaced U (Err _) = ⊥
 
+-- such an answer is printed after what the writer held, with its status
+abbrev pub SaysPlaced : List Task → (before after : Option (List ℕ)) → Status → Type 0
+SaysPlaced U before after s =
+    (answer : Result Verdict Refusal) × (text : List ℕ) × TellsPlaced U answer
+    × Tells answer text s
+    × Appends before after text
+
 -- an answer on what the reader had is printed after what the writer held, with its status
 abbrev pub SaysHeadroom : Preference → Option (List ℕ) → (before after : Option (List ℕ)) → Status
     → Type 0

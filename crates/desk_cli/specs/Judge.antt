@@ -1,7 +1,6 @@
 -- What `desk judge` answers and prints.
-use Rattle.std.specs.Prelude.{◌≡◌, ℕ, List, Option, Result, Ok, Err, if◌then◌else◌}
+use Rattle.std.specs.Prelude.{ℕ, List, Option, Result, Ok, Err, if◌then◌else◌}
 use Rattle.std.specs.Global.{Vec}
-use Rattle.std.specs.Io.KnownBytes.{Appends}
 use Rattle.preferences.specs.declared.preferred.Preference.{Preference}
 use Rattle.task_sheet.specs.Sheet.{Task}
 use Rattle.judge.specs.Faults.{IsFault, settings_fault}
@@ -9,7 +8,7 @@ use Rattle.judge.specs.Judgements.{AllJudged, all_meet, tasks_of}
 use Rattle.judge.specs.Lines.{judged_lines}
 use Rattle.judge.specs.Node.{IsNodeOrder}
 use Rattle.judge.specs.declared.judging.Judged.{Judged}
-use Rattle.desk_cli.specs.Refusals.{refusal_line, status_of}
+use Rattle.desk_cli.specs.Printed.{Prints}
 use Rattle.desk_cli.specs.Sets.{HaveBoth, OnBoth}
 use Rattle.desk_cli.specs.declared.refusal.Refusal.{Refusal}
 use Rattle.desk_cli.specs.declared.refusal.Refusal.TheVariants as refusal
@@ -35,24 +34,14 @@ Judges preference set settings (Ok judged) =
     × JudgesText judged.0 text (Ok judged.1)
 Judges preference set settings (Err r) = OnBoth JudgesText preference set settings (Err r)
 
--- what is printed of an answer
-abbrev pub judged_said : Result (List Task × Vec Judged) Refusal → List ℕ
-judged_said (Ok judged) = judged_lines judged.0 judged.1.items
-judged_said (Err r) = refusal_line r
-
 -- the exit status of an order
 abbrev pub judged_status : List Judged → Status
 judged_status judged = if all_meet judged then status.Done else status.Infeasible
 
--- the exit status of an answer
-abbrev pub judged_code : Result (List Task × Vec Judged) Refusal → Status
-judged_code (Ok judged) = judged_status judged.1.items
-judged_code (Err r) = status_of r
-
--- an answer on what the readers had is printed after what the writer held, and the status is the answer's
+-- the answer on what the readers had is printed after what the writer held, and the status is the answer's
 abbrev pub SaysJudged :
     Preference → (set settings : Option (List ℕ)) → (before after : Option (List ℕ)) → Status
     → Type 0
 SaysJudged preference set settings before after s =
-    (answer : Result (List Task × Vec Judged) Refusal) × Judges preference set settings answer
-    × Appends before after (judged_said answer) × (s ≡ judged_code answer)
+    Prints (Judges preference set settings) (λ found. judged_lines found.0 found.1.items)
+    (λ found. judged_status found.1.items) before after s

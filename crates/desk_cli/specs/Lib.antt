@@ -6,6 +6,7 @@ pub mod Explain
 pub mod Headroom
 pub mod Judge
 pub mod Lines
+pub mod Outcomes
 pub mod Play
 pub mod Printed
 pub mod ReadBack

@@ -1,7 +1,8 @@
--- What is printed of lines that take memory.
-use Rattle.std.specs.Prelude.{◌≡◌, ◌⊎◌, ℕ, List, Option}
+-- What is printed of an answer, and of lines that take memory.
+use Rattle.std.specs.Prelude.{◌≡◌, ◌⊎◌, ℕ, List, Option, Result, Ok, Err}
 use Rattle.std.specs.Io.KnownBytes.{Appends}
-use Rattle.desk_cli.specs.Refusals.{refusal_line}
+use Rattle.desk_cli.specs.Refusals.{refusal_line, status_of}
+use Rattle.desk_cli.specs.declared.refusal.Refusal.{Refusal}
 use Rattle.desk_cli.specs.declared.refusal.Refusal.TheVariants as refusal
 use Rattle.desk_cli.specs.declared.status.Status.{Status}
 use Rattle.desk_cli.specs.declared.status.Status.TheVariants as status
@@ -11,3 +12,21 @@ abbrev pub IsPrinted : (before after : Option (List ℕ)) → List ℕ → Statu
 IsPrinted before after text done s =
     (Appends before after text × (s ≡ done))
     ⊎ (Appends before after (refusal_line refusal.OutOfMemory) × (s ≡ status.OutOfMemory))
+
+-- what is printed of an answer: the lines of what was found, or that of the refusal
+abbrev pub said : {X : Type 0} → (X → List ℕ) → Result X Refusal → List ℕ
+said lines (Ok x) = lines x
+said lines (Err r) = refusal_line r
+
+-- the exit status of an answer
+abbrev pub status_said : {X : Type 0} → (X → Status) → Result X Refusal → Status
+status_said done (Ok x) = done x
+status_said done (Err r) = status_of r
+
+-- an answer is printed after what the writer held, and the status is the answer's
+abbrev pub Prints :
+    {X : Type 0} → (Result X Refusal → Type 0) → (X → List ℕ) → (X → Status)
+    → (before after : Option (List ℕ)) → Status → Type 0
+Prints {X} answers lines done before after s =
+    (answer : Result X Refusal) × answers answer × Appends before after (said lines answer)
+    × (s ≡ status_said done answer)

@@ -1,14 +1,13 @@
 -- What `desk releases` answers and prints.
 use Rattle.std.specs.Prelude.{◌≡◌, ◌⊎◌, ℕ, List, None, Option, Result, Ok, Err}
 use Rattle.std.specs.Global.{Vec}
-use Rattle.std.specs.Io.KnownBytes.{Appends}
 use Rattle.preferences.specs.declared.preferred.Preference.{Preference}
 use Rattle.task_sheet.specs.Sheet.{Task}
 use Rattle.ceiling_kernel.specs.Releases.{IsRefusal}
 use Rattle.ceiling_kernel.specs.declared.trace.Release.{Release}
 use Rattle.release_list.specs.Densest.{densest_of, list_refusal}
 use Rattle.release_list.specs.Text.{list_lines}
-use Rattle.desk_cli.specs.Refusals.{refusal_line, status_of}
+use Rattle.desk_cli.specs.Printed.{Prints}
 use Rattle.desk_cli.specs.Sets.{HasNoSet, HasSet}
 use Rattle.desk_cli.specs.declared.refusal.Refusal.{Refusal}
 use Rattle.desk_cli.specs.declared.refusal.Refusal.TheVariants as refusal
@@ -29,19 +28,9 @@ ListsDensest preference until known (Ok releases) =
 ListsDensest preference until known (Err r) =
     HasNoSet known r ⊎ ((U : List Task) × HasSet preference known U × ListsOf until U (Err r))
 
--- what is printed of an answer
-abbrev pub listed_said : ℕ → Result (Vec Release) Refusal → List ℕ
-listed_said until (Ok releases) = list_lines until releases.items
-listed_said until (Err r) = refusal_line r
-
--- the exit status of an answer
-abbrev pub listed_status : Result (Vec Release) Refusal → Status
-listed_status (Ok releases) = status.Done
-listed_status (Err r) = status_of r
-
--- an answer on what the reader had is printed after what the writer held, and the status is the answer's
+-- the answer on what the reader had is printed after what the writer held, and the status is the answer's
 abbrev pub SaysList : Preference → ℕ → Option (List ℕ) → (before after : Option (List ℕ)) → Status
     → Type 0
 SaysList preference until known before after s =
-    (answer : Result (Vec Release) Refusal) × ListsDensest preference until known answer
-    × Appends before after (listed_said until answer) × (s ≡ listed_status answer)
+    Prints (ListsDensest preference until known) (λ releases. list_lines until releases.items)
+    (λ _. status.Done) before after s

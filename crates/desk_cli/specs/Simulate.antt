@@ -1,6 +1,5 @@
 -- What `desk simulate` answers and prints.
 use Rattle.std.specs.Prelude.{◌≡◌, ℕ, List, length, Option, Result, Ok, Err}
-use Rattle.std.specs.Io.KnownBytes.{Appends}
 use Rattle.preferences.specs.declared.preferred.Preference.{Preference}
 use Rattle.task_sheet.specs.Sheet.{Task}
 use Rattle.task_sheet.specs.Indexes.{indexes_of, listed_below}
@@ -12,7 +11,7 @@ use Rattle.ceiling_kernel.specs.Runs.{Runs}
 use Rattle.ceiling_kernel.specs.declared.trace.Release.{Release}
 use Rattle.ceiling_kernel.specs.declared.trace.Trace.{Trace}
 use Rattle.desk_cli.specs.Lines.{infeasible_line}
-use Rattle.desk_cli.specs.Refusals.{refusal_line, status_of}
+use Rattle.desk_cli.specs.Printed.{Prints}
 use Rattle.desk_cli.specs.ReleasesText.{list_in}
 use Rattle.desk_cli.specs.Sets.{HaveBoth, OnBoth}
 use Rattle.desk_cli.specs.TextFaults.{IsFault}
@@ -65,25 +64,15 @@ abbrev pub simulation_said : List Task → Simulated → List ℕ
 simulation_said U (Ran run) = trace_lines run.trace
 simulation_said U (Infeasible left) = infeasible_line U (listed_below (length U) (indexes_of left))
 
--- what is printed of an answer
-abbrev pub simulated_said : Result (List Task × Simulated) Refusal → List ℕ
-simulated_said (Ok answer) = simulation_said answer.0 answer.1
-simulated_said (Err r) = refusal_line r
-
 -- the exit status of what came of a set
 abbrev pub simulation_status : Simulated → Status
 simulation_status (Ran run) = status.Done
 simulation_status (Infeasible left) = status.Infeasible
 
--- the exit status of an answer
-abbrev pub simulated_status : Result (List Task × Simulated) Refusal → Status
-simulated_status (Ok answer) = simulation_status answer.1
-simulated_status (Err r) = status_of r
-
--- an answer on what the readers had is printed after what the writer held, and the status is the answer's
+-- the answer on what the readers had is printed after what the writer held, and the status is the answer's
 abbrev pub SaysSimulated :
     Preference → (set releases : Option (List ℕ)) → (before after : Option (List ℕ)) → Status
     → Type 0
 SaysSimulated preference set releases before after s =
-    (answer : Result (List Task × Simulated) Refusal) × Simulates preference set releases answer
-    × Appends before after (simulated_said answer) × (s ≡ simulated_status answer)
+    Prints (Simulates preference set releases) (λ found. simulation_said found.0 found.1)
+    (λ found. simulation_status found.1) before after s

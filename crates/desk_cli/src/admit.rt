@@ -1,8 +1,7 @@
 //! `desk admit`.
-ghost use Rattle.std.specs.Prelude.{◌≡◌, ◌⊎◌, true, false, Err, Result};
-ghost use Rattle.std.specs.Io.KnownBytes.{Appends};
+ghost use Rattle.std.specs.Prelude.{◌≡◌};
 ghost use Rattle.desk_cli.specs.Admit.{Admits, Places, Says, lines_of, placing_status, verdict_status};
-ghost use Rattle.streams.specs.Inputs.{IsDisturbed, IsWithinTurns};
+ghost use Rattle.desk_cli.specs.Outcomes.{IsCarriedOut, IsRead, failed_read};
 
 use crate::answer::placing_text;
 use crate::audience::Audience;
@@ -16,7 +15,7 @@ use preferences::Preference;
 use std::alloc::Global;
 use std::io::{Read, Write};
 use std::sync::Arc;
-use streams::{InputFault, Watched};
+use streams::Watched;
 use task_sheet::TaskSet;
 
 // The verdict of the set that the reader has, or why there is none.
@@ -27,10 +26,7 @@ pub(crate) fn decide<R: Read + Drop, P: Audience>(
     people: &mut P,
 ) -> Result<Verdict, Refusal>
     ensures answer { Admits preference (R.remaining set.old.inner) result }
-    ensures failed { result ≡ Err (Refusal.Input InputFault.ReadFailed) → IsDisturbed set.new }
-    ensures answered { set.old.has_failed ≡ false → set.new.has_failed ≡ true
-        → result ≡ Err (Refusal.Input InputFault.ReadFailed) }
-    ensures turns { IsWithinTurns set.old set.new }
+    ensures read { IsRead failed_read set.old set.new result }
 {
     let tasks = read_one(alloc, preference, set, people)?;
     let verdict = assign(alloc, Arc::new(alloc, tasks)?)?;
@@ -46,10 +42,7 @@ pub(crate) fn place<R: Read + Drop, P: Audience>(
     people: &mut P,
 ) -> Result<(TaskSet, Placing), Refusal>
     ensures answer { Places preference (R.remaining set.old.inner) result }
-    ensures failed { result ≡ Err (Refusal.Input InputFault.ReadFailed) → IsDisturbed set.new }
-    ensures answered { set.old.has_failed ≡ false → set.new.has_failed ≡ true
-        → result ≡ Err (Refusal.Input InputFault.ReadFailed) }
-    ensures turns { IsWithinTurns set.old set.new }
+    ensures read { IsRead failed_read set.old set.new result }
 {
     let tasks = read_one(alloc, preference, set, people)?;
     let table = LockTable::new(alloc, &tasks)?;
@@ -85,17 +78,8 @@ pub fn run_admit<R: Read + Drop, W: Write + Drop, P: Audience>(
     output: &mut Watched<W>,
     people: &mut P,
 ) -> Status
-    ensures printed { output.new.has_failed ≡ false
-        → Says lines_of preference (R.remaining set.old.inner)
-        (W.contents output.old.inner) (W.contents output.new.inner) result }
-    ensures failed { result ≡ Status.InputOrOutputFailed
-        → IsDisturbed set.new ⊎ (output.new.has_failed ≡ true) }
-    ensures unread { set.old.has_failed ≡ false → set.new.has_failed ≡ true
-        → output.old.has_failed ≡ false
-        → result ≡ Status.InputOrOutputFailed }
-    ensures unwritten { output.old.has_failed ≡ false → output.new.has_failed ≡ true
-        → result ≡ Status.InputOrOutputFailed }
-    ensures turns { IsWithinTurns set.old set.new }
+    ensures { IsCarriedOut (Says lines_of preference) R.remaining W.contents
+        set.old set.new output.old output.new result }
 {
     match place(alloc, preference, set, people) {
         Ok((tasks, placing)) => match placing_text(alloc, &tasks, &placing) {

@@ -1,10 +1,8 @@
 //! `desk certify`.
-ghost use Rattle.std.specs.Prelude.{◌≡◌, ◌⊎◌, true, false};
-ghost use Rattle.std.specs.Io.KnownBytes.{Appends};
 ghost use Rattle.certificate.specs.Spelling.{spelling};
 ghost use Rattle.desk_cli.specs.Admit.{Says};
 ghost use Rattle.desk_cli.specs.Certify.{certificate_lines};
-ghost use Rattle.streams.specs.Inputs.{IsDisturbed, IsWithinTurns};
+ghost use Rattle.desk_cli.specs.Outcomes.{IsCarriedOut, IsShown};
 
 use crate::admit::{decide, status_of};
 use crate::audience::Audience;
@@ -23,14 +21,7 @@ fn print_certificate<W: Write + Drop>(
     status: Status,
     output: &mut Watched<W>,
 ) -> Status
-    ensures printed { output.new.has_failed ≡ false
-        → Appends (W.contents output.old.inner) (W.contents output.new.inner)
-        (spelling certificate.now) }
-    ensures status { output.new.has_failed ≡ false → result ≡ status }
-    ensures failed { result ≡ Status.InputOrOutputFailed
-        → (status ≡ Status.InputOrOutputFailed) ⊎ (output.new.has_failed ≡ true) }
-    ensures unwritten { output.old.has_failed ≡ false → output.new.has_failed ≡ true
-        → result ≡ Status.InputOrOutputFailed }
+    ensures { IsShown W.contents output.old output.new (spelling certificate.now) status result }
 {
     match certificate.write(output) {
         Ok(()) => status,
@@ -47,17 +38,8 @@ pub fn run_certify<R: Read + Drop, W: Write + Drop, P: Audience>(
     output: &mut Watched<W>,
     people: &mut P,
 ) -> Status
-    ensures printed { output.new.has_failed ≡ false
-        → Says certificate_lines preference (R.remaining set.old.inner)
-        (W.contents output.old.inner) (W.contents output.new.inner) result }
-    ensures failed { result ≡ Status.InputOrOutputFailed
-        → IsDisturbed set.new ⊎ (output.new.has_failed ≡ true) }
-    ensures unread { set.old.has_failed ≡ false → set.new.has_failed ≡ true
-        → output.old.has_failed ≡ false
-        → result ≡ Status.InputOrOutputFailed }
-    ensures unwritten { output.old.has_failed ≡ false → output.new.has_failed ≡ true
-        → result ≡ Status.InputOrOutputFailed }
-    ensures turns { IsWithinTurns set.old set.new }
+    ensures { IsCarriedOut (Says certificate_lines preference) R.remaining W.contents
+        set.old set.new output.old output.new result }
 {
     match decide(alloc, preference, set, people) {
         Ok(verdict) => match Certificate::of(alloc, &verdict) {

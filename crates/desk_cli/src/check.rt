@@ -1,7 +1,7 @@
 //! `desk check`.
-ghost use Rattle.std.specs.Prelude.{◌≡◌, ◌⊎◌, ◌<◌, ℕ, List, length, Some, true, false, Err};
+ghost use Rattle.std.specs.Prelude.{◌≡◌};
 ghost use Rattle.desk_cli.specs.Check.{Checks, ChecksText, SaysChecked, checked_line};
-ghost use Rattle.streams.specs.Inputs.{IsDisturbed, IsWithinTurns};
+ghost use Rattle.desk_cli.specs.Outcomes.{AreRead, IsCarriedOutOnBoth, failed_read};
 
 use crate::audience::{Audience, Which};
 use crate::output::{print, refuse};
@@ -13,7 +13,7 @@ use certificate::read;
 use preferences::Preference;
 use std::alloc::Global;
 use std::io::{Read, Write};
-use streams::{InputFault, Watched};
+use streams::Watched;
 use task_sheet::TaskSet;
 
 // What a certificate's text shows of a set.
@@ -35,17 +35,8 @@ fn checked<R: Read + Drop, S: Read + Drop, P: Audience>(
 ) -> Result<Checked, Refusal>
     ensures answer { Checks preference (R.remaining set.old.inner)
         (S.remaining certificate.old.inner) result }
-    ensures failed { result ≡ Err (Refusal.Input InputFault.ReadFailed)
-        → IsDisturbed set.new ⊎ IsDisturbed certificate.new }
-    ensures answered { set.old.has_failed ≡ false → certificate.old.has_failed ≡ false
-        → (set.new.has_failed ≡ true) ⊎ (certificate.new.has_failed ≡ true)
-        → result ≡ Err (Refusal.Input InputFault.ReadFailed) }
-    ensures turns { IsWithinTurns set.old set.new × IsWithinTurns certificate.old certificate.new }
-    ensures first_too_long { (all : List ℕ) → R.remaining set.old.inner ≡ Some all
-        → 16777216 < length all
-        → certificate.new ≡ certificate.old }
-    ensures first_failed { set.old.has_failed ≡ false → set.new.has_failed ≡ true
-        → certificate.new ≡ certificate.old }
+    ensures read { AreRead failed_read R.remaining set.old set.new certificate.old certificate.new
+        result }
 {
     let (tasks, text) = read_two(alloc, preference, set, certificate, people)?;
     let answer = check_text(alloc, &tasks, &text);
@@ -73,23 +64,8 @@ pub fn run_check<R: Read + Drop, S: Read + Drop, W: Write + Drop, P: Audience>(
     output: &mut Watched<W>,
     people: &mut P,
 ) -> Status
-    ensures printed { output.new.has_failed ≡ false
-        → SaysChecked preference (R.remaining set.old.inner) (S.remaining certificate.old.inner)
-        (W.contents output.old.inner) (W.contents output.new.inner) result }
-    ensures failed { result ≡ Status.InputOrOutputFailed
-        → IsDisturbed set.new ⊎ (IsDisturbed certificate.new ⊎ (output.new.has_failed ≡ true)) }
-    ensures unread { set.old.has_failed ≡ false → certificate.old.has_failed ≡ false
-        → (set.new.has_failed ≡ true) ⊎ (certificate.new.has_failed ≡ true)
-        → output.old.has_failed ≡ false
-        → result ≡ Status.InputOrOutputFailed }
-    ensures unwritten { output.old.has_failed ≡ false → output.new.has_failed ≡ true
-        → result ≡ Status.InputOrOutputFailed }
-    ensures turns { IsWithinTurns set.old set.new × IsWithinTurns certificate.old certificate.new }
-    ensures first_too_long { (all : List ℕ) → R.remaining set.old.inner ≡ Some all
-        → 16777216 < length all
-        → certificate.new ≡ certificate.old }
-    ensures first_failed { set.old.has_failed ≡ false → set.new.has_failed ≡ true
-        → certificate.new ≡ certificate.old }
+    ensures { IsCarriedOutOnBoth (SaysChecked preference) R.remaining S.remaining W.contents
+        set.old set.new certificate.old certificate.new output.old output.new result }
 {
     match checked(alloc, preference, set, certificate, people) {
         Ok(checked) => print(line_of(checked), Status::Done, output),

@@ -1,11 +1,11 @@
 //! `desk draw`.
-ghost use Rattle.std.specs.Prelude.{◌≡◌, ◌⊎◌, ◌<◌, ◌≤◌, ℕ, List, length, Some, true, false, Err, IfOk, All};
+ghost use Rattle.std.specs.Prelude.{◌≡◌, ◌<◌, ◌≤◌, length, IfOk, All};
 ghost use Rattle.task_sheet.specs.Orders.{IsOrder};
 ghost use Rattle.assignment.specs.Placings.{tasks_of_places};
 ghost use Rattle.desk_cli.specs.Printed.{IsPrinted};
 ghost use Rattle.desk_cli.specs.Simulate.{simulation_status};
 ghost use Rattle.desk_cli.specs.Draw.{IsInOrder, SaysDrawn, drawing_said, picture_of, row_of, rows_of};
-ghost use Rattle.streams.specs.Inputs.{IsDisturbed, IsWithinTurns};
+ghost use Rattle.desk_cli.specs.Outcomes.{IsCarriedOutOnBoth, IsSaid};
 
 use crate::answer::print_stuck;
 use crate::audience::Audience;
@@ -63,12 +63,8 @@ fn draw_run<W: Write + Drop>(
     output: &mut Watched<W>,
 ) -> Status
     requires { IsOrder set.now (tasks_of_places run.now.places.items) }
-    ensures printed { output.new.has_failed ≡ false
-        → IsPrinted (W.contents output.old.inner) (W.contents output.new.inner)
-        (picture_of set.now run.now) Status.Done result }
-    ensures failed { result ≡ Status.InputOrOutputFailed → output.new.has_failed ≡ true }
-    ensures unwritten { output.old.has_failed ≡ false → output.new.has_failed ≡ true
-        → result ≡ Status.InputOrOutputFailed }
+    ensures { IsSaid (λ before after s. IsPrinted before after (picture_of set.now run.now)
+        Status.Done s) W.contents output.old output.new result }
 {
     let Ok(rows) = rows_in(alloc, set, &run.places) else {
         return refuse(Refusal::OutOfMemory, output);
@@ -88,12 +84,9 @@ fn draw_simulated<W: Write + Drop>(
     output: &mut Watched<W>,
 ) -> Status
     requires { IsInOrder set.now simulated.now }
-    ensures printed { output.new.has_failed ≡ false
-        → IsPrinted (W.contents output.old.inner) (W.contents output.new.inner)
-        (drawing_said set.now simulated.now) (simulation_status simulated.now) result }
-    ensures failed { result ≡ Status.InputOrOutputFailed → output.new.has_failed ≡ true }
-    ensures unwritten { output.old.has_failed ≡ false → output.new.has_failed ≡ true
-        → result ≡ Status.InputOrOutputFailed }
+    ensures { IsSaid (λ before after s. IsPrinted before after
+        (drawing_said set.now simulated.now) (simulation_status simulated.now) s)
+        W.contents output.old output.new result }
 {
     match simulated {
         Simulated::Ran(run) => draw_run(alloc, set, run, output),
@@ -112,23 +105,8 @@ pub fn run_draw<R: Read + Drop, S: Read + Drop, W: Write + Drop, P: Audience>(
     output: &mut Watched<W>,
     people: &mut P,
 ) -> Status
-    ensures printed { output.new.has_failed ≡ false
-        → SaysDrawn preference (R.remaining set.old.inner) (S.remaining releases.old.inner)
-        (W.contents output.old.inner) (W.contents output.new.inner) result }
-    ensures failed { result ≡ Status.InputOrOutputFailed
-        → IsDisturbed set.new ⊎ (IsDisturbed releases.new ⊎ (output.new.has_failed ≡ true)) }
-    ensures unread { set.old.has_failed ≡ false → releases.old.has_failed ≡ false
-        → (set.new.has_failed ≡ true) ⊎ (releases.new.has_failed ≡ true)
-        → output.old.has_failed ≡ false
-        → result ≡ Status.InputOrOutputFailed }
-    ensures unwritten { output.old.has_failed ≡ false → output.new.has_failed ≡ true
-        → result ≡ Status.InputOrOutputFailed }
-    ensures turns { IsWithinTurns set.old set.new × IsWithinTurns releases.old releases.new }
-    ensures first_too_long { (all : List ℕ) → R.remaining set.old.inner ≡ Some all
-        → 16777216 < length all
-        → releases.new ≡ releases.old }
-    ensures first_failed { set.old.has_failed ≡ false → set.new.has_failed ≡ true
-        → releases.new ≡ releases.old }
+    ensures { IsCarriedOutOnBoth (SaysDrawn preference) R.remaining S.remaining W.contents
+        set.old set.new releases.old releases.new output.old output.new result }
 {
     match simulated_of(alloc, preference, set, releases, people) {
         Ok((tasks, simulated)) => draw_simulated(alloc, &tasks, &simulated, output),

@@ -1,15 +1,13 @@
 //! `desk headroom`.
-ghost use Rattle.std.specs.Prelude.{◌≡◌, ◌≢◌, ◌⊎◌, ℕ, ◌<◌, List, ◌++◌, length, Result, Ok, Err, true, false, IfOk, IfSome, OnOk, option_map, string_bytes};
+ghost use Rattle.std.specs.Prelude.{◌≡◌, ◌≢◌, ℕ, ◌<◌, List, ◌++◌, length, Err, true, IfOk, IfSome, OnOk, option_map, string_bytes};
 ghost use Rattle.std.specs.Io.KnownBytes.{Appends};
 ghost use Rattle.task_sheet.specs.TaskSet.{IsTaskSet};
 ghost use Rattle.ceilings.specs.IsTableOf.{IsTableOf};
 ghost use Rattle.task_sheet.specs.Orders.{IsPassingOrder};
 ghost use Rattle.assignment.specs.Placings.{IsPlacingOf, tasks_of_places};
-ghost use Rattle.assignment.specs.declared.verdict.Verdict.{Verdict};
-ghost use Rattle.desk_cli.specs.declared.refusal.Refusal.{Refusal};
-ghost use Rattle.desk_cli.specs.Headroom.{AnswersIn, IsLast, IsTaskLine, ListsAll, ListsSome, SaysHeadroom, Tells, TellsPlaced, headroom_line, most_words, placing_first, placing_order};
+ghost use Rattle.desk_cli.specs.Headroom.{AnswersIn, IsLast, IsTaskLine, ListsAll, ListsSome, SaysHeadroom, SaysPlaced, headroom_line, most_words, placing_first, placing_order};
 ghost use Rattle.streams.specs.Sending.{Sends};
-ghost use Rattle.streams.specs.Inputs.{IsDisturbed, IsWithinTurns};
+ghost use Rattle.desk_cli.specs.Outcomes.{IsCarriedOut, IsSaid};
 
 use crate::admit::{place, placing_status};
 use crate::answer::infeasible_text;
@@ -262,13 +260,7 @@ fn print_placing<W: Write + Drop>(
 ) -> Status
     requires kept { IsTaskSet set.now }
     requires placing { IsPlacingOf set.now placing.now }
-    ensures printed { output.new.has_failed ≡ false
-        → (answer : Result Verdict Refusal) × (text : List ℕ)
-        × TellsPlaced set.now answer × Tells answer text result
-        × Appends (W.contents output.old.inner) (W.contents output.new.inner) text }
-    ensures failed { result ≡ Status.InputOrOutputFailed → output.new.has_failed ≡ true }
-    ensures unwritten { output.old.has_failed ≡ false → output.new.has_failed ≡ true
-        → result ≡ Status.InputOrOutputFailed }
+    ensures { IsSaid (SaysPlaced set.now) W.contents output.old output.new result }
 {
     let Ok((table, order, first)) = make_ready(alloc, set, placing) else {
         return refuse(Refusal::OutOfMemory, output);
@@ -291,17 +283,8 @@ pub fn run_headroom<R: Read + Drop, W: Write + Drop, P: Audience>(
     output: &mut Watched<W>,
     people: &mut P,
 ) -> Status
-    ensures printed { output.new.has_failed ≡ false
-        → SaysHeadroom preference (R.remaining set.old.inner)
-        (W.contents output.old.inner) (W.contents output.new.inner) result }
-    ensures failed { result ≡ Status.InputOrOutputFailed
-        → IsDisturbed set.new ⊎ (output.new.has_failed ≡ true) }
-    ensures unread { set.old.has_failed ≡ false → set.new.has_failed ≡ true
-        → output.old.has_failed ≡ false
-        → result ≡ Status.InputOrOutputFailed }
-    ensures unwritten { output.old.has_failed ≡ false → output.new.has_failed ≡ true
-        → result ≡ Status.InputOrOutputFailed }
-    ensures turns { IsWithinTurns set.old set.new }
+    ensures { IsCarriedOut (SaysHeadroom preference) R.remaining W.contents
+        set.old set.new output.old output.new result }
 {
     match place(alloc, preference, set, people) {
         Ok((tasks, placing)) => print_placing(alloc, &tasks, &placing, output),

@@ -1,7 +1,7 @@
 //! `desk judge`.
-ghost use Rattle.std.specs.Prelude.{◌≡◌, ◌⊎◌, ◌<◌, ℕ, List, length, Some, true, false, All, Err, IfOk};
+ghost use Rattle.std.specs.Prelude.{◌≡◌, ◌<◌, All, IfOk};
 ghost use Rattle.desk_cli.specs.Judge.{Judges, JudgesText, SaysJudged, judged_status};
-ghost use Rattle.streams.specs.Inputs.{IsDisturbed, IsWithinTurns};
+ghost use Rattle.desk_cli.specs.Outcomes.{AreRead, IsCarriedOutOnBoth, failed_read};
 
 use crate::audience::{Audience, Which};
 use crate::output::{print, refuse};
@@ -12,7 +12,7 @@ use judge::{Judged, all_meet, judge_settings, judged_text};
 use preferences::Preference;
 use std::alloc::Global;
 use std::io::{Read, Write};
-use streams::{InputFault, Watched};
+use streams::Watched;
 use task_sheet::TaskSet;
 
 // What becomes of a set's tasks in the order that the text of settings gives.
@@ -35,17 +35,8 @@ fn judged_of<R: Read + Drop, S: Read + Drop, P: Audience>(
     ensures answer { Judges preference (R.remaining set.old.inner)
         (S.remaining settings.old.inner) result }
     ensures within { IfOk result (λ judged. All (λ j. j.task < 32) judged.1.items) }
-    ensures failed { result ≡ Err (Refusal.Input InputFault.ReadFailed)
-        → IsDisturbed set.new ⊎ IsDisturbed settings.new }
-    ensures answered { set.old.has_failed ≡ false → settings.old.has_failed ≡ false
-        → (set.new.has_failed ≡ true) ⊎ (settings.new.has_failed ≡ true)
-        → result ≡ Err (Refusal.Input InputFault.ReadFailed) }
-    ensures turns { IsWithinTurns set.old set.new × IsWithinTurns settings.old settings.new }
-    ensures first_too_long { (all : List ℕ) → R.remaining set.old.inner ≡ Some all
-        → 16777216 < length all
-        → settings.new ≡ settings.old }
-    ensures first_failed { set.old.has_failed ≡ false → set.new.has_failed ≡ true
-        → settings.new ≡ settings.old }
+    ensures read { AreRead failed_read R.remaining set.old set.new settings.old settings.new
+        result }
 {
     let (tasks, text) = read_two(alloc, preference, set, settings, people)?;
     let judged = judge_text(alloc, &tasks, &text);
@@ -76,23 +67,8 @@ pub fn run_judge<R: Read + Drop, S: Read + Drop, W: Write + Drop, P: Audience>(
     output: &mut Watched<W>,
     people: &mut P,
 ) -> Status
-    ensures printed { output.new.has_failed ≡ false
-        → SaysJudged preference (R.remaining set.old.inner) (S.remaining settings.old.inner)
-        (W.contents output.old.inner) (W.contents output.new.inner) result }
-    ensures failed { result ≡ Status.InputOrOutputFailed
-        → IsDisturbed set.new ⊎ (IsDisturbed settings.new ⊎ (output.new.has_failed ≡ true)) }
-    ensures unread { set.old.has_failed ≡ false → settings.old.has_failed ≡ false
-        → (set.new.has_failed ≡ true) ⊎ (settings.new.has_failed ≡ true)
-        → output.old.has_failed ≡ false
-        → result ≡ Status.InputOrOutputFailed }
-    ensures unwritten { output.old.has_failed ≡ false → output.new.has_failed ≡ true
-        → result ≡ Status.InputOrOutputFailed }
-    ensures turns { IsWithinTurns set.old set.new × IsWithinTurns settings.old settings.new }
-    ensures first_too_long { (all : List ℕ) → R.remaining set.old.inner ≡ Some all
-        → 16777216 < length all
-        → settings.new ≡ settings.old }
-    ensures first_failed { set.old.has_failed ≡ false → set.new.has_failed ≡ true
-        → settings.new ≡ settings.old }
+    ensures { IsCarriedOutOnBoth (SaysJudged preference) R.remaining S.remaining W.contents
+        set.old set.new settings.old settings.new output.old output.new result }
 {
     match judged_of(alloc, preference, set, settings, people) {
         Ok((tasks, judged)) => match judged_text(alloc, &tasks, &judged) {

@@ -1,6 +1,7 @@
 //! Printing.
 ghost use Rattle.std.specs.Prelude.{◌≡◌, ◌⊎◌, codes, true, false};
 ghost use Rattle.std.specs.Io.KnownBytes.{Appends};
+ghost use Rattle.desk_cli.specs.Outcomes.{IsShown};
 ghost use Rattle.desk_cli.specs.Refusals.{refusal_line, status_of};
 ghost use Rattle.desk_cli.specs.WordsFaults.{IsMemory, fault_status, goes_out};
 
@@ -14,13 +15,7 @@ use streams::Watched;
 
 // Prints the text, and gives the status that belongs to it; where the writer fails, the status of that.
 pub(crate) fn print<W: Write + Drop>(text: &[u8], status: Status, output: &mut Watched<W>) -> Status
-    ensures printed { output.new.has_failed ≡ false
-        → Appends (W.contents output.old.inner) (W.contents output.new.inner) text.now }
-    ensures status { output.new.has_failed ≡ false → result ≡ status }
-    ensures failed { result ≡ Status.InputOrOutputFailed
-        → (status ≡ Status.InputOrOutputFailed) ⊎ (output.new.has_failed ≡ true) }
-    ensures unwritten { output.old.has_failed ≡ false → output.new.has_failed ≡ true
-        → result ≡ Status.InputOrOutputFailed }
+    ensures { IsShown W.contents output.old output.new text.now status result }
 {
     match output.write(text) {
         Ok(()) => status,
@@ -30,14 +25,8 @@ pub(crate) fn print<W: Write + Drop>(text: &[u8], status: Status, output: &mut W
 
 /// Prints the line of a refusal, and gives its exit status.
 pub fn refuse<W: Write + Drop>(refusal: Refusal, output: &mut Watched<W>) -> Status
-    ensures printed { output.new.has_failed ≡ false
-        → Appends (W.contents output.old.inner) (W.contents output.new.inner)
-        (refusal_line refusal) }
-    ensures status { output.new.has_failed ≡ false → result ≡ status_of refusal }
-    ensures failed { result ≡ Status.InputOrOutputFailed
-        → (status_of refusal ≡ Status.InputOrOutputFailed) ⊎ (output.new.has_failed ≡ true) }
-    ensures unwritten { output.old.has_failed ≡ false → output.new.has_failed ≡ true
-        → result ≡ Status.InputOrOutputFailed }
+    ensures { IsShown W.contents output.old output.new (refusal_line refusal) (status_of refusal)
+        result }
 {
     match write!(output, "{refusal}") {
         Ok(()) => refusal.status(),

@@ -1,6 +1,5 @@
 //! `desk play`.
-ghost use Rattle.std.specs.Prelude.{◌≡◌, ◌⊎◌, true, false, Err};
-ghost use Rattle.streams.specs.Inputs.{IsDisturbed, IsWithinTurns};
+ghost use Rattle.desk_cli.specs.Outcomes.{IsCarriedOut, IsRead, failed_read};
 ghost use Rattle.desk_cli.specs.Play.{SaysPlayed, Scripts};
 
 use crate::audience::{Audience, Which};
@@ -12,7 +11,7 @@ use plays::{PlayFault, play_lines};
 use scripts::{Line, read_script};
 use std::alloc::Global;
 use std::io::{Read, Write};
-use streams::{InputFault, Watched};
+use streams::Watched;
 
 // The lines of the script that the reader has, or why there are none.
 pub(crate) fn lines_of<R: Read + Drop, P: Audience>(
@@ -21,10 +20,7 @@ pub(crate) fn lines_of<R: Read + Drop, P: Audience>(
     people: &mut P,
 ) -> Result<Vec<Line>, Refusal>
     ensures answer { Scripts (R.remaining script.old.inner) result }
-    ensures failed { result ≡ Err (Refusal.Input InputFault.ReadFailed) → IsDisturbed script.new }
-    ensures answered { script.old.has_failed ≡ false → script.new.has_failed ≡ true
-        → result ≡ Err (Refusal.Input InputFault.ReadFailed) }
-    ensures turns { IsWithinTurns script.old script.new }
+    ensures read { IsRead failed_read script.old script.new result }
 {
     let bytes = read_told(alloc, Which::First, script, people)?;
     match read_script(alloc, &bytes) {
@@ -45,17 +41,8 @@ pub fn run_play<R: Read + Drop, W: Write + Drop, P: Audience>(
     output: &mut Watched<W>,
     people: &mut P,
 ) -> Status
-    ensures printed { output.new.has_failed ≡ false
-        → SaysPlayed (R.remaining script.old.inner) (W.contents output.old.inner)
-        (W.contents output.new.inner) result }
-    ensures failed { result ≡ Status.InputOrOutputFailed
-        → IsDisturbed script.new ⊎ (output.new.has_failed ≡ true) }
-    ensures unread { script.old.has_failed ≡ false → script.new.has_failed ≡ true
-        → output.old.has_failed ≡ false
-        → result ≡ Status.InputOrOutputFailed }
-    ensures unwritten { output.old.has_failed ≡ false → output.new.has_failed ≡ true
-        → result ≡ Status.InputOrOutputFailed }
-    ensures turns { IsWithinTurns script.old script.new }
+    ensures { IsCarriedOut SaysPlayed R.remaining W.contents
+        script.old script.new output.old output.new result }
 {
     match lines_of(alloc, script, people) {
         Err(refusal) => refuse(refusal, output),

@@ -1,7 +1,6 @@
 //! `desk releases`.
-ghost use Rattle.std.specs.Prelude.{◌≡◌, ◌⊎◌, true, false, Err};
 ghost use Rattle.desk_cli.specs.Releases.{ListsDensest, ListsOf, SaysList};
-ghost use Rattle.streams.specs.Inputs.{IsDisturbed, IsWithinTurns};
+ghost use Rattle.desk_cli.specs.Outcomes.{IsCarriedOut, IsRead, failed_read};
 
 use crate::audience::{Audience, Which};
 use crate::output::{print, refuse};
@@ -13,7 +12,7 @@ use preferences::Preference;
 use release_list::{densest, list_text};
 use std::alloc::Global;
 use std::io::{Read, Write};
-use streams::{InputFault, Watched};
+use streams::Watched;
 use task_sheet::TaskSet;
 
 // The densest list of a set, or why there is none.
@@ -33,10 +32,7 @@ fn list<R: Read + Drop, P: Audience>(
     people: &mut P,
 ) -> Result<Vec<Release>, Refusal>
     ensures answer { ListsDensest preference until (R.remaining set.old.inner) result }
-    ensures failed { result ≡ Err (Refusal.Input InputFault.ReadFailed) → IsDisturbed set.new }
-    ensures answered { set.old.has_failed ≡ false → set.new.has_failed ≡ true
-        → result ≡ Err (Refusal.Input InputFault.ReadFailed) }
-    ensures turns { IsWithinTurns set.old set.new }
+    ensures read { IsRead failed_read set.old set.new result }
 {
     let tasks = read_one(alloc, preference, set, people)?;
     let releases = list_of(alloc, &tasks, until);
@@ -54,17 +50,8 @@ pub fn run_releases<R: Read + Drop, W: Write + Drop, P: Audience>(
     output: &mut Watched<W>,
     people: &mut P,
 ) -> Status
-    ensures printed { output.new.has_failed ≡ false
-        → SaysList preference until (R.remaining set.old.inner)
-        (W.contents output.old.inner) (W.contents output.new.inner) result }
-    ensures failed { result ≡ Status.InputOrOutputFailed
-        → IsDisturbed set.new ⊎ (output.new.has_failed ≡ true) }
-    ensures unread { set.old.has_failed ≡ false → set.new.has_failed ≡ true
-        → output.old.has_failed ≡ false
-        → result ≡ Status.InputOrOutputFailed }
-    ensures unwritten { output.old.has_failed ≡ false → output.new.has_failed ≡ true
-        → result ≡ Status.InputOrOutputFailed }
-    ensures turns { IsWithinTurns set.old set.new }
+    ensures { IsCarriedOut (SaysList preference until) R.remaining W.contents
+        set.old set.new output.old output.new result }
 {
     match list(alloc, preference, set, until, people) {
         Ok(releases) => match list_text(alloc, until, &releases) {

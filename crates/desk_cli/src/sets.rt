@@ -1,8 +1,9 @@
 //! Reading the inputs of a command: a set, or a set and a text.
-ghost use Rattle.std.specs.Prelude.{◌≡◌, ◌⊎◌, ◌<◌, ℕ, List, length, Some, true, false, Err, IfOk, MatchResult};
+ghost use Rattle.std.specs.Prelude.{◌≡◌, Err, IfOk, MatchResult};
 ghost use Rattle.preferences.specs.ReadsPreferred.{ReadsPreferred};
 ghost use Rattle.desk_cli.specs.Sets.{HasNoSet, HasSet, HaveBoth, HaveNotBoth};
-ghost use Rattle.streams.specs.Inputs.{IsDisturbed, IsReadFrom, IsTooLong, IsWithinTurns};
+ghost use Rattle.desk_cli.specs.Outcomes.{AreRead, IsRead, failed_read};
+ghost use Rattle.streams.specs.Inputs.{IsReadFrom, IsTooLong};
 
 use crate::audience::{Audience, Which};
 use crate::refusal::Refusal;
@@ -21,10 +22,7 @@ pub(crate) fn read_told<R: Read + Drop, P: Audience>(
 ) -> Result<Vec<u8>, InputFault>
     ensures whole { IfOk result (λ bytes. IsReadFrom (R.remaining input.old.inner) bytes.items) }
     ensures too_long { result ≡ Err InputFault.TooLong → IsTooLong (R.remaining input.old.inner) }
-    ensures failed { result ≡ Err InputFault.ReadFailed → IsDisturbed input.new }
-    ensures answered { input.old.has_failed ≡ false → input.new.has_failed ≡ true
-        → result ≡ Err InputFault.ReadFailed }
-    ensures turns { IsWithinTurns input.old input.new }
+    ensures read { IsRead InputFault.ReadFailed input.old input.new result }
 {
     let bytes = read_input(alloc, input);
     if let Err(fault) = &bytes {
@@ -59,10 +57,7 @@ pub(crate) fn read_one<R: Read + Drop, P: Audience>(
     ensures answer { MatchResult result (λ tasks. HasSet preference
         (R.remaining set.old.inner) tasks)
         (λ r. HasNoSet (R.remaining set.old.inner) r) }
-    ensures failed { result ≡ Err (Refusal.Input InputFault.ReadFailed) → IsDisturbed set.new }
-    ensures answered { set.old.has_failed ≡ false → set.new.has_failed ≡ true
-        → result ≡ Err (Refusal.Input InputFault.ReadFailed) }
-    ensures turns { IsWithinTurns set.old set.new }
+    ensures read { IsRead failed_read set.old set.new result }
 {
     let bytes = read_told(alloc, Which::First, set, people)?;
     let tasks = set_told(alloc, preference, &bytes, people)?;
@@ -83,17 +78,8 @@ pub(crate) fn read_two<R: Read + Drop, S: Read + Drop, P: Audience>(
         (λ both. HaveBoth preference (R.remaining set.old.inner)
         (S.remaining other.old.inner) both.0 both.1.items)
         (λ r. HaveNotBoth (R.remaining set.old.inner) (S.remaining other.old.inner) r) }
-    ensures failed { result ≡ Err (Refusal.Input InputFault.ReadFailed)
-        → IsDisturbed set.new ⊎ IsDisturbed other.new }
-    ensures answered { set.old.has_failed ≡ false → other.old.has_failed ≡ false
-        → (set.new.has_failed ≡ true) ⊎ (other.new.has_failed ≡ true)
-        → result ≡ Err (Refusal.Input InputFault.ReadFailed) }
-    ensures turns { IsWithinTurns set.old set.new × IsWithinTurns other.old other.new }
-    ensures first_too_long { (all : List ℕ) → R.remaining set.old.inner ≡ Some all
-        → 16777216 < length all
-        → other.new ≡ other.old }
-    ensures first_failed { set.old.has_failed ≡ false → set.new.has_failed ≡ true
-        → other.new ≡ other.old }
+    ensures read { AreRead failed_read R.remaining set.old set.new other.old other.new
+        result }
 {
     let bytes = read_told(alloc, Which::First, set, people)?;
     let text = read_told(alloc, Which::Second, other, people)?;

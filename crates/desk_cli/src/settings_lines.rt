@@ -1,8 +1,8 @@
 //! `desk settings`.
-ghost use Rattle.std.specs.Prelude.{◌≡◌, ◌⊎◌, true, false, IfOk, string_bytes};
+ghost use Rattle.std.specs.Prelude.{◌≡◌, IfOk, string_bytes};
 ghost use Rattle.assignment.specs.Placings.{IsPlacingOf};
 ghost use Rattle.desk_cli.specs.Admit.{Says};
-ghost use Rattle.streams.specs.Inputs.{IsDisturbed, IsWithinTurns};
+ghost use Rattle.desk_cli.specs.Outcomes.{IsCarriedOut};
 ghost use Rattle.desk_cli.specs.Settings.{placing_settings, settings_of};
 
 use crate::admit::{place, placing_status};
@@ -39,17 +39,8 @@ pub fn run_settings<R: Read + Drop, W: Write + Drop, P: Audience>(
     output: &mut Watched<W>,
     people: &mut P,
 ) -> Status
-    ensures printed { output.new.has_failed ≡ false
-        → Says settings_of preference (R.remaining set.old.inner)
-        (W.contents output.old.inner) (W.contents output.new.inner) result }
-    ensures failed { result ≡ Status.InputOrOutputFailed
-        → IsDisturbed set.new ⊎ (output.new.has_failed ≡ true) }
-    ensures unread { set.old.has_failed ≡ false → set.new.has_failed ≡ true
-        → output.old.has_failed ≡ false
-        → result ≡ Status.InputOrOutputFailed }
-    ensures unwritten { output.old.has_failed ≡ false → output.new.has_failed ≡ true
-        → result ≡ Status.InputOrOutputFailed }
-    ensures turns { IsWithinTurns set.old set.new }
+    ensures { IsCarriedOut (Says settings_of preference) R.remaining W.contents
+        set.old set.new output.old output.new result }
 {
     match place(alloc, preference, set, people) {
         Ok((tasks, placing)) => match node_text(alloc, &tasks, &placing) {

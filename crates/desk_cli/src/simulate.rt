@@ -1,10 +1,10 @@
 //! `desk simulate`.
-ghost use Rattle.std.specs.Prelude.{◌≡◌, ◌⊎◌, ◌<◌, ℕ, List, length, Some, true, false, Err, IfOk};
+ghost use Rattle.std.specs.Prelude.{◌≡◌, IfOk};
 ghost use Rattle.task_sheet.specs.Orders.{IsBest};
 ghost use Rattle.assignment.specs.Placings.{tasks_of_places};
 ghost use Rattle.desk_cli.specs.Printed.{IsPrinted};
 ghost use Rattle.desk_cli.specs.Simulate.{RunsOrder, SaysSimulated, Simulates, SimulatesText, simulation_said, simulation_status};
-ghost use Rattle.streams.specs.Inputs.{IsDisturbed, IsWithinTurns};
+ghost use Rattle.desk_cli.specs.Outcomes.{AreRead, IsCarriedOutOnBoth, IsSaid, failed_read};
 
 use crate::answer::print_stuck;
 use crate::audience::{Audience, Which};
@@ -20,7 +20,7 @@ use ceilings::LockTable;
 use preferences::Preference;
 use std::alloc::{AllocError, Global};
 use std::io::{Read, Write};
-use streams::{InputFault, Watched};
+use streams::Watched;
 use task_sheet::{Members, TaskSet};
 
 /// A run of a set's tasks at the levels of their best order.
@@ -105,17 +105,8 @@ pub(crate) fn simulated_of<R: Read + Drop, S: Read + Drop, P: Audience>(
 ) -> Result<(TaskSet, Simulated), Refusal>
     ensures answer { Simulates preference (R.remaining set.old.inner)
         (S.remaining releases.old.inner) result }
-    ensures failed { result ≡ Err (Refusal.Input InputFault.ReadFailed)
-        → IsDisturbed set.new ⊎ IsDisturbed releases.new }
-    ensures answered { set.old.has_failed ≡ false → releases.old.has_failed ≡ false
-        → (set.new.has_failed ≡ true) ⊎ (releases.new.has_failed ≡ true)
-        → result ≡ Err (Refusal.Input InputFault.ReadFailed) }
-    ensures turns { IsWithinTurns set.old set.new × IsWithinTurns releases.old releases.new }
-    ensures first_too_long { (all : List ℕ) → R.remaining set.old.inner ≡ Some all
-        → 16777216 < length all
-        → releases.new ≡ releases.old }
-    ensures first_failed { set.old.has_failed ≡ false → set.new.has_failed ≡ true
-        → releases.new ≡ releases.old }
+    ensures read { AreRead failed_read R.remaining set.old set.new releases.old releases.new
+        result }
 {
     let (tasks, text) = read_two(alloc, preference, set, releases, people)?;
     let simulated = simulate_text(alloc, &tasks, &text);
@@ -130,12 +121,9 @@ fn print_simulated<W: Write + Drop>(
     simulated: &Simulated,
     output: &mut Watched<W>,
 ) -> Status
-    ensures printed { output.new.has_failed ≡ false
-        → IsPrinted (W.contents output.old.inner) (W.contents output.new.inner)
-        (simulation_said set.now simulated.now) (simulation_status simulated.now) result }
-    ensures failed { result ≡ Status.InputOrOutputFailed → output.new.has_failed ≡ true }
-    ensures unwritten { output.old.has_failed ≡ false → output.new.has_failed ≡ true
-        → result ≡ Status.InputOrOutputFailed }
+    ensures { IsSaid (λ before after s. IsPrinted before after
+        (simulation_said set.now simulated.now) (simulation_status simulated.now) s)
+        W.contents output.old output.new result }
 {
     match simulated {
         Simulated::Ran(run) => match trace_text(alloc, &run.trace) {
@@ -157,23 +145,8 @@ pub fn run_simulate<R: Read + Drop, S: Read + Drop, W: Write + Drop, P: Audience
     output: &mut Watched<W>,
     people: &mut P,
 ) -> Status
-    ensures printed { output.new.has_failed ≡ false
-        → SaysSimulated preference (R.remaining set.old.inner) (S.remaining releases.old.inner)
-        (W.contents output.old.inner) (W.contents output.new.inner) result }
-    ensures failed { result ≡ Status.InputOrOutputFailed
-        → IsDisturbed set.new ⊎ (IsDisturbed releases.new ⊎ (output.new.has_failed ≡ true)) }
-    ensures unread { set.old.has_failed ≡ false → releases.old.has_failed ≡ false
-        → (set.new.has_failed ≡ true) ⊎ (releases.new.has_failed ≡ true)
-        → output.old.has_failed ≡ false
-        → result ≡ Status.InputOrOutputFailed }
-    ensures unwritten { output.old.has_failed ≡ false → output.new.has_failed ≡ true
-        → result ≡ Status.InputOrOutputFailed }
-    ensures turns { IsWithinTurns set.old set.new × IsWithinTurns releases.old releases.new }
-    ensures first_too_long { (all : List ℕ) → R.remaining set.old.inner ≡ Some all
-        → 16777216 < length all
-        → releases.new ≡ releases.old }
-    ensures first_failed { set.old.has_failed ≡ false → set.new.has_failed ≡ true
-        → releases.new ≡ releases.old }
+    ensures { IsCarriedOutOnBoth (SaysSimulated preference) R.remaining S.remaining W.contents
+        set.old set.new releases.old releases.new output.old output.new result }
 {
     match simulated_of(alloc, preference, set, releases, people) {
         Ok((tasks, simulated)) => print_simulated(alloc, &tasks, &simulated, output),

@@ -1,7 +1,17 @@
-use Rattle.std.proofs.Common.{Err, inl}
+use Rattle.std.proofs.Common.{◌≡◌, Ok, Err, inl, refl}
+use Rattle.release_list.specs.Text.{list_lines}
 use Rattle.desk_cli.specs.declared.refusal.Refusal.TheVariants as refusal
+use Rattle.desk_cli.proofs.CarriedOut.{carried_out, refused, shown, wanting}
 use Rattle.desk_cli.proofs.releases.run_releases.Goals as goal
 
+pub returns-in-Ok-list_text : goal.returns-in-Ok-list_text
+returns-in-Ok-list_text g c =
+    let lines : c.as_bytes.result.now ≡ list_lines c.args.until c.in-Ok.releases.items = cc in
+    carried_out c.in-Ok.ensures.read (shown c.print.ensures lines refl (λ is. cc) (λ wrote is. (Ok c.in-Ok.releases, c.in-Ok.ensures.answer, wrote, is)))
+
 -- want of memory for the lines is an answer of its own
-pub returns-in-Ok-clause-printed : goal.returns-in-Ok-clause-printed
-returns-in-Ok-clause-printed g c = λ sound. (Err refusal.OutOfMemory, inl tt, c.refuse.ensures.printed sound, c.refuse.ensures.status sound)
+pub returns-in-Ok : goal.returns-in-Ok
+returns-in-Ok g c = carried_out c.in-Ok.ensures.read (wanting c.refuse.ensures (λ wrote is. (Err refusal.OutOfMemory, inl tt, wrote, is)))
+
+pub returns : goal.returns
+returns g c = refused c.in-Err.ensures.read c.refuse-in-Err.ensures (λ wrote is. (Err c.in-Err.refusal, c.in-Err.ensures.answer, wrote, is))
