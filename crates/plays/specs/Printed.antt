@@ -1,8 +1,9 @@
 -- What is printed of the core's replies, and of the book.
 use Rattle.std.specs.Prelude.{ℕ, ◌+◌, List, [], ◌∷◌, ◌++◌, Option, Some, None, option_map, slice_get, codes}
 use Rattle.std.specs.Fmt.{decimal}
-use Rattle.task_sheet.specs.Sheet.{Task, task_at}
-use Rattle.task_sheet.specs.Verdicts.{FailureData, LevelData}
+use Rattle.task_sheet.specs.Sheet.{Task}
+use Rattle.task_sheet.specs.Verdicts.{LevelData, tasks_of}
+use Rattle.lines.specs.Naming.{name_at, named}
 use Rattle.drafts.specs.declared.change.Refusal.{Refusal}
 use Rattle.drafts.specs.declared.change.Refusal.TheVariants as refusal
 use Rattle.drafts.specs.declared.roster.Owned.{Owned}
@@ -44,17 +45,11 @@ refusal_words (refusal.NotYours name) = codes "NotYours " ++ name
 refusal_words (refusal.NoSuchTask name) = codes "NoSuchTask " ++ name
 refusal_words refusal.TooManyTasks = codes "TooManyTasks"
 
--- the names of members, each after a space
-abbrev pub members_text : List Task → List FailureData → List ℕ
-members_text U [] = []
-members_text U (member ∷ members) =
-    codes " " ++ (task_at U member.task).name ++ members_text U members
-
 -- a commit is decided
 abbrev pub ruling_line : Ruling → List ℕ
 ruling_line (Admitted version) = codes "admitted " ++ decimal version ++ codes "\n"
 ruling_line (Refused refusal) = refused_line (refusal_words refusal)
-ruling_line (Infeasible o) = codes "infeasible" ++ members_text o.set o.members ++ codes "\n"
+ruling_line (Infeasible o) = codes "infeasible" ++ named o.set (tasks_of o.members) ++ codes "\n"
 
 -- a level is decided
 abbrev pub level_line : ℕ → List ℕ → ℕ → List ℕ
@@ -92,7 +87,7 @@ holder tasks (Some task) = option_map (λ o. o.team) (held task.name tasks)
 -- a level of the book: its task, the team that holds it, and the response
 abbrev pub held_line : List Owned → ℕ → LevelData → List ℕ
 held_line tasks number level =
-    codes "level " ++ decimal number ++ codes " " ++ (task_at (set_of tasks) level.task).name
+    codes "level " ++ decimal number ++ codes " " ++ name_at (set_of tasks) level.task
     ++ codes " "
     ++ team_text (holder tasks (slice_get (set_of tasks) level.task)) ++ codes " "
     ++ decimal level.response ++ codes "\n"

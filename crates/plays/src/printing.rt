@@ -1,16 +1,18 @@
 //! The lines of replies, and of the book.
 ghost use Rattle.std.specs.Prelude.{◌≡◌, ◌++◌, OnOk, IfOk, slice_get, string_bytes};
-ghost use Rattle.task_sheet.specs.Sheet.{task_at};
+ghost use Rattle.task_sheet.specs.Verdicts.{tasks_of};
+ghost use Rattle.lines.specs.Naming.{named};
 ghost use Rattle.drafts.specs.Applied.{set_of};
-ghost use Rattle.plays.specs.Printed.{cause_word, held_line, held_lines, holder, level_line, members_text, names_text, opened_line, printed, refusal_words, refused_line, ruling_line, state_lines, team_text, tested_line};
+ghost use Rattle.plays.specs.Printed.{cause_word, held_line, held_lines, holder, level_line, names_text, opened_line, printed, refusal_words, refused_line, ruling_line, state_lines, team_text, tested_line};
 ghost use Rattle.plays.specs.Plays.{IsBookText};
 ghost use Rattle.drafts.specs.Rulings.{ruling_of};
 
 use assignment::{LevelRecord, Obstruction};
 use desk_core::{Cause, Reply};
 use drafts::{Decision, NodeState, Refusal, Team};
+use lines::push_name;
 use std::alloc::{AllocError, Global};
-use task_sheet::{Name, TaskSet};
+use task_sheet::Name;
 
 // The name of a cause.
 fn cause_word(cause: Cause) -> &'static str
@@ -58,24 +60,11 @@ fn push_names(text: &mut String, names: &[Name]) -> Result<(), AllocError>
     Ok(())
 }
 
-// The name of the task at an index; nothing past the end of the set.
-fn push_name(text: &mut String, set: &TaskSet, task: usize) -> Result<(), AllocError>
-    ensures { OnOk result (string_bytes text.new ≡ string_bytes text.old
-        ++ (task_at set.now task).name) }
-{
-    match set.get(task) {
-        Some(sheet) => {
-            let name = sheet.name();
-            write!(text, "{name}")
-        }
-        None => Ok(()),
-    }
-}
-
 // The names of an obstruction's members, each after a space.
 fn push_members(text: &mut String, obstruction: &Obstruction) -> Result<(), AllocError>
     ensures { OnOk result (string_bytes text.new
-        ≡ string_bytes text.old ++ members_text obstruction.now.set obstruction.now.members) }
+        ≡ string_bytes text.old
+        ++ named obstruction.now.set (tasks_of obstruction.now.members)) }
 {
     let set = obstruction.set();
     for member in obstruction.members() {

@@ -1,7 +1,8 @@
 use Rattle.std.proofs.Common.{◌≡◌, ◌++◌, drop, string_bytes}
-use Rattle.plays.specs.Printed.{members_text}
+use Rattle.task_sheet.specs.Verdicts.{tasks_of}
+use Rattle.lines.specs.Naming.{named}
 use Rattle.plays.proofs.printing.push_members.Given as goal
 
 abbrev pub invariant-loop-member : goal.invariant-loop-member
 invariant-loop-member l =
-    string_bytes l.text ++ members_text l.fn.obstruction.set (drop l.member-index l.member-items) ≡ string_bytes l.initial.text ++ members_text l.fn.obstruction.set l.fn.obstruction.members
+    string_bytes l.text ++ named l.fn.obstruction.set (tasks_of (drop l.member-index l.member-items)) ≡ string_bytes l.initial.text ++ named l.fn.obstruction.set (tasks_of l.fn.obstruction.members)
