@@ -1,32 +1,18 @@
 //! The lines of a verdict.
 ghost use Rattle.std.specs.Prelude.{◌≡◌, ◌++◌, ◌<◌, ◌≤◌, length, true, false, OnOk, IfOk, string_bytes};
-ghost use Rattle.task_sheet.specs.Sheet.{task_at};
 ghost use Rattle.task_sheet.specs.Indexes.{indexes_of, listed_below};
 ghost use Rattle.desk_cli.specs.Printed.{IsPrinted};
-ghost use Rattle.desk_cli.specs.Lines.{admitted_lines, infeasible_line, level_line, named, placing_lines};
+ghost use Rattle.desk_cli.specs.Lines.{admitted_lines, infeasible_line, level_line, placing_lines};
 
 use crate::output::{print, refuse};
 use crate::refusal::Refusal;
 use crate::status::Status;
 use assignment::{Place, Placing};
+use lines::{push_name, push_names};
 use std::alloc::{AllocError, Global};
 use std::io::Write;
 use streams::Watched;
 use task_sheet::{Members, TaskSet};
-
-// The name of the task at an index; nothing past the end of the set.
-fn push_name(text: &mut String, set: &TaskSet, task: usize) -> Result<(), AllocError>
-    ensures { OnOk result (string_bytes text.new ≡ string_bytes text.old
-        ++ (task_at set.now task).name) }
-{
-    match set.get(task) {
-        Some(sheet) => {
-            let name = sheet.name();
-            write!(text, "{name}")
-        }
-        None => Ok(()),
-    }
-}
 
 // The line of a level, which has a number.
 fn push_level(
@@ -66,12 +52,7 @@ pub(crate) fn infeasible_text(
         ≡ infeasible_line set.now (listed_below (length set.now) (indexes_of members))) }
 {
     let mut text = String::from_str(alloc, "infeasible")?;
-    for task in 0..set.len() {
-        if members.has(task) {
-            text.push_str(" ")?;
-            push_name(&mut text, set, task)?;
-        }
-    }
+    push_names(&mut text, set, members)?;
     text.push_str("\n")?;
     Ok(text)
 }
