@@ -1,5 +1,6 @@
 //! Sets by a preference.
 ghost use Rattle.std.specs.Prelude.{◌≡◌, ◌≤◌, length, IfOk, IfErr};
+ghost use Rattle.task_sheet.specs.declared.set.TheConstants.{TASK_LIMIT};
 ghost use Rattle.task_sheet.specs.TaskSet.{IsByRank};
 ghost use Rattle.preferences.specs.Preferences.{later_deadlines, reweighed_in, reweighed, IsPreferred};
 ghost use Rattle.preferences.specs.ReadsPreferred.{ReadsPreferred};
@@ -31,7 +32,7 @@ fn later_deadlines(sheets: &[Sheet], deadline: u64) -> u64
 
 // The sheet of one of these tasks, its weight replaced by how many of them have a later deadline.
 fn reweighed_sheet(alloc: Global, sheets: &[Sheet], sheet: &Sheet) -> Result<Sheet, AllocError>
-    requires few { length sheets.now ≤ 32 }
+    requires few { length sheets.now ≤ TASK_LIMIT }
     ensures { IfOk result (λ other. other ≡ reweighed_in sheets.now sheet.now) }
 {
     let weight = later_deadlines(sheets, sheet.deadline());
@@ -40,7 +41,7 @@ fn reweighed_sheet(alloc: Global, sheets: &[Sheet], sheet: &Sheet) -> Result<She
 
 // These sheets, each weight so replaced.
 fn reweighed_sheets(alloc: Global, sheets: &[Sheet]) -> Result<Vec<Sheet>, AllocError>
-    requires few { length sheets.now ≤ 32 }
+    requires few { length sheets.now ≤ TASK_LIMIT }
     ensures { IfOk result (λ others. others.items ≡ reweighed sheets.now) }
 {
     let mut others = Vec::with_capacity(alloc, sheets.len())?;
