@@ -83,7 +83,10 @@ fn play_row(alloc: Global, core: &mut Core, row: Row) -> Result<String, AllocErr
 {
     match row {
         Row::Open { team } => play_event(alloc, core, Event::Open { team }),
-        Row::Put { draft, sheet } => play_event(alloc, core, Event::Put { draft, sheet }),
+        Row::Put { draft, sheet } => {
+            let sheet = sheet.into_sheet();
+            play_event(alloc, core, Event::Put { draft, sheet })
+        }
         Row::Remove { draft, name } => play_event(alloc, core, Event::Remove { draft, name }),
         Row::Found { draft, name, other } => play_found(alloc, core, draft, name, other),
         Row::Test { draft } => play_test(alloc, core, draft),

@@ -231,6 +231,7 @@ impl<L: Ledger> Hand<L> {
                 Ok(None)
             }
             Row::Put { draft, sheet } => {
+                let sheet = sheet.sheet();
                 let refusal = self.put(alloc, *draft, sheet)?;
                 let name = sheet.name();
                 Ok(refusal.map(|refusal| Missed::PutRefused { name, refusal }))

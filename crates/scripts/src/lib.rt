@@ -7,5 +7,5 @@ mod reading;
 mod rows;
 mod sections;
 
-pub use line::{Line, Row, ScriptFault};
+pub use line::{Line, PutSheet, Row, ScriptFault};
 pub use reading::read_script;

@@ -1,9 +1,47 @@
 //! What a script says.
-ghost use Rattle.std.specs.Prelude.{◌≡◌};
+ghost use Rattle.std.specs.Prelude.{◌≡◌, IfOk};
 
 use drafts::Team;
-use std::alloc::AllocFailed;
+use std::alloc::{AllocError, AllocFailed, Global};
+use std::marker::Model;
 use task_sheet::{Name, OutranksCause, Sheet, SheetCause};
+
+/// The sheet of a line `put`. It lies by itself, so that a row is small.
+#[derive(Drop)]
+pub struct PutSheet {
+    sheet: Box<Sheet>,
+}
+
+impl Model for PutSheet {
+    ghost use Rattle.task_sheet.specs.Sheet.{Task};
+
+    ghost Value = { Task };
+
+    ghost view = { λ s. s.sheet.value };
+}
+
+impl PutSheet {
+    pub(crate) fn new(alloc: Global, sheet: Sheet) -> Result<PutSheet, AllocError>
+        ensures { IfOk result (λ put. put ≡ sheet) }
+    {
+        let sheet = Box::new(alloc, sheet)?;
+        Ok(PutSheet { sheet })
+    }
+
+    /// The sheet.
+    pub fn sheet(&self) -> &Sheet
+        ensures { result.now ≡ self.now }
+    {
+        &self.sheet
+    }
+
+    /// The sheet, out of the line.
+    pub fn into_sheet(self) -> Sheet
+        ensures { result ≡ self }
+    {
+        Box::into_inner(self.sheet)
+    }
+}
 
 /// What a line of a script says. A draft is the number of the line that opened it, among all such lines, from 1.
 #[derive(Drop)]
@@ -16,7 +54,7 @@ pub enum Row {
     /// then `over=NAME+NAME` where the task must stand above others: a sheet is put into a draft.
     Put {
         draft: usize,
-        sheet: Sheet,
+        sheet: PutSheet,
     },
     /// `remove DRAFT NAME`: a task is removed.
     Remove {

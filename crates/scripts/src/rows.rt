@@ -10,7 +10,7 @@ use crate::fields::{
     is_over, next, next_draft, next_field, next_name, next_number, number_or_zero, only_draft,
     other_of, team_of,
 };
-use crate::line::{Row, RowFault};
+use crate::line::{PutSheet, Row, RowFault};
 use crate::sections::{names_or_none, sections_of};
 use lines::Words;
 use std::alloc::Global;
@@ -100,7 +100,10 @@ fn put_of(alloc: Global, opened: usize, words: &mut Words<'_>) -> Result<Row, Ro
 {
     let draft = next_draft(opened, words)?;
     let sheet = sheet_of(alloc, words)?;
-    Ok(Row::Put { draft, sheet })
+    match PutSheet::new(alloc, sheet) {
+        Ok(sheet) => Ok(Row::Put { draft, sheet }),
+        Err(_) => Err(RowFault::OutOfMemory),
+    }
 }
 
 #[tactic(auto, unfolding(crate::specs::Rows::remove_in))]
