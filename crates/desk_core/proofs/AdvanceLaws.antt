@@ -10,6 +10,7 @@ use Rattle.drafts.specs.Changes.{on_base}
 use Rattle.desk_core.specs.declared.asked.Asked.{Asked}
 use Rattle.desk_core.specs.declared.told.Told.{Told}
 use Rattle.desk_core.specs.declared.events.Reply.{Reply}
+use Rattle.desk_core.specs.declared.events.Standing.{Standing}
 use Rattle.desk_core.specs.declared.events.Standing.TheVariants.{Asking}
 use Rattle.desk_core.specs.Advances.{IsTried, IsAdvancedOn, IsAdvancedIn, IsAdvanced}
 use Rattle.desk_core.specs.Asking.{IsNextAsked}
@@ -51,6 +52,14 @@ live-advanced l m (Ok (Some r)) same so =
 
 pub slot-advanced : (slot : Option Live) (l m : Live) (result : Result (Option Reply) AllocError) → slot ≡ Some l → IfOk result (IsAdvancedIn (Some l) (Some m)) → IfOk result (IsAdvancedIn slot (Some m))
 slot-advanced slot l m result is so = subst (λ (o : Option Live). IfOk result (IsAdvancedIn o (Some m))) (sym is) so
+
+-- a slot without a draft asks nothing
+abbrev HasQuestion : Standing → Type 0
+HasQuestion (Asking q) = Unit {0}
+HasQuestion _ = ⊥
+
+pub none-advanced : (slot new : Option Live) → slot ≡ None → new ≡ None → IsAdvancedIn slot new None
+none-advanced slot new is gone = (λ q asking. subst HasQuestion (subst (λ (o : Option Live). IsStanding o (Asking q)) is asking) tt, gone ∙ sym is)
 
 -- ---- of the core
 moved : (w : World) (draft i : ℕ) (slot new : Option Live) (result : Result (Option Reply) AllocError) → i + 1 ≡ draft → live_at w.drafts draft ≡ slot → slot ≡ get_or w.drafts i slot

@@ -5,6 +5,7 @@ pub mod TrialFields
 pub mod Closing
 pub mod World
 pub mod Slots
+pub mod SlotFields
 pub mod Stages
 pub mod LiveFields
 pub mod Brought

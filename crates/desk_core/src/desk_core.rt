@@ -8,9 +8,7 @@ ghost use Rattle.desk_core.specs.Standings.{IsQuestionOf, IsStanding};
 ghost use Rattle.drafts.specs.Machine.{empty_desk, IsLegal, replay, admissions};
 
 use crate::events::{Cause, Event, Reply, Standing};
-use crate::live::{
-    Live, abandon_in, advance_in, commit_in, found_in, put_in, question_in, remove_in, standing_in,
-};
+use crate::slot::Slot;
 use assignment::{AnswerFault, Finding, Question};
 use drafts::{Book, Team};
 use std::alloc::{AllocError, Global};
@@ -21,7 +19,7 @@ use task_sheet::{Name, Sheet};
 #[derive(Drop)]
 pub struct Core {
     book: Book,
-    drafts: Vec<Option<Live>>,
+    drafts: Vec<Slot>,
 }
 
 impl Model for Core {
@@ -45,7 +43,7 @@ pub struct StepFault {
 }
 
 // The place of a draft that is live.
-fn place_of(drafts: &[Option<Live>], number: usize) -> Option<usize>
+fn place_of(drafts: &[Slot], number: usize) -> Option<usize>
     ensures { MatchOption result (live_at drafts.now number ≡ None)
         (λ i. (i + 1 ≡ number) × (i < length drafts.now)
         × (live_at drafts.now number ≡ slice_index_or drafts.now i None)
@@ -55,7 +53,7 @@ fn place_of(drafts: &[Option<Live>], number: usize) -> Option<usize>
         return None;
     }
     let i = number - 1;
-    if i < drafts.len() && drafts[i].is_some() {
+    if i < drafts.len() && drafts[i].is_live() {
         Some(i)
     } else {
         None
@@ -81,13 +79,13 @@ impl Core {
     }
 
     // A draft on the present state.
-    fn open(&mut self, alloc: Global, team: Team) -> Result<Reply, AllocError>
+    fn open(&mut self, team: Team) -> Result<Reply, AllocError>
         ensures ok { IfOk result (λ r. Happens self.old (Open team) r self.new) }
         ensures err { OnErr result (self.new ≡ self.old) }
     {
         let version = self.book.state().version();
         let base = self.book.snapshot()?;
-        match self.drafts.push(Some(Live::new(alloc, team, base))) {
+        match self.drafts.push(Slot::open(team, base)) {
             Ok(()) => Ok(Reply::Opened {
                 draft: self.drafts.len(),
                 version,
@@ -97,7 +95,7 @@ impl Core {
     }
 
     // A sheet put into a draft.
-    fn put(&mut self, draft: usize, sheet: Sheet) -> Result<Reply, Sheet>
+    fn put(&mut self, alloc: Global, draft: usize, sheet: Sheet) -> Result<Reply, Sheet>
         ensures ok { IfOk result (λ r. Happens self.old (Put draft sheet) r self.new) }
         ensures err { OnErr result (self.new ≡ self.old) }
         ensures back { IfErr result (λ back. back ≡ sheet) }
@@ -107,12 +105,12 @@ impl Core {
                 let cause = Cause::NoSuchDraft;
                 Ok(Reply::Refused { cause })
             }
-            Some(i) => put_in(&mut self.drafts[i], sheet),
+            Some(i) => self.drafts[i].put(alloc, sheet),
         }
     }
 
     // A task removed in a draft.
-    fn remove(&mut self, draft: usize, name: Name) -> Result<Reply, AllocError>
+    fn remove(&mut self, alloc: Global, draft: usize, name: Name) -> Result<Reply, AllocError>
         ensures ok { IfOk result (λ r. Happens self.old (Remove draft name) r self.new) }
         ensures err { OnErr result (self.new ≡ self.old) }
     {
@@ -121,7 +119,7 @@ impl Core {
                 let cause = Cause::NoSuchDraft;
                 Ok(Reply::Refused { cause })
             }
-            Some(i) => remove_in(&mut self.drafts[i], name),
+            Some(i) => self.drafts[i].remove(alloc, name),
         }
     }
 
@@ -136,7 +134,7 @@ impl Core {
                 let cause = Cause::NoSuchDraft;
                 Ok(Reply::Refused { cause })
             }
-            Some(i) => found_in(alloc, &mut self.drafts[i], finding),
+            Some(i) => self.drafts[i].take(alloc, finding),
         }
     }
 
@@ -150,7 +148,7 @@ impl Core {
                 let cause = Cause::NoSuchDraft;
                 Ok(Reply::Refused { cause })
             }
-            Some(i) => commit_in(alloc, &mut self.book, &mut self.drafts[i]),
+            Some(i) => self.drafts[i].commit(alloc, &mut self.book),
         }
     }
 
@@ -163,7 +161,7 @@ impl Core {
                 let cause = Cause::NoSuchDraft;
                 Reply::Refused { cause }
             }
-            Some(i) => abandon_in(&mut self.drafts[i]),
+            Some(i) => self.drafts[i].abandon(),
         }
     }
 
@@ -174,7 +172,7 @@ impl Core {
     {
         match place_of(&self.drafts, draft) {
             None => Ok(Standing::NoSuchDraft),
-            Some(i) => standing_in(alloc, &mut self.drafts[i]),
+            Some(i) => self.drafts[i].standing(alloc),
         }
     }
 
@@ -191,7 +189,7 @@ impl Core {
     {
         match place_of(&self.drafts, draft) {
             None => Ok(None),
-            Some(i) => question_in(alloc, &mut self.drafts[i], name),
+            Some(i) => self.drafts[i].question(alloc, name),
         }
     }
 
@@ -208,10 +206,7 @@ impl Core {
     {
         match place_of(&self.drafts, draft) {
             None => question.answer(alloc),
-            Some(i) => match &self.drafts[i] {
-                None => question.answer(alloc),
-                Some(live) => live.answer(alloc, question),
-            },
+            Some(i) => self.drafts[i].answer(alloc, question),
         }
     }
 
@@ -224,7 +219,7 @@ impl Core {
     {
         match place_of(&self.drafts, draft) {
             None => Ok(None),
-            Some(i) => advance_in(alloc, &mut self.drafts[i]),
+            Some(i) => self.drafts[i].advance(alloc),
         }
     }
 
@@ -235,19 +230,19 @@ impl Core {
         ensures back { IfErr result (λ fault. fault.event ≡ event) }
     {
         match event {
-            Event::Open { team } => match self.open(alloc, team) {
+            Event::Open { team } => match self.open(team) {
                 Ok(reply) => Ok(reply),
                 Err(_) => Err(StepFault {
                     event: Event::Open { team },
                 }),
             },
-            Event::Put { draft, sheet } => match self.put(draft, sheet) {
+            Event::Put { draft, sheet } => match self.put(alloc, draft, sheet) {
                 Ok(reply) => Ok(reply),
                 Err(sheet) => Err(StepFault {
                     event: Event::Put { draft, sheet },
                 }),
             },
-            Event::Remove { draft, name } => match self.remove(draft, name) {
+            Event::Remove { draft, name } => match self.remove(alloc, draft, name) {
                 Ok(reply) => Ok(reply),
                 Err(_) => Err(StepFault {
                     event: Event::Remove { draft, name },

@@ -6,6 +6,7 @@ mod desk_core;
 mod events;
 pub mod laws;
 mod live;
+mod slot;
 mod stage;
 mod told;
 mod trial;

@@ -1,15 +1,13 @@
 //! Drafts that haven't ended.
 
-ghost use Rattle.std.specs.Prelude.{◌≡◌, ◌↔◌, [], None, Some, Option, IfOk, IfErr, IsTrue, OnErr, ◌<◌, ◌≤◌, List, Result, length, option_map, vec_capacity};
+ghost use Rattle.std.specs.Prelude.{◌≡◌, ◌↔◌, [], Some, IfOk, IfErr, IsTrue, OnOk, OnErr, ◌≤◌, List, Result, length, vec_capacity};
 ghost use Rattle.drafts.specs.Changes.{after_put, after_remove, on_base};
 ghost use Rattle.desk_core.specs.Findings.{asked_of, IsTold};
-ghost use Rattle.drafts.specs.Books.{Book};
 ghost use Rattle.desk_core.specs.Advances.{IsAdvancedIn, IsAdvancedOn};
 ghost use Rattle.desk_core.specs.Brought.{IsTelling, IsBrought};
 ghost use Rattle.desk_core.specs.declared.told.Told.{Told};
 ghost use Rattle.desk_core.specs.World.{opened, cause_of, rebased, IsEdited, IsToldReply, IsFound, IsBroughtTo, IsTestedDraft};
-ghost use Rattle.desk_core.specs.Slots.{IsEditIn, IsFoundIn, IsCommitIn, IsAbandonIn};
-ghost use Rattle.desk_core.specs.Standings.{IsQuestionOf, IsQuestionOn, IsStanding, IsStandingOn};
+ghost use Rattle.desk_core.specs.Standings.{IsQuestionOn, IsStandingOn};
 ghost use Rattle.desk_core.specs.Stages.{IsStage, IsTrialOn, found_of};
 ghost use Rattle.drafts.specs.declared.roster.Owned.{Owned};
 ghost use Rattle.drafts.specs.declared.change.Refusal.{Refusal};
@@ -19,9 +17,10 @@ use crate::stage::{Stage, begin, is_tested, put_away, question, standing};
 use crate::told::Told;
 use crate::trial::Trial;
 use assignment::{AnswerFault, Finding, Question};
-use drafts::{Book, Draft, EditCause, EditRefusal, NodeState, PutFault, Team};
+use drafts::{Draft, EditCause, EditRefusal, NodeState, PutFault, Team};
 use std::alloc::{AllocError, Global};
 use std::marker::Model;
+use std::mem;
 use std::sync::Arc;
 use task_sheet::{Name, Sheet};
 
@@ -234,6 +233,18 @@ impl Live {
         }
     }
 
+    /// Puts the draft on another state, without findings. Another draft stands in its place while it moves.
+    pub fn rebase(&mut self, alloc: Global, fresh: Arc<NodeState>) -> Result<(), AllocError>
+        ensures ok { OnOk result (self.new ≡ rebased self.old fresh.value) }
+        ensures err { OnErr result (self.new ≡ self.old) }
+    {
+        let spare = Draft::new(alloc, self.draft.team(), fresh.clone()?);
+        let draft = mem::replace(&mut self.draft, spare);
+        self.draft = draft.rebase(fresh);
+        self.stage = Stage::Fresh;
+        Ok(())
+    }
+
     /// Brings a finding. Where memory is wanting, it is handed back.
     pub fn take(&mut self, alloc: Global, finding: Finding) -> Result<Reply, Finding>
         ensures ok { IfOk result (λ r. IsBroughtTo self.old finding.question r self.new) }
@@ -288,141 +299,5 @@ impl Live {
             Stage::Trying { trial } => trial.answer(alloc, question),
             _ => question.answer(alloc),
         }
-    }
-}
-
-/// Where a draft stands.
-pub fn standing_in(alloc: Global, slot: &mut Option<Live>) -> Result<Standing, AllocError>
-    ensures same { slot.new ≡ slot.old }
-    ensures ok { IfOk result (IsStanding slot.old) }
-{
-    match slot {
-        Some(live) => live.standing(alloc),
-        None => Ok(Standing::NoSuchDraft),
-    }
-}
-
-/// The question on the candidate of a name at a draft's present level.
-pub fn question_in(
-    alloc: Global,
-    slot: &mut Option<Live>,
-    name: Name,
-) -> Result<Option<Question>, AllocError>
-    ensures same { slot.new ≡ slot.old }
-    ensures ok { IfOk result (IsQuestionOf slot.old name) }
-{
-    match slot {
-        Some(live) => live.question(alloc, name),
-        None => Ok(None),
-    }
-}
-
-/// Puts a sheet into a live draft.
-pub fn put_in(slot: &mut Option<Live>, sheet: Sheet) -> Result<Reply, Sheet>
-    ensures ok { IfOk result (λ r. IsEditIn slot.old (λ l. after_put l.draft sheet) r slot.new) }
-    ensures err { OnErr result (slot.new ≡ slot.old) }
-    ensures back { IfErr result (λ back. back ≡ sheet) }
-{
-    match slot {
-        Some(live) => live.put(sheet),
-        None => {
-            let cause = Cause::NoSuchDraft;
-            Ok(Reply::Refused { cause })
-        }
-    }
-}
-
-/// Removes a task in a live draft.
-pub fn remove_in(slot: &mut Option<Live>, name: Name) -> Result<Reply, AllocError>
-    ensures ok { IfOk result (λ r. IsEditIn slot.old (λ l. after_remove l.draft name) r slot.new) }
-    ensures err { OnErr result (slot.new ≡ slot.old) }
-{
-    match slot {
-        Some(live) => live.remove(name),
-        None => {
-            let cause = Cause::NoSuchDraft;
-            Ok(Reply::Refused { cause })
-        }
-    }
-}
-
-/// Brings a finding to a live draft.
-pub fn found_in(alloc: Global, slot: &mut Option<Live>, finding: Finding) -> Result<Reply, Finding>
-    ensures ok { IfOk result (λ r. IsFoundIn slot.old finding.question r slot.new) }
-    ensures err { OnErr result (slot.new ≡ slot.old) }
-    ensures back { IfErr result (λ back. back ≡ finding) }
-{
-    match slot {
-        Some(live) => live.take(alloc, finding),
-        None => {
-            let cause = Cause::NoSuchDraft;
-            Ok(Reply::Refused { cause })
-        }
-    }
-}
-
-/// Answers the question that a live draft asks, and brings it the finding. None where it asks none.
-pub fn advance_in(alloc: Global, slot: &mut Option<Live>) -> Result<Option<Reply>, AllocError>
-    ensures ok { IfOk result (IsAdvancedIn slot.old slot.new) }
-    ensures err { OnErr result (slot.new ≡ slot.old) }
-{
-    match slot {
-        Some(live) => live.advance(alloc),
-        None => Ok(None),
-    }
-}
-
-/// Commits a live draft: one that is tested on a state before the present one goes to the present one; any other is
-/// tested on the present state and ends.
-pub fn commit_in(
-    alloc: Global,
-    book: &mut Book,
-    slot: &mut Option<Live>,
-) -> Result<Reply, AllocError>
-    ensures ok { IfOk result (λ r. IsCommitIn book.old slot.old r book.new slot.new) }
-    ensures err_book { OnErr result (book.new ≡ book.old) }
-    ensures err_slot { OnErr result (slot.new ≡ slot.old) }
-{
-    let Some(live) = slot else {
-        return Ok(Reply::Refused {
-            cause: Cause::NoSuchDraft,
-        });
-    };
-    let version = book.state().version();
-    if live.draft().base_version() < version && live.is_tested(alloc)? {
-        let fresh = book.snapshot()?;
-        rebase_in(slot, fresh);
-        return Ok(Reply::Stale { version });
-    }
-    let decided = book.test_and_enter(alloc, live.draft())?;
-    *slot = None;
-    Ok(Reply::Decided {
-        place: decided.place,
-        entry: decided.entry,
-    })
-}
-
-// Puts a live draft on another state, without findings.
-fn rebase_in(slot: &mut Option<Live>, fresh: Arc<NodeState>)
-    ensures { slot.new ≡ option_map (λ l. rebased l fresh.value) slot.old }
-{
-    if let Some(live) = slot.take() {
-        *slot = Some(Live {
-            draft: live.draft.rebase(fresh),
-            stage: Stage::Fresh,
-        });
-    }
-}
-
-/// Ends a live draft.
-pub fn abandon_in(slot: &mut Option<Live>) -> Reply
-    ensures ok { IsAbandonIn slot.old result slot.new }
-    ensures gone { slot.new ≡ None }
-{
-    match slot.take() {
-        Some(_) => Reply::Done,
-        None => Reply::Refused {
-            cause: Cause::NoSuchDraft,
-        },
     }
 }

@@ -12,5 +12,5 @@ returns-in-Some-clause-ok c =
     let slot = c.index_mut.result.now in
     let lt : i < length a.drafts.items = omega (arith, c.in-Some.ensures.1, ap length c.deref.ensures.value) in
     let at : live_at a.drafts.items c.args.draft ≡ get_or a.drafts.items i None = subst (λ (xs : List (Option Live)). live_at xs c.args.draft ≡ get_or xs i None) c.deref.ensures.value c.in-Some.ensures.2 in
-    subst (λ (x : World). IfOk c.advance_in.result (IsAdvanced x c.args.draft (record { book = a.book; drafts = set a.drafts.items i c.advance_in.new.slot }))) c.self.view_is
-    (core-advanced w c.args.draft i slot c.advance_in.new.slot c.advance_in.result c.in-Some.ensures.0 lt at c.index_mut.ensures.value c.advance_in.ensures.ok)
+    subst (λ (x : World). IfOk c.advance.result (IsAdvanced x c.args.draft (record { book = a.book; drafts = set a.drafts.items i c.advance.new.self }))) c.self.view_is
+    (core-advanced w c.args.draft i slot c.advance.new.self c.advance.result c.in-Some.ensures.0 lt at c.index_mut.ensures.value c.advance.ensures.ok)

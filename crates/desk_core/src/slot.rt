@@ -1,0 +1,231 @@
+//! The slots of drafts.
+
+ghost use Rattle.std.specs.Prelude.{◌≡◌, None, Some, IfOk, IfErr, IsTrue, IsSome, OnOk, OnErr, ◌↔◌};
+ghost use Rattle.drafts.specs.Changes.{after_put, after_remove};
+ghost use Rattle.desk_core.specs.Advances.{IsAdvancedIn};
+ghost use Rattle.desk_core.specs.SlotFields.{IsGrown, slot_of};
+ghost use Rattle.desk_core.specs.Slots.{IsEditIn, IsFoundIn, IsCommitIn, IsAbandonIn};
+ghost use Rattle.desk_core.specs.Standings.{IsQuestionOf, IsStanding};
+ghost use Rattle.desk_core.specs.World.{opened};
+
+use crate::events::{Cause, Reply, Standing};
+use crate::live::Live;
+use assignment::{AnswerFault, Finding, Question};
+use drafts::{Book, NodeState, Team};
+use std::alloc::{AllocError, Global};
+use std::marker::Model;
+use std::mem;
+use std::sync::Arc;
+use task_sheet::{Name, Sheet};
+
+/// What a slot holds.
+#[derive(Drop)]
+pub enum Kept {
+    /// The draft has ended.
+    Nothing,
+    /// The draft was opened, and nothing was asked of it yet.
+    Opened { team: Team, base: Arc<NodeState> },
+    /// The draft lies by itself, so that the slot of one that was only opened is small.
+    Grown { live: Box<Live> },
+}
+
+/// The slot of a draft: the draft, or none where it has ended.
+#[derive(Drop)]
+pub struct Slot {
+    kept: Kept,
+}
+
+impl Model for Slot {
+    ghost use Rattle.std.specs.Prelude.{Option};
+    ghost use Rattle.std.specs.Coded.{codes};
+    ghost use Rattle.task_sheet.specs.contracts.members.Members as chosen;
+    ghost use Rattle.desk_core.specs.World.{Live};
+
+    ghost Value = { Option Live };
+
+    ghost coded = { Prim.hlevel (codes, chosen.the_row.coded) };
+
+    ghost use Rattle.desk_core.specs.SlotFields.{kept_in};
+
+    ghost view = { kept_in };
+}
+
+// Lets a draft that was only opened grow, so that something can be asked of it.
+fn grow(alloc: Global, kept: &mut Kept) -> Result<(), AllocError>
+    ensures same { slot_of kept.new ≡ slot_of kept.old }
+    ensures ok { OnOk result (IsGrown kept.new) }
+{
+    if let Kept::Opened { team, base } = kept {
+        let live = Box::new(alloc, Live::new(alloc, *team, base.clone()?))?;
+        *kept = Kept::Grown { live };
+    }
+    Ok(())
+}
+
+impl Slot {
+    /// A draft without changes.
+    pub fn open(team: Team, base: Arc<NodeState>) -> Slot
+        ensures { result ≡ Some (opened team base.value) }
+    {
+        Slot {
+            kept: Kept::Opened { team, base },
+        }
+    }
+
+    /// Whether the draft hasn't ended.
+    pub fn is_live(&self) -> bool
+        ensures { IsTrue result ↔ IsSome self.now }
+    {
+        match &self.kept {
+            Kept::Nothing => false,
+            _ => true,
+        }
+    }
+
+    /// The answer to a question, by the lock table of the draft's test where the question is on its set.
+    pub fn answer(&self, alloc: Global, question: Question) -> Result<Finding, AnswerFault>
+        ensures ok { IfOk result (λ finding. finding.question ≡ question) }
+        ensures err { IfErr result (λ fault. fault.question ≡ question) }
+    {
+        match &self.kept {
+            Kept::Grown { live } => live.answer(alloc, question),
+            _ => question.answer(alloc),
+        }
+    }
+
+    /// Where the draft stands.
+    pub fn standing(&mut self, alloc: Global) -> Result<Standing, AllocError>
+        ensures same { self.new ≡ self.old }
+        ensures ok { IfOk result (IsStanding self.old) }
+    {
+        grow(alloc, &mut self.kept)?;
+        match &mut self.kept {
+            Kept::Grown { live } => live.standing(alloc),
+            Kept::Opened { .. } => unreachable!(),
+            Kept::Nothing => Ok(Standing::NoSuchDraft),
+        }
+    }
+
+    /// The question on the candidate of a name at the draft's present level.
+    pub fn question(&mut self, alloc: Global, name: Name) -> Result<Option<Question>, AllocError>
+        ensures same { self.new ≡ self.old }
+        ensures ok { IfOk result (IsQuestionOf self.old name) }
+    {
+        grow(alloc, &mut self.kept)?;
+        match &mut self.kept {
+            Kept::Grown { live } => live.question(alloc, name),
+            Kept::Opened { .. } => unreachable!(),
+            Kept::Nothing => Ok(None),
+        }
+    }
+
+    /// Puts a sheet into the draft.
+    pub fn put(&mut self, alloc: Global, sheet: Sheet) -> Result<Reply, Sheet>
+        ensures ok { IfOk result (λ r. IsEditIn self.old (λ l. after_put l.draft sheet) r self.new) }
+        ensures err { OnErr result (self.new ≡ self.old) }
+        ensures back { IfErr result (λ back. back ≡ sheet) }
+    {
+        if grow(alloc, &mut self.kept).is_err() {
+            return Err(sheet);
+        }
+        match &mut self.kept {
+            Kept::Grown { live } => live.put(sheet),
+            Kept::Opened { .. } => unreachable!(),
+            Kept::Nothing => {
+                let cause = Cause::NoSuchDraft;
+                Ok(Reply::Refused { cause })
+            }
+        }
+    }
+
+    /// Removes a task in the draft.
+    pub fn remove(&mut self, alloc: Global, name: Name) -> Result<Reply, AllocError>
+        ensures ok { IfOk result
+            (λ r. IsEditIn self.old (λ l. after_remove l.draft name) r self.new) }
+        ensures err { OnErr result (self.new ≡ self.old) }
+    {
+        grow(alloc, &mut self.kept)?;
+        match &mut self.kept {
+            Kept::Grown { live } => live.remove(name),
+            Kept::Opened { .. } => unreachable!(),
+            Kept::Nothing => {
+                let cause = Cause::NoSuchDraft;
+                Ok(Reply::Refused { cause })
+            }
+        }
+    }
+
+    /// Brings a finding to the draft.
+    pub fn take(&mut self, alloc: Global, finding: Finding) -> Result<Reply, Finding>
+        ensures ok { IfOk result (λ r. IsFoundIn self.old finding.question r self.new) }
+        ensures err { OnErr result (self.new ≡ self.old) }
+        ensures back { IfErr result (λ back. back ≡ finding) }
+    {
+        if grow(alloc, &mut self.kept).is_err() {
+            return Err(finding);
+        }
+        match &mut self.kept {
+            Kept::Grown { live } => live.take(alloc, finding),
+            Kept::Opened { .. } => unreachable!(),
+            Kept::Nothing => {
+                let cause = Cause::NoSuchDraft;
+                Ok(Reply::Refused { cause })
+            }
+        }
+    }
+
+    /// Answers the question that the draft asks, and brings it the finding. None where it asks none.
+    pub fn advance(&mut self, alloc: Global) -> Result<Option<Reply>, AllocError>
+        ensures ok { IfOk result (IsAdvancedIn self.old self.new) }
+        ensures err { OnErr result (self.new ≡ self.old) }
+    {
+        grow(alloc, &mut self.kept)?;
+        match &mut self.kept {
+            Kept::Grown { live } => live.advance(alloc),
+            Kept::Opened { .. } => unreachable!(),
+            Kept::Nothing => Ok(None),
+        }
+    }
+
+    /// Ends the draft.
+    pub fn abandon(&mut self) -> Reply
+        ensures ok { IsAbandonIn self.old result self.new }
+        ensures gone { self.new ≡ None }
+    {
+        match mem::replace(&mut self.kept, Kept::Nothing) {
+            Kept::Nothing => Reply::Refused {
+                cause: Cause::NoSuchDraft,
+            },
+            _ => Reply::Done,
+        }
+    }
+
+    /// Commits the draft: one that is tested on a state before the present one goes to the present one; any other is
+    /// tested on the present state and ends.
+    pub fn commit(&mut self, alloc: Global, book: &mut Book) -> Result<Reply, AllocError>
+        ensures ok { IfOk result (λ r. IsCommitIn book.old self.old r book.new self.new) }
+        ensures err_book { OnErr result (book.new ≡ book.old) }
+        ensures err_slot { OnErr result (self.new ≡ self.old) }
+    {
+        grow(alloc, &mut self.kept)?;
+        let live = match &mut self.kept {
+            Kept::Grown { live } => live,
+            Kept::Opened { .. } => unreachable!(),
+            Kept::Nothing => {
+                let cause = Cause::NoSuchDraft;
+                return Ok(Reply::Refused { cause });
+            }
+        };
+        let version = book.state().version();
+        if live.draft().base_version() < version && live.is_tested(alloc)? {
+            live.rebase(alloc, book.snapshot()?)?;
+            return Ok(Reply::Stale { version });
+        }
+        let decided = book.test_and_enter(alloc, live.draft())?;
+        self.kept = Kept::Nothing;
+        Ok(Reply::Decided {
+            place: decided.place,
+            entry: decided.entry,
+        })
+    }
+}
