@@ -38,11 +38,6 @@ puts_both {contents = contents} {a = a} {b = b} {c = c} {r = r} {xs = xs} {ys = 
   same = two.same ∙ one.same;
 }
 
--- a text, and a put that failed
-pub puts_failed : {W : Type 0} {contents : W → Option (List ℕ)} {a b c : Page W} {u : ⊤} {e d : WriteFailed} {xs ys zs : List ℕ}
-    → Puts contents a b (Ok u) xs → Puts contents b c (Err e) ys → Puts contents a c (Err d) zs
-puts_failed one two = record { sent = tt; ok = tt; failed = two.failed; same = two.same ∙ one.same }
-
 -- nothing was put yet
 pub puts_none : {W : Type 0} (contents : W → Option (List ℕ)) (a : Page W) (text : ℕ → List ℕ) → Puts contents a a (Ok tt) (each 0 text)
 unfolding each
