@@ -52,6 +52,14 @@ verdict_ends (verdict.Infeasible o) is = cc
 pub judged_ends : (judged : List Judged) → judged_status judged ≡ InputOrOutputFailed → ⊥
 judged_ends judged = elim (all_meet judged) as (λ b. (if b then Done else Infeasible) ≡ InputOrOutputFailed → ⊥) [ true ↦ λ is. cc | false ↦ λ is. cc ]
 
+-- nor has success
+pub done_ends : Done ≡ InputOrOutputFailed → ⊥
+done_ends is = cc
+
+-- what was found is no error
+pub never_err : {T E : Type 0} {x : T} {e : E} → Ok x ≡ Err e → ⊥
+never_err is = cc
+
 -- a refusal that is that of a failed read is shown with its status, also where the writer has failed
 ended : (failed : Bool) (r : Refusal) (s : Status) → (failed ≡ false → s ≡ status_of r) → (failed ≡ true → s ≡ InputOrOutputFailed) → r ≡ failed_read → s ≡ InputOrOutputFailed
 ended true r s status unwritten is = unwritten refl

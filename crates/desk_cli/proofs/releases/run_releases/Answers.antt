@@ -1,13 +1,14 @@
-use Rattle.std.proofs.Common.{◌≡◌, Ok, Err, inl, refl}
+use Rattle.std.proofs.Common.{◌∙◌, List, Ok, Err, inl, refl, ap}
+use Rattle.ceiling_kernel.specs.declared.trace.Release.{Release}
 use Rattle.release_list.specs.Text.{list_lines}
 use Rattle.desk_cli.specs.declared.refusal.Refusal.TheVariants as refusal
-use Rattle.desk_cli.proofs.CarriedOut.{carried_out, refused, shown, wanting}
+use Rattle.desk_cli.proofs.CarriedOut.{carried_out, done_ends, refused, shown, wanting}
 use Rattle.desk_cli.proofs.releases.run_releases.Goals as goal
 
 pub returns-in-Ok-list_text : goal.returns-in-Ok-list_text
 returns-in-Ok-list_text g c =
-    let lines : c.as_bytes.result.now ≡ list_lines c.args.until c.in-Ok.releases.items = cc in
-    carried_out c.in-Ok.ensures.read (shown c.print.ensures lines refl (λ is. cc) (λ wrote is. (Ok c.in-Ok.releases, c.in-Ok.ensures.answer, wrote, is)))
+    let lines = c.as_bytes.ensures.value ∙ c.in-Ok-list_text.ensures ∙ ap (λ (rs : List Release). list_lines c.args.until rs) c.deref.ensures.value in
+    carried_out c.in-Ok.ensures.read (shown c.print.ensures lines refl done_ends (λ wrote is. (Ok c.in-Ok.releases, c.in-Ok.ensures.answer, wrote, is)))
 
 -- want of memory for the lines is an answer of its own
 pub returns-in-Ok : goal.returns-in-Ok
