@@ -2,7 +2,7 @@
 
 use crate::sentence::sentence_of;
 use command_line::{Call, Input};
-use desk_cli::{Audience, Refusal, Which};
+use desk_cli::{Audience, CommandRefusal, Which};
 use sentences::{push_clean, put_notes};
 use std::alloc::{AllocError, Global};
 use std::io::Write;
@@ -67,7 +67,7 @@ impl<'a, W: Write + Drop> Audience for Advice<'a, W> {
         let _ = put_notes(set, &mut self.errors);
     }
 
-    fn refused(&mut self, which: Which, bytes: &[u8], refusal: Refusal) {
+    fn refused(&mut self, which: Which, bytes: &[u8], refusal: CommandRefusal) {
         let Some(sentence) = sentence_of(self.alloc, bytes, refusal) else {
             return;
         };

@@ -1,6 +1,6 @@
 //! The sentence of each refusal.
 
-use desk_cli::{Refusal, TextFault};
+use desk_cli::{CommandRefusal, TextFault};
 use sentences::{
     of_certificate, of_check, of_release_line, of_run, of_script, of_set, of_settings,
 };
@@ -19,16 +19,18 @@ fn of_input(alloc: Global, fault: InputFault) -> Option<String> {
 
 /// What is wrong with an input, from its bytes. None for want of memory, here or before, and for what is no fault of an
 /// input.
-pub(crate) fn sentence_of(alloc: Global, bytes: &[u8], refusal: Refusal) -> Option<String> {
+pub(crate) fn sentence_of(alloc: Global, bytes: &[u8], refusal: CommandRefusal) -> Option<String> {
     match refusal {
-        Refusal::Input(fault) => of_input(alloc, fault),
-        Refusal::Set(fault) => of_set(alloc, bytes, fault),
-        Refusal::Certificate(fault) => of_certificate(alloc, bytes, fault),
-        Refusal::Check(fault) => of_check(alloc, fault),
-        Refusal::Text(TextFault::BadLine { line }) => of_release_line(alloc, bytes, line),
-        Refusal::Run(fault) => of_run(alloc, bytes, fault),
-        Refusal::Settings(fault) => of_settings(alloc, bytes, fault),
-        Refusal::Script(fault) => of_script(alloc, bytes, fault),
-        Refusal::Text(TextFault::OutOfMemory) | Refusal::Rush(_) | Refusal::OutOfMemory => None,
+        CommandRefusal::Input(fault) => of_input(alloc, fault),
+        CommandRefusal::Set(fault) => of_set(alloc, bytes, fault),
+        CommandRefusal::Certificate(fault) => of_certificate(alloc, bytes, fault),
+        CommandRefusal::Check(fault) => of_check(alloc, fault),
+        CommandRefusal::Text(TextFault::BadLine { line }) => of_release_line(alloc, bytes, line),
+        CommandRefusal::Run(fault) => of_run(alloc, bytes, fault),
+        CommandRefusal::Settings(fault) => of_settings(alloc, bytes, fault),
+        CommandRefusal::Script(fault) => of_script(alloc, bytes, fault),
+        CommandRefusal::Text(TextFault::OutOfMemory)
+        | CommandRefusal::Rush(_)
+        | CommandRefusal::OutOfMemory => None,
     }
 }

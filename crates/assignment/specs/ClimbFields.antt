@@ -17,7 +17,7 @@ climb_of a = record {
 }
 
 -- the levels so far are right, and there is room for those to come
-pub record IsKept (a : Inside) : Type 0 where
+pub record IsClimbKept (a : Inside) : Type 0 where
   pub valid : IsTaskSet a.set.value
   pub climbing : IsClimbing a.set.value a.left a.levels.items
   pub room : vec_len a.levels + len a.left ≤ vec_capacity a.levels

@@ -3,7 +3,7 @@ use Rattle.std.specs.Prelude.{◌≡◌, ◌⊎◌, Result, Ok, Err}
 use Rattle.task_sheet.specs.Verdicts.{IsVerdictOf}
 use Rattle.assignment.specs.Levels.{LevelState, IsDecided}
 use Rattle.assignment.specs.Climbs.{ClimbState, IsNext, IsPlaced, IsEnded, IsUnfinished}
-use Rattle.assignment.specs.Verdict.{set_of, verdict_of}
+use Rattle.assignment.specs.Verdict.{verdict_set, verdict_of}
 use Rattle.assignment.specs.declared.verdict.Verdict.{Verdict}
 use Rattle.assignment.specs.declared.climb.ClimbFault.{ClimbFault}
 use Rattle.assignment.specs.declared.climb.ClimbFault.TheVariants.{Stranger, NotAll}
@@ -22,6 +22,6 @@ ClosesLevel old level new (Err (NotAll back)) = IsNext old level × (¬ IsDecide
 -- the verdict of the set, or the climb is handed back
 abbrev pub Finishes : ClimbState → Result Verdict Unfinished → Type 0
 Finishes climb (Ok verdict) =
-    (¬ IsUnfinished climb) × (set_of verdict ≡ climb.set)
+    (¬ IsUnfinished climb) × (verdict_set verdict ≡ climb.set)
     × IsVerdictOf climb.set (verdict_of verdict)
 Finishes climb (Err fault) = IsUnfinished climb × (fault.climb ≡ climb)

@@ -8,7 +8,7 @@ use Rattle.assignment.specs.Levels.{AreRight, AreMissing}
 use Rattle.assignment.specs.declared.level.Level.TheInside.{Inside}
 
 -- each answer so far is right, and there is room for the failures
-pub record IsKept (a : Inside) : Type 0 where
+pub record IsLevelKept (a : Inside) : Type 0 where
   pub valid : IsTaskSet a.set.value
   pub part : IsPart (indexes_of a.left) (all_of a.set.value)
   pub some : 0 < len a.left

@@ -7,9 +7,9 @@ use Rattle.assignment.specs.declared.verdict.Verdict.{Verdict}
 use Rattle.assignment.specs.declared.verdict.Verdict.TheVariants.{Admitted, Infeasible}
 
 -- the set that a verdict is on
-abbrev pub set_of : Verdict → List Task
-set_of (Admitted a) = a.set
-set_of (Infeasible o) = o.set
+abbrev pub verdict_set : Verdict → List Task
+verdict_set (Admitted a) = a.set
+verdict_set (Infeasible o) = o.set
 
 -- what a verdict says of it
 abbrev pub verdict_of : Verdict → VerdictData

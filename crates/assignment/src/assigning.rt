@@ -7,7 +7,7 @@ ghost use Rattle.task_sheet.specs.Verdicts.{IsVerdictOf};
 ghost use Rattle.ceilings.specs.IsTableOf.{IsTableOf};
 ghost use Rattle.assignment.specs.Climbs.{IsUnfinished};
 ghost use Rattle.assignment.specs.Levels.{LevelState, IsDecided, with_finding};
-ghost use Rattle.assignment.specs.Verdict.{set_of, verdict_of};
+ghost use Rattle.assignment.specs.Verdict.{verdict_set, verdict_of};
 
 use crate::climb::Climb;
 use crate::level::Level;
@@ -68,7 +68,7 @@ fn climb_up(alloc: Global, table: &LockTable, mut climb: Climb) -> Result<Climb,
 // The verdict at the end of a climb.
 fn end_of(climb: Climb) -> Verdict
     requires { IsUnfinished climb → ⊥ }
-    ensures of_set { set_of result ≡ climb.set }
+    ensures of_set { verdict_set result ≡ climb.set }
     ensures verdict { IsVerdictOf climb.set (verdict_of result) }
 {
     match climb.finish() {
@@ -80,7 +80,7 @@ fn end_of(climb: Climb) -> Verdict
 /// The verdict of a set: its best order with what shows it best, or its greatest obstruction with what shows it stuck.
 /// The error is want of memory.
 pub fn assign(alloc: Global, set: Arc<TaskSet>) -> Result<Verdict, AllocError>
-    ensures of_set { IfOk result (λ verdict. set_of verdict ≡ set.value) }
+    ensures of_set { IfOk result (λ verdict. verdict_set verdict ≡ set.value) }
     ensures verdict { IfOk result (λ verdict. IsVerdictOf set.value (verdict_of verdict)) }
 {
     let table = LockTable::new(alloc, &set)?;

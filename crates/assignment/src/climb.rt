@@ -35,11 +35,11 @@ impl Model for Climb {
 
     ghost coded = { Prim.hlevel (codes, chosen.the_row.coded) };
 
-    ghost use Rattle.assignment.specs.ClimbFields.{climb_of, IsKept};
+    ghost use Rattle.assignment.specs.ClimbFields.{climb_of, IsClimbKept};
 
     ghost view = { climb_of };
 
-    ghost invariant = { IsKept };
+    ghost invariant = { IsClimbKept };
 }
 
 /// Why a level was not closed; it is handed back.

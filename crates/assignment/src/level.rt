@@ -35,11 +35,11 @@ impl Model for Level {
 
     ghost coded = { Prim.hlevel (codes, members.the_row.coded) };
 
-    ghost use Rattle.assignment.specs.LevelFields.{IsKept};
+    ghost use Rattle.assignment.specs.LevelFields.{IsLevelKept};
 
     ghost view = { λ l. record { set = l.set.value; left = l.left; missing = l.missing } };
 
-    ghost invariant = { IsKept };
+    ghost invariant = { IsLevelKept };
 }
 
 /// Why a finding was not taken; it is handed back.

@@ -1,7 +1,7 @@
 //! Verdicts on sets of tasks.
 ghost use Rattle.std.specs.Prelude.{◌≡◌};
 ghost use Rattle.task_sheet.specs.Verdicts.{IsBestOrder, IsStuck, IsVerdictOf};
-ghost use Rattle.assignment.specs.Verdict.{set_of, verdict_of};
+ghost use Rattle.assignment.specs.Verdict.{verdict_set, verdict_of};
 
 use crate::outcome::Reason;
 use std::marker::Model;
@@ -142,8 +142,8 @@ impl Obstruction {
 impl Verdict {
     /// The set that this is the verdict of.
     pub fn set(&self) -> &TaskSet
-        ensures same { result.now ≡ set_of self.now }
-        ensures verdict { IsVerdictOf (set_of self.now) (verdict_of self.now) }
+        ensures same { result.now ≡ verdict_set self.now }
+        ensures verdict { IsVerdictOf (verdict_set self.now) (verdict_of self.now) }
     {
         match self {
             Verdict::Admitted(assignment) => assignment.set(),

@@ -7,7 +7,7 @@ use Rattle.std.proofs.lemmas.Bool.{false≢true}
 use Rattle.task_sheet.specs.Sheet.{Task, same_bytes}
 use Rattle.task_sheet.specs.SheetEquality.{same_sheet-Decides}
 use Rattle.task_sheet.proofs.NameLaws.{same_is}
-use Rattle.book_lock.specs.Own.{IsRanked, IsForeignName, sheet_in}
+use Rattle.book_lock.specs.Own.{IsRanked, IsForeignName, sheet_named}
 use Rattle.book_lock.specs.Foreign.{same_held, differ_on, first_name, first_told}
 use Rattle.book_lock.proofs.RankLaws.{same_under_names}
 
@@ -23,16 +23,16 @@ held-is None (Some y) h = cc
 held-is (Some x) None h = cc
 held-is (Some x) (Some y) h = ap (λ (z : Task). Some z) ((same_sheet-Decides x y).0 h)
 
-agree : (xs ys : List Task) (name : List ℕ) → differ_on xs ys name ≡ false → sheet_in name xs ≡ sheet_in name ys
-agree xs ys name h = held-is (sheet_in name xs) (sheet_in name ys) (by (same_held (sheet_in name xs) (sheet_in name ys)) h)
+agree : (xs ys : List Task) (name : List ℕ) → differ_on xs ys name ≡ false → sheet_named name xs ≡ sheet_named name ys
+agree xs ys name h = held-is (sheet_named name xs) (sheet_named name ys) (by (same_held (sheet_named name xs) (sheet_named name ys)) h)
   where
     by : (b : Bool) → not b ≡ false → b ≡ true
     by true e = refl
     by false e = cc
 
-differ : (xs ys : List Task) (name : List ℕ) → differ_on xs ys name ≡ true → sheet_in name xs ≢ sheet_in name ys
+differ : (xs ys : List Task) (name : List ℕ) → differ_on xs ys name ≡ true → sheet_named name xs ≢ sheet_named name ys
 differ xs ys name h e =
-    let own : same_held (sheet_in name xs) (sheet_in name ys) ≡ true = subst (λ (o : Option Task). same_held (sheet_in name xs) o ≡ true) e (held-own (sheet_in name xs)) in
+    let own : same_held (sheet_named name xs) (sheet_named name ys) ≡ true = subst (λ (o : Option Task). same_held (sheet_named name xs) o ≡ true) e (held-own (sheet_named name xs)) in
     false≢true (ap not (sym own) ∙ h)
 
 -- ---- the order of names
@@ -93,10 +93,10 @@ module _ (p : List ℕ → Bool) where
         | false ↦ low-kept xs first name h
       ]
 
-  low-each : (xs : List Task) (first : Option (List ℕ)) (name : List ℕ) (x : Task) → p name ≡ true → sheet_in name xs ≡ Some x → IsLow (first_told p xs first) name
+  low-each : (xs : List Task) (first : Option (List ℕ)) (name : List ℕ) (x : Task) → p name ≡ true → sheet_named name xs ≡ Some x → IsLow (first_told p xs first) name
   low-each [] first name x told e = cc
   low-each (y ∷ ys) first name x told e =
-      elim (same_bytes y.name name) as (λ b. same_bytes y.name name ≡ b → cond b (Some y) (sheet_in name ys) ≡ Some x → IsLow (first_told p (y ∷ ys) first) name) [
+      elim (same_bytes y.name name) as (λ b. same_bytes y.name name ≡ b → cond b (Some y) (sheet_named name ys) ≡ Some x → IsLow (first_told p (y ∷ ys) first) name) [
         | true ↦ λ named found.
             let name_is : y.name ≡ name = same_is y.name name named in
             let here : p y.name ≡ true = ap p name_is ∙ told in
@@ -131,10 +131,10 @@ module _ (p : List ℕ → Bool) where
 
 -- a name that is told is found in one of the two
 found-either : (xs ys : List Task) (name : List ℕ) (low : Option (List ℕ)) → differ_on xs ys name ≡ true
-    → ((x : Task) → sheet_in name xs ≡ Some x → IsLow low name) → ((y : Task) → sheet_in name ys ≡ Some y → IsLow low name) → IsLow low name
-found-either xs ys name low h mine theirs = by (sheet_in name xs) (sheet_in name ys) refl refl
+    → ((x : Task) → sheet_named name xs ≡ Some x → IsLow low name) → ((y : Task) → sheet_named name ys ≡ Some y → IsLow low name) → IsLow low name
+found-either xs ys name low h mine theirs = by (sheet_named name xs) (sheet_named name ys) refl refl
   where
-    by : (a b : Option Task) → sheet_in name xs ≡ a → sheet_in name ys ≡ b → IsLow low name
+    by : (a b : Option Task) → sheet_named name xs ≡ a → sheet_named name ys ≡ b → IsLow low name
     by (Some x) b e f = mine x e
     by None (Some y) e f = theirs y f
     by None None e f = absurd (differ xs ys name h (e ∙ sym f))

@@ -13,7 +13,7 @@ use Rattle.drafts.specs.declared.change.Change.{Change}
 use Rattle.drafts.specs.declared.change.Change.TheVariants.{Put, Remove}
 use Rattle.drafts.specs.declared.change.Refusal.{Refusal}
 use Rattle.drafts.specs.Applied.{set_of, held, is_foreign, is_there, without_name, placed, after_change, then_on, if_few, all_changes, applied}
-use Rattle.drafts.specs.Machine.{Desk, empty_desk, Ruling, Admitted, Refused, Infeasible, Entry, IsAnswer, IsDecision, moved, after_entry, replay}
+use Rattle.drafts.specs.Machine.{MachineState, empty_desk, Ruling, Admitted, Refused, Infeasible, Entry, IsRuling, IsDecision, moved, after_entry, replay}
 use Rattle.drafts.specs.Books.{Book, logged, IsLegalBook}
 use Rattle.drafts.specs.Changes.{Draft}
 use Rattle.drafts.specs.Proposals.{ProposalData}
@@ -22,7 +22,7 @@ use Rattle.book_lock.specs.Own.{own_of, IsRanked, ranked_in, own_change, own_cha
 use Rattle.book_lock.specs.Opening.{IsOwn}
 use Rattle.book_lock.specs.Passes.{Known, own_after, receiving}
 use Rattle.book_lock.specs.Settles.{IsEntered, Settles}
-use Rattle.book_lock.specs.declared.answer.Outcome.TheVariants.{Decided}
+use Rattle.book_lock.specs.declared.answer.Settlement.TheVariants.{Decided}
 use Rattle.book_lock.proofs.RankLaws.{IsRanked-none, IsRanked-change}
 
 same_number : (n : ℕ) → (n == n) ≡ true
@@ -127,24 +127,24 @@ applied-goes : (team : ℕ) (ts : List Owned) (changes : List (List ℕ × Chang
 applied-goes team ts changes h = few-go team ts changes (all_changes team ts changes) (all-go team ts changes h)
 
 -- ---- the tasks of a book are by rank
-moved-ranked : (desk : Desk) (team : ℕ) (changes : List (List ℕ × Change)) (d : Ruling) (r : Result (List Owned) Refusal) → Goes team desk.tasks changes r → IsRanked (set_of desk.tasks) → IsRanked (set_of (moved desk d r).tasks)
+moved-ranked : (desk : MachineState) (team : ℕ) (changes : List (List ℕ × Change)) (d : Ruling) (r : Result (List Owned) Refusal) → Goes team desk.tasks changes r → IsRanked (set_of desk.tasks) → IsRanked (set_of (moved desk d r).tasks)
 moved-ranked desk team changes (Admitted version) (Ok tasks) goes h = goes.0
 moved-ranked desk team changes (Admitted version) (Err refusal) goes h = h
 moved-ranked desk team changes (Refused refusal) r goes h = h
 moved-ranked desk team changes (Infeasible o) r goes h = h
 
-replay-ranked : (desk : Desk) (log : List Entry) → IsRanked (set_of desk.tasks) → IsRanked (set_of (replay desk log).tasks)
+replay-ranked : (desk : MachineState) (log : List Entry) → IsRanked (set_of desk.tasks) → IsRanked (set_of (replay desk log).tasks)
 replay-ranked desk [] h = h
 replay-ranked desk (e ∷ log) h = replay-ranked (after_entry desk e) log (moved-ranked desk e.team e.changes e.decision (applied e.team desk.tasks e.changes) (applied-goes e.team desk.tasks e.changes h) h)
 
 book-ranked : (b : Book) → IsLegalBook b → IsRanked (set_of b.desk.tasks)
-book-ranked b legal = subst (λ (d : Desk). IsRanked (set_of d.tasks)) legal.replay (replay-ranked empty_desk b.log IsRanked-none)
+book-ranked b legal = subst (λ (d : MachineState). IsRanked (set_of d.tasks)) legal.replay (replay-ranked empty_desk b.log IsRanked-none)
 
 -- ---- the law
 pub own-goes : (b : Book) (team : ℕ) (changes : List (List ℕ × Change)) (tasks : List Owned) → IsLegalBook b → applied team b.desk.tasks changes ≡ Ok tasks → own_of team tasks ≡ own_changes changes (own_of team b.desk.tasks)
 own-goes b team changes tasks legal is = (subst (λ (r : Result (List Owned) Refusal). Goes team b.desk.tasks changes r) is (applied-goes team b.desk.tasks changes (book-ranked b legal))).1
 
-own-moved : (desk : Desk) (team : ℕ) (changes : List (List ℕ × Change)) (d : Ruling) (r : Result (List Owned) Refusal) (own : List Task) → IsAnswer desk.version r d → Goes team desk.tasks changes r → own_of team desk.tasks ≡ own
+own-moved : (desk : MachineState) (team : ℕ) (changes : List (List ℕ × Change)) (d : Ruling) (r : Result (List Owned) Refusal) (own : List Task) → IsRuling desk.version r d → Goes team desk.tasks changes r → own_of team desk.tasks ≡ own
     → own_of team (moved desk d r).tasks ≡ own_after d (own_changes changes own) own
 own-moved desk team changes (Admitted version) (Ok tasks) own is goes here = goes.1 ∙ ap (λ (xs : List Task). own_changes changes xs) here
 own-moved desk team changes (Admitted version) (Err refusal) own is goes here = absurd is

@@ -14,7 +14,7 @@ use Rattle.drafts.specs.Applied.{set_of, teams_of, is_team_at}
 use Rattle.drafts.specs.declared.roster.Owned.{Owned}
 use Rattle.drafts.specs.declared.change.Change.{Change}
 use Rattle.drafts.specs.declared.change.Change.TheVariants.{Put, Remove}
-use Rattle.book_lock.specs.Own.{own_of, IsRanked, ranked_in, own_change, own_changes, sheet_in}
+use Rattle.book_lock.specs.Own.{own_of, IsRanked, ranked_in, own_change, own_changes, sheet_named}
 
 -- ---- the order
 
@@ -95,30 +95,30 @@ IsRanked-changes (c ∷ changes) own h = IsRanked-changes changes (own_change c.
 -- ---- two lists that hold the same under each name
 
 -- what is found under a name has it, and is found only where it is
-found-in : (name : List ℕ) (P : Task → Type 0) (x : Task) (xs : List Task) → AllByRecursion P xs → sheet_in name xs ≡ Some x → P x × (same_bytes x.name name ≡ true)
+found-in : (name : List ℕ) (P : Task → Type 0) (x : Task) (xs : List Task) → AllByRecursion P xs → sheet_named name xs ≡ Some x → P x × (same_bytes x.name name ≡ true)
 found-in name P x [] all e = cc
 found-in name P x (y ∷ ys) all e =
-    elim (same_bytes y.name name) as (λ b. same_bytes y.name name ≡ b → cond b (Some y) (sheet_in name ys) ≡ Some x → P x × (same_bytes x.name name ≡ true)) [
+    elim (same_bytes y.name name) as (λ b. same_bytes y.name name ≡ b → cond b (Some y) (sheet_named name ys) ≡ Some x → P x × (same_bytes x.name name ≡ true)) [
       | true ↦ λ named found. let same : y ≡ x = cc in (subst P same all.0, subst (λ (z : Task). same_bytes z.name name ≡ true) same named)
       | false ↦ λ other found. found-in name P x ys all.1 found
     ] refl e
 
 heads : (x y : Task) (xs ys : List Task) → AllByRecursion (λ z. rank_cmp x z ≡ Less) xs → AllByRecursion (λ z. rank_cmp y z ≡ Less) ys
-    → ((name : List ℕ) → sheet_in name (x ∷ xs) ≡ sheet_in name (y ∷ ys)) → x ≡ y
+    → ((name : List ℕ) → sheet_named name (x ∷ xs) ≡ sheet_named name (y ∷ ys)) → x ≡ y
 heads x y xs ys above over agree =
-    let mine : sheet_in x.name (y ∷ ys) ≡ Some x = sym (agree x.name) ∙ rw (same_own x.name) refl in
-    let theirs : sheet_in y.name (x ∷ xs) ≡ Some y = agree y.name ∙ rw (same_own y.name) refl in
-    elim (same_bytes y.name x.name) as (λ b. same_bytes y.name x.name ≡ b → cond b (Some y) (sheet_in x.name ys) ≡ Some x → x ≡ y) [
+    let mine : sheet_named x.name (y ∷ ys) ≡ Some x = sym (agree x.name) ∙ rw (same_own x.name) refl in
+    let theirs : sheet_named y.name (x ∷ xs) ≡ Some y = agree y.name ∙ rw (same_own y.name) refl in
+    elim (same_bytes y.name x.name) as (λ b. same_bytes y.name x.name ≡ b → cond b (Some y) (sheet_named x.name ys) ≡ Some x → x ≡ y) [
       | true ↦ λ e found. cc
       | false ↦ λ e found.
           let after : rank_cmp y x ≡ Less = (found-in x.name (λ z. rank_cmp y z ≡ Less) x ys over found).0 in
           let apart : same_bytes x.name y.name ≡ false = nat_list_eq_equiv.symm x.name y.name ∙ e in
-          let found' : sheet_in y.name xs ≡ Some y = rw apart at theirs in
+          let found' : sheet_named y.name xs ≡ Some y = rw apart at theirs in
           let before' : rank_cmp x y ≡ Less = (found-in y.name (λ z. rank_cmp x z ≡ Less) y xs above found').0 in
           absurd (one_way x y before' after)
     ] refl mine
 
-none-in : (name : List ℕ) (x : Task) (xs : List Task) → same_bytes x.name name ≡ true → AllByRecursion (λ y. same_name x y ≡ false) xs → sheet_in name xs ≡ None
+none-in : (name : List ℕ) (x : Task) (xs : List Task) → same_bytes x.name name ≡ true → AllByRecursion (λ y. same_name x y ≡ false) xs → sheet_named name xs ≡ None
 none-in name x [] e apart = refl
 none-in name x (y ∷ ys) e apart =
     let name_is : x.name ≡ name = same_is x.name name e in
@@ -126,15 +126,15 @@ none-in name x (y ∷ ys) e apart =
     rw other (none-in name x ys e apart.1)
 
 tails : (x : Task) (xs ys : List Task) → AllByRecursion (λ z. same_name x z ≡ false) xs → AllByRecursion (λ z. same_name x z ≡ false) ys
-    → ((name : List ℕ) → sheet_in name (x ∷ xs) ≡ sheet_in name (x ∷ ys)) → (name : List ℕ) → sheet_in name xs ≡ sheet_in name ys
+    → ((name : List ℕ) → sheet_named name (x ∷ xs) ≡ sheet_named name (x ∷ ys)) → (name : List ℕ) → sheet_named name xs ≡ sheet_named name ys
 tails x xs ys mine theirs agree name =
-    elim (same_bytes x.name name) as (λ b. same_bytes x.name name ≡ b → cond b (Some x) (sheet_in name xs) ≡ cond b (Some x) (sheet_in name ys) → sheet_in name xs ≡ sheet_in name ys) [
+    elim (same_bytes x.name name) as (λ b. same_bytes x.name name ≡ b → cond b (Some x) (sheet_named name xs) ≡ cond b (Some x) (sheet_named name ys) → sheet_named name xs ≡ sheet_named name ys) [
       | true ↦ λ e same. none-in name x xs e mine ∙ sym (none-in name x ys e theirs)
       | false ↦ λ e same. same
     ] refl (agree name)
 
 same_sheets : (xs ys : List Task) → IsStrictlySortedBy rank_cmp xs → IsStrictlySortedBy rank_cmp ys → AreDistinct same_name xs → AreDistinct same_name ys
-    → ((name : List ℕ) → sheet_in name xs ≡ sheet_in name ys) → xs ≡ ys
+    → ((name : List ℕ) → sheet_named name xs ≡ sheet_named name ys) → xs ≡ ys
 unfolding IsStrictlySortedBy
 same_sheets [] [] a b p q agree = refl
 same_sheets [] (y ∷ ys) a b p q agree =
@@ -144,11 +144,11 @@ same_sheets (x ∷ xs) [] a b p q agree =
 same_sheets (x ∷ xs) (y ∷ ys) a b p q agree =
     let first : x ≡ y = heads x y xs ys a.0 b.0 agree in
     let apart : AllByRecursion (λ z. same_name x z ≡ false) ys = subst (λ (h : Task). AllByRecursion (λ z. same_name h z ≡ false) ys) (sym first) q.0 in
-    let same : (name : List ℕ) → sheet_in name (x ∷ xs) ≡ sheet_in name (x ∷ ys) = subst (λ (h : Task). (name : List ℕ) → sheet_in name (x ∷ xs) ≡ sheet_in name (h ∷ ys)) (sym first) agree in
+    let same : (name : List ℕ) → sheet_named name (x ∷ xs) ≡ sheet_named name (x ∷ ys) = subst (λ (h : Task). (name : List ℕ) → sheet_named name (x ∷ xs) ≡ sheet_named name (h ∷ ys)) (sym first) agree in
     let rest : xs ≡ ys = same_sheets xs ys a.1 b.1 p.1 q.1 (tails x xs ys p.0 apart same) in
     λ i. first i ∷ rest i
 
-pub same_under_names : (xs ys : List Task) → IsRanked xs → IsRanked ys → ((name : List ℕ) → sheet_in name xs ≡ sheet_in name ys) → xs ≡ ys
+pub same_under_names : (xs ys : List Task) → IsRanked xs → IsRanked ys → ((name : List ℕ) → sheet_named name xs ≡ sheet_named name ys) → xs ≡ ys
 same_under_names xs ys h g agree = same_sheets xs ys h.ranked g.ranked h.distinct g.distinct agree
 
 -- ---- a team's own tasks in a state

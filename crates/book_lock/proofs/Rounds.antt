@@ -5,16 +5,16 @@ use Rattle.assignment.specs.Questions.{QuestionData}
 use Rattle.candidate_workers.specs.Faults.{IsBadCount}
 use Rattle.drafts.specs.declared.change.Change.{Change}
 use Rattle.drafts.specs.Applied.{applied}
-use Rattle.drafts.specs.Machine.{Desk, IsDecision}
+use Rattle.drafts.specs.Machine.{MachineState, IsDecision}
 use Rattle.drafts.specs.Books.{Book}
 use Rattle.drafts.specs.Changes.{Draft}
 use Rattle.drafts.specs.Proposals.{ProposalData}
 use Rattle.drafts.specs.Changes.{on_base}
 use Rattle.book_lock.specs.Reached.{IsReached}
 use Rattle.book_lock.specs.Passes.{Known, receiving}
-use Rattle.book_lock.specs.Asking.{NoneShut, IsUntested}
+use Rattle.book_lock.specs.Asking.{NoneShutApplied, IsUntested}
 use Rattle.book_lock.specs.Settles.{IsReceived, SettlesSome, HoldsSome}
-use Rattle.book_lock.specs.declared.answer.Outcome.TheVariants.{Decided, Stale}
+use Rattle.book_lock.specs.declared.answer.Settlement.TheVariants.{Decided, Stale}
 use Rattle.book_lock.specs.Commits.{IsSameChange, IsUntestedOn, IsUndecided, IsLater, Commits}
 use Rattle.book_lock.specs.declared.commit.CommitFault.{CommitFault}
 use Rattle.book_lock.specs.declared.commit.CommitCause.{CommitCause}
@@ -34,7 +34,7 @@ pub reached-fresh : (p : ProposalData) (old new : Known) (fresh : _) (back : _) 
 reached-fresh p old new fresh back is = record { log = is.book.log; legal = is.legal.legal; replay = is.legal.replay ∙ sym is.settles.1 }
 
 -- on the draft's own base, or on a state that the node came to
-abbrev pub IsBaseOf : Draft → Desk → Type 0
+abbrev pub IsBaseOf : Draft → MachineState → Type 0
 IsBaseOf d desk = (desk ≡ d.base) ⊎ IsReached desk
 
 untested_on : (may : QuestionData → Type 0) (d e : Draft) (cause : CommitCause) → IsSameChange d e → IsBaseOf d e.base → IsUntested may (on_base e) cause → IsUntestedOn may d cause
@@ -42,13 +42,13 @@ untested_on may d e cause same from h =
     let named : IsUntested may (applied d.team e.base.tasks e.changes) cause = subst (λ (t : ℕ). IsUntested may (applied t e.base.tasks e.changes) cause) same.0 h in
     (e.base, from, subst (λ (cs : List (List ℕ × Change)). IsUntested may (applied d.team e.base.tasks cs) cause) same.1 named)
 
-pub on_its_base : (d e f : Draft) (base kept : Desk) → f ≡ e → IsSameChange d e → kept ≡ base → (let x : Draft = record { team = f.team; base = kept; changes = f.changes } in x) ≡ (let y : Draft = record { team = d.team; base = base; changes = d.changes } in y)
+pub on_its_base : (d e f : Draft) (base kept : MachineState) → f ≡ e → IsSameChange d e → kept ≡ base → (let x : Draft = record { team = f.team; base = kept; changes = f.changes } in x) ≡ (let y : Draft = record { team = d.team; base = base; changes = d.changes } in y)
 on_its_base d e f base kept back same k =
     let team : f.team ≡ d.team = ap (λ (x : Draft). x.team) back ∙ same.0 in
     let changes : f.changes ≡ d.changes = ap (λ (x : Draft). x.changes) back ∙ same.1 in
     λ i. let x : Draft = record { team = team i; base = k i; changes = changes i } in x
 
-pub later_fault : (may : QuestionData → Type 0) (d e : Draft) (base kept : Desk) (old p new : Known) (f g : CommitFault)
+pub later_fault : (may : QuestionData → Type 0) (d e : Draft) (base kept : MachineState) (old p new : Known) (f g : CommitFault)
     → IsSameChange d e → IsBaseOf d e.base → p ≡ old → kept ≡ base → IsUntested may (on_base e) f.cause → f.draft ≡ e → new ≡ p
     → g.cause ≡ f.cause → g.draft ≡ (let x : Draft = record { team = f.draft.team; base = kept; changes = f.draft.changes } in x)
     → IsLater may d base old (Err g) new
@@ -80,8 +80,8 @@ received_for d back p old new place same pass h =
       entered = (e, (is.0, is.1 ∙ same.0, is.2 ∙ same.1, decided), h.entered.2, h.entered.3 ∙ ap (λ (k : Known). receiving k place e) pass);
     }
 
-pub commits_later : (may always : QuestionData → Type 0) (workers : ℕ) (d back : Draft) (base : Desk) (old p new : Known) (r : Result ℕ CommitFault)
-    → d.team ≡ old.team → ¬ IsBadCount workers → NoneShut always (on_base d) → IsSameChange d back → base ≡ d.base → IsReached back.base → p ≡ old
+pub commits_later : (may always : QuestionData → Type 0) (workers : ℕ) (d back : Draft) (base : MachineState) (old p new : Known) (r : Result ℕ CommitFault)
+    → d.team ≡ old.team → ¬ IsBadCount workers → NoneShutApplied always (on_base d) → IsSameChange d back → base ≡ d.base → IsReached back.base → p ≡ old
     → IsLater may back base p r new → Commits may always workers d old r new
 commits_later may always workers d back base old p new (Ok place) team good none same b reached pass h =
     (team, good, none, received_for d back p old new place same pass h)

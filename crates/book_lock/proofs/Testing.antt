@@ -18,7 +18,7 @@ use Rattle.drafts.specs.declared.applying.Applied.TheVariants.{Tasks, Refused}
 use Rattle.drafts.specs.declared.judging.Judged.{Judged}
 use Rattle.drafts.specs.Applied.{set_of}
 use Rattle.drafts.specs.Outcomes.{IsApplied}
-use Rattle.book_lock.specs.Asking.{NoneShutOf, NoneShut, MayShutName, IsUntestedSet, IsUntested, IsOnTask, IsCauseOf}
+use Rattle.book_lock.specs.Asking.{NoneShutOf, NoneShutApplied, MayShutName, IsUntestedSet, IsUntested, IsOnTask, IsCauseOf}
 use Rattle.book_lock.specs.declared.commit.CommitCause.{CommitCause}
 use Rattle.book_lock.specs.declared.commit.CommitCause.TheVariants.{OtherTeam, BadWorkers, ThreadRefused, GateShut, OutOfMemory}
 
@@ -67,7 +67,7 @@ untested_from may (Ok tasks) U (Ok judged) is h = h
 untested_from may (Ok tasks) U (Err cause) is h = untested_cause may tasks U cause is h
 untested_from may (Err refusal) U r is h = absurd is
 
-pub none_shut_from : (shut : QuestionData → Type 0) (outcome : Result (List Owned) Refusal) (U : List Task) (r : Result Judged CommitCause) → IsSetOf outcome U → OnOk r (NoneShutOf shut U) → OnOk r (NoneShut shut outcome)
+pub none_shut_from : (shut : QuestionData → Type 0) (outcome : Result (List Owned) Refusal) (U : List Task) (r : Result Judged CommitCause) → IsSetOf outcome U → OnOk r (NoneShutOf shut U) → OnOk r (NoneShutApplied shut outcome)
 none_shut_from shut (Ok tasks) U (Ok judged) is h = subst (λ (V : List Task). NoneShutOf shut V) is h
 none_shut_from shut (Ok tasks) U (Err cause) is h = h
 none_shut_from shut (Err refusal) U r is h = absurd is

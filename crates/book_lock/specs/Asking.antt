@@ -22,9 +22,9 @@ NoneShutOf shut U =
     → shut q → ⊥
 
 -- where the changes apply, this holds of the set that they come to
-abbrev pub NoneShut : (QuestionData → Type 0) → Result (List Owned) Refusal → Type 0
-NoneShut shut (Err refusal) = Unit {0}
-NoneShut shut (Ok tasks) = NoneShutOf shut (set_of tasks)
+abbrev pub NoneShutApplied : (QuestionData → Type 0) → Result (List Owned) Refusal → Type 0
+NoneShutApplied shut (Err refusal) = Unit {0}
+NoneShutApplied shut (Ok tasks) = NoneShutOf shut (set_of tasks)
 
 -- the verdict on a set
 abbrev pub IsJudgedSet : List Task → Judged → Type 0

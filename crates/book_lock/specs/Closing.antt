@@ -2,7 +2,7 @@
 use Rattle.std.specs.Prelude.{◌≡◌, ◌<◌, ◌≤◌, ◌⊎◌, ℕ, List, true, false}
 use Rattle.drafts.specs.Books.{Book, IsLegalBook}
 use Rattle.drafts.specs.Machine.{Entry}
-use Rattle.book_lock.specs.Passes.{Known, has_team, places_of, HaveReceipts}
+use Rattle.book_lock.specs.Passes.{Known, has_team, placed_entries, HaveReceipts}
 use Rattle.book_lock.specs.declared.closing.NewFault.{NewFault}
 use Rattle.book_lock.specs.declared.closing.NewFault.TheVariants.{BadTeams, OutOfMemory}
 use Rattle.book_lock.specs.declared.closing.CloseCause.{CloseCause}
@@ -31,7 +31,7 @@ pub record IsMissing (teams : ℕ) (passes : List Known) (team : ℕ) : Type 0 w
 
 -- the team's lines of the log, with their places, are the receipts of its passes
 abbrev pub IsReceipted : List Known → List Entry → ℕ → Type 0
-IsReceipted passes log team = HaveReceipts team (places_of team 1 log) passes
+IsReceipted passes log team = HaveReceipts team (placed_entries team 1 log) passes
 
 -- so it is for each team
 abbrev pub AllReceipted : ℕ → List Known → List Entry → Type 0
@@ -45,7 +45,7 @@ pub record IsMismatch (teams : ℕ) (passes : List Known) (log : List Entry) (te
   pub least : (t : ℕ) → 1 ≤ t → t < team → IsReceipted passes log t
 
 -- the log is legal and this its replay; each team has a pass, whose receipts are its lines
-pub record IsClosed (teams : ℕ) (passes : List Known) (b : Book) : Type 0 where
+pub record IsDeskClosed (teams : ℕ) (passes : List Known) (b : Book) : Type 0 where
   pub legal : IsLegalBook b
   pub there : AllThere teams passes
   pub receipted : AllReceipted teams passes b.log

@@ -3,13 +3,13 @@ use Rattle.std.specs.Prelude.{◌≡◌, ◌≢◌, ◌<◌, ◌⊎◌, ℕ, Res
 use Rattle.assignment.specs.Questions.{QuestionData}
 use Rattle.candidate_workers.specs.Faults.{IsBadCount}
 use Rattle.drafts.specs.Applied.{applied}
-use Rattle.drafts.specs.Machine.{Desk}
+use Rattle.drafts.specs.Machine.{MachineState}
 use Rattle.drafts.specs.Changes.{Draft}
 use Rattle.drafts.specs.Changes.{on_base}
 use Rattle.book_lock.specs.Reached.{IsReached}
 use Rattle.book_lock.specs.Passes.{Known}
 use Rattle.book_lock.specs.Settles.{IsReceived}
-use Rattle.book_lock.specs.Asking.{NoneShut, IsUntested}
+use Rattle.book_lock.specs.Asking.{NoneShutApplied, IsUntested}
 use Rattle.book_lock.specs.declared.commit.Round.{Round}
 use Rattle.book_lock.specs.declared.commit.Round.TheVariants.{Decided, Overtaken}
 use Rattle.book_lock.specs.declared.commit.CommitFault.{CommitFault}
@@ -25,9 +25,9 @@ abbrev pub IsRound :
     (QuestionData → Type 0) → (QuestionData → Type 0) → Draft → Known → Result Round CommitFault
     → Known → Type 0
 IsRound may always d old (Ok (Decided place)) new =
-    NoneShut always (on_base d) × IsReceived d old place new
+    NoneShutApplied always (on_base d) × IsReceived d old place new
 IsRound may always d old (Ok (Overtaken back base)) new =
-    NoneShut always (on_base d)
+    NoneShutApplied always (on_base d)
     × IsSameChange d back
     × (base.value ≡ d.base)
     × (d.base.version < back.base.version)
@@ -39,11 +39,12 @@ IsRound may always d old (Err fault) new =
 -- some test of these changes wasn't made: on the draft's base, or on a state that the node came to
 abbrev pub IsUntestedOn : (QuestionData → Type 0) → Draft → CommitCause → Type 0
 IsUntestedOn may d cause =
-    (desk : Desk) × ((desk ≡ d.base) ⊎ IsReached desk)
+    (desk : MachineState) × ((desk ≡ d.base) ⊎ IsReached desk)
     × IsUntested may (applied d.team desk.tasks d.changes) cause
 
 -- the later rounds of a draft: what is handed back is on the base that it came with
-abbrev pub IsLater : (QuestionData → Type 0) → Draft → Desk → Known → Result ℕ CommitFault → Known
+abbrev pub IsLater : (QuestionData → Type 0) → Draft → MachineState → Known → Result ℕ CommitFault
+    → Known
     → Type 0
 IsLater may d base old (Ok place) new = IsReceived d old place new
 IsLater may d base old (Err fault) new =
@@ -64,7 +65,7 @@ abbrev pub Commits :
     (QuestionData → Type 0) → (QuestionData → Type 0) → ℕ → Draft → Known → Result ℕ CommitFault
     → Known → Type 0
 Commits may always workers d old (Ok place) new =
-    (d.team ≡ old.team) × (¬ IsBadCount workers) × NoneShut always (on_base d)
+    (d.team ≡ old.team) × (¬ IsBadCount workers) × NoneShutApplied always (on_base d)
     × IsReceived d old place new
 Commits may always workers d old (Err fault) new =
     IsUndecided may workers d old fault.cause × (fault.draft ≡ d) × (new ≡ old)

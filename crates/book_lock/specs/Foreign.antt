@@ -3,7 +3,7 @@ use Rattle.std.specs.Prelude.{ℕ, Bool, true, false, not, List, [], ◌∷◌, 
 use Rattle.std.specs.Ordering.{nat_cmp, is_lt}
 use Rattle.std.specs.Cmp.Lexicographic.{slice_cmp}
 use Rattle.task_sheet.specs.Sheet.{Task, same_sheet}
-use Rattle.book_lock.specs.Own.{sheet_in}
+use Rattle.book_lock.specs.Own.{sheet_named}
 
 -- both are none, or sheets that say the same
 abbrev pub same_held : Option Task → Option Task → Bool
@@ -14,7 +14,7 @@ same_held (Some x) (Some y) = same_sheet x y
 
 -- the two have another sheet of the name
 abbrev pub differ_on : List Task → List Task → List ℕ → Bool
-differ_on book pass name = not (same_held (sheet_in name book) (sheet_in name pass))
+differ_on book pass name = not (same_held (sheet_named name book) (sheet_named name pass))
 
 -- the first of the two by bytes
 abbrev pub first_name : Option (List ℕ) → List ℕ → List ℕ

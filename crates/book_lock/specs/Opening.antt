@@ -1,6 +1,6 @@
 -- What `open` answers.
 use Rattle.std.specs.Prelude.{◌≡◌, [], true, false, Result, Ok, Err}
-use Rattle.drafts.specs.Machine.{Desk}
+use Rattle.drafts.specs.Machine.{MachineState}
 use Rattle.drafts.specs.Books.{Book, IsLegalBook}
 use Rattle.drafts.specs.Changes.{Draft}
 use Rattle.book_lock.specs.Reached.{IsReached}
@@ -10,20 +10,20 @@ use Rattle.book_lock.specs.declared.answer.OpenFault.{OpenFault}
 use Rattle.book_lock.specs.declared.answer.OpenFault.TheVariants.{Foreign, Behind, OutOfMemory}
 
 -- the book's tasks of the pass's team are those that it knows
-abbrev pub IsOwn : Desk → Known → Type 0
+abbrev pub IsOwn : MachineState → Known → Type 0
 IsOwn desk p = own_of p.team desk.tasks ≡ p.tasks
 
 -- what a book answers to a pass: a draft on its state; the first name at which the team's tasks differ; that it is older
 -- than a receipt
-abbrev pub Opens : Book → Known → Result Draft OpenFault → Type 0
-Opens b p (Ok d) =
+abbrev pub OpensDraft : Book → Known → Result Draft OpenFault → Type 0
+OpensDraft b p (Ok d) =
     IsOwn b.desk p
     × (is_up_to b.desk.version p.receipts ≡ true)
     × (d ≡ (let n : Draft = record { team = p.team; base = b.desk; changes = [] } in n))
-Opens b p (Err (Foreign name)) = IsForeignName (own_of p.team b.desk.tasks) p.tasks name
-Opens b p (Err (Behind version)) =
+OpensDraft b p (Err (Foreign name)) = IsForeignName (own_of p.team b.desk.tasks) p.tasks name
+OpensDraft b p (Err (Behind version)) =
     IsOwn b.desk p × (version ≡ b.desk.version) × (is_up_to version p.receipts ≡ false)
-Opens b p (Err OutOfMemory) = Unit {0}
+OpensDraft b p (Err OutOfMemory) = Unit {0}
 
 -- an empty draft of that team on a state that a node can come to, with its tasks, and no older than its receipts
 pub record IsOpenedFor (p : Known) (d : Draft) : Type 0 where
@@ -37,4 +37,4 @@ pub record IsOpenedFor (p : Known) (d : Draft) : Type 0 where
 pub record IsNotOpenedFor (p : Known) (fault : OpenFault) : Type 0 where
   pub book : Book
   pub legal : IsLegalBook book
-  pub is : Opens book p (Err fault)
+  pub is : OpensDraft book p (Err fault)

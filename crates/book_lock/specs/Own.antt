@@ -34,11 +34,11 @@ own_changes [] own = own
 own_changes (c ∷ changes) own = own_changes changes (own_change c.0 c.1 own)
 
 -- the sheet of that name
-abbrev pub sheet_in : List ℕ → List Task → Option Task
-sheet_in name tasks = find (λ x. same_bytes x.name name) tasks
+abbrev pub sheet_named : List ℕ → List Task → Option Task
+sheet_named name tasks = find (λ x. same_bytes x.name name) tasks
 
 -- the first name by bytes on which the two differ
 pub record IsForeignName (book pass : List Task) (name : List ℕ) : Type 0 where
-  pub differs : sheet_in name book ≢ sheet_in name pass
+  pub differs : sheet_named name book ≢ sheet_named name pass
   pub first : (other : List ℕ) → is_lt (slice_cmp nat_cmp other name) ≡ true
-      → sheet_in other book ≡ sheet_in other pass
+      → sheet_named other book ≡ sheet_named other pass

@@ -27,22 +27,22 @@ receiving p place l = record {
 }
 
 -- the version of an admission; 0 of another decision
-abbrev pub version_in : Ruling → ℕ
-version_in (Admitted version) = version
-version_in (Refused refusal) = 0
-version_in (Infeasible obstruction) = 0
+abbrev pub admitted_version : Ruling → ℕ
+admitted_version (Admitted version) = version
+admitted_version (Refused refusal) = 0
+admitted_version (Infeasible obstruction) = 0
 
 -- no admitted receipt is of a later version
 abbrev pub is_up_to : ℕ → List (ℕ × Entry) → Bool
 is_up_to version [] = true
-is_up_to version (r ∷ rs) = nat_le (version_in r.1.decision) version && is_up_to version rs
+is_up_to version (r ∷ rs) = nat_le (admitted_version r.1.decision) version && is_up_to version rs
 
 -- the lines of a team with their places, where the first has that place
-abbrev pub places_of : ℕ → ℕ → List Entry → List (ℕ × Entry)
-places_of team place [] = []
-places_of team place (l ∷ ls) =
-    if l.team == team then (place, l) ∷ places_of team (place + 1) ls
-    else places_of team (place + 1) ls
+abbrev pub placed_entries : ℕ → ℕ → List Entry → List (ℕ × Entry)
+placed_entries team place [] = []
+placed_entries team place (l ∷ ls) =
+    if l.team == team then (place, l) ∷ placed_entries team (place + 1) ls
+    else placed_entries team (place + 1) ls
 
 -- the pass of a team that has decided nothing yet
 abbrev pub newcomer : ℕ → ℕ → Known
@@ -59,9 +59,9 @@ parts_of [] = 0
 parts_of (p ∷ ps) = p.parts + parts_of ps
 
 -- how many decisions all passes count together
-abbrev pub count_of : List Known → ℕ
-count_of [] = 0
-count_of (p ∷ ps) = length p.receipts + count_of ps
+abbrev pub receipt_count : List Known → ℕ
+receipt_count [] = 0
+receipt_count (p ∷ ps) = length p.receipts + receipt_count ps
 
 -- some pass is of that team
 abbrev pub has_team : ℕ → List Known → Bool

@@ -6,8 +6,8 @@ use Rattle.drafts.specs.Changes.{Draft}
 use Rattle.drafts.specs.Proposals.{ProposalData, IsStrange, StillHolds, IsSaidBy}
 use Rattle.drafts.specs.declared.settling.HeldFault.{HeldFault}
 use Rattle.book_lock.specs.Passes.{Known, receiving}
-use Rattle.book_lock.specs.declared.answer.Outcome.{Outcome}
-use Rattle.book_lock.specs.declared.answer.Outcome.TheVariants.{Decided, Stale}
+use Rattle.book_lock.specs.declared.answer.Settlement.{Settlement}
+use Rattle.book_lock.specs.declared.answer.Settlement.TheVariants.{Decided, Stale}
 use Rattle.book_lock.specs.declared.answer.DeskFault.{DeskFault}
 use Rattle.book_lock.specs.declared.answer.DeskFault.TheVariants.{OtherTeam, Stranger, OutOfMemory}
 
@@ -17,7 +17,8 @@ IsEntered b d old place next new =
     (e : Entry) × IsNextEntry b d place e × (next ≡ logged b e) × (new ≡ receiving old place e)
 
 -- what `settle` answers, and what happens to the book and to the pass: a decision is what the proposal says
-abbrev pub Settles : Book → ProposalData → Known → Result Outcome DeskFault → Book → Known → Type 0
+abbrev pub Settles : Book → ProposalData → Known → Result Settlement DeskFault → Book → Known
+    → Type 0
 Settles b p old (Ok (Decided place)) next new =
     (p.draft.base.version ≡ b.desk.version)
     × StillHolds b p
@@ -45,16 +46,18 @@ pub record IsReceived (d : Draft) (old : Known) (place : ℕ) (new : Known) : Ty
   pub entered : IsEntered book d old place next new
 
 -- what some legal book answers by `settle`
-pub record SettlesSome (p : ProposalData) (old : Known) (answer : Result Outcome DeskFault) (new : Known) : Type 0 where
+pub record SettlesSome (p : ProposalData) (old : Known) (answer : Result Settlement DeskFault)
+    (new : Known) : Type 0 where
   pub book : Book
   pub next : Book
   pub legal : IsLegalBook book
   pub settles : Settles book p old answer next new
 
 -- another team's proposal is refused; else some legal book answers
-abbrev pub Answers : ProposalData → Known → Result Outcome DeskFault → Known → Type 0
-Answers p old (Err (OtherTeam back)) new = (p.draft.team ≢ old.team) × (back ≡ p) × (new ≡ old)
-Answers p old answer new = (p.draft.team ≡ old.team) × SettlesSome p old answer new
+abbrev pub AnswersProposal : ProposalData → Known → Result Settlement DeskFault → Known → Type 0
+AnswersProposal p old (Err (OtherTeam back)) new =
+    (p.draft.team ≢ old.team) × (back ≡ p) × (new ≡ old)
+AnswersProposal p old answer new = (p.draft.team ≡ old.team) × SettlesSome p old answer new
 
 -- what some legal book answers by the held call
 pub record HoldsSome (d : Draft) (old : Known) (answer : Result ℕ HeldFault) (new : Known) : Type 0 where

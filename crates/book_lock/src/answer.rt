@@ -6,7 +6,7 @@ use task_sheet::Name;
 
 /// What became of a proposal.
 #[derive(Drop)]
-pub enum Outcome {
+pub enum Settlement {
     /// The pass keeps a receipt of this place.
     Decided {
         place: usize,

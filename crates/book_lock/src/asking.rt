@@ -4,7 +4,7 @@ ghost use Rattle.std.specs.Prelude.{◌≡◌, ◌<◌, length, IfOk, IfErr, OnO
 ghost use Rattle.candidate_workers.specs.Faults.{IsBadCount};
 ghost use Rattle.drafts.specs.Changes.{on_base};
 ghost use Rattle.drafts.specs.Outcomes.{IsJudged};
-ghost use Rattle.book_lock.specs.Asking.{NoneShutOf, NoneShut, IsJudgedSet, IsUntestedSet, IsUntested, IsOnTask, IsCauseOf};
+ghost use Rattle.book_lock.specs.Asking.{NoneShutOf, NoneShutApplied, IsJudgedSet, IsUntestedSet, IsUntested, IsOnTask, IsCauseOf};
 
 use crate::commit::{CommitCause, CommitFault};
 use candidate_workers::{AssayFault, Gate, assay, threads_worth};
@@ -67,7 +67,7 @@ fn test<G: Gate + Sync, R: Threads + Wait>(
 ) -> Result<Judged, CommitCause>
     requires { IsBadCount workers → ⊥ }
     ensures right { IfOk result (λ judged. IsJudged (on_base draft.now) judged) }
-    ensures asked { OnOk result (NoneShut (λ q. G.always_shuts gate.now q) (on_base draft.now)) }
+    ensures asked { OnOk result (NoneShutApplied (λ q. G.always_shuts gate.now q) (on_base draft.now)) }
     ensures fault { IfErr result (λ cause. IsUntested (λ q. G.may_shut gate.now q)
         (on_base draft.now) cause) }
 {
@@ -88,7 +88,7 @@ pub(crate) fn examine<G: Gate + Sync, R: Threads + Wait>(
 ) -> Result<Proposal, CommitFault>
     requires { IsBadCount workers → ⊥ }
     ensures ok { IfOk result (λ proposal. proposal.draft ≡ draft) }
-    ensures asked { OnOk result (NoneShut (λ q. G.always_shuts gate.now q) (on_base draft)) }
+    ensures asked { OnOk result (NoneShutApplied (λ q. G.always_shuts gate.now q) (on_base draft)) }
     ensures back { IfErr result (λ fault. fault.draft ≡ draft) }
     ensures fault { IfErr result (λ fault. IsUntested (λ q. G.may_shut gate.now q)
         (on_base draft) fault.cause) }

@@ -3,8 +3,8 @@
 ghost use Rattle.std.specs.Prelude.{◌≡◌, ◌≤◌, ◌<◌, ◌^◌, ◌↔◌, ℕ, [], length, map, IsTrue, IfOk, IfErr, MatchOption};
 ghost use Rattle.drafts.specs.Books.{Book};
 ghost use Rattle.book_lock.specs.PassFields.{receipt_of};
-ghost use Rattle.book_lock.specs.Passes.{newcomers, has_team, places_of, parts_of, count_of};
-ghost use Rattle.book_lock.specs.Closing.{IsBadTeams, IsNoDesk, AllThere, IsMissing, IsReceipted, AllReceipted, IsMismatch, IsClosed, IsUnclosed};
+ghost use Rattle.book_lock.specs.Passes.{newcomers, has_team, placed_entries, parts_of, receipt_count};
+ghost use Rattle.book_lock.specs.Closing.{IsBadTeams, IsNoDesk, AllThere, IsMissing, IsReceipted, AllReceipted, IsMismatch, IsDeskClosed, IsUnclosed};
 
 use crate::content::is_same_entry;
 use crate::desk::Desk;
@@ -83,7 +83,7 @@ fn is_receipt(place: usize, entry: &Entry, receipt: &Receipt) -> bool
 fn agrees(team: u64, log: &[Arc<Entry>], receipts: &[Receipt]) -> bool
     requires { length log.now < 2 ^ 63 }
     ensures { IsTrue result
-        ↔ (map receipt_of receipts.now ≡ places_of team 1 (map (λ e. e.value) log.now)) }
+        ↔ (map receipt_of receipts.now ≡ placed_entries team 1 (map (λ e. e.value) log.now)) }
 {
     let mut next = 0;
     for (i, entry) in log.iter().enumerate() {
@@ -129,7 +129,7 @@ fn mismatch<L: Ledger>(teams: u64, passes: &[Pass<L>], log: &[Arc<Entry>]) -> Op
 // The shares of all passes in one, where there are passes.
 fn united<L: Ledger>(passes: Vec<Pass<L>>) -> Option<Share<L>>
     ensures { MatchOption result (passes.items ≡ [])
-        (λ all. (all.parts ≡ parts_of passes.items) × (all.amount ≡ count_of passes.items)) }
+        (λ all. (all.parts ≡ parts_of passes.items) × (all.amount ≡ receipt_count passes.items)) }
 {
     let mut rest = passes.into_iter();
     let mut all = rest.next()?.into_share();
@@ -172,15 +172,15 @@ impl<L: Ledger> Desk<L> {
     /// count together, and just as many where they have all parts of the ledger, as those of `new` have.
     /// Refused in this order: `MissingPass`, `ReceiptMismatch`.
     pub fn close(self, passes: Vec<Pass<L>>) -> Result<Closing, CloseFault<L>>
-        ensures ok { IfOk result (λ closing. IsClosed self passes.items
+        ensures ok { IfOk result (λ closing. IsDeskClosed self passes.items
             (let b : Book = record {
               desk = closing.state.value;
               log = map
                   (λ e. e.value) closing.log.items;
             } in b)) }
-        ensures bound { IfOk result (λ closing. count_of passes.items ≤ length closing.log.items) }
+        ensures bound { IfOk result (λ closing. receipt_count passes.items ≤ length closing.log.items) }
         ensures counted { IfOk result (λ closing. parts_of passes.items ≡ L.parts →
-            length closing.log.items ≡ count_of passes.items) }
+            length closing.log.items ≡ receipt_count passes.items) }
         ensures err { IfErr result (λ fault. IsUnclosed self passes.items fault.cause) }
         ensures desk { IfErr result (λ fault. fault.desk ≡ self) }
         ensures passes { IfErr result (λ fault. fault.passes.items ≡ passes.items) }

@@ -4,7 +4,7 @@ ghost use Rattle.std.specs.Prelude.{◌≡◌};
 ghost use Rattle.candidate_workers.specs.Faults.{IsBadCount};
 ghost use Rattle.book_lock.specs.Commits.{IsRound, IsLater, Commits};
 
-use crate::answer::{DeskFault, Outcome};
+use crate::answer::{DeskFault, Settlement};
 use crate::asking::examine;
 use crate::desk::Desk;
 use crate::pass::Pass;
@@ -80,8 +80,8 @@ impl<L: Ledger> Desk<L> {
             Err(fault) => return Err(fault),
         };
         match self.settle(rt, alloc, pass, proposal) {
-            Ok(Outcome::Decided { place }) => Ok(Round::Decided { place }),
-            Ok(Outcome::Stale { fresh, proposal }) => {
+            Ok(Settlement::Decided { place }) => Ok(Round::Decided { place }),
+            Ok(Settlement::Stale { fresh, proposal }) => {
                 let (draft, base) = proposal.into_draft().exchange(fresh);
                 Ok(Round::Overtaken { draft, base })
             }

@@ -1,10 +1,10 @@
 //! The desk.
 
 ghost use Rattle.std.specs.Prelude.{◌≡◌, ◌≤◌, IfErr, IfOk, map};
-ghost use Rattle.book_lock.specs.Settles.{Answers, HoldsSome};
+ghost use Rattle.book_lock.specs.Settles.{AnswersProposal, HoldsSome};
 ghost use Rattle.book_lock.specs.Opening.{IsNotOpenedFor, IsOpenedFor};
 
-use crate::answer::{DeskFault, OpenFault, Outcome};
+use crate::answer::{DeskFault, OpenFault, Settlement};
 use crate::locked::Locked;
 use crate::pass::Pass;
 use drafts::{Draft, HeldFault, Proposal};
@@ -47,8 +47,8 @@ impl<L: Ledger> Desk<L> {
         alloc: Global,
         pass: &mut Pass<L>,
         proposal: Proposal,
-    ) -> Result<Outcome, DeskFault>
-        ensures { Answers proposal pass.old result pass.new }
+    ) -> Result<Settlement, DeskFault>
+        ensures { AnswersProposal proposal pass.old result pass.new }
     {
         if proposal.draft().team().number() != pass.team().number() {
             return Err(DeskFault::OtherTeam { proposal });

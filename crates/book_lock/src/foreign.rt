@@ -1,7 +1,7 @@
 //! Whether the book's tasks of a team are those that its pass knows.
 
 ghost use Rattle.std.specs.Prelude.{◌≡◌, IfOk, MatchOption, option_map};
-ghost use Rattle.book_lock.specs.Own.{own_of, sheet_in, IsRanked, IsForeignName};
+ghost use Rattle.book_lock.specs.Own.{own_of, sheet_named, IsRanked, IsForeignName};
 ghost use Rattle.book_lock.specs.Foreign.{differ_on, first_name, first_told};
 
 use crate::own::OwnTasks;
@@ -11,7 +11,7 @@ use task_sheet::{Name, Sheet};
 
 // The sheet of a name.
 fn sheet_in(name: Name, tasks: &[Sheet]) -> Option<&Sheet>
-    ensures { option_map (λ s. s.now) result ≡ sheet_in name tasks.now }
+    ensures { option_map (λ s. s.now) result ≡ sheet_named name tasks.now }
 {
     for sheet in tasks {
         if sheet.name() == name {

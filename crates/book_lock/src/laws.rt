@@ -7,7 +7,7 @@ ghost use Rattle.drafts.specs.Applied.{applied};
 ghost use Rattle.drafts.specs.Books.{Book, IsLegalBook};
 ghost use Rattle.drafts.specs.Changes.{Draft};
 ghost use Rattle.drafts.specs.Proposals.{ProposalData};
-ghost use Rattle.book_lock.specs.declared.answer.Outcome.TheVariants.{Decided};
+ghost use Rattle.book_lock.specs.declared.answer.Settlement.TheVariants.{Decided};
 ghost use Rattle.book_lock.specs.Own.{own_of, own_changes};
 ghost use Rattle.book_lock.specs.Opening.{IsOwn};
 ghost use Rattle.book_lock.specs.Passes.{Known};

@@ -13,7 +13,7 @@ mod locked;
 mod own;
 mod pass;
 
-pub use answer::{DeskFault, OpenFault, Outcome};
+pub use answer::{DeskFault, OpenFault, Settlement};
 pub use closing::{CloseCause, CloseFault, Closing, NewFault};
 pub use commit::{CommitCause, CommitFault};
 pub use desk::Desk;

@@ -3,9 +3,9 @@
 ghost use Rattle.std.specs.Prelude.{◌≡◌, ◌≤◌, [], length, map};
 ghost use Rattle.drafts.specs.Books.{empty_book, IsLegalBook};
 ghost use Rattle.book_lock.specs.Settles.{Settles, Holds};
-ghost use Rattle.book_lock.specs.Opening.{Opens};
+ghost use Rattle.book_lock.specs.Opening.{OpensDraft};
 
-use crate::answer::{DeskFault, OpenFault, Outcome};
+use crate::answer::{DeskFault, OpenFault, Settlement};
 use crate::foreign::foreign;
 use crate::pass::{Pass, Receipt, later};
 use drafts::{Book, Decided, Draft, Entry, HeldFault, NodeState, Proposal, SettleFault, Settled};
@@ -80,7 +80,7 @@ impl<L: Ledger> Locked<L> {
     /// A draft on the present state, for a team that knows what its tasks are.
     pub fn open(&self, alloc: Global, pass: &Pass<L>) -> Result<Draft, OpenFault>
         ensures legal { IsLegalBook self.now }
-        ensures opens { Opens self.now pass.now result }
+        ensures opens { OpensDraft self.now pass.now result }
     {
         let state = self.book.state();
         match foreign(alloc, state, pass.team, &pass.tasks) {
@@ -104,7 +104,7 @@ impl<L: Ledger> Locked<L> {
         alloc: Global,
         pass: &mut Pass<L>,
         proposal: Proposal,
-    ) -> Result<Outcome, DeskFault>
+    ) -> Result<Settlement, DeskFault>
         requires { proposal.draft.team ≡ pass.old.team }
         ensures legal { IsLegalBook self.old × IsLegalBook self.new }
         ensures settles { Settles self.old proposal pass.old result self.new pass.new }
@@ -125,9 +125,9 @@ impl<L: Ledger> Locked<L> {
                 pass.receipts.push_reserved(Receipt { place, entry });
                 // The book is legal: the proof has it from its state.
                 let _ = self.book.state();
-                Ok(Outcome::Decided { place })
+                Ok(Settlement::Decided { place })
             }
-            Ok(Settled::Stale { fresh, proposal }) => Ok(Outcome::Stale { fresh, proposal }),
+            Ok(Settled::Stale { fresh, proposal }) => Ok(Settlement::Stale { fresh, proposal }),
             Err(SettleFault::Stranger { proposal }) => Err(DeskFault::Stranger { proposal }),
             Err(SettleFault::OutOfMemory { proposal }) => Err(DeskFault::OutOfMemory { proposal }),
         }

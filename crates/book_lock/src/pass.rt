@@ -2,7 +2,7 @@
 
 ghost use Rattle.std.specs.Prelude.{◌≡◌, ◌<◌, ◌&&◌, ℕ, nat_le, [], length, map};
 ghost use Rattle.drafts.specs.Rulings.{ruling_of};
-ghost use Rattle.book_lock.specs.Passes.{newcomer, is_up_to, version_in};
+ghost use Rattle.book_lock.specs.Passes.{newcomer, is_up_to, admitted_version};
 ghost use Rattle.book_lock.specs.PassFields.{receipt_of};
 
 use crate::own::OwnTasks;
@@ -117,7 +117,7 @@ impl<L: Ledger> Pass<L> {
 
 // The version of an admission; 0 of another decision.
 fn version_of(decision: &Decision) -> u64
-    ensures { result ≡ version_in (ruling_of decision.now) }
+    ensures { result ≡ admitted_version (ruling_of decision.now) }
 {
     match decision {
         Decision::Admitted { version } => *version,
@@ -129,7 +129,7 @@ fn version_of(decision: &Decision) -> u64
 // The later of a version and that to which a decision admits.
 pub(crate) fn later(latest: u64, decision: &Decision) -> u64
     ensures { (version : ℕ) → nat_le result version
-        ≡ (nat_le latest version && nat_le (version_in (ruling_of decision.now)) version) }
+        ≡ (nat_le latest version && nat_le (admitted_version (ruling_of decision.now)) version) }
 {
     latest.max(version_of(decision))
 }

@@ -21,15 +21,15 @@ use Rattle.candidate_workers.specs.declared.gathering.Claimed.{Claimed}
 use Rattle.candidate_workers.specs.declared.gathering.Crew.{Crew}
 use Rattle.candidate_workers.specs.Claims.{count_of, candidate_at, joined}
 use Rattle.candidate_workers.specs.Counting.{times}
-use Rattle.candidate_workers.specs.Seats.{seat_view, level_of, task_of, IsTold}
+use Rattle.candidate_workers.specs.Seats.{seat_view, table_level, finding_task, AreSeatTasks}
 use Rattle.candidate_workers.specs.Faults.{IsHanded, NoVerdict, MayFail, fault_of, is_shut}
 use Rattle.candidate_workers.specs.Crews.{tasks_handed, work_faults, faults_of, rank_of, IsFirstFault, whole_view, AreClaims}
 use Rattle.candidate_workers.proofs.Lists.{times-append, once_yes}
 
 -- ---- lists of what was handed on
-pub tasks_handed-push : (hs : List (Result (Vec FindingData) WorkFault)) (findings : Vec FindingData) → tasks_handed (hs ++ Ok findings ∷ []) ≡ tasks_handed hs ++ map task_of findings.items
-tasks_handed-push [] findings = append-nil (map task_of findings.items)
-tasks_handed-push (Ok first ∷ hs) findings = ap (λ ks. map task_of first.items ++ ks) (tasks_handed-push hs findings) ∙ sym (append_assoc (map task_of first.items) (tasks_handed hs) (map task_of findings.items))
+pub tasks_handed-push : (hs : List (Result (Vec FindingData) WorkFault)) (findings : Vec FindingData) → tasks_handed (hs ++ Ok findings ∷ []) ≡ tasks_handed hs ++ map finding_task findings.items
+tasks_handed-push [] findings = append-nil (map finding_task findings.items)
+tasks_handed-push (Ok first ∷ hs) findings = ap (λ ks. map finding_task first.items ++ ks) (tasks_handed-push hs findings) ∙ sym (append_assoc (map finding_task first.items) (tasks_handed hs) (map finding_task findings.items))
 tasks_handed-push (Err fault ∷ hs) findings = tasks_handed-push hs findings
 
 pub work_faults-append : (hs more : List (Result (Vec FindingData) WorkFault)) → work_faults (hs ++ more) ≡ work_faults hs ++ work_faults more
@@ -96,15 +96,15 @@ no_fault false faults none = (refl, none)
 times-map : (c : ℕ → ℕ) (j : ℕ) (a b : List ℕ) → times j (map c (a ++ b)) ≡ times j (map c a) + times j (map c b)
 times-map c j a b = ap (times j) (map-append c a b) ∙ times-append j (map c a) (map c b)
 
-pub told_of : (table : ClaimTable) (level : LevelState) (seat : ClaimSeat) (tasks : List ℕ) → level_of table ≡ level → tasks ≡ map (candidate_at level) ((seat_view seat).failed ++ (seat_view seat).passed) → IsTold table seat tasks
+pub told_of : (table : ClaimTable) (level : LevelState) (seat : ClaimSeat) (tasks : List ℕ) → table_level table ≡ level → tasks ≡ map (candidate_at level) ((seat_view seat).failed ++ (seat_view seat).passed) → AreSeatTasks table seat tasks
 told_of table level seat tasks same e = record {
-  each = λ j. ap (times j) (e ∙ ap (λ (l : LevelState). map (candidate_at l) ((seat_view seat).failed ++ (seat_view seat).passed)) (sym same)) ∙ times-map (candidate_at (level_of table)) j (seat_view seat).failed (seat_view seat).passed;
+  each = λ j. ap (times j) (e ∙ ap (λ (l : LevelState). map (candidate_at l) ((seat_view seat).failed ++ (seat_view seat).passed)) (sym same)) ∙ times-map (candidate_at (table_level table)) j (seat_view seat).failed (seat_view seat).passed;
 }
 
-pub told_joined : (table : ClaimTable) (seat own other : ClaimSeat) (tasks more : List ℕ) → seat_view seat ≡ joined (seat_view own) (seat_view other) → IsTold table own tasks → IsTold table other more → IsTold table seat (tasks ++ more)
+pub told_joined : (table : ClaimTable) (seat own other : ClaimSeat) (tasks more : List ℕ) → seat_view seat ≡ joined (seat_view own) (seat_view other) → AreSeatTasks table own tasks → AreSeatTasks table other more → AreSeatTasks table seat (tasks ++ more)
 told_joined table seat own other tasks more e mine theirs = record {
   each = λ j.
-      let c = candidate_at (level_of table) in
+      let c = candidate_at (table_level table) in
       let failed : times j (map c (seat_view seat).failed) ≡ times j (map c (seat_view own).failed) + times j (map c (seat_view other).failed) = ap (λ v. times j (map c v.failed)) e ∙ times-map c j (seat_view own).failed (seat_view other).failed in
       let passed : times j (map c (seat_view seat).passed) ≡ times j (map c (seat_view own).passed) + times j (map c (seat_view other).passed) = ap (λ v. times j (map c v.passed)) e ∙ times-map c j (seat_view own).passed (seat_view other).passed in
       omega (arith, times-append j tasks more, mine.each j, theirs.each j);

@@ -17,7 +17,7 @@ use Rattle.candidate_workers.specs.Counting.{times}
 use Rattle.candidate_workers.specs.Crews.{tasks_handed, AreClaims, AreFound}
 use Rattle.candidate_workers.specs.declared.gathering.Claimed.{Claimed}
 use Rattle.candidate_workers.specs.declared.gathering.Crew.{Crew}
-use Rattle.candidate_workers.specs.Seats.{task_of}
+use Rattle.candidate_workers.specs.Seats.{finding_task}
 use Rattle.candidate_workers.specs.declared.asking.WorkFault.{WorkFault}
 use Rattle.candidate_workers.proofs.Lists.{times-append, times_only}
 use Rattle.candidate_workers.proofs.PlaceLaws.{len-listed, candidate-there}
@@ -50,11 +50,11 @@ found_one l t found k some = subst (λ j. IsFalse (contains l.missing j)) (sym (
 
 -- of what one worker handed on, and of the rest
 pub tasks_first : (h : Result (Vec FindingData) WorkFault) (hs : List (Result (Vec FindingData) WorkFault)) → tasks_handed (h ∷ hs) ≡ tasks_handed (h ∷ []) ++ tasks_handed hs
-tasks_first (Ok findings) hs = ap (λ ks. ks ++ tasks_handed hs) (sym (append-nil (map task_of findings.items)))
+tasks_first (Ok findings) hs = ap (λ ks. ks ++ tasks_handed hs) (sym (append-nil (map finding_task findings.items)))
 tasks_first (Err fault) hs = refl
 
-pub found_by : (l : LevelState) (findings : Vec FindingData) → AreFound l (map task_of findings.items) → AreFound l (tasks_handed (Ok findings ∷ []))
-found_by l findings found = subst (AreFound l) (sym (append-nil (map task_of findings.items))) found
+pub found_by : (l : LevelState) (findings : Vec FindingData) → AreFound l (map finding_task findings.items) → AreFound l (tasks_handed (Ok findings ∷ []))
+found_by l findings found = subst (AreFound l) (sym (append-nil (map finding_task findings.items))) found
 
 -- a worker with a fault handed on nothing
 pub found_other : (l : LevelState) (h : Result (Vec FindingData) WorkFault) → ((findings : Vec FindingData) → h ≡ Ok findings → ⊥) → AreFound l (tasks_handed (h ∷ []))

@@ -14,13 +14,13 @@ use Rattle.candidate_workers.specs.declared.gathering.Crew.{Crew}
 use Rattle.candidate_workers.specs.declared.view.View.{View}
 use Rattle.candidate_workers.specs.Claims.{count_of, candidate_at, passes_at, settled, IsLeastPassing}
 use Rattle.candidate_workers.specs.Counting.{times, once_below}
-use Rattle.candidate_workers.specs.Seats.{seat_view, task_of}
+use Rattle.candidate_workers.specs.Seats.{seat_view, finding_task}
 use Rattle.candidate_workers.specs.Faults.{fault_of}
 
 -- the tasks of the findings that the workers handed on, worker by worker
 abbrev pub tasks_handed : List (Result (Vec FindingData) WorkFault) → List ℕ
 tasks_handed [] = []
-tasks_handed (Ok findings ∷ rest) = map task_of findings.items ++ tasks_handed rest
+tasks_handed (Ok findings ∷ rest) = map finding_task findings.items ++ tasks_handed rest
 tasks_handed (Err fault ∷ rest) = tasks_handed rest
 
 -- each of these tasks has a finding

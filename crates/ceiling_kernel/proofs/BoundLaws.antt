@@ -12,8 +12,8 @@ use Rattle.task_sheet.specs.Indexes.{Indexes, with_index, greatest_below}
 use Rattle.task_sheet.specs.Locks.{uses, shares_lock, reaches}
 use Rattle.task_sheet.specs.Demand.{releases_within, longest_reached, blocking_of, interference_of, demand_of, limit_of, past_jitter, Passes}
 use Rattle.task_sheet.specs.Orders.{IsPassingOrder}
-use Rattle.ceiling_kernel.specs.Tick.{Node, Job, job_at, task_of, level_at, level_of, executed_before, picked, ceiling, top_ceiling}
-use Rattle.ceiling_kernel.specs.Waits.{IsNode, IsLegal, lateness_of, NoOverrun}
+use Rattle.ceiling_kernel.specs.Tick.{Node, Job, job_at, job_task, level_in_order, level_of_job, executed_before, picked, ceiling, top_ceiling}
+use Rattle.ceiling_kernel.specs.Waits.{IsNode, AreLegalJobs, lateness_of, NoOverrun}
 use Rattle.ceiling_kernel.specs.Bounds.{above_of, is_ready_in, ready_within, WindowsHold, PassesBy, response_by, ResponsesBound, BoundHolds}
 use Rattle.ceiling_kernel.proofs.NodeLaws.{AreApart, IsSoundTask, IsSound, sound, top_user, stands_above}
 use Rattle.ceiling_kernel.proofs.SumLaws.{total, total-sum, total-le, total-add, total-same, total-single, total-zero}
@@ -35,7 +35,7 @@ most_jobs-releases task t some =
 
 -- a task of a level or above that uses one of some locks
 abbrev IsTopOf : Node → ℕ → List (List ℕ) → Type 0
-IsTopOf node level locks = (h : ℕ) × (h < length node.tasks) × (level ≤ level_at node h) × (list_any (λ lock. uses (task_at node.tasks h) lock) locks ≡ true)
+IsTopOf node level locks = (h : ℕ) × (h < length node.tasks) × (level ≤ level_in_order node h) × (list_any (λ lock. uses (task_at node.tasks h) lock) locks ≡ true)
 
 -- where the highest ceiling reaches the level, there is one
 top_of : (node : Node) → IsNode node → (level : ℕ) (locks : List (List ℕ)) → 0 < level → level ≤ top_ceiling node locks → IsTopOf node level locks
@@ -43,14 +43,14 @@ top_of node ok level [] some h = absurd (omega arith)
 top_of node ok level (r ∷ rs) some h =
     elim (cases_lt (ceiling node r) level) [
       | inr here ↦
-          let u : (h : ℕ) × (h < length node.tasks) × (level ≤ level_at node h) × (uses (task_at node.tasks h) r ≡ true) = top_user node ok r level some here in
+          let u : (h : ℕ) × (h < length node.tasks) × (level ≤ level_in_order node h) × (uses (task_at node.tasks h) r ≡ true) = top_user node ok r level some here in
           (u.0, u.1, u.2, rw u.3)
       | inl low ↦
           let ih : IsTopOf node level rs = top_of node ok level rs some (omega arith) in
           (ih.0, ih.1, ih.2, elim (cases_Bool (uses (task_at node.tasks ih.0) r)) [ inl t ↦ rw t | inr f ↦ rw (f, ih.3) ])
     ]
 
-module _ (node : Node) (jobs : List Job) (is_node : IsNode node) (legal : IsLegal node jobs) where
+module _ (node : Node) (jobs : List Job) (is_node : IsNode node) (legal : AreLegalJobs node jobs) where
   valid : IsSound node
   valid = sound node is_node
 
@@ -73,12 +73,12 @@ module _ (node : Node) (jobs : List Job) (is_node : IsNode node) (legal : IsLega
       (omega arith)
       (λ j below c e.
       let w : (a ≤ (job_at jobs j).ready) × ((job_at jobs j).ready < a + t) = in_window j below c in
-      let l : (job_at jobs j).ready ≤ (job_at jobs j).arrival + lateness_of (task_of node jobs j) = legal.not_late j below in
-      let same : lateness_of (task_of node jobs j) ≡ lateness_of (task_at node.tasks h) = ap (λ x. lateness_of (task_at node.tasks x)) e in
+      let l : (job_at jobs j).ready ≤ (job_at jobs j).arrival + lateness_of (job_task node jobs j) = legal.not_late j below in
+      let same : lateness_of (job_task node jobs j) ≡ lateness_of (task_at node.tasks h) = ap (λ x. lateness_of (task_at node.tasks x)) e in
       omega (arith, w.0))
       (λ j k jk below c ej ek.
-      let s : (job_at jobs j).arrival + (task_of node jobs k).period ≤ (job_at jobs k).arrival = legal.spaced j k jk below (ej ∙ sym ek) in
-      let same : (task_of node jobs k).period ≡ (task_at node.tasks h).period = ap (λ x. (task_at node.tasks x).period) ek in
+      let s : (job_at jobs j).arrival + (job_task node jobs k).period ≤ (job_at jobs k).arrival = legal.spaced j k jk below (ej ∙ sym ek) in
+      let same : (job_task node jobs k).period ≡ (task_at node.tasks h).period = ap (λ x. (task_at node.tasks x).period) ek in
       omega arith)
       (λ j below c e.
       let w : (a ≤ (job_at jobs j).ready) × ((job_at jobs j).ready < a + t) = in_window j below c in
@@ -100,7 +100,7 @@ module _ (node : Node) (jobs : List Job) (is_node : IsNode node) (legal : IsLega
 
   module _ (i t : ℕ) (is : i < length node.tasks) (passes : PassesBy node i t) where
     abbrev level : ℕ
-    level = level_at node i
+    level = level_in_order node i
 
     level_some : 0 < level
     level_some = (let v : IsSoundTask node i = valid.each i is in v.level_from_one)
@@ -112,22 +112,22 @@ module _ (node : Node) (jobs : List Job) (is_node : IsNode node) (legal : IsLega
     abbrev blocking : ℕ
     blocking = blocking_of node.tasks i (above_of node i)
 
-    upper-high : (h : ℕ) → h < length node.tasks → level ≤ level_at node h → upper h ≡ true
+    upper-high : (h : ℕ) → h < length node.tasks → level ≤ level_in_order node h → upper h ≡ true
     upper-high h lt le =
         elim (cases_eq h i) [
           | inl e ↦ (let t : eqb h i ≡ true = eq-eqb h i e in rw t)
           | inr ne ↦
               let f : eqb h i ≡ false = ne_eqb h i ne in
-              elim (cases_eq level (level_at node h)) [
+              elim (cases_eq level (level_in_order node h)) [
                 | inl same ↦ absurd (ne (valid.levels_differ h i lt is (sym same)))
-                | inr differ ↦ (let t : nat_lt level (level_at node h) ≡ true = lt-ltb level (level_at node h) (omega arith) in rw (f, t))
+                | inr differ ↦ (let t : nat_lt level (level_in_order node h) ≡ true = lt-ltb level (level_in_order node h) (omega arith) in rw (f, t))
               ]
         ]
 
-    upper-low : (h : ℕ) → level_at node h < level → upper h ≡ false
+    upper-low : (h : ℕ) → level_in_order node h < level → upper h ≡ false
     upper-low h low =
-        let f : eqb h i ≡ false = ne_eqb h i (λ e. (let same : level_at node h ≡ level = ap (level_at node) e in absurd (omega arith))) in
-        let g : nat_lt level (level_at node h) ≡ false = le-ltb level (level_at node h) (omega arith) in
+        let f : eqb h i ≡ false = ne_eqb h i (λ e. (let same : level_in_order node h ≡ level = ap (level_in_order node) e in absurd (omega arith))) in
+        let g : nat_lt level (level_in_order node h) ≡ false = le-ltb level (level_in_order node h) (omega arith) in
         rw (f, g)
 
     reached : (s : CriticalSection) → level ≤ top_ceiling node s.locks → reaches node.tasks upper s ≡ true
@@ -140,13 +140,13 @@ module _ (node : Node) (jobs : List Job) (is_node : IsNode node) (legal : IsLega
     unfolding blocking_of
     rest_most j e =
         let k : ℕ = (job_at jobs j).task in
-        elim (cases_lt (level_of node jobs j) level) [
+        elim (cases_lt (level_of_job node jobs j) level) [
           | inr ge ↦
-              let high : nat_le level (level_of node jobs j) ≡ true = le-leb level (level_of node jobs j) ge in
+              let high : nat_le level (level_of_job node jobs j) ≡ true = le-leb level (level_of_job node jobs j) ge in
               rw high (omega arith)
           | inl low ↦
-              let not_high : nat_le level (level_of node jobs j) ≡ false = lt-leb level (level_of node jobs j) low in
-              let a : rest_of node level (task_of node jobs j).sections e ≤ longest_reached node.tasks upper (task_of node jobs j) = rest-le node level upper reached (task_of node jobs j).sections e in
+              let not_high : nat_le level (level_of_job node jobs j) ≡ false = lt-leb level (level_of_job node jobs j) low in
+              let a : rest_of node level (job_task node jobs j).sections e ≤ longest_reached node.tasks upper (job_task node jobs j) = rest-le node level upper reached (job_task node jobs j).sections e in
               elim (cases_lt k (length node.tasks)) [
                 | inl lt ↦
                     let out : upper k ≡ false = upper-low k low in
@@ -165,26 +165,26 @@ module _ (node : Node) (jobs : List Job) (is_node : IsNode node) (legal : IsLega
     ready_of j = (job_at jobs j).ready
 
     abbrev cost_of : ℕ → ℕ
-    cost_of j = (task_of node jobs j).cost
+    cost_of j = (job_task node jobs j).cost
 
     -- job j is high, and becomes ready in the window of t ticks from a
     abbrev counts : ℕ → ℕ → Bool
-    counts a j = nat_le level (level_of node jobs j) && (nat_le a (ready_of j) && nat_lt (ready_of j) (a + t))
+    counts a j = nat_le level (level_of_job node jobs j) && (nat_le a (ready_of j) && nat_lt (ready_of j) (a + t))
 
-    counts_parts : (a j : ℕ) → counts a j ≡ true → (level ≤ level_of node jobs j) × (a ≤ ready_of j) × (ready_of j < a + t)
+    counts_parts : (a j : ℕ) → counts a j ≡ true → (level ≤ level_of_job node jobs j) × (a ≤ ready_of j) × (ready_of j < a + t)
     counts_parts a j h =
-        let p : (nat_le level (level_of node jobs j) ≡ true) × ((nat_le a (ready_of j) && nat_lt (ready_of j) (a + t)) ≡ true) = and_parts (nat_le level (level_of node jobs j)) (nat_le a (ready_of j) && nat_lt (ready_of j) (a + t)) h in
+        let p : (nat_le level (level_of_job node jobs j) ≡ true) × ((nat_le a (ready_of j) && nat_lt (ready_of j) (a + t)) ≡ true) = and_parts (nat_le level (level_of_job node jobs j)) (nat_le a (ready_of j) && nat_lt (ready_of j) (a + t)) h in
         let q : (nat_le a (ready_of j) ≡ true) × (nat_lt (ready_of j) (a + t) ≡ true) = and_parts (nat_le a (ready_of j)) (nat_lt (ready_of j) (a + t)) p.1 in
-        (leb-true level (level_of node jobs j) p.0, leb-true a (ready_of j) q.0, ltb-true (ready_of j) (a + t) q.1)
+        (leb-true level (level_of_job node jobs j) p.0, leb-true a (ready_of j) q.0, ltb-true (ready_of j) (a + t) q.1)
 
     -- how many of task h
     abbrev number : ℕ → ℕ → ℕ
     number a h = total (of_task (λ j. (job_at jobs j).task) (λ j. (job_at jobs j).arrival) (counts a) h) (length jobs)
 
     number-le : (a h : ℕ) → h < length node.tasks → number a h ≤ most_jobs (task_at node.tasks h) t
-    number-le a h lt = most_ready (counts a) h a t lt passes.from_one (λ j below c. let p : (level ≤ level_of node jobs j) × (a ≤ ready_of j) × (ready_of j < a + t) = counts_parts a j c in (p.1, p.2))
+    number-le a h lt = most_ready (counts a) h a t lt passes.from_one (λ j below c. let p : (level ≤ level_of_job node jobs j) × (a ≤ ready_of j) × (ready_of j < a + t) = counts_parts a j c in (p.1, p.2))
 
-    number-zero : (a h : ℕ) → level_at node h < level → number a h ≡ 0
+    number-zero : (a h : ℕ) → level_in_order node h < level → number a h ≡ 0
     number-zero a h low =
         total-zero (of_task (λ j. (job_at jobs j).task) (λ j. (job_at jobs j).arrival) (counts a) h) (length jobs) (λ j lt.
         elim (cases_Bool (counts a j && ((job_at jobs j).task == h))) [
@@ -192,8 +192,8 @@ module _ (node : Node) (jobs : List Job) (is_node : IsNode node) (legal : IsLega
           | inl both ↦
               let p : (counts a j ≡ true) × (((job_at jobs j).task == h) ≡ true) = and_parts (counts a j) ((job_at jobs j).task == h) both in
               let e : (job_at jobs j).task ≡ h = eqb-true (job_at jobs j).task h p.1 in
-              let c : (level ≤ level_of node jobs j) × (a ≤ ready_of j) × (ready_of j < a + t) = counts_parts a j p.0 in
-              let same : level_of node jobs j ≡ level_at node h = ap (λ x. level_at node x) e in
+              let c : (level ≤ level_of_job node jobs j) × (a ≤ ready_of j) × (ready_of j < a + t) = counts_parts a j p.0 in
+              let same : level_of_job node jobs j ≡ level_in_order node h = ap (λ x. level_in_order node x) e in
               absurd (omega arith)
         ])
 
@@ -202,11 +202,11 @@ module _ (node : Node) (jobs : List Job) (is_node : IsNode node) (legal : IsLega
     own_term h = if i == h then (task_at node.tasks h).cost else 0
 
     abbrev higher_term : ℕ → ℕ
-    higher_term h = if nat_lt level (level_at node h) then interference_of (task_at node.tasks h) t else 0
+    higher_term h = if nat_lt level (level_in_order node h) then interference_of (task_at node.tasks h) t else 0
 
     term-le_bound : (a h : ℕ) → h < length node.tasks → number a h * (task_at node.tasks h).cost ≤ own_term h + higher_term h
     term-le_bound a h lt =
-        elim (cases_lt (level_at node h) level) [
+        elim (cases_lt (level_in_order node h) level) [
           | inl low ↦ (let none : number a h ≡ 0 = number-zero a h low in rw none (omega arith))
           | inr at_least ↦
               let most : number a h ≤ most_jobs (task_at node.tasks h) t = number-le a h lt in
@@ -223,10 +223,10 @@ module _ (node : Node) (jobs : List Job) (is_node : IsNode node) (legal : IsLega
                     let product : number a h * (task_at node.tasks h).cost ≤ 1 * (task_at node.tasks h).cost = mul-le-mul_right (task_at node.tasks h).cost one in
                     rw own (omega arith)
                 | inr ne ↦
-                    elim (cases_eq (level_at node i) (level_at node h)) [
+                    elim (cases_eq (level_in_order node i) (level_in_order node h)) [
                       | inl same ↦ absurd (ne (valid.levels_differ i h is lt same))
                       | inr differ ↦
-                          let above : nat_lt level (level_at node h) ≡ true = lt-ltb level (level_at node h) (omega arith) in
+                          let above : nat_lt level (level_in_order node h) ≡ true = lt-ltb level (level_in_order node h) (omega arith) in
                           let v : IsSoundTask node h = valid.each h lt in
                           let counted : most_jobs (task_at node.tasks h) t ≡ releases_within (task_at node.tasks h) t = most_jobs-releases (task_at node.tasks h) t v.period_from_one in
                           let most' : number a h ≤ releases_within (task_at node.tasks h) t = rw counted at most in
@@ -241,7 +241,7 @@ module _ (node : Node) (jobs : List Job) (is_node : IsNode node) (legal : IsLega
 
     work-counts : (a j : ℕ) → work_of a j ≡ cond (counts a j) (cost_of j) 0
     work-counts a j =
-        elim (cases_Bool (nat_le level (level_of node jobs j))) [ inl high ↦ rw high | inr low ↦ rw low ]
+        elim (cases_Bool (nat_le level (level_of_job node jobs j))) [ inl high ↦ rw high | inr low ↦ rw low ]
 
     -- the demand, with its sum as the laws have it
     demand_is : demand_of node.tasks i (above_of node i) t ≡ (task_at node.tasks i).cost + blocking + total higher_term (length node.tasks)
@@ -266,11 +266,11 @@ module _ (node : Node) (jobs : List Job) (is_node : IsNode node) (legal : IsLega
     -- THE BOUND: a job of the task finishes within t ticks after it is ready
     pub within_bound : (j : ℕ) → j < length jobs → (job_at jobs j).task ≡ i → cost_of j ≤ executed_before node jobs (ready_of j + t) j
     within_bound j lt mine =
-        let same : level_of node jobs j ≡ level = ap (λ x. level_at node x) mine in
+        let same : level_of_job node jobs j ≡ level = ap (λ x. level_in_order node x) mine in
         finishes (length jobs) ready_of cost_of (is_high node jobs level level_some (λ k. apart_at (job_at jobs k).task)) (rest_at node jobs level level_some (λ k. apart_at (job_at jobs k).task)) (executed_before node jobs) (picked node jobs) (machine node jobs level level_some (λ k. apart_at (job_at jobs k).task))
-        t blocking passes.from_one rest_most fits j lt (le-leb level (level_of node jobs j) (omega arith))
+        t blocking passes.from_one rest_most fits j lt (le-leb level (level_of_job node jobs j) (omega arith))
 
-pub windows_law : (node : Node) (jobs : List Job) → IsNode node → IsLegal node jobs → WindowsHold node jobs
+pub windows_law : (node : Node) (jobs : List Job) → IsNode node → AreLegalJobs node jobs → WindowsHold node jobs
 windows_law node jobs valid legal = window_holds node jobs valid legal
 
 pub responses_law : (node : Node) → ResponsesBound node
@@ -284,23 +284,23 @@ responses_law node i r response within = (
   omega (arith, response.positive),
 )
 
-executed_later : (node : Node) (jobs : List Job) (valid : IsNode node) (legal : IsLegal node jobs) (s u j : ℕ) → s ≤ u → executed_before node jobs s j ≤ executed_before node jobs u j
+executed_later : (node : Node) (jobs : List Job) (valid : IsNode node) (legal : AreLegalJobs node jobs) (s u j : ℕ) → s ≤ u → executed_before node jobs s j ≤ executed_before node jobs u j
 executed_later node jobs valid legal s u j le =
     let one : 0 < 1 = omega arith in
-    let apart : (k : ℕ) → AreApart 0 (task_of node jobs k).sections (task_of node jobs k).cost = λ k. apart_at node jobs valid legal (job_at jobs k).task in
-    done_later (length jobs) (λ k. (job_at jobs k).ready) (λ k. (task_of node jobs k).cost) (is_high node jobs 1 one apart) (rest_at node jobs 1 one apart) (executed_before node jobs) (picked node jobs) (machine node jobs 1 one apart) s u j le
+    let apart : (k : ℕ) → AreApart 0 (job_task node jobs k).sections (job_task node jobs k).cost = λ k. apart_at node jobs valid legal (job_at jobs k).task in
+    done_later (length jobs) (λ k. (job_at jobs k).ready) (λ k. (job_task node jobs k).cost) (is_high node jobs 1 one apart) (rest_at node jobs 1 one apart) (executed_before node jobs) (picked node jobs) (machine node jobs 1 one apart) s u j le
 
-pub bound_law : (node : Node) (jobs : List Job) → IsNode node → IsLegal node jobs → BoundHolds node jobs
+pub bound_law : (node : Node) (jobs : List Job) → IsNode node → AreLegalJobs node jobs → BoundHolds node jobs
 bound_law node jobs valid legal j t lt passes =
     let i : ℕ = (job_at jobs j).task in
-    let fin : (task_of node jobs j).cost ≤ executed_before node jobs ((job_at jobs j).ready + t) j = within_bound node jobs valid legal i t (legal.known j lt) passes j lt refl in
-    let by : (job_at jobs j).ready ≤ (job_at jobs j).arrival + lateness_of (task_of node jobs j) = legal.not_late j lt in
-    let later : executed_before node jobs ((job_at jobs j).ready + t) j ≤ executed_before node jobs ((job_at jobs j).arrival + response_by (task_of node jobs j) t) j =
-    executed_later node jobs valid legal ((job_at jobs j).ready + t) ((job_at jobs j).arrival + response_by (task_of node jobs j) t) j (omega arith) in
+    let fin : (job_task node jobs j).cost ≤ executed_before node jobs ((job_at jobs j).ready + t) j = within_bound node jobs valid legal i t (legal.known j lt) passes j lt refl in
+    let by : (job_at jobs j).ready ≤ (job_at jobs j).arrival + lateness_of (job_task node jobs j) = legal.not_late j lt in
+    let later : executed_before node jobs ((job_at jobs j).ready + t) j ≤ executed_before node jobs ((job_at jobs j).arrival + response_by (job_task node jobs j) t) j =
+    executed_later node jobs valid legal ((job_at jobs j).ready + t) ((job_at jobs j).arrival + response_by (job_task node jobs j) t) j (omega arith) in
     omega arith
 
 -- where each task passes by some time, no job overruns the one before it
-no_overrun_if : (node : Node) (jobs : List Job) → IsNode node → IsLegal node jobs → ((i : ℕ) → i < length node.tasks → (t : ℕ) × PassesBy node i t) → NoOverrun node jobs
+no_overrun_if : (node : Node) (jobs : List Job) → IsNode node → AreLegalJobs node jobs → ((i : ℕ) → i < length node.tasks → (t : ℕ) × PassesBy node i t) → NoOverrun node jobs
 no_overrun_if node jobs valid legal pass k lt over =
     let j : ℕ = over.0 in
     let below : j < length jobs = omega (arith, over.1) in
@@ -311,13 +311,13 @@ no_overrun_if node jobs valid legal pass k lt over =
     let v : IsSoundTask node i = (let s : IsSound node = sound node valid in s.each i is) in
     let room : limit_of (task_at node.tasks i) + lateness_of (task_at node.tasks i) ≤ (task_at node.tasks i).deadline = v.late_within in
     let within : (task_at node.tasks i).deadline ≤ (task_at node.tasks i).period = v.deadline_within in
-    let gap : (job_at jobs j).arrival + (task_of node jobs k).period ≤ (job_at jobs k).arrival = legal.spaced j k over.1 lt over.2 in
-    let same : (task_of node jobs k).period ≡ (task_at node.tasks i).period = ap (λ x. (task_at node.tasks x).period) (sym over.2) in
+    let gap : (job_at jobs j).arrival + (job_task node jobs k).period ≤ (job_at jobs k).arrival = legal.spaced j k over.1 lt over.2 in
+    let same : (job_task node jobs k).period ≡ (task_at node.tasks i).period = ap (λ x. (task_at node.tasks x).period) (sym over.2) in
     let early : (job_at jobs k).arrival ≤ (job_at jobs k).ready = legal.not_early k lt in
-    let fin : (task_of node jobs j).cost ≤ executed_before node jobs ((job_at jobs j).arrival + response_by (task_at node.tasks i) p.0) j = bound_law node jobs valid legal j p.0 below p.1 in
+    let fin : (job_task node jobs j).cost ≤ executed_before node jobs ((job_at jobs j).arrival + response_by (task_at node.tasks i) p.0) j = bound_law node jobs valid legal j p.0 below p.1 in
     let later : executed_before node jobs ((job_at jobs j).arrival + response_by (task_at node.tasks i) p.0) j ≤ executed_before node jobs (job_at jobs k).ready j =
     executed_later node jobs valid legal ((job_at jobs j).arrival + response_by (task_at node.tasks i) p.0) (job_at jobs k).ready j (omega arith) in
-    let open_ : executed_before node jobs (job_at jobs k).ready j < (task_of node jobs j).cost = over.3 in
+    let open_ : executed_before node jobs (job_at jobs k).ready j < (job_task node jobs j).cost = over.3 in
     omega arith
 
 -- in a passing order each task passes by some time
@@ -326,5 +326,5 @@ passes_in node valid order i lt =
     let p : Passes node.tasks i (above_of node i) = (stands_above node valid order.each_stands i lt).0 in
     (p.0, record { from_one = omega (arith, p.1); in_time = p.2; enough = p.3 })
 
-pub no_overrun_law : (node : Node) (jobs : List Job) → IsNode node → IsLegal node jobs → IsPassingOrder node.tasks node.order → NoOverrun node jobs
+pub no_overrun_law : (node : Node) (jobs : List Job) → IsNode node → AreLegalJobs node jobs → IsPassingOrder node.tasks node.order → NoOverrun node jobs
 no_overrun_law node jobs valid legal order = no_overrun_if node jobs valid legal (passes_in node valid order)

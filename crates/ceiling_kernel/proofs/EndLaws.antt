@@ -11,9 +11,9 @@ use Rattle.ceiling_kernel.specs.declared.trace.Trace.{Trace}
 use Rattle.ceiling_kernel.specs.declared.trace.RunFault.{RunFault}
 use Rattle.ceiling_kernel.specs.declared.trace.RunFault.TheVariants as fault
 use Rattle.ceiling_kernel.specs.declared.run.Pending.{Pending}
-use Rattle.ceiling_kernel.specs.Tick.{Node, Job, job_at, task_of, executed_before}
+use Rattle.ceiling_kernel.specs.Tick.{Node, Job, job_at, job_task, executed_before}
 use Rattle.ceiling_kernel.specs.Trace.{finish_before}
-use Rattle.ceiling_kernel.specs.Waits.{IsNode, IsLegal, lateness_of, NoOverrun, EachIsGranted}
+use Rattle.ceiling_kernel.specs.Waits.{IsNode, AreLegalJobs, lateness_of, NoOverrun, EachIsGranted}
 use Rattle.ceiling_kernel.specs.Bounds.{PassesBy, response_by}
 use Rattle.ceiling_kernel.specs.Releases.{task_number, ready_of, jobs_of, job_of, no_release, release_at, is_soon_job, is_too_soon, is_too_late, is_past, refusal_of}
 use Rattle.ceiling_kernel.specs.Turns.{AreTurns}
@@ -48,7 +48,7 @@ no_overrun_then node rs until t come slots e kept le k lt over =
     ]
 
 -- the jobs of an accepted list are legal
-pub legal_from : (node : Node) (rs : List Release) (until : ℕ) → refusal_of node.tasks rs until ≡ None → IsLegal node (jobs_of node.tasks rs)
+pub legal_from : (node : Node) (rs : List Release) (until : ℕ) → refusal_of node.tasks rs until ≡ None → AreLegalJobs node (jobs_of node.tasks rs)
 legal_from node rs until e =
     let a : IsAccepted node.tasks rs until = accepted node.tasks rs until e in
     let l : length (jobs_of node.tasks rs) ≡ length rs = jobs_length node.tasks rs in
@@ -67,8 +67,8 @@ legal_from node rs until e =
           let soon : is_too_soon node.tasks (jobs_of node.tasks rs) k ≡ false = first_none (is_too_soon node.tasks (jobs_of node.tasks rs)) (length rs) a.spaced k (omega arith) in
           let one : is_soon_job node.tasks (jobs_of node.tasks rs) k j ≡ false = none_below k (is_soon_job node.tasks (jobs_of node.tasks rs) k) soon j jk in
           let t : eqb (job_at (jobs_of node.tasks rs) j).task (job_at (jobs_of node.tasks rs) k).task ≡ true = eq-eqb (job_at (jobs_of node.tasks rs) j).task (job_at (jobs_of node.tasks rs) k).task same in
-          let f : nat_lt (job_at (jobs_of node.tasks rs) k).arrival ((job_at (jobs_of node.tasks rs) j).arrival + (task_of node (jobs_of node.tasks rs) k).period) ≡ false = rw t at one in
-          not_lt (job_at (jobs_of node.tasks rs) k).arrival ((job_at (jobs_of node.tasks rs) j).arrival + (task_of node (jobs_of node.tasks rs) k).period) f;
+          let f : nat_lt (job_at (jobs_of node.tasks rs) k).arrival ((job_at (jobs_of node.tasks rs) j).arrival + (job_task node (jobs_of node.tasks rs) k).period) ≡ false = rw t at one in
+          not_lt (job_at (jobs_of node.tasks rs) k).arrival ((job_at (jobs_of node.tasks rs) j).arrival + (job_task node (jobs_of node.tasks rs) k).period) f;
     }
 
 -- each release of an accepted list is ready in time for the clock
@@ -101,8 +101,8 @@ finish_within node jobs j (suc t) f e =
           let before : g ≤ t = finish_within node jobs j t g is in
           omega arith
       | None ↦ λ is.
-          let now : cond (nat_le (task_of node jobs j).cost (executed_before node jobs (suc t) j)) (Some (suc t)) None ≡ Some f = sym (finish_step node jobs j t ∙ rw is) ∙ e in
-          elim (cases_Bool (nat_le (task_of node jobs j).cost (executed_before node jobs (suc t) j))) [
+          let now : cond (nat_le (job_task node jobs j).cost (executed_before node jobs (suc t) j)) (Some (suc t)) None ≡ Some f = sym (finish_step node jobs j t ∙ rw is) ∙ e in
+          elim (cases_Bool (nat_le (job_task node jobs j).cost (executed_before node jobs (suc t) j))) [
             | inl y ↦ (let n : ◌≡◌ {A = Option ℕ} (Some (suc t)) (Some f) = rw y at now in let same : suc t ≡ f = cc (n) in omega arith)
             | inr n ↦ (let m : ◌≡◌ {A = Option ℕ} None (Some f) = rw n at now in absurd (cc (m)))
           ]
@@ -118,13 +118,13 @@ bounded_trace node rs until trace ok e jobs_are j t lt passes in_run =
     let jobs : List Job = jobs_of node.tasks rs in
     let l : length (jobs_of node.tasks rs) ≡ length rs = jobs_length node.tasks rs in
     let is : job_at (jobs_of node.tasks rs) j ≡ job_of node.tasks (release_at rs j) = job_is node.tasks rs j lt in
-    let legal : IsLegal node (jobs_of node.tasks rs) = legal_from node rs until e in
+    let legal : AreLegalJobs node (jobs_of node.tasks rs) = legal_from node rs until e in
     let passes' : PassesBy node (job_at (jobs_of node.tasks rs) j).task t = subst (λ x. PassesBy node x.task t) (sym is) passes in
-    let done : (task_of node (jobs_of node.tasks rs) j).cost ≤ executed_before node (jobs_of node.tasks rs) ((job_at (jobs_of node.tasks rs) j).arrival + response_by (task_of node (jobs_of node.tasks rs) j) t) j = bound_law node (jobs_of node.tasks rs) ok legal j t (omega arith) passes' in
-    let at_time : (job_at (jobs_of node.tasks rs) j).arrival + response_by (task_of node (jobs_of node.tasks rs) j) t ≡ bound_by node (release_at rs j) t = ap (λ x. x.arrival + response_by (task_at node.tasks x.task) t) is in
-    let done' : (task_of node (jobs_of node.tasks rs) j).cost ≤ executed_before node (jobs_of node.tasks rs) (bound_by node (release_at rs j) t) j = subst (λ x. (task_of node (jobs_of node.tasks rs) j).cost ≤ executed_before node (jobs_of node.tasks rs) x j) at_time done in
+    let done : (job_task node (jobs_of node.tasks rs) j).cost ≤ executed_before node (jobs_of node.tasks rs) ((job_at (jobs_of node.tasks rs) j).arrival + response_by (job_task node (jobs_of node.tasks rs) j) t) j = bound_law node (jobs_of node.tasks rs) ok legal j t (omega arith) passes' in
+    let at_time : (job_at (jobs_of node.tasks rs) j).arrival + response_by (job_task node (jobs_of node.tasks rs) j) t ≡ bound_by node (release_at rs j) t = ap (λ x. x.arrival + response_by (task_at node.tasks x.task) t) is in
+    let done' : (job_task node (jobs_of node.tasks rs) j).cost ≤ executed_before node (jobs_of node.tasks rs) (bound_by node (release_at rs j) t) j = subst (λ x. (job_task node (jobs_of node.tasks rs) j).cost ≤ executed_before node (jobs_of node.tasks rs) x j) at_time done in
     let v : IsSoundTask node (job_at (jobs_of node.tasks rs) j).task = (let s : IsSound node = sound node ok in s.each (job_at (jobs_of node.tasks rs) j).task (legal.known j (omega arith))) in
-    let some : 0 < (task_of node (jobs_of node.tasks rs) j).cost = v.takes_time in
+    let some : 0 < (job_task node (jobs_of node.tasks rs) j).cost = v.takes_time in
     let f : (f : ℕ) × (finish_before node (jobs_of node.tasks rs) (bound_by node (release_at rs j) t) j ≡ Some f) = finish_some node (jobs_of node.tasks rs) j (bound_by node (release_at rs j) t) some done' in
     let to : bound_by node (release_at rs j) t + (until - bound_by node (release_at rs j) t) ≡ until = omega arith in
     let then : finish_before node (jobs_of node.tasks rs) until j ≡ Some f.0 = subst (λ x. finish_before node (jobs_of node.tasks rs) x j ≡ Some f.0) to (finish_later node (jobs_of node.tasks rs) j (bound_by node (release_at rs j) t) (until - bound_by node (release_at rs j) t) f.0 f.1) in

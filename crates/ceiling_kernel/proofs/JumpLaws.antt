@@ -3,7 +3,7 @@ use Rattle.std.proofs.Common.{ℕ, zero, suc, ◌+◌, ◌<◌, ◌≤◌, ◌�
 use Rattle.std.proofs.lemmas.Bool.{cases_eq, cases_lt, cases_Bool, lt-ltb, le-ltb, le-leb, lt-leb, eq-eqb}
 use Rattle.ceiling_kernel.specs.declared.trace.Slice.{Slice}
 use Rattle.task_sheet.specs.Sheet.{CriticalSection}
-use Rattle.ceiling_kernel.specs.Tick.{Node, Job, job_at, task_of, level_of, is_pending, active_of, executed_before, picked, is_inside, held_ceiling}
+use Rattle.ceiling_kernel.specs.Tick.{Node, Job, job_at, job_task, level_of_job, is_pending, active_of, executed_before, picked, is_inside, held_ceiling}
 use Rattle.ceiling_kernel.specs.Trace.{slices_before, with_run, with_tick}
 use Rattle.ceiling_kernel.specs.Jumps.{change_after, NoneReadyBetween, PickStays, IdleStays}
 use Rattle.ceiling_kernel.specs.Waits.{IsNode}
@@ -113,7 +113,7 @@ module _ (node : Node) (jobs : List Job) where
   early_or_late : (t u j : ℕ) → j < length jobs → NoneReadyBetween jobs t u → ((job_at jobs j).ready ≤ t) ⊎ (u ≤ (job_at jobs j).ready)
   early_or_late t u j below none = elim (cases_lt t (job_at jobs j).ready) [ inl late ↦ inr (none j below late) | inr early ↦ inl early ]
 
-  module _ (t k p : ℕ) (apart : AreApart 0 (task_of node jobs p).sections (task_of node jobs p).cost) (now : picked node jobs t ≡ Some p) (none : NoneReadyBetween jobs t (t + k)) (within : executed_before node jobs t p + k ≤ change_after (task_of node jobs p).sections (executed_before node jobs t p) (task_of node jobs p).cost) where
+  module _ (t k p : ℕ) (apart : AreApart 0 (job_task node jobs p).sections (job_task node jobs p).cost) (now : picked node jobs t ≡ Some p) (none : NoneReadyBetween jobs t (t + k)) (within : executed_before node jobs t p + k ≤ change_after (job_task node jobs p).sections (executed_before node jobs t p) (job_task node jobs p).cost) where
     abbrev pub After : ℕ → Type 0
     After d = (executed_before node jobs (t + d) p ≡ executed_before node jobs t p + d) × ((j : ℕ) → j ≢ p → executed_before node jobs (t + d) j ≡ executed_before node jobs t j)
 
@@ -121,12 +121,12 @@ module _ (node : Node) (jobs : List Job) where
     unfolding picked
     same_pick d lt after =
         let is : IsPick node jobs t p = picked_is node jobs t p now in
-        let pp : ((job_at jobs p).ready ≤ t) × (executed_before node jobs t p < (task_of node jobs p).cost) = pending_parts node jobs t p is.is_pending in
-        let above : (executed_before node jobs t p < change_after (task_of node jobs p).sections (executed_before node jobs t p) (task_of node jobs p).cost) × (change_after (task_of node jobs p).sections (executed_before node jobs t p) (task_of node jobs p).cost ≤ (task_of node jobs p).cost) =
-        change_above 0 (task_of node jobs p).cost (task_of node jobs p).sections (executed_before node jobs t p) apart pp.1 in
+        let pp : ((job_at jobs p).ready ≤ t) × (executed_before node jobs t p < (job_task node jobs p).cost) = pending_parts node jobs t p is.is_pending in
+        let above : (executed_before node jobs t p < change_after (job_task node jobs p).sections (executed_before node jobs t p) (job_task node jobs p).cost) × (change_after (job_task node jobs p).sections (executed_before node jobs t p) (job_task node jobs p).cost ≤ (job_task node jobs p).cost) =
+        change_above 0 (job_task node jobs p).cost (job_task node jobs p).sections (executed_before node jobs t p) apart pp.1 in
         let own : executed_before node jobs (t + d) p ≡ executed_before node jobs t p + d = after.0 in
         best_same (is_pending node jobs (executed_before node jobs (t + d)) (t + d)) (is_pending node jobs (executed_before node jobs t) t)
-        (active_of node jobs (executed_before node jobs (t + d))) (active_of node jobs (executed_before node jobs t)) (level_of node jobs) (length jobs)
+        (active_of node jobs (executed_before node jobs (t + d))) (active_of node jobs (executed_before node jobs t)) (level_of_job node jobs) (length jobs)
         (λ j below. elim (cases_eq j p) [
           | inl e ↦
               let x : is_pending node jobs (executed_before node jobs (t + d)) (t + d) p ≡ true = pending_from node jobs (t + d) p (omega arith) (omega arith) in
@@ -138,8 +138,8 @@ module _ (node : Node) (jobs : List Job) where
         ])
         (λ j below. elim (cases_eq j p) [
           | inl e ↦
-              let x : held_ceiling node (task_of node jobs p).sections (executed_before node jobs t p + d) ≡ held_ceiling node (task_of node jobs p).sections (executed_before node jobs t p) =
-              held_same node 0 (task_of node jobs p).cost (task_of node jobs p).sections (executed_before node jobs t p) (executed_before node jobs t p + d) (task_of node jobs p).cost apart (omega arith) (omega arith) in
+              let x : held_ceiling node (job_task node jobs p).sections (executed_before node jobs t p + d) ≡ held_ceiling node (job_task node jobs p).sections (executed_before node jobs t p) =
+              held_same node 0 (job_task node jobs p).cost (job_task node jobs p).sections (executed_before node jobs t p) (executed_before node jobs t p + d) (job_task node jobs p).cost apart (omega arith) (omega arith) in
               let y : active_of node jobs (executed_before node jobs (t + d)) p ≡ active_of node jobs (executed_before node jobs t) p = rw (own, x) in
               subst (λ z. active_of node jobs (executed_before node jobs (t + d)) z ≡ active_of node jobs (executed_before node jobs t) z) (sym e) y
           | inr ne ↦ rw (after.1 j ne)
@@ -165,7 +165,7 @@ module _ (node : Node) (jobs : List Job) where
     unfolding picked
     same_none d lt same =
         best_same (is_pending node jobs (executed_before node jobs (t + d)) (t + d)) (is_pending node jobs (executed_before node jobs t) t)
-        (active_of node jobs (executed_before node jobs (t + d))) (active_of node jobs (executed_before node jobs t)) (level_of node jobs) (length jobs)
+        (active_of node jobs (executed_before node jobs (t + d))) (active_of node jobs (executed_before node jobs t)) (level_of_job node jobs) (length jobs)
         (λ j below.
         let x : nat_le (job_at jobs j).ready (t + d) ≡ nat_le (job_at jobs j).ready t = ready_same t (t + k) j (early_or_late t (t + k) j below none) d (omega arith) in
         rw (x, same j))

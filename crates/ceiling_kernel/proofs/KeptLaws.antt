@@ -5,7 +5,7 @@ use Rattle.std.proofs.lemmas.Bool.{cases_Bool, cases_eq, cases_lt, true≢false}
 use Rattle.std.proofs.lemmas.List.{get_or-replicate, length-replicate, get_or_past}
 use Rattle.task_sheet.specs.Sheet.{task_at}
 use Rattle.ceiling_kernel.specs.declared.run.Pending.{Pending}
-use Rattle.ceiling_kernel.specs.Tick.{Node, Job, job_at, task_of, level_at, level_of, active_of, is_pending, held_ceiling, executed_before, picked}
+use Rattle.ceiling_kernel.specs.Tick.{Node, Job, job_at, job_task, level_in_order, level_of_job, active_of, is_pending, held_ceiling, executed_before, picked}
 use Rattle.ceiling_kernel.specs.Jumps.{change_after, NoneReadyBetween}
 use Rattle.ceiling_kernel.specs.Waits.{Overruns}
 use Rattle.ceiling_kernel.specs.Turns.{TasksKeepOrder}
@@ -28,7 +28,7 @@ module _ (node : Node) (jobs : List Job) (sound : IsSound node) (known : (j : �
   task_no j = (job_at jobs j).task
 
   abbrev pub cost_of : ℕ → ℕ
-  cost_of j = (task_of node jobs j).cost
+  cost_of j = (job_task node jobs j).cost
 
   abbrev slot_of : List (Option Pending) → ℕ → Option Pending
   slot_of slots i = slice_index_or slots i None
@@ -63,19 +63,19 @@ module _ (node : Node) (jobs : List Job) (sound : IsSound node) (known : (j : �
         let m : IsPending node jobs t come place.0 p = kept.pending place.0 p place.1 in
         let below : p.job < length jobs = kept.within p.job m.released in
         let active_p : p.active ≡ active_of node jobs (done t) p.job = pending_active t come place.0 p m in
-        let level_p : p.level ≡ level_of node jobs p.job = m.level ∙ ap (level_at node) (sym m.own) in
-        best_is (is_pending node jobs (done t) t) (active_of node jobs (done t)) (level_of node jobs) (length jobs) p.job
+        let level_p : p.level ≡ level_of_job node jobs p.job = m.level ∙ ap (level_in_order node) (sym m.own) in
+        best_is (is_pending node jobs (done t) t) (active_of node jobs (done t)) (level_of_job node jobs) (length jobs) p.job
         below (pending_from node jobs t p.job (kept.admitted p.job m.released) (pending_open t come place.0 p m))
         (λ k lt pending ne.
         let h : (q : Pending) × (slot_of slots (task_no k) ≡ Some q) × (q.job ≡ k) = has_slot k lt pending in
         let q : Pending = h.0 in
         let mq : IsPending node jobs t come (task_no k) q = kept.pending (task_no k) q h.1 in
         let active_q : q.active ≡ active_of node jobs (done t) k = pending_active t come (task_no k) q mq ∙ ap (active_of node jobs (done t)) h.2 in
-        let level_q : q.level ≡ level_of node jobs k = mq.level in
+        let level_q : q.level ≡ level_of_job node jobs k = mq.level in
         elim (s.first (task_no k) q h.1) [
           | inl less ↦ inl (omega arith)
           | inr tied ↦
-              elim (cases_eq (level_of node jobs p.job) (level_of node jobs k)) [
+              elim (cases_eq (level_of_job node jobs p.job) (level_of_job node jobs k)) [
                 | inl same ↦
                     let same_task : task_no p.job ≡ task_no k = sound.levels_differ (task_no p.job) (task_no k) (known p.job below) (known k lt) same in
                     let slot_p : slot_of slots (task_no k) ≡ Some p = subst (λ x. slot_of slots x ≡ Some p) (sym m.own ∙ same_task) place.1 in
@@ -89,7 +89,7 @@ module _ (node : Node) (jobs : List Job) (sound : IsSound node) (known : (j : �
     unfolding picked
     idle_is e =
         let s : (◌≡◌ {A = Option Pending} None None) × ((i : ℕ) (k : Pending) → slot_of slots i ≡ Some k → ⊥) = slot_none slots None e in
-        best_none_is (is_pending node jobs (done t) t) (active_of node jobs (done t)) (level_of node jobs) (length jobs)
+        best_none_is (is_pending node jobs (done t) t) (active_of node jobs (done t)) (level_of_job node jobs) (length jobs)
         (λ k lt. elim (cases_Bool (is_pending node jobs (done t) t k)) [
           | inl pending ↦ (let h : (q : Pending) × (slot_of slots (task_no k) ≡ Some q) × (q.job ≡ k) = has_slot k lt pending in absurd (s.1 (task_no k) h.0 h.1))
           | inr not ↦ not
@@ -123,7 +123,7 @@ module _ (node : Node) (jobs : List Job) (sound : IsSound node) (known : (j : �
       at_once = kept.to_come n fresh lt
 
       -- its task's slot is free; then it has come, and the others as before
-      pub kept_admit : (come' : ℕ → Bool) → come' n ≡ true → ((j : ℕ) → j ≢ n → come' j ≡ come j) → (p : Pending) → p.job ≡ n → p.task ≡ task_no n → p.level ≡ level_at node (task_no n) → p.executed ≡ 0 → p.active ≡ level_at node (task_no n)
+      pub kept_admit : (come' : ℕ → Bool) → come' n ≡ true → ((j : ℕ) → j ≢ n → come' j ≡ come j) → (p : Pending) → p.job ≡ n → p.task ≡ task_no n → p.level ≡ level_in_order node (task_no n) → p.executed ≡ 0 → p.active ≡ level_in_order node (task_no n)
           → slot_of slots (task_no n) ≡ None → Kept node jobs t come' (set slots (task_no n) (Some p))
       kept_admit come' here others p job task level executed active free =
           let now : t ≤ ready_of n = at_once in
@@ -244,14 +244,14 @@ module _ (node : Node) (jobs : List Job) (sound : IsSound node) (known : (j : �
         pick_below : p.job < length jobs
         pick_below = (let is : IsPick node jobs t p.job = picked_is node jobs t p.job now in is.below)
 
-        apart : AreApart 0 (task_of node jobs p.job).sections (task_of node jobs p.job).cost
+        apart : AreApart 0 (job_task node jobs p.job).sections (job_task node jobs p.job).cost
         apart = (let v : IsSoundTask node (task_no p.job) = sound.each (task_no p.job) (known p.job pick_below) in v.apart)
 
-        within_t : done t p.job + k ≤ change_after (task_of node jobs p.job).sections (done t p.job) (cost_of p.job)
+        within_t : done t p.job + k ≤ change_after (job_task node jobs p.job).sections (done t p.job) (cost_of p.job)
         within_t =
             let own : task_no p.job ≡ i = (let m : IsPending node jobs t come i p = is_p in m.own) in
             let e : p.executed ≡ done t p.job = (let m : IsPending node jobs t come i p = is_p in m.executed) in
-            subst (λ x. x + k ≤ change_after (task_of node jobs p.job).sections x (cost_of p.job)) e
+            subst (λ x. x + k ≤ change_after (job_task node jobs p.job).sections x (cost_of p.job)) e
             (subst (λ x. p.executed + k ≤ change_after (task_at node.tasks x).sections p.executed (task_at node.tasks x).cost) (sym own) within)
 
         pub own_then : done (t + k) p.job ≡ p.executed + k

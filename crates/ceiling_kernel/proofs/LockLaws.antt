@@ -6,8 +6,8 @@ use Rattle.std.specs.List.{list_any}
 use Rattle.std.specs.Cmp.Lexicographic.{same_text}
 use Rattle.task_sheet.specs.Sheet.{CriticalSection, no_task, task_at, same_bytes}
 use Rattle.task_sheet.specs.Locks.{names_lock}
-use Rattle.ceiling_kernel.specs.Tick.{Node, Job, job_at, task_of, level_of, active_of, executed_before, picked, is_inside, ceiling, top_ceiling, held_ceiling}
-use Rattle.ceiling_kernel.specs.Waits.{IsNode, IsLegal, holds_lock, asks_lock, NoOverrunBy, NobodyWaits, IsGranted, OneOwner}
+use Rattle.ceiling_kernel.specs.Tick.{Node, Job, job_at, job_task, level_of_job, active_of, executed_before, picked, is_inside, ceiling, top_ceiling, held_ceiling}
+use Rattle.ceiling_kernel.specs.Waits.{IsNode, AreLegalJobs, holds_lock, asks_lock, NoOverrunBy, NobodyWaits, IsGranted, OneOwner}
 use Rattle.ceiling_kernel.proofs.NodeLaws.{AreApart, IsSoundTask, IsSound, sound}
 use Rattle.ceiling_kernel.proofs.SectionLaws.{inside_true, inside_from, outside_before, outside_after}
 use Rattle.ceiling_kernel.proofs.MachineLaws.{machine, is_high, rest_at, picked_is, IsPick, pending_from, pending_parts, start_of, idle_of, own_of, other_of}
@@ -121,7 +121,7 @@ names_from_holds (s ∷ ss) e r h =
     ]
 
 module _ (node : Node) (jobs : List Job) (valid : IsSound node) where
-  pub apart_at : (j : ℕ) → AreApart 0 (task_of node jobs j).sections (task_of node jobs j).cost
+  pub apart_at : (j : ℕ) → AreApart 0 (job_task node jobs j).sections (job_task node jobs j).cost
   apart_at j =
       let i : ℕ = (job_at jobs j).task in
       elim (cases_lt i (length node.tasks)) [
@@ -135,13 +135,13 @@ module _ (node : Node) (jobs : List Job) (valid : IsSound node) where
   one = omega arith
 
   executed_later : (s u j : ℕ) → s ≤ u → executed_before node jobs s j ≤ executed_before node jobs u j
-  executed_later s u j le = done_later (length jobs) (λ k. (job_at jobs k).ready) (λ k. (task_of node jobs k).cost) (is_high node jobs 1 one apart_at) (rest_at node jobs 1 one apart_at) (executed_before node jobs) (picked node jobs) (machine node jobs 1 one apart_at) s u j le
+  executed_later s u j le = done_later (length jobs) (λ k. (job_at jobs k).ready) (λ k. (job_task node jobs k).cost) (is_high node jobs 1 one apart_at) (rest_at node jobs 1 one apart_at) (executed_before node jobs) (picked node jobs) (machine node jobs 1 one apart_at) s u j le
 
   began_of : (t j : ℕ) → 0 < executed_before node jobs t j → (j < length jobs) × ((job_at jobs j).ready ≤ t)
-  began_of t j h = began (length jobs) (λ k. (job_at jobs k).ready) (λ k. (task_of node jobs k).cost) (is_high node jobs 1 one apart_at) (rest_at node jobs 1 one apart_at) (executed_before node jobs) (picked node jobs) (machine node jobs 1 one apart_at) t j h
+  began_of t j h = began (length jobs) (λ k. (job_at jobs k).ready) (λ k. (job_task node jobs k).cost) (is_high node jobs 1 one apart_at) (rest_at node jobs 1 one apart_at) (executed_before node jobs) (picked node jobs) (machine node jobs 1 one apart_at) t j h
 
   -- two jobs of a task that are both pending overrun
-  two_pending : (t j k : ℕ) → j < k → k < length jobs → NoOverrunBy node jobs t → (job_at jobs j).task ≡ (job_at jobs k).task → (job_at jobs k).ready ≤ t → executed_before node jobs t j < (task_of node jobs j).cost → ⊥
+  two_pending : (t j k : ℕ) → j < k → k < length jobs → NoOverrunBy node jobs t → (job_at jobs j).task ≡ (job_at jobs k).task → (job_at jobs k).ready ≤ t → executed_before node jobs t j < (job_task node jobs j).cost → ⊥
   two_pending t j k lt below none same ready open_ =
       let earlier : executed_before node jobs (job_at jobs k).ready j ≤ executed_before node jobs t j = executed_later (job_at jobs k).ready t j ready in
       none k below ready (j, lt, same, omega arith)
@@ -149,24 +149,24 @@ module _ (node : Node) (jobs : List Job) (valid : IsSound node) where
   granted : ((j : ℕ) → j < length jobs → (job_at jobs j).task < length node.tasks) → NobodyWaits node jobs
   granted known t p r none pick asks =
       let is : IsPick node jobs t p = picked_is node jobs t p pick in
-      let pp : ((job_at jobs p).ready ≤ t) × (executed_before node jobs t p < (task_of node jobs p).cost) = pending_parts node jobs t p is.is_pending in
-      let held : held_ceiling node (task_of node jobs p).sections (executed_before node jobs t p) ≡ 0 = held_none_of node 0 (task_of node jobs p).cost (task_of node jobs p).sections (executed_before node jobs t p) r (apart_at p) asks in
-      let own : active_of node jobs (executed_before node jobs t) p ≡ level_of node jobs p = omega arith in
-      let within : level_of node jobs p ≤ ceiling node r = valid.users_below (job_at jobs p).task r (names_from_asks (task_of node jobs p).sections (executed_before node jobs t p) r asks) in
-      let holds_none : (q : List ℕ) → holds_lock (task_of node jobs p).sections (executed_before node jobs t p) q ≡ false = λ q. holds_none_of 0 (task_of node jobs p).cost (task_of node jobs p).sections (executed_before node jobs t p) r q (apart_at p) asks in
+      let pp : ((job_at jobs p).ready ≤ t) × (executed_before node jobs t p < (job_task node jobs p).cost) = pending_parts node jobs t p is.is_pending in
+      let held : held_ceiling node (job_task node jobs p).sections (executed_before node jobs t p) ≡ 0 = held_none_of node 0 (job_task node jobs p).cost (job_task node jobs p).sections (executed_before node jobs t p) r (apart_at p) asks in
+      let own : active_of node jobs (executed_before node jobs t) p ≡ level_of_job node jobs p = omega arith in
+      let within : level_of_job node jobs p ≤ ceiling node r = valid.users_below (job_at jobs p).task r (names_from_asks (job_task node jobs p).sections (executed_before node jobs t p) r asks) in
+      let holds_none : (q : List ℕ) → holds_lock (job_task node jobs p).sections (executed_before node jobs t p) q ≡ false = λ q. holds_none_of 0 (job_task node jobs p).cost (job_task node jobs p).sections (executed_before node jobs t p) r q (apart_at p) asks in
       record {
         holds_none = holds_none;
-        is_free = λ k lt. elim (cases_Bool (holds_lock (task_of node jobs k).sections (executed_before node jobs t k) r)) [
+        is_free = λ k lt. elim (cases_Bool (holds_lock (job_task node jobs k).sections (executed_before node jobs t k) r)) [
           | inr free ↦ free
           | inl holds ↦
-              let h : (ceiling node r ≤ held_ceiling node (task_of node jobs k).sections (executed_before node jobs t k)) × (0 < executed_before node jobs t k) × (executed_before node jobs t k < (task_of node jobs k).cost) =
-              ceiling-le_held node 0 (task_of node jobs k).cost (task_of node jobs k).sections (executed_before node jobs t k) r (apart_at k) holds in
+              let h : (ceiling node r ≤ held_ceiling node (job_task node jobs k).sections (executed_before node jobs t k)) × (0 < executed_before node jobs t k) × (executed_before node jobs t k < (job_task node jobs k).cost) =
+              ceiling-le_held node 0 (job_task node jobs k).cost (job_task node jobs k).sections (executed_before node jobs t k) r (apart_at k) holds in
               let b : (k < length jobs) × ((job_at jobs k).ready ≤ t) = began_of t k h.1 in
-              let of_k : level_of node jobs k ≤ ceiling node r = valid.users_below (job_at jobs k).task r (names_from_holds (task_of node jobs k).sections (executed_before node jobs t k) r holds) in
-              let same_level : level_of node jobs p ≡ level_of node jobs k = elim (is.first k lt (pending_from node jobs t k b.1 h.2)) [ inl less ↦ omega arith | inr tied ↦ omega arith ] in
+              let of_k : level_of_job node jobs k ≤ ceiling node r = valid.users_below (job_at jobs k).task r (names_from_holds (job_task node jobs k).sections (executed_before node jobs t k) r holds) in
+              let same_level : level_of_job node jobs p ≡ level_of_job node jobs k = elim (is.first k lt (pending_from node jobs t k b.1 h.2)) [ inl less ↦ omega arith | inr tied ↦ omega arith ] in
               let same : (job_at jobs p).task ≡ (job_at jobs k).task = valid.levels_differ (job_at jobs p).task (job_at jobs k).task (known p is.below) (known k lt) same_level in
               elim (cases_order p k) [
-                | inl e ↦ absurd (true≢false (sym holds ∙ subst (λ x. holds_lock (task_of node jobs x).sections (executed_before node jobs t x) r ≡ false) e (holds_none r)))
+                | inl e ↦ absurd (true≢false (sym holds ∙ subst (λ x. holds_lock (job_task node jobs x).sections (executed_before node jobs t x) r ≡ false) e (holds_none r)))
                 | inr differ ↦ elim differ [
                   | inl before ↦ absurd (two_pending t p k before lt none same b.1 pp.1)
                   | inr after ↦ absurd (two_pending t k p after is.below none (sym same) pp.0 h.2)
@@ -199,53 +199,53 @@ module _ (node : Node) (jobs : List Job) (valid : IsSound node) where
   -- no two jobs hold a lock
   module _ (known : (j : ℕ) → j < length jobs → (job_at jobs j).task < length node.tasks) where
     -- who holds a lock is a job
-    holder_is_job : (t j : ℕ) (r : List ℕ) → holds_lock (task_of node jobs j).sections (executed_before node jobs t j) r ≡ true → j < length jobs
+    holder_is_job : (t j : ℕ) (r : List ℕ) → holds_lock (job_task node jobs j).sections (executed_before node jobs t j) r ≡ true → j < length jobs
     holder_is_job t j r h =
-        let c : (ceiling node r ≤ held_ceiling node (task_of node jobs j).sections (executed_before node jobs t j)) × (0 < executed_before node jobs t j) × (executed_before node jobs t j < (task_of node jobs j).cost) =
-        ceiling-le_held node 0 (task_of node jobs j).cost (task_of node jobs j).sections (executed_before node jobs t j) r (apart_at j) h in
+        let c : (ceiling node r ≤ held_ceiling node (job_task node jobs j).sections (executed_before node jobs t j)) × (0 < executed_before node jobs t j) × (executed_before node jobs t j < (job_task node jobs j).cost) =
+        ceiling-le_held node 0 (job_task node jobs j).cost (job_task node jobs j).sections (executed_before node jobs t j) r (apart_at j) h in
         (began_of t j c.1).0
 
     -- in the tick of job p, which comes to hold a lock or holds it on, nobody else holds it
     none_beside : (t p k : ℕ) (r : List ℕ) → NoOverrunBy node jobs t → picked node jobs t ≡ Some p → k ≢ p
-        → (holds_lock (task_of node jobs p).sections (executed_before node jobs t p) r ≡ true → holds_lock (task_of node jobs k).sections (executed_before node jobs t k) r ≡ true → p ≡ k)
-        → holds_lock (task_of node jobs p).sections (executed_before node jobs (suc t) p) r ≡ true → holds_lock (task_of node jobs k).sections (executed_before node jobs (suc t) k) r ≡ true → ⊥
+        → (holds_lock (job_task node jobs p).sections (executed_before node jobs t p) r ≡ true → holds_lock (job_task node jobs k).sections (executed_before node jobs t k) r ≡ true → p ≡ k)
+        → holds_lock (job_task node jobs p).sections (executed_before node jobs (suc t) p) r ≡ true → holds_lock (job_task node jobs k).sections (executed_before node jobs (suc t) k) r ≡ true → ⊥
     none_beside t p k r none pick ne before hp hk =
-        let k_was : holds_lock (task_of node jobs k).sections (executed_before node jobs t k) r ≡ true = subst (λ e. holds_lock (task_of node jobs k).sections e r ≡ true) (other_of node jobs t p k pick ne) hk in
-        elim (holds_begins (task_of node jobs p).sections (executed_before node jobs t p) r (subst (λ e. holds_lock (task_of node jobs p).sections e r ≡ true) (own_of node jobs t p pick) hp)) [
+        let k_was : holds_lock (job_task node jobs k).sections (executed_before node jobs t k) r ≡ true = subst (λ e. holds_lock (job_task node jobs k).sections e r ≡ true) (other_of node jobs t p k pick ne) hk in
+        elim (holds_begins (job_task node jobs p).sections (executed_before node jobs t p) r (subst (λ e. holds_lock (job_task node jobs p).sections e r ≡ true) (own_of node jobs t p pick) hp)) [
           | inl held ↦ ne (sym (before held k_was))
           | inr asks ↦ (let g : IsGranted node jobs t p r = granted known t p r none pick asks in true≢false (sym k_was ∙ g.is_free k (holder_is_job t k r k_was)))
         ]
 
     pub one_owner : (t j k : ℕ) (r : List ℕ) → ((s : ℕ) → s < t → NoOverrunBy node jobs s)
-        → holds_lock (task_of node jobs j).sections (executed_before node jobs t j) r ≡ true → holds_lock (task_of node jobs k).sections (executed_before node jobs t k) r ≡ true → j ≡ k
+        → holds_lock (job_task node jobs j).sections (executed_before node jobs t j) r ≡ true → holds_lock (job_task node jobs k).sections (executed_before node jobs t k) r ≡ true → j ≡ k
     one_owner zero j k r none hj hk =
-        let free : holds_lock (task_of node jobs j).sections (executed_before node jobs 0 j) r ≡ false = holds_before 0 (task_of node jobs j).cost (task_of node jobs j).sections (executed_before node jobs 0 j) r (apart_at j) (omega (arith, start_of node jobs j)) in
+        let free : holds_lock (job_task node jobs j).sections (executed_before node jobs 0 j) r ≡ false = holds_before 0 (job_task node jobs j).cost (job_task node jobs j).sections (executed_before node jobs 0 j) r (apart_at j) (omega (arith, start_of node jobs j)) in
         absurd (true≢false (sym hj ∙ free))
     one_owner (suc t) j k r none hj hk =
-        let before : (i l : ℕ) → holds_lock (task_of node jobs i).sections (executed_before node jobs t i) r ≡ true → holds_lock (task_of node jobs l).sections (executed_before node jobs t l) r ≡ true → i ≡ l =
+        let before : (i l : ℕ) → holds_lock (job_task node jobs i).sections (executed_before node jobs t i) r ≡ true → holds_lock (job_task node jobs l).sections (executed_before node jobs t l) r ≡ true → i ≡ l =
         λ i l. one_owner t i l r (λ s lt. none s (omega arith)) in
         elim (picked node jobs t) as (λ o. picked node jobs t ≡ o → j ≡ k) [
           | None ↦ λ idle. before j k
-              (subst (λ e. holds_lock (task_of node jobs j).sections e r ≡ true) (idle_of node jobs t j idle) hj)
-              (subst (λ e. holds_lock (task_of node jobs k).sections e r ≡ true) (idle_of node jobs t k idle) hk)
+              (subst (λ e. holds_lock (job_task node jobs j).sections e r ≡ true) (idle_of node jobs t j idle) hj)
+              (subst (λ e. holds_lock (job_task node jobs k).sections e r ≡ true) (idle_of node jobs t k idle) hk)
           | Some p ↦ λ pick. elim (cases_eq j p) [
             | inl j_runs ↦ elim (cases_eq k p) [
               | inl k_runs ↦ j_runs ∙ sym k_runs
-              | inr ne ↦ absurd (none_beside t p k r (none t (omega arith)) pick ne (before p k) (subst (λ x. holds_lock (task_of node jobs x).sections (executed_before node jobs (suc t) x) r ≡ true) j_runs hj) hk)
+              | inr ne ↦ absurd (none_beside t p k r (none t (omega arith)) pick ne (before p k) (subst (λ x. holds_lock (job_task node jobs x).sections (executed_before node jobs (suc t) x) r ≡ true) j_runs hj) hk)
             ]
             | inr j_rests ↦ elim (cases_eq k p) [
-              | inl k_runs ↦ absurd (none_beside t p j r (none t (omega arith)) pick j_rests (before p j) (subst (λ x. holds_lock (task_of node jobs x).sections (executed_before node jobs (suc t) x) r ≡ true) k_runs hk) hj)
+              | inl k_runs ↦ absurd (none_beside t p j r (none t (omega arith)) pick j_rests (before p j) (subst (λ x. holds_lock (job_task node jobs x).sections (executed_before node jobs (suc t) x) r ≡ true) k_runs hk) hj)
               | inr k_rests ↦ before j k
-                  (subst (λ e. holds_lock (task_of node jobs j).sections e r ≡ true) (other_of node jobs t p j pick j_rests) hj)
-                  (subst (λ e. holds_lock (task_of node jobs k).sections e r ≡ true) (other_of node jobs t p k pick k_rests) hk)
+                  (subst (λ e. holds_lock (job_task node jobs j).sections e r ≡ true) (other_of node jobs t p j pick j_rests) hj)
+                  (subst (λ e. holds_lock (job_task node jobs k).sections e r ≡ true) (other_of node jobs t p k pick k_rests) hk)
             ]
           ]
         ] refl
 
-pub nobody_waits_law : (node : Node) (jobs : List Job) → IsNode node → IsLegal node jobs → NobodyWaits node jobs
+pub nobody_waits_law : (node : Node) (jobs : List Job) → IsNode node → AreLegalJobs node jobs → NobodyWaits node jobs
 nobody_waits_law node jobs valid legal = granted node jobs (sound node valid) legal.known
 
-pub one_owner_law : (node : Node) (jobs : List Job) → IsNode node → IsLegal node jobs → OneOwner node jobs
+pub one_owner_law : (node : Node) (jobs : List Job) → IsNode node → AreLegalJobs node jobs → OneOwner node jobs
 one_owner_law node jobs valid legal t j k r none hj hk =
     one_owner node jobs (sound node valid) legal.known (t + 1) j k r (λ s lt i below ready. none i below (omega arith)) hj hk
 
@@ -258,7 +258,7 @@ began_strictly node jobs (suc t) j h =
       | Some p ↦ λ e. elim (cases_eq j p) [
         | inl same ↦
             let is : IsPick node jobs t p = picked_is node jobs t p e in
-            let pp : ((job_at jobs p).ready ≤ t) × (executed_before node jobs t p < (task_of node jobs p).cost) = pending_parts node jobs t p is.is_pending in
+            let pp : ((job_at jobs p).ready ≤ t) × (executed_before node jobs t p < (job_task node jobs p).cost) = pending_parts node jobs t p is.is_pending in
             let r : (job_at jobs j).ready ≡ (job_at jobs p).ready = ap (λ x. (job_at jobs x).ready) same in
             omega arith
         | inr ne ↦ (let s : executed_before node jobs (suc t) j ≡ executed_before node jobs t j = other_of node jobs t p j e ne in let ih : (job_at jobs j).ready < t = began_strictly node jobs t j (omega arith) in omega arith)

@@ -1,7 +1,7 @@
 -- The tick rule is a machine of the kind of which the busy interval speaks.
 use Rattle.std.proofs.Common.{ℕ, suc, ◌<◌, ◌≤◌, ◌≡◌, ◌≢◌, ◌⊎◌, inl, inr, refl, sym, ◌∙◌, arith, if◌then◌else◌, Bool, true, false, List, length, Some, None, nat_le, nat_lt, eqb}
 use Rattle.std.proofs.lemmas.Bool.{cases_lt, cases_Bool, true≢false, lt-ltb, le-leb, lt-leb, leb-true, ltb-true, and_parts, and_from, eq-eqb, ne_eqb}
-use Rattle.ceiling_kernel.specs.Tick.{Node, Job, job_at, task_of, level_of, is_pending, active_of, held_ceiling, one_more, executed_before, picked}
+use Rattle.ceiling_kernel.specs.Tick.{Node, Job, job_at, job_task, level_of_job, is_pending, active_of, held_ceiling, one_more, executed_before, picked}
 use Rattle.ceiling_kernel.proofs.NodeLaws.{AreApart}
 use Rattle.ceiling_kernel.proofs.PickLaws.{IsBest, best_some, best_none, best_exists}
 use Rattle.ceiling_kernel.specs.Readings.{IsPicked}
@@ -28,66 +28,66 @@ module _ (node : Node) (jobs : List Job) where
 
   -- the pick of a tick, by the state before it
   abbrev pub IsPick : ℕ → ℕ → Type 0
-  IsPick t p = IsBest (is_pending node jobs (executed_before node jobs t) t) (active_of node jobs (executed_before node jobs t)) (level_of node jobs) (length jobs) p
+  IsPick t p = IsBest (is_pending node jobs (executed_before node jobs t) t) (active_of node jobs (executed_before node jobs t)) (level_of_job node jobs) (length jobs) p
 
   pub picked_is : (t p : ℕ) → picked node jobs t ≡ Some p → IsPick t p
   unfolding picked
-  picked_is t p e = best_some (is_pending node jobs (executed_before node jobs t) t) (active_of node jobs (executed_before node jobs t)) (level_of node jobs) (length jobs) p e
+  picked_is t p e = best_some (is_pending node jobs (executed_before node jobs t) t) (active_of node jobs (executed_before node jobs t)) (level_of_job node jobs) (length jobs) p e
 
-  pub pending_from : (t k : ℕ) → (job_at jobs k).ready ≤ t → executed_before node jobs t k < (task_of node jobs k).cost → is_pending node jobs (executed_before node jobs t) t k ≡ true
-  pending_from t k r c = and_from (nat_le (job_at jobs k).ready t) (nat_lt (executed_before node jobs t k) (task_of node jobs k).cost) (le-leb (job_at jobs k).ready t r) (lt-ltb (executed_before node jobs t k) (task_of node jobs k).cost c)
+  pub pending_from : (t k : ℕ) → (job_at jobs k).ready ≤ t → executed_before node jobs t k < (job_task node jobs k).cost → is_pending node jobs (executed_before node jobs t) t k ≡ true
+  pending_from t k r c = and_from (nat_le (job_at jobs k).ready t) (nat_lt (executed_before node jobs t k) (job_task node jobs k).cost) (le-leb (job_at jobs k).ready t r) (lt-ltb (executed_before node jobs t k) (job_task node jobs k).cost c)
 
-  pub pending_parts : (t k : ℕ) → is_pending node jobs (executed_before node jobs t) t k ≡ true → ((job_at jobs k).ready ≤ t) × (executed_before node jobs t k < (task_of node jobs k).cost)
+  pub pending_parts : (t k : ℕ) → is_pending node jobs (executed_before node jobs t) t k ≡ true → ((job_at jobs k).ready ≤ t) × (executed_before node jobs t k < (job_task node jobs k).cost)
   pending_parts t k h =
-      let p : (nat_le (job_at jobs k).ready t ≡ true) × (nat_lt (executed_before node jobs t k) (task_of node jobs k).cost ≡ true) = and_parts (nat_le (job_at jobs k).ready t) (nat_lt (executed_before node jobs t k) (task_of node jobs k).cost) h in
-      (leb-true (job_at jobs k).ready t p.0, ltb-true (executed_before node jobs t k) (task_of node jobs k).cost p.1)
+      let p : (nat_le (job_at jobs k).ready t ≡ true) × (nat_lt (executed_before node jobs t k) (job_task node jobs k).cost ≡ true) = and_parts (nat_le (job_at jobs k).ready t) (nat_lt (executed_before node jobs t k) (job_task node jobs k).cost) h in
+      (leb-true (job_at jobs k).ready t p.0, ltb-true (executed_before node jobs t k) (job_task node jobs k).cost p.1)
 
-  pub works_of : (t k : ℕ) → k < length jobs → (job_at jobs k).ready ≤ t → executed_before node jobs t k < (task_of node jobs k).cost → (p : ℕ) × (picked node jobs t ≡ Some p)
+  pub works_of : (t k : ℕ) → k < length jobs → (job_at jobs k).ready ≤ t → executed_before node jobs t k < (job_task node jobs k).cost → (p : ℕ) × (picked node jobs t ≡ Some p)
   unfolding picked
-  works_of t k lt r c = best_exists (is_pending node jobs (executed_before node jobs t) t) (active_of node jobs (executed_before node jobs t)) (level_of node jobs) (length jobs) k lt (pending_from t k r c)
+  works_of t k lt r c = best_exists (is_pending node jobs (executed_before node jobs t) t) (active_of node jobs (executed_before node jobs t)) (level_of_job node jobs) (length jobs) k lt (pending_from t k r c)
 
-  module _ (level : ℕ) (some : 0 < level) (apart : (j : ℕ) → AreApart 0 (task_of node jobs j).sections (task_of node jobs j).cost) where
+  module _ (level : ℕ) (some : 0 < level) (apart : (j : ℕ) → AreApart 0 (job_task node jobs j).sections (job_task node jobs j).cost) where
     abbrev pub is_high : ℕ → Bool
-    is_high j = nat_le level (level_of node jobs j)
+    is_high j = nat_le level (level_of_job node jobs j)
 
     abbrev pub rest_at : ℕ → ℕ → ℕ
-    rest_at j e = if is_high j then 0 else rest_of node level (task_of node jobs j).sections e
+    rest_at j e = if is_high j then 0 else rest_of node level (job_task node jobs j).sections e
 
     -- a job is high or inside a reaching section exactly where its active priority is at least the level
     hot_from_active : (j t : ℕ) → level ≤ active_of node jobs (executed_before node jobs t) j → (is_high j ≡ true) ⊎ (0 < rest_at j (executed_before node jobs t j))
     hot_from_active j t h =
-        elim (cases_lt (level_of node jobs j) level) [
-          | inr ge ↦ inl (le-leb level (level_of node jobs j) ge)
+        elim (cases_lt (level_of_job node jobs j) level) [
+          | inr ge ↦ inl (le-leb level (level_of_job node jobs j) ge)
           | inl low ↦
-              let not_high : is_high j ≡ false = lt-leb level (level_of node jobs j) low in
-              let left : 0 < rest_of node level (task_of node jobs j).sections (executed_before node jobs t j) =
-              rest_from_held node level (task_of node jobs j).sections (executed_before node jobs t j) some (omega arith) in
+              let not_high : is_high j ≡ false = lt-leb level (level_of_job node jobs j) low in
+              let left : 0 < rest_of node level (job_task node jobs j).sections (executed_before node jobs t j) =
+              rest_from_held node level (job_task node jobs j).sections (executed_before node jobs t j) some (omega arith) in
               inr (rw not_high left)
         ]
 
     active_from_hot : (j t : ℕ) → (is_high j ≡ true) ⊎ (0 < rest_at j (executed_before node jobs t j)) → level ≤ active_of node jobs (executed_before node jobs t) j
     active_from_hot j t h =
-        elim (cases_lt (level_of node jobs j) level) [
+        elim (cases_lt (level_of_job node jobs j) level) [
           | inr ge ↦ omega arith
           | inl low ↦
-              let not_high : is_high j ≡ false = lt-leb level (level_of node jobs j) low in
+              let not_high : is_high j ≡ false = lt-leb level (level_of_job node jobs j) low in
               elim h [
                 | inl is ↦ absurd (true≢false (sym is ∙ not_high))
                 | inr left ↦
-                    let left' : 0 < rest_of node level (task_of node jobs j).sections (executed_before node jobs t j) = rw not_high at left in
-                    let held : level ≤ held_ceiling node (task_of node jobs j).sections (executed_before node jobs t j) = held_from_rest node level (task_of node jobs j).sections (executed_before node jobs t j) left' in
+                    let left' : 0 < rest_of node level (job_task node jobs j).sections (executed_before node jobs t j) = rw not_high at left in
+                    let held : level ≤ held_ceiling node (job_task node jobs j).sections (executed_before node jobs t j) = held_from_rest node level (job_task node jobs j).sections (executed_before node jobs t j) left' in
                     omega arith
               ]
         ]
 
-    low_rest : (j e : ℕ) → 0 < rest_at j e → (is_high j ≡ false) × (0 < rest_of node level (task_of node jobs j).sections e)
+    low_rest : (j e : ℕ) → 0 < rest_at j e → (is_high j ≡ false) × (0 < rest_of node level (job_task node jobs j).sections e)
     low_rest j e h =
         elim (cases_Bool (is_high j)) [
           | inl is ↦ (let none : 0 < 0 = rw is at h in absurd (omega arith))
           | inr not ↦ (not, rw not at h)
         ]
 
-    pub machine : IsMachine (length jobs) (λ j. (job_at jobs j).ready) (λ j. (task_of node jobs j).cost) is_high rest_at (executed_before node jobs) (picked node jobs)
+    pub machine : IsMachine (length jobs) (λ j. (job_at jobs j).ready) (λ j. (job_task node jobs j).cost) is_high rest_at (executed_before node jobs) (picked node jobs)
     machine = record {
       at_start = start_of;
       when_idle = idle_of;
@@ -104,15 +104,15 @@ module _ (node : Node) (jobs : List Job) where
       rest_low = λ j e is. rw is;
       rest_first = λ j. (elim (cases_Bool (is_high j)) [
         | inl is ↦ rw is
-        | inr not ↦ rw not (rest_before node level 0 (task_of node jobs j).cost (task_of node jobs j).sections 0 (apart j) (omega arith))
+        | inr not ↦ rw not (rest_before node level 0 (job_task node jobs j).cost (job_task node jobs j).sections 0 (apart j) (omega arith))
       ]);
       rest_next = λ j e h.
-          let low : (is_high j ≡ false) × (0 < rest_of node level (task_of node jobs j).sections e) = low_rest j e h in
+          let low : (is_high j ≡ false) × (0 < rest_of node level (job_task node jobs j).sections e) = low_rest j e h in
           let not : is_high j ≡ false = low.0 in
-          rw not (rest_next_of node level 0 (task_of node jobs j).cost (task_of node jobs j).sections e (apart j) low.1);
+          rw not (rest_next_of node level 0 (job_task node jobs j).cost (job_task node jobs j).sections e (apart j) low.1);
       rest_inside = λ j e h.
-          let low : (is_high j ≡ false) × (0 < rest_of node level (task_of node jobs j).sections e) = low_rest j e h in
-          (rest_after node level 0 (task_of node jobs j).cost (task_of node jobs j).sections e (apart j) low.1).1;
+          let low : (is_high j ≡ false) × (0 < rest_of node level (job_task node jobs j).sections e) = low_rest j e h in
+          (rest_after node level 0 (job_task node jobs j).cost (job_task node jobs j).sections e (apart j) low.1).1;
     }
 
 -- the pick, in its own words
@@ -121,4 +121,4 @@ picked_is_first node jobs t p e = (let is : IsPick node jobs t p = picked_is nod
 
 pub none_pending : (node : Node) (jobs : List Job) (t k : ℕ) → picked node jobs t ≡ None → k < length jobs → is_pending node jobs (executed_before node jobs t) t k ≡ false
 unfolding picked
-none_pending node jobs t k e lt = best_none (is_pending node jobs (executed_before node jobs t) t) (active_of node jobs (executed_before node jobs t)) (level_of node jobs) (length jobs) k e lt
+none_pending node jobs t k e lt = best_none (is_pending node jobs (executed_before node jobs t) t) (active_of node jobs (executed_before node jobs t)) (level_of_job node jobs) (length jobs) k e lt

@@ -4,7 +4,7 @@ use Rattle.std.proofs.lemmas.Option.{none-some, same_Some}
 use Rattle.std.proofs.lemmas.Bool.{cases_eq, cases_lt, eq-eqb, ne_eqb, lt-ltb, le-ltb}
 use Rattle.std.proofs.lemmas.List.{get_or-replicate, length-replicate, get_or_past}
 use Rattle.ceiling_kernel.specs.declared.run.Pending.{Pending}
-use Rattle.ceiling_kernel.specs.Tick.{Node, Job, level_at}
+use Rattle.ceiling_kernel.specs.Tick.{Node, Job, level_in_order}
 use Rattle.ceiling_kernel.specs.Waits.{IsNode}
 use Rattle.ceiling_kernel.specs.States.{active_at, best_slot, IsPending, Kept}
 use Rattle.ceiling_kernel.specs.Lists.{list_at, with_tail, without_head, with_head, moved_to, StandsAt, Queues, IsAlone}
@@ -111,13 +111,13 @@ module _ (node : Node) (jobs : List Job) (sound : IsSound node) (t : ℕ) (come 
   slot_at i = slice_index_or slots i None
 
   -- at the priority of task i's own level, other pending jobs have lower own levels
-  lower : (i a n k : ℕ) (r : Pending) → i < length node.tasks → level_at node i ≡ a → StandsAt (list_at lists a) n k → slot_at k ≡ Some r → k ≢ i → r.level < a
+  lower : (i a n k : ℕ) (r : Pending) → i < length node.tasks → level_in_order node i ≡ a → StandsAt (list_at lists a) n k → slot_at k ≡ Some r → k ≢ i → r.level < a
   lower i a n k r in_tasks own st at_k ne =
       let m : IsPending node jobs t come k r = kept.pending k r at_k in
       let s : (q : Pending) × (slot_at k ≡ Some q) × (q.active ≡ a) = queues.sound a n k st in
       let one : s.0.active ≡ r.active = ap (λ x. x.active) (pending_same (slot_at k) s.0 r s.1 at_k) in
       let here : s.0.active ≡ a = s.2 in
-      let level : r.level ≡ level_at node k = m.level in
+      let level : r.level ≡ level_in_order node k = m.level in
       let active : r.active ≡ active_at node k r.executed = m.active in
       let k_in : k < length node.tasks = elim (cases_lt k (length slots)) [
         | inl lt ↦ (let c : length slots ≡ length node.tasks = kept.slot_count in omega arith)
@@ -129,18 +129,18 @@ module _ (node : Node) (jobs : List Job) (sound : IsSound node) (t : ℕ) (come 
       ]
 
   -- a job becomes pending
-  pub queues_admit : IsNode node → (p : Pending) (i : ℕ) → i < length node.tasks → length lists ≡ length node.tasks + 1 → p.level ≡ level_at node i → p.active ≡ level_at node i → slot_at i ≡ None
+  pub queues_admit : IsNode node → (p : Pending) (i : ℕ) → i < length node.tasks → length lists ≡ length node.tasks + 1 → p.level ≡ level_in_order node i → p.active ≡ level_in_order node i → slot_at i ≡ None
       → Queues (λ k. slice_index_or (set slots i (Some p)) k None) (list_at (with_tail lists p.active i))
   queues_admit ok p i in_tasks count level active free =
       let c : length slots ≡ length node.tasks = kept.slot_count in
-      let b : level_at node i ≤ length node.tasks = level_within node ok i in
+      let b : level_in_order node i ≤ length node.tasks = level_within node ok i in
       queues_join slots lists queues p i (omega arith) (omega arith) free
       (λ n k r st at_k.
       let lt : r.level < p.active = lower i p.active n k r in_tasks (sym active) st at_k (λ same. none-some r (sym free ∙ subst (λ x. slot_at x ≡ Some r) same at_k)) in
       omega arith)
 
   -- the job that goes first has executed, and isn't finished
-  pub queues_run : IsAlone slot_at → (p q : Pending) (i : ℕ) → i < length node.tasks → best_slot slots None ≡ Some p → slot_at i ≡ Some p → q.level ≡ p.level → q.active < length lists → (q.active ≡ level_at node i) ⊎ (p.active ≤ q.active)
+  pub queues_run : IsAlone slot_at → (p q : Pending) (i : ℕ) → i < length node.tasks → best_slot slots None ≡ Some p → slot_at i ≡ Some p → q.level ≡ p.level → q.active < length lists → (q.active ≡ level_in_order node i) ⊎ (p.active ≤ q.active)
       → Queues (λ k. slice_index_or (set slots i (Some q)) k None) (list_at (moved_to lists p.active q.active i))
   queues_run alone p q i in_tasks best at_i level in_lists next_is =
       let c : length slots ≡ length node.tasks = kept.slot_count in
@@ -160,15 +160,15 @@ module _ (node : Node) (jobs : List Job) (sound : IsSound node) (t : ℕ) (come 
             ]
       ]
     where
-      own : p.level ≡ level_at node i
+      own : p.level ≡ level_in_order node i
       own = (let m : IsPending node jobs t come i p = kept.pending i p at_i in m.level)
 
       -- nobody stands where a job comes back to its own level
       none_there : q.active < p.active → list_at (without_head lists p.active) q.active ≡ []
       none_there lt =
-          let o : p.level ≡ level_at node i = own in
+          let o : p.level ≡ level_in_order node i = own in
           let ne : q.active ≢ p.active = λ same. omega arith in
-          let back : q.active ≡ level_at node i = elim next_is [ inl level_is ↦ level_is | inr more ↦ absurd (omega arith) ] in
+          let back : q.active ≡ level_in_order node i = elim next_is [ inl level_is ↦ level_is | inr more ↦ absurd (omega arith) ] in
           let none : list_at lists q.active ≡ [] = empty_from (list_at lists q.active) (λ k st.
           let s : (r : Pending) × (slot_at k ≡ Some r) × (r.active ≡ q.active) = queues.sound q.active 0 k st in
           let a : s.0.active ≡ q.active = s.2 in
@@ -180,7 +180,7 @@ module _ (node : Node) (jobs : List Job) (sound : IsSound node) (t : ℕ) (come 
       below ne n k r st at_k other = elim next_is [
         | inl level_is ↦
             let lt : r.level < q.active = lower i q.active n k r in_tasks (sym level_is) st at_k other in
-            let o : p.level ≡ level_at node i = own in
+            let o : p.level ≡ level_in_order node i = own in
             omega arith
         | inr more ↦ absurd (none_above slots lists queues p best q.active n k (omega arith) st)
       ]
@@ -201,10 +201,10 @@ module _ (node : Node) (jobs : List Job) (sound : IsSound node) (t : ℕ) (come 
           below ne m k r st' (sym (get_or-set_other slots i k None None other) ∙ at_k) other)
 
   -- ---- who executes above its own level is alone there
-  level_of_slot : (k : ℕ) (r : Pending) → slot_at k ≡ Some r → (r.level ≡ level_at node k) × (r.level ≤ r.active) × (k < length node.tasks)
+  level_of_slot : (k : ℕ) (r : Pending) → slot_at k ≡ Some r → (r.level ≡ level_in_order node k) × (r.level ≤ r.active) × (k < length node.tasks)
   level_of_slot k r at_k =
       let m : IsPending node jobs t come k r = kept.pending k r at_k in
-      let level : r.level ≡ level_at node k = m.level in
+      let level : r.level ≡ level_in_order node k = m.level in
       let active : r.active ≡ active_at node k r.executed = m.active in (
         level,
         omega arith,
@@ -221,7 +221,7 @@ module _ (node : Node) (jobs : List Job) (sound : IsSound node) (t : ℕ) (come 
     | inr ne ↦ inr (ne, sym (get_or-set_other slots i k o None ne) ∙ e)
   ]
 
-  pub alone_admit : IsAlone slot_at → (p : Pending) (i : ℕ) → i < length node.tasks → p.level ≡ level_at node i → p.active ≡ level_at node i → IsAlone (λ k. slice_index_or (set slots i (Some p)) k None)
+  pub alone_admit : IsAlone slot_at → (p : Pending) (i : ℕ) → i < length node.tasks → p.level ≡ level_in_order node i → p.active ≡ level_in_order node i → IsAlone (λ k. slice_index_or (set slots i (Some p)) k None)
   alone_admit alone p i in_tasks level active h k q r at_h at_k ne above e =
       let c : length slots ≡ length node.tasks = kept.slot_count in
       elim (written i (Some p) (omega arith) h q at_h) [
@@ -234,7 +234,7 @@ module _ (node : Node) (jobs : List Job) (sound : IsSound node) (t : ℕ) (come 
           | inr also ↦ alone h k q r was.1 also.1 ne above e
           | inl new ↦
               let a : p.active ≡ r.active = ap (λ x. x.active) (same_Some p r new.1) in
-              let l : (q.level ≡ level_at node h) × (q.level ≤ q.active) × (h < length node.tasks) = level_of_slot h q was.1 in
+              let l : (q.level ≡ level_in_order node h) × (q.level ≤ q.active) × (h < length node.tasks) = level_of_slot h q was.1 in
               was.0 (sound.levels_differ h i l.2 in_tasks (sym l.0 ∙ (sym e ∙ (sym a ∙ active))))
         ]
       ]
@@ -246,18 +246,18 @@ module _ (node : Node) (jobs : List Job) (sound : IsSound node) (t : ℕ) (come 
         | inr was ↦ elim (written i None in_slots k r at_k) [ inl new ↦ none-some r new.1 | inr also ↦ alone h k q r was.1 also.1 ne above e ]
       ]
 
-  pub alone_run : IsAlone slot_at → (p q : Pending) (i : ℕ) → i < length node.tasks → best_slot slots None ≡ Some p → slot_at i ≡ Some p → q.level ≡ p.level → (q.active ≡ level_at node i) ⊎ (p.active ≤ q.active)
+  pub alone_run : IsAlone slot_at → (p q : Pending) (i : ℕ) → i < length node.tasks → best_slot slots None ≡ Some p → slot_at i ≡ Some p → q.level ≡ p.level → (q.active ≡ level_in_order node i) ⊎ (p.active ≤ q.active)
       → IsAlone (λ k. slice_index_or (set slots i (Some q)) k None)
   alone_run alone p q i in_tasks best at_i level next_is h k a b at_h at_k ne above e =
       let c : length slots ≡ length node.tasks = kept.slot_count in
-      let lp : (p.level ≡ level_at node i) × (p.level ≤ p.active) × (i < length node.tasks) = level_of_slot i p at_i in
+      let lp : (p.level ≡ level_in_order node i) × (p.level ≤ p.active) × (i < length node.tasks) = level_of_slot i p at_i in
       let is : IsBestSlot slots None p = slot_some slots None p best in
       elim (written i (Some q) (omega arith) h a at_h) [
         | inl new ↦ elim (written i (Some q) (omega arith) k b at_k) [
           | inl also ↦ ne (new.0 ∙ sym also.0)
           | inr other ↦
               let l : q.level ≡ a.level = ap (λ x. x.level) (same_Some q a new.1) in
-              let lb : (b.level ≡ level_at node k) × (b.level ≤ b.active) × (k < length node.tasks) = level_of_slot k b other.1 in
+              let lb : (b.level ≡ level_in_order node k) × (b.level ≤ b.active) × (k < length node.tasks) = level_of_slot k b other.1 in
               elim (cases_lt p.level p.active) [
                 | inl raised ↦ alone i k p b at_i other.1 (λ same. other.0 (sym same)) raised (e ∙ (sym l ∙ level))
                 | inr at_own ↦
@@ -275,7 +275,7 @@ module _ (node : Node) (jobs : List Job) (sound : IsSound node) (t : ℕ) (come 
           | inr also ↦ alone h k a b was.1 also.1 ne above e
           | inl new ↦
               let n : q.active ≡ b.active = ap (λ x. x.active) (same_Some q b new.1) in
-              let l : (a.level ≡ level_at node h) × (a.level ≤ a.active) × (h < length node.tasks) = level_of_slot h a was.1 in
+              let l : (a.level ≡ level_in_order node h) × (a.level ≤ a.active) × (h < length node.tasks) = level_of_slot h a was.1 in
               elim next_is [
                 | inl own_level ↦ was.0 (sound.levels_differ h i l.2 in_tasks (sym l.0 ∙ (sym e ∙ (sym n ∙ own_level))))
                 | inr more ↦ elim (is.first h a was.1) [ inl less ↦ omega arith | inr tied ↦ (let x : a.active ≡ p.active = tied.0 in omega arith) ]

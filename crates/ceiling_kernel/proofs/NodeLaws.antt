@@ -11,7 +11,7 @@ use Rattle.task_sheet.specs.Locks.{uses, ceiling_from}
 use Rattle.task_sheet.specs.Indexes.{among}
 use Rattle.task_sheet.specs.Orders.{Stands, AllStand}
 use Rattle.task_sheet.specs.Demand.{limit_of}
-use Rattle.ceiling_kernel.specs.Tick.{Node, level_from, level_at, ceiling}
+use Rattle.ceiling_kernel.specs.Tick.{Node, level_from, level_in_order, ceiling}
 use Rattle.ceiling_kernel.specs.Waits.{IsNode, lateness_of}
 use Rattle.ceiling_kernel.specs.Bounds.{above_of, after_of}
 
@@ -243,7 +243,7 @@ late_less t v = omega (arith, v.jitter, v.deadline_to)
 
 -- ---- a node as the laws need it
 pub record IsSoundTask (node : Node) (i : ℕ) : Type 0 where
-  pub level_from_one : 0 < level_at node i
+  pub level_from_one : 0 < level_in_order node i
   pub takes_time : 0 < (task_at node.tasks i).cost
   pub apart : AreApart 0 (task_at node.tasks i).sections (task_at node.tasks i).cost
   pub deadline_within : (task_at node.tasks i).deadline ≤ (task_at node.tasks i).period
@@ -254,8 +254,8 @@ pub record IsSoundTask (node : Node) (i : ℕ) : Type 0 where
 
 pub record IsSound (node : Node) : Type 0 where
   pub each : (i : ℕ) → i < length node.tasks → IsSoundTask node i
-  pub levels_differ : (i k : ℕ) → i < length node.tasks → k < length node.tasks → level_at node i ≡ level_at node k → i ≡ k
-  pub users_below : (i : ℕ) (lock : List ℕ) → uses (task_at node.tasks i) lock ≡ true → level_at node i ≤ ceiling node lock
+  pub levels_differ : (i k : ℕ) → i < length node.tasks → k < length node.tasks → level_in_order node i ≡ level_in_order node k → i ≡ k
+  pub users_below : (i : ℕ) (lock : List ℕ) → uses (task_at node.tasks i) lock ≡ true → level_in_order node i ≤ ceiling node lock
 
 module _ (node : Node) (ok : IsNode node) where
   times-order : (i : ℕ) → times i node.order ≡ cond (nat_lt i (length node.tasks)) 1 0
@@ -284,7 +284,7 @@ module _ (node : Node) (ok : IsNode node) where
   sound = record {
     each = λ i lt.
         let v : IsValidSheet (task_at node.tasks i) = valid_at i lt in
-        let up : 1 ≤ level_at node i = level_named 1 node.order i (named i lt) in
+        let up : 1 ≤ level_in_order node i = level_named 1 node.order i (named i lt) in
         record {
           level_from_one = omega arith;
           takes_time = v.cost_from;
@@ -305,16 +305,16 @@ module _ (node : Node) (ok : IsNode node) where
   }
 
   -- who stands at the ceiling of a lock, where that is at least a level
-  pub top_user : (lock : List ℕ) (level : ℕ) → 0 < level → level ≤ ceiling node lock → (h : ℕ) × (h < length node.tasks) × (level ≤ level_at node h) × (uses (task_at node.tasks h) lock ≡ true)
+  pub top_user : (lock : List ℕ) (level : ℕ) → 0 < level → level ≤ ceiling node lock → (h : ℕ) × (h < length node.tasks) × (level ≤ level_in_order node h) × (uses (task_at node.tasks h) lock ≡ true)
   top_user lock level some le =
-      elim (ceiling_from 1 node.tasks node.order lock) as (λ o. ceiling_from 1 node.tasks node.order lock ≡ o → level ≤ unwrap_or o 0 → (h : ℕ) × (h < length node.tasks) × (level ≤ level_at node h) × (uses (task_at node.tasks h) lock ≡ true)) [
+      elim (ceiling_from 1 node.tasks node.order lock) as (λ o. ceiling_from 1 node.tasks node.order lock ≡ o → level ≤ unwrap_or o 0 → (h : ℕ) × (h < length node.tasks) × (level ≤ level_in_order node h) × (uses (task_at node.tasks h) lock ≡ true)) [
         | None ↦ λ is h. absurd (omega arith)
         | Some c ↦ λ is h.
             let at_top : IsUserAt node.tasks 1 node.order lock c = ceiling_user node.tasks 1 node.order lock c at_most_once is in
             let i : ℕ = at_top.task in
             let once : times i node.order ≡ cond (nat_lt i (length node.tasks)) 1 0 = times-order i in
             let n : 0 < times i node.order = at_top.named in
-            let l : level_at node i ≡ c = at_top.level in
+            let l : level_in_order node i ≡ c = at_top.level in
             elim (cases_Bool (nat_lt i (length node.tasks))) [
               | inl t ↦ (i, ltb-true i (length node.tasks) t, omega arith, at_top.user)
               | inr f ↦ (let e : times i node.order ≡ 0 = rw f at once in absurd (omega arith))

@@ -4,7 +4,7 @@ use Rattle.std.specs.Option.{option_or, unwrap_or}
 use Rattle.std.proofs.lemmas.Bool.{cases_lt, cases_Bool, lt-leb, lt-ltb, le-ltb}
 use Rattle.task_sheet.specs.Sheet.{Task, CriticalSection, task_at}
 use Rattle.task_sheet.specs.Locks.{uses, ceiling_from}
-use Rattle.ceiling_kernel.specs.Tick.{Node, is_inside, level_from, level_at, ceiling, top_ceiling, held_ceiling}
+use Rattle.ceiling_kernel.specs.Tick.{Node, is_inside, level_from, level_in_order, ceiling, top_ceiling, held_ceiling}
 use Rattle.ceiling_kernel.specs.Jumps.{change_after}
 use Rattle.ceiling_kernel.specs.Waits.{IsNode}
 use Rattle.ceiling_kernel.specs.States.{active_at}
@@ -44,16 +44,16 @@ module _ (node : Node) where
       let ih : held_ceiling node ss e ≤ length node.order = held_bound ss e in
       elim (cases_Bool (is_inside s e)) [ inl is ↦ rw is (omega arith) | inr not ↦ rw not (omega arith) ]
 
-  pub level_within : IsNode node → (i : ℕ) → level_at node i ≤ length node.tasks
+  pub level_within : IsNode node → (i : ℕ) → level_in_order node i ≤ length node.tasks
   level_within ok i =
       let n : length node.order ≡ length node.tasks = order_length (length node.tasks) node.order ok.order in
-      let l : level_at node i < 1 + length node.order = level_bound 1 node.order i (omega arith) in
+      let l : level_in_order node i < 1 + length node.order = level_bound 1 node.order i (omega arith) in
       omega arith
 
   pub active_within : IsNode node → (i e : ℕ) → active_at node i e ≤ length node.tasks
   active_within ok i e =
       let n : length node.order ≡ length node.tasks = order_length (length node.tasks) node.order ok.order in
-      let l : level_at node i ≤ length node.tasks = level_within ok i in
+      let l : level_in_order node i ≤ length node.tasks = level_within ok i in
       let h : held_ceiling node (task_at node.tasks i).sections e ≤ length node.order = held_bound (task_at node.tasks i).sections e in
       omega arith
 
@@ -95,7 +95,7 @@ module _ (node : Node) where
 
   -- so its priority is its own level, or no lower than it was
   pub active_next : (i e e' : ℕ) → AreApart 0 (task_at node.tasks i).sections (task_at node.tasks i).cost → e ≤ e' → e' ≤ change_after (task_at node.tasks i).sections e (task_at node.tasks i).cost
-      → (active_at node i e' ≡ level_at node i) ⊎ (active_at node i e ≤ active_at node i e')
+      → (active_at node i e' ≡ level_in_order node i) ⊎ (active_at node i e ≤ active_at node i e')
   active_next i e e' apart le lt =
       elim (held_next 0 (task_at node.tasks i).cost (task_at node.tasks i).sections e e' (task_at node.tasks i).cost apart le lt) [
         | inl none ↦ inl (omega arith)

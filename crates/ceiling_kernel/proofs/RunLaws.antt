@@ -10,7 +10,7 @@ use Rattle.ceilings.specs.IsTableOf.{locks_of}
 use Rattle.ceiling_kernel.specs.declared.trace.Release.{Release}
 use Rattle.ceiling_kernel.specs.declared.tasks.NodeTask.{NodeTask}
 use Rattle.ceiling_kernel.specs.declared.run.Pending.{Pending}
-use Rattle.ceiling_kernel.specs.Tick.{Node, Job, job_at, task_of, level_at, executed_before, picked}
+use Rattle.ceiling_kernel.specs.Tick.{Node, Job, job_at, job_task, level_in_order, executed_before, picked}
 use Rattle.ceiling_kernel.specs.Trace.{with_run, slices_before, finish_before}
 use Rattle.ceiling_kernel.specs.Jumps.{change_after, NoneReadyBetween}
 use Rattle.ceiling_kernel.specs.Waits.{IsNode, Overruns, NoOverrunBy, holds_lock}
@@ -77,7 +77,7 @@ module _ (node : Node) (rs : List Release) (turns : List (ℕ × ℕ)) (runnable
   pub few_tasks : length node.tasks ≤ 32
   few_tasks = (let n : IsNode node = ok in let s : IsTaskSet node.tasks = n.tasks in s.few)
 
-  pub cost_some : (j : ℕ) → j < length rs → 0 < (task_of node jobs j).cost
+  pub cost_some : (j : ℕ) → j < length rs → 0 < (job_task node jobs j).cost
   cost_some j lt = (let l : length jobs ≡ length rs = jobs_length node.tasks rs in (valid_cost (task_no j) (known_of j (omega arith))).0)
 
   -- the kept index of the task whose turn it is
@@ -140,22 +140,22 @@ module _ (node : Node) (rs : List Release) (turns : List (ℕ × ℕ)) (runnable
           let c : length slots ≡ length node.tasks = kept.slot_count in
           subst (λ z. slot_of z ≡ x) i (read_at slots (get_or places turn 0) x None (omega arith) read)
 
-      pub admit : (p : Pending) → p.job ≡ turn → p.task ≡ task_number node.tasks (release_at rs turn) → p.level ≡ level_at node (task_number node.tasks (release_at rs turn)) → p.executed ≡ 0
-          → p.active ≡ level_at node (task_number node.tasks (release_at rs turn)) → slot_of (task_number node.tasks (release_at rs turn)) ≡ None
+      pub admit : (p : Pending) → p.job ≡ turn → p.task ≡ task_number node.tasks (release_at rs turn) → p.level ≡ level_in_order node (task_number node.tasks (release_at rs turn)) → p.executed ≡ 0
+          → p.active ≡ level_in_order node (task_number node.tasks (release_at rs turn)) → slot_of (task_number node.tasks (release_at rs turn)) ≡ None
           → Kept node jobs t (has_come turns (suc next)) (set slots (task_number node.tasks (release_at rs turn)) (Some p))
       admit p job task level executed active free =
           subst (λ x. Kept node jobs t (has_come turns (suc next)) (set slots x (Some p))) (sym turn_task)
-          (laws.kept_admit node jobs is_sound known_of t come slots kept turn turn_below turn_fresh turn_ready keep (has_come turns (suc next)) (come_of turns (suc next) next (omega arith)) (come_others turns next) p job (task ∙ turn_task) (level ∙ ap (level_at node) turn_task) executed (active ∙ ap (level_at node) turn_task)
+          (laws.kept_admit node jobs is_sound known_of t come slots kept turn turn_below turn_fresh turn_ready keep (has_come turns (suc next)) (come_of turns (suc next) next (omega arith)) (come_others turns next) p job (task ∙ turn_task) (level ∙ ap (level_in_order node) turn_task) executed (active ∙ ap (level_in_order node) turn_task)
           (subst (λ x. slot_of x ≡ None) turn_task free))
 
       -- its task comes to the tail of the list of its own level
-      pub admit_lists : (lists : List (List ℕ)) → Queues (λ k. slice_index_or slots k None) (list_at lists) → length lists ≡ length node.tasks + 1 → (p : Pending) → p.level ≡ level_at node (task_number node.tasks (release_at rs turn))
-          → p.active ≡ level_at node (task_number node.tasks (release_at rs turn)) → slot_of (task_number node.tasks (release_at rs turn)) ≡ None
+      pub admit_lists : (lists : List (List ℕ)) → Queues (λ k. slice_index_or slots k None) (list_at lists) → length lists ≡ length node.tasks + 1 → (p : Pending) → p.level ≡ level_in_order node (task_number node.tasks (release_at rs turn))
+          → p.active ≡ level_in_order node (task_number node.tasks (release_at rs turn)) → slot_of (task_number node.tasks (release_at rs turn)) ≡ None
           → Queues (λ k. slice_index_or (set slots (task_number node.tasks (release_at rs turn)) (Some p)) k None) (list_at (with_tail lists p.active (task_number node.tasks (release_at rs turn))))
       admit_lists lists queues count p level active free =
           move.queues_admit node jobs is_sound t come slots kept lists queues ok p (task_number node.tasks (release_at rs turn)) (runnable.known turn turn_in_list) count level active free
 
-      pub admit_alone : (lists : List (List ℕ)) → Queues (λ k. slice_index_or slots k None) (list_at lists) → IsAlone slot_of → (p : Pending) → p.level ≡ level_at node (task_number node.tasks (release_at rs turn)) → p.active ≡ level_at node (task_number node.tasks (release_at rs turn))
+      pub admit_alone : (lists : List (List ℕ)) → Queues (λ k. slice_index_or slots k None) (list_at lists) → IsAlone slot_of → (p : Pending) → p.level ≡ level_in_order node (task_number node.tasks (release_at rs turn)) → p.active ≡ level_in_order node (task_number node.tasks (release_at rs turn))
           → IsAlone (λ k. slice_index_or (set slots (task_number node.tasks (release_at rs turn)) (Some p)) k None)
       admit_alone lists queues alone p level active = move.alone_admit node jobs is_sound t come slots kept lists queues alone p (task_number node.tasks (release_at rs turn)) (runnable.known turn turn_in_list) level active
 
@@ -326,7 +326,7 @@ module _ (node : Node) (rs : List Release) (turns : List (ℕ × ℕ)) (runnable
             others : (j : ℕ) → j ≢ p.job → executed_before node jobs (t + (stop - t)) j ≡ executed_before node jobs t j
             others = laws.others_then node jobs is_sound known_of t come slots kept (stop - t) by_stop p.task p slot picks_now within_p
 
-            cost_p : (task_of node jobs p.job).cost ≡ cost
+            cost_p : (job_task node jobs p.job).cost ≡ cost
             cost_p = (let m : IsPending node jobs t come p.task p = is_p in ap (λ z. (task_at node.tasks z).cost) m.own)
 
             pub run_slices : slices_before (picked node jobs) stop ≡ with_run (slices_before (picked node jobs) t) p.job t stop
@@ -343,7 +343,7 @@ module _ (node : Node) (rs : List Release) (turns : List (ℕ × ℕ)) (runnable
                 (laws.kept_run node jobs is_sound known_of t come slots kept (stop - t) by_stop p.task p slot picks_now within_p p' job task level executed active open_)
 
             -- its next active priority
-            next_is : (active : ℕ) → active ≡ active_at node p.task (p.executed + (stop - t)) → (active ≡ level_at node p.task) ⊎ (p.active ≤ active)
+            next_is : (active : ℕ) → active ≡ active_at node p.task (p.executed + (stop - t)) → (active ≡ level_in_order node p.task) ⊎ (p.active ≤ active)
             next_is active e =
                 let m : IsPending node jobs t come p.task p = is_p in
                 let was : p.active ≡ active_at node p.task p.executed = m.active in
@@ -384,10 +384,10 @@ module _ (node : Node) (rs : List Release) (turns : List (ℕ × ℕ)) (runnable
                 let differ : q.job ≢ p.job = λ same. ne (sym mq.own ∙ (ap task_no same ∙ m.own)) in
                 let mine_then : executed_before node jobs stop p.job ≡ p'.executed = ap (λ y. executed_before node jobs y p.job) (sym to_stop) ∙ (own ∙ sym executed) in
                 let other_then : executed_before node jobs stop q.job ≡ q.executed = ap (λ y. executed_before node jobs y q.job) (sym to_stop) ∙ (others q.job differ ∙ sym mq.executed) in
-                let mine_holds : holds_lock (task_of node jobs p.job).sections (executed_before node jobs stop p.job) lock ≡ true =
-                subst (λ e. holds_lock (task_of node jobs p.job).sections e lock ≡ true) (sym mine_then) (subst (λ i. holds_lock (task_at node.tasks i).sections p'.executed lock ≡ true) (sym m.own) mine) in
-                let other_holds : holds_lock (task_of node jobs q.job).sections (executed_before node jobs stop q.job) lock ≡ true =
-                subst (λ e. holds_lock (task_of node jobs q.job).sections e lock ≡ true) (sym other_then) (subst (λ i. holds_lock (task_at node.tasks i).sections q.executed lock ≡ true) (sym mq.own) other) in
+                let mine_holds : holds_lock (job_task node jobs p.job).sections (executed_before node jobs stop p.job) lock ≡ true =
+                subst (λ e. holds_lock (job_task node jobs p.job).sections e lock ≡ true) (sym mine_then) (subst (λ i. holds_lock (task_at node.tasks i).sections p'.executed lock ≡ true) (sym m.own) mine) in
+                let other_holds : holds_lock (job_task node jobs q.job).sections (executed_before node jobs stop q.job) lock ≡ true =
+                subst (λ e. holds_lock (job_task node jobs q.job).sections e lock ≡ true) (sym other_then) (subst (λ i. holds_lock (task_at node.tasks i).sections q.executed lock ≡ true) (sym mq.own) other) in
                 differ (sym (one_owner node jobs is_sound known_of stop p.job q.job lock no_overrun_before mine_holds other_holds)))
 
             pub finish_kept : p.executed + (stop - t) ≡ cost → Kept node jobs stop come (set slots p.task None)
@@ -407,7 +407,7 @@ module _ (node : Node) (rs : List Release) (turns : List (ℕ × ℕ)) (runnable
               each = λ j lt. are.each j lt ∙ elim (cases_eq j p.job) [
                 | inl same ↦
                     let o : executed_before node jobs (t + (stop - t)) p.job ≡ p.executed + (stop - t) = own in
-                    let c : (task_of node jobs p.job).cost ≡ cost = cost_p in
+                    let c : (job_task node jobs p.job).cost ≡ cost = cost_p in
                     let stays : finish_before node jobs (t + (stop - t)) p.job ≡ finish_before node jobs t p.job = finish_stays node jobs p.job t (stop - t) (cost_some p.job job_in) (inr (omega arith)) in
                     subst (λ z. finish_before node jobs t z ≡ finish_before node jobs stop z) (sym same) (sym stays ∙ ap (λ y. finish_before node jobs y p.job) to_stop)
                 | inr ne ↦ other_finish j lt ne
@@ -416,15 +416,15 @@ module _ (node : Node) (rs : List Release) (turns : List (ℕ × ℕ)) (runnable
 
             pub finish_finishes : p.executed + (stop - t) ≡ cost → (fs : List (Option ℕ)) → AreFinishes node rs t fs → AreFinishes node rs stop (set fs p.job (Some stop))
             finish_finishes full fs are =
-                let c : (task_of node jobs p.job).cost ≡ cost = cost_p in
+                let c : (job_task node jobs p.job).cost ≡ cost = cost_p in
                 let last : t + suc (stop - t - 1) ≡ stop = omega arith in
-                let short : executed_before node jobs (t + (stop - t - 1)) p.job < (task_of node jobs p.job).cost =
+                let short : executed_before node jobs (t + (stop - t - 1)) p.job < (job_task node jobs p.job).cost =
                 (let o : executed_before node jobs (t + (stop - t - 1)) p.job ≡ p.executed + (stop - t - 1) =
                 laws.own_then node jobs is_sound known_of t come slots kept (stop - t - 1) (later_by (stop - t - 1) (omega arith)) p.task p slot picks_now (let w : p.executed + (stop - t) ≤ change_after (task_at node.tasks p.task).sections p.executed cost = within_p in omega arith) in omega arith) in
-                let full_then : (task_of node jobs p.job).cost ≤ executed_before node jobs (t + suc (stop - t - 1)) p.job =
+                let full_then : (job_task node jobs p.job).cost ≤ executed_before node jobs (t + suc (stop - t - 1)) p.job =
                 (let o : executed_before node jobs (t + (stop - t)) p.job ≡ p.executed + (stop - t) = own in
                 let e : t + (stop - t) ≡ t + suc (stop - t - 1) = omega arith in
-                subst (λ y. (task_of node jobs p.job).cost ≤ executed_before node jobs y p.job) e (omega arith)) in
+                subst (λ y. (job_task node jobs p.job).cost ≤ executed_before node jobs y p.job) e (omega arith)) in
                 let now : finish_before node jobs stop p.job ≡ Some stop = subst (λ y. finish_before node jobs y p.job ≡ Some y) last (finish_now node jobs p.job t (stop - t - 1) short full_then) in
                 let count : length fs ≡ length rs = are.count in
                 let in_fs : p.job < length fs = (let l : p.job < length rs = job_in in omega arith) in

@@ -3,20 +3,20 @@ use Rattle.std.proofs.Common.{ℕ, zero, suc, ◌+◌, ◌<◌, ◌≤◌, ◌�
 use Rattle.std.proofs.lemmas.Bool.{cases_eq, cases_lt, cases_Bool, true≢false, eq-eqb, ne_eqb, eqb-true}
 use Rattle.task_sheet.specs.Sheet.{task_at}
 use Rattle.task_sheet.proofs.Below.{some_below-at, some_below-none}
-use Rattle.ceiling_kernel.specs.Tick.{Node, Job, job_at, task_of}
-use Rattle.ceiling_kernel.specs.Waits.{IsNode, IsLegal, lateness_of}
+use Rattle.ceiling_kernel.specs.Tick.{Node, Job, job_at, job_task}
+use Rattle.ceiling_kernel.specs.Waits.{IsNode, AreLegalJobs, lateness_of}
 use Rattle.ceiling_kernel.specs.Turns.{ComesBefore, time_in_turn, job_in_turn, AreTurns, has_come, TasksKeepOrder}
 use Rattle.ceiling_kernel.proofs.NodeLaws.{IsSoundTask, IsSound, sound}
 
 -- a job is late by less than a period, so it is ready before the next job of its task arrives
-pub keeps_order : (node : Node) (jobs : List Job) → IsNode node → IsLegal node jobs → TasksKeepOrder jobs
+pub keeps_order : (node : Node) (jobs : List Job) → IsNode node → AreLegalJobs node jobs → TasksKeepOrder jobs
 keeps_order node jobs valid legal j k jk lt same =
     let below : j < length jobs = omega arith in
     let v : IsSoundTask node (job_at jobs j).task = (let s : IsSound node = sound node valid in s.each (job_at jobs j).task (legal.known j below)) in
-    let late : (job_at jobs j).ready ≤ (job_at jobs j).arrival + lateness_of (task_of node jobs j) = legal.not_late j below in
-    let less : lateness_of (task_of node jobs j) < (task_of node jobs j).period = v.late_before in
-    let gap : (job_at jobs j).arrival + (task_of node jobs k).period ≤ (job_at jobs k).arrival = legal.spaced j k jk lt same in
-    let one : (task_of node jobs j).period ≡ (task_of node jobs k).period = ap (λ i. (task_at node.tasks i).period) same in
+    let late : (job_at jobs j).ready ≤ (job_at jobs j).arrival + lateness_of (job_task node jobs j) = legal.not_late j below in
+    let less : lateness_of (job_task node jobs j) < (job_task node jobs j).period = v.late_before in
+    let gap : (job_at jobs j).arrival + (job_task node jobs k).period ≤ (job_at jobs k).arrival = legal.spaced j k jk lt same in
+    let one : (job_task node jobs j).period ≡ (job_task node jobs k).period = ap (λ i. (task_at node.tasks i).period) same in
     let early : (job_at jobs k).arrival ≤ (job_at jobs k).ready = legal.not_early k lt in
     omega arith
 

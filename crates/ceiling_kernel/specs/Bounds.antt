@@ -3,12 +3,12 @@ use Rattle.std.specs.Prelude.{◌≡◌, ℕ, ◌+◌, ◌<◌, ◌≤◌, Bool,
 use Rattle.task_sheet.specs.Sheet.{Task, task_at}
 use Rattle.task_sheet.specs.Indexes.{Indexes, sum_below}
 use Rattle.task_sheet.specs.Demand.{releases_within, demand_of, limit_of, IsResponseOf}
-use Rattle.ceiling_kernel.specs.Tick.{Node, Job, job_at, task_of, level_at, executed_before}
+use Rattle.ceiling_kernel.specs.Tick.{Node, Job, job_at, job_task, level_in_order, executed_before}
 use Rattle.ceiling_kernel.specs.Waits.{lateness_of}
 
 -- the tasks at higher levels than task i
 abbrev pub above_of : Node → ℕ → Indexes
-above_of node i h = nat_lt (level_at node i) (level_at node h)
+above_of node i h = nat_lt (level_in_order node i) (level_in_order node h)
 
 -- the tasks that stand after task i in an order
 abbrev pub after_of : List ℕ → ℕ → List ℕ
@@ -51,5 +51,5 @@ ResponsesBound node =
 abbrev pub BoundHolds : Node → List Job → Type 0
 BoundHolds node jobs =
     (j t : ℕ) → j < length jobs → PassesBy node (job_at jobs j).task t
-    → (task_of node jobs j).cost
-    ≤ executed_before node jobs ((job_at jobs j).arrival + response_by (task_of node jobs j) t) j
+    → (job_task node jobs j).cost
+    ≤ executed_before node jobs ((job_at jobs j).arrival + response_by (job_task node jobs j) t) j

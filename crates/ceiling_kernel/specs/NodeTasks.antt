@@ -4,7 +4,7 @@ use Rattle.task_sheet.specs.Sheet.{CriticalSection, same_bytes, task_at}
 use Rattle.ceilings.specs.IsTableOf.{locks_of}
 use Rattle.ceiling_kernel.specs.declared.tasks.NodeSection.{NodeSection}
 use Rattle.ceiling_kernel.specs.declared.tasks.NodeTask.{NodeTask}
-use Rattle.ceiling_kernel.specs.Tick.{Node, level_at, top_ceiling}
+use Rattle.ceiling_kernel.specs.Tick.{Node, level_in_order, top_ceiling}
 
 -- the places of some locks among those that were seen
 abbrev pub places_in : List (List ℕ) → List (List ℕ) → List ℕ
@@ -30,7 +30,7 @@ AreSectionsOf node (x ∷ xs) (s ∷ ss) = IsSectionOf node x s × AreSectionsOf
 
 -- what is kept of the task at an index
 pub record IsTaskOf (node : Node) (i : ℕ) (t : NodeTask) : Type 0 where
-  pub level : t.level ≡ level_at node i
+  pub level : t.level ≡ level_in_order node i
   pub cost : t.cost ≡ (task_at node.tasks i).cost
   pub sections : AreSectionsOf node (task_at node.tasks i).sections t.sections.items
 
@@ -40,6 +40,6 @@ AreTasksOf node ts =
     (i : ℕ) (t : NodeTask) → i < length ts → t ≡ slice_index_or ts i t → IsTaskOf node i t
 
 -- what is kept of all tasks
-pub record HasTasks (node : Node) (ts : List NodeTask) : Type 0 where
+pub record KeepsTasks (node : Node) (ts : List NodeTask) : Type 0 where
   pub count : length ts ≡ length node.tasks
   pub each : AreTasksOf node ts

@@ -1,7 +1,7 @@
 -- What the pick, the slices and the finishes of the tick rule are, in their own words.
 use Rattle.std.specs.Prelude.{◌≡◌, ◌≢◌, ℕ, ◌-◌, ◌<◌, ◌≤◌, ◌⊎◌, true, false, Option, Some, None, List, [], ◌∷◌, length}
 use Rattle.ceiling_kernel.specs.declared.trace.Slice.{Slice}
-use Rattle.ceiling_kernel.specs.Tick.{Node, Job, task_of, is_pending, active_of, level_of, executed_before, picked}
+use Rattle.ceiling_kernel.specs.Tick.{Node, Job, job_task, is_pending, active_of, level_of_job, executed_before, picked}
 use Rattle.ceiling_kernel.specs.Trace.{finish_before}
 
 -- job p is pending at tick t, and each pending job has a lower active priority, or the same and no lower own level
@@ -14,7 +14,7 @@ pub record IsPicked (node : Node) (jobs : List Job) (t p : ℕ) : Type 0 where
       (executed_before node jobs t) p)
       ⊎ ((active_of node jobs (executed_before node jobs t) k
       ≡ active_of node jobs (executed_before node jobs t) p)
-      × (level_of node jobs p ≤ level_of node jobs k))
+      × (level_of_job node jobs p ≤ level_of_job node jobs k))
 
 -- what the tick rule picks goes first
 abbrev pub PicksFirst : Node → List Job → Type 0
@@ -40,17 +40,17 @@ AreLongestRuns run from until (s ∷ ss) =
 -- job j finishes at time f: it executes the last of its cost in the tick before
 pub record IsFinishAt (node : Node) (jobs : List Job) (j f : ℕ) : Type 0 where
   pub some : 0 < f
-  pub before : executed_before node jobs (f - 1) j < (task_of node jobs j).cost
-  pub after : (task_of node jobs j).cost ≤ executed_before node jobs f j
+  pub before : executed_before node jobs (f - 1) j < (job_task node jobs j).cost
+  pub after : (job_task node jobs j).cost ≤ executed_before node jobs f j
 
 -- a finish that is known by a time is that of the job, and not after that time
 abbrev pub FinishesAreEnds : Node → List Job → Type 0
 FinishesAreEnds node jobs =
-    (until j f : ℕ) → 0 < (task_of node jobs j).cost → finish_before node jobs until j ≡ Some f
+    (until j f : ℕ) → 0 < (job_task node jobs j).cost → finish_before node jobs until j ≡ Some f
     → (f ≤ until) × IsFinishAt node jobs j f
 
 -- a job without a finish by a time lacks some of its cost then
 abbrev pub UnfinishedLack : Node → List Job → Type 0
 UnfinishedLack node jobs =
-    (until j : ℕ) → 0 < (task_of node jobs j).cost → finish_before node jobs until j ≡ None
-    → executed_before node jobs until j < (task_of node jobs j).cost
+    (until j : ℕ) → 0 < (job_task node jobs j).cost → finish_before node jobs until j ≡ None
+    → executed_before node jobs until j < (job_task node jobs j).cost

@@ -13,9 +13,9 @@ use Rattle.ceiling_kernel.specs.declared.run.Simulation.{Simulation}
 use Rattle.ceiling_kernel.specs.Lists.{listed, list_at, Queues, IsAlone}
 use Rattle.ceiling_kernel.specs.NodeTasks.{is_within}
 use Rattle.ceiling_kernel.specs.Owners.{owner_of, AreOwners}
-use Rattle.ceiling_kernel.specs.Tick.{Node, Job, job_at, task_of, level_at, held_ceiling, executed_before, picked}
+use Rattle.ceiling_kernel.specs.Tick.{Node, Job, job_at, job_task, level_in_order, held_ceiling, executed_before, picked}
 use Rattle.ceiling_kernel.specs.Trace.{slices_before, finish_before}
-use Rattle.ceiling_kernel.specs.Waits.{IsNode, IsLegal, Overruns}
+use Rattle.ceiling_kernel.specs.Waits.{IsNode, AreLegalJobs, Overruns}
 use Rattle.ceiling_kernel.specs.Releases.{task_number, jobs_of, release_at}
 use Rattle.ceiling_kernel.specs.Turns.{AreTurns, has_come}
 use Rattle.ceiling_kernel.specs.Runs.{IsOverrun}
@@ -24,7 +24,7 @@ use Rattle.ceiling_kernel.specs.Runs.{IsOverrun}
 pub record IsRunnable (node : Node) (rs : List Release) (turns : List (ℕ × ℕ)) : Type 0 where
   pub of_node : IsNode node
   pub known : (j : ℕ) → j < length rs → task_number node.tasks (release_at rs j) < length node.tasks
-  pub legal : IsLegal node (jobs_of node.tasks rs)
+  pub legal : AreLegalJobs node (jobs_of node.tasks rs)
   pub in_turn : AreTurns (jobs_of node.tasks rs) turns
 
 -- ---- sections, as they are kept
@@ -41,7 +41,8 @@ next_change (s ∷ ss) e limit =
 
 -- the active priority of a job of task i that has executed e ticks
 abbrev pub active_at : Node → ℕ → ℕ → ℕ
-active_at node i e = max (level_at node i) (held_ceiling node (task_at node.tasks i).sections e)
+active_at node i e =
+    max (level_in_order node i) (held_ceiling node (task_at node.tasks i).sections e)
 
 -- ---- the pick among the slots
 -- the better of one that was found before and a pending job
@@ -63,8 +64,8 @@ shown_of closed None = []
 shown_of closed (Some s) = s ∷ reverse closed
 
 -- the slices so far, the newest first
-abbrev pub shown : Slices → List Slice
-shown s = shown_of s.closed.items s.current
+abbrev pub slices_shown : Slices → List Slice
+slices_shown s = shown_of s.closed.items s.current
 
 -- nothing is closed before there is a current slice
 abbrev pub IsTidy : Slices → Type 0
@@ -76,7 +77,7 @@ pub record IsPending (node : Node) (jobs : List Job) (t : ℕ) (come : ℕ → B
   pub released : come p.job ≡ true
   pub task : p.task ≡ i
   pub own : (job_at jobs p.job).task ≡ i
-  pub level : p.level ≡ level_at node i
+  pub level : p.level ≡ level_in_order node i
   pub executed : p.executed ≡ executed_before node jobs t p.job
   pub active : p.active ≡ active_at node i p.executed
   pub unfinished : p.executed < (task_at node.tasks i).cost
@@ -90,7 +91,7 @@ pub record Kept (node : Node) (jobs : List Job) (t : ℕ) (come : ℕ → Bool) 
   pub pending : (i : ℕ) (p : Pending) → slice_index_or slots i None ≡ Some p
       → IsPending node jobs t come i p
   pub complete : (j : ℕ) → come j ≡ true
-      → executed_before node jobs t j < (task_of node jobs j).cost
+      → executed_before node jobs t j < (job_task node jobs j).cost
       → (p : Pending) × (slice_index_or slots (job_at jobs j).task None ≡ Some p) × (p.job ≡ j)
   pub no_overrun : (k : ℕ) → come k ≡ true → ¬ Overruns node jobs k
 
@@ -109,7 +110,7 @@ pub record IsRunning (node : Node) (rs : List Release) (turns : List (ℕ × ℕ
   pub lock_count : length s.owners.items ≡ length (locks_of node.tasks)
   pub owners : AreOwners node.tasks (λ i. slice_index_or s.slots.items i None)
       (owner_of node.tasks s.owners.items)
-  pub slices : shown s.slices ≡ slices_before (picked node (jobs_of node.tasks rs)) s.now
+  pub slices : slices_shown s.slices ≡ slices_before (picked node (jobs_of node.tasks rs)) s.now
   pub tidy : IsTidy s.slices
   pub finishes : AreFinishes node rs s.now s.finishes.items
 

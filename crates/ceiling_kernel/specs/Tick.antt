@@ -35,8 +35,8 @@ abbrev pub job_at : List Job → ℕ → Job
 job_at jobs j = slice_index_or jobs j no_job
 
 -- the task of job j
-abbrev pub task_of : Node → List Job → ℕ → Task
-task_of node jobs j = task_at node.tasks (job_at jobs j).task
+abbrev pub job_task : Node → List Job → ℕ → Task
+job_task node jobs j = task_at node.tasks (job_at jobs j).task
 
 -- ---- levels and ceilings
 -- the level of a task in an order whose first task stands at a level; 0 where the order doesn't name it
@@ -45,8 +45,8 @@ level_from level [] i = 0
 level_from level (k ∷ order) i = if k == i then level else level_from (level + 1) order i
 
 -- the level of a task: its place in the order, from 1
-abbrev pub level_at : Node → ℕ → ℕ
-level_at node i = level_from 1 node.order i
+abbrev pub level_in_order : Node → ℕ → ℕ
+level_in_order node i = level_from 1 node.order i
 
 -- the ceiling of a lock: the level of its highest user (Sha, Rajkumar, Lehoczky 1990); 0 where nobody uses it
 abbrev pub ceiling : Node → List ℕ → ℕ
@@ -90,21 +90,21 @@ best pending active level (suc j) = better_of pending active level (best pending
 -- job j is pending at tick t: it is ready, and has not executed its cost
 abbrev pub is_pending : Node → List Job → (executed : ℕ → ℕ) → ℕ → ℕ → Bool
 is_pending node jobs executed t j =
-    nat_le (job_at jobs j).ready t && nat_lt (executed j) (task_of node jobs j).cost
+    nat_le (job_at jobs j).ready t && nat_lt (executed j) (job_task node jobs j).cost
 
 -- job j's own level
-abbrev pub level_of : Node → List Job → ℕ → ℕ
-level_of node jobs j = level_at node (job_at jobs j).task
+abbrev pub level_of_job : Node → List Job → ℕ → ℕ
+level_of_job node jobs j = level_in_order node (job_at jobs j).task
 
 -- job j's active priority: the highest of its own level and the ceilings of the locks that it holds
 abbrev pub active_of : Node → List Job → (executed : ℕ → ℕ) → ℕ → ℕ
 active_of node jobs executed j =
-    max (level_of node jobs j) (held_ceiling node (task_of node jobs j).sections (executed j))
+    max (level_of_job node jobs j) (held_ceiling node (job_task node jobs j).sections (executed j))
 
 -- the job that executes in tick t
 abbrev pub pick : Node → List Job → (executed : ℕ → ℕ) → ℕ → Option ℕ
 pick node jobs executed t =
-    best (is_pending node jobs executed t) (active_of node jobs executed) (level_of node jobs)
+    best (is_pending node jobs executed t) (active_of node jobs executed) (level_of_job node jobs)
     (length jobs)
 
 -- one tick of that job

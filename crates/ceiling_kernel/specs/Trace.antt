@@ -2,7 +2,7 @@
 use Rattle.std.specs.Prelude.{ℕ, zero, suc, ◌+◌, ◌&&◌, nat_le, ◌==◌, if◌then◌else◌, Option, Some, None, List, [], ◌∷◌, reverse}
 use Rattle.std.specs.Option.{option_or}
 use Rattle.ceiling_kernel.specs.declared.trace.Slice.{Slice}
-use Rattle.ceiling_kernel.specs.Tick.{Node, Job, task_of, executed_before, picked}
+use Rattle.ceiling_kernel.specs.Tick.{Node, Job, job_task, executed_before, picked}
 
 -- slices, the newest first, with the ticks from `start` to `stop` of one job behind them
 abbrev pub with_run : List Slice → (job start stop : ℕ) → List Slice
@@ -31,5 +31,5 @@ unfoldable pub finish_before : Node → List Job → ℕ → ℕ → Option ℕ
 finish_before node jobs zero j = None
 finish_before node jobs (suc t) j =
     option_or (finish_before node jobs t j)
-    (if nat_le (task_of node jobs j).cost (executed_before node jobs (suc t) j) then Some (suc t)
+    (if nat_le (job_task node jobs j).cost (executed_before node jobs (suc t) j) then Some (suc t)
     else None)

@@ -5,7 +5,7 @@ use Rattle.task_sheet.specs.Sheet.{Task, CriticalSection}
 use Rattle.task_sheet.specs.TaskSet.{IsTaskSet}
 use Rattle.task_sheet.specs.Locks.{names_lock}
 use Rattle.task_sheet.specs.Orders.{IsOrder}
-use Rattle.ceiling_kernel.specs.Tick.{Node, Job, job_at, task_of, level_of, active_of, ceiling, is_inside, executed_before, picked}
+use Rattle.ceiling_kernel.specs.Tick.{Node, Job, job_at, job_task, level_of_job, active_of, ceiling, is_inside, executed_before, picked}
 
 -- a node of a valid set, with each of its tasks once in the order
 pub record IsNode (node : Node) : Type 0 where
@@ -18,20 +18,20 @@ abbrev pub lateness_of : Task → ℕ
 lateness_of t = t.jitter
 
 -- jobs of the node's tasks, none too late, and those of one task at least its period apart
-pub record IsLegal (node : Node) (jobs : List Job) : Type 0 where
+pub record AreLegalJobs (node : Node) (jobs : List Job) : Type 0 where
   pub known : (j : ℕ) → j < length jobs → (job_at jobs j).task < length node.tasks
   pub not_early : (j : ℕ) → j < length jobs → (job_at jobs j).arrival ≤ (job_at jobs j).ready
   pub not_late : (j : ℕ) → j < length jobs
-      → (job_at jobs j).ready ≤ (job_at jobs j).arrival + lateness_of (task_of node jobs j)
+      → (job_at jobs j).ready ≤ (job_at jobs j).arrival + lateness_of (job_task node jobs j)
   pub spaced : (j k : ℕ) → j < k → k < length jobs → (job_at jobs j).task ≡ (job_at jobs k).task
-      → (job_at jobs j).arrival + (task_of node jobs k).period ≤ (job_at jobs k).arrival
+      → (job_at jobs j).arrival + (job_task node jobs k).period ≤ (job_at jobs k).arrival
 
 -- job k overruns the job before it: that one, of the same task, isn't finished when k becomes ready
 abbrev pub Overruns : Node → List Job → ℕ → Type 0
 Overruns node jobs k =
     (j : ℕ) × (j < k)
     × ((job_at jobs j).task ≡ (job_at jobs k).task)
-    × (executed_before node jobs (job_at jobs k).ready j < (task_of node jobs j).cost)
+    × (executed_before node jobs (job_at jobs k).ready j < (job_task node jobs j).cost)
 
 -- no job overruns the one before it
 abbrev pub NoOverrun : Node → List Job → Type 0
@@ -55,30 +55,30 @@ asks_lock sections e lock = list_any (λ s. (s.at == e) && names_lock s lock) se
 -- most the lock's ceiling: so it doesn't wait, and pthread_mutex_lock doesn't fail with EINVAL (POSIX.1-2017).
 pub record IsGranted (node : Node) (jobs : List Job) (t p : ℕ) (lock : List ℕ) : Type 0 where
   pub holds_none : (other : List ℕ)
-      → holds_lock (task_of node jobs p).sections (executed_before node jobs t p) other ≡ false
+      → holds_lock (job_task node jobs p).sections (executed_before node jobs t p) other ≡ false
   pub is_free : (k : ℕ) → k < length jobs
-      → holds_lock (task_of node jobs k).sections (executed_before node jobs t k) lock ≡ false
-  pub at_own_level : active_of node jobs (executed_before node jobs t) p ≡ level_of node jobs p
-  pub within_ceiling : level_of node jobs p ≤ ceiling node lock
+      → holds_lock (job_task node jobs k).sections (executed_before node jobs t k) lock ≡ false
+  pub at_own_level : active_of node jobs (executed_before node jobs t) p ≡ level_of_job node jobs p
+  pub within_ceiling : level_of_job node jobs p ≤ ceiling node lock
 
 -- whoever asks for a lock gets it
 abbrev pub EachIsGranted : Node → List Job → Type 0
 EachIsGranted node jobs =
     (t p : ℕ) (lock : List ℕ) → picked node jobs t ≡ Some p
-    → asks_lock (task_of node jobs p).sections (executed_before node jobs t p) lock ≡ true
+    → asks_lock (job_task node jobs p).sections (executed_before node jobs t p) lock ≡ true
     → IsGranted node jobs t p lock
 
 -- as long as no job overruns, whoever asks for a lock gets it
 abbrev pub NobodyWaits : Node → List Job → Type 0
 NobodyWaits node jobs =
     (t p : ℕ) (lock : List ℕ) → NoOverrunBy node jobs t → picked node jobs t ≡ Some p
-    → asks_lock (task_of node jobs p).sections (executed_before node jobs t p) lock ≡ true
+    → asks_lock (job_task node jobs p).sections (executed_before node jobs t p) lock ≡ true
     → IsGranted node jobs t p lock
 
 -- as long as no job overruns, no two jobs hold a lock after a tick
 abbrev pub OneOwner : Node → List Job → Type 0
 OneOwner node jobs =
     (t j k : ℕ) (lock : List ℕ) → NoOverrunBy node jobs t
-    → holds_lock (task_of node jobs j).sections (executed_before node jobs (t + 1) j) lock ≡ true
-    → holds_lock (task_of node jobs k).sections (executed_before node jobs (t + 1) k) lock ≡ true
+    → holds_lock (job_task node jobs j).sections (executed_before node jobs (t + 1) j) lock ≡ true
+    → holds_lock (job_task node jobs k).sections (executed_before node jobs (t + 1) k) lock ≡ true
     → j ≡ k

@@ -5,7 +5,7 @@ ghost use Rattle.task_sheet.specs.declared.set.TheConstants.{TASK_LIMIT};
 ghost use Rattle.task_sheet.specs.TaskSet.{IsTaskSet};
 ghost use Rattle.ceilings.specs.IsTableOf.{IsTableOf, locks_of};
 ghost use Rattle.ceiling_kernel.specs.Tick.{node_in};
-ghost use Rattle.ceiling_kernel.specs.NodeTasks.{places_in, AreSectionsOf, HasTasks};
+ghost use Rattle.ceiling_kernel.specs.NodeTasks.{places_in, AreSectionsOf, KeepsTasks};
 
 use crate::levels::{level_of, top_of};
 use crate::tasks::{NodeSection, NodeTask};
@@ -63,7 +63,7 @@ pub fn tasks_of(
     requires table { IsTableOf set.now table.now }
     requires within { All (λ index. index < TASK_LIMIT) order.now }
     requires few { length order.now ≤ TASK_LIMIT }
-    ensures tasks { IfOk result (λ kept. HasTasks (node_in set.now order.now) kept.items) }
+    ensures tasks { IfOk result (λ kept. KeepsTasks (node_in set.now order.now) kept.items) }
     ensures set { IsTaskSet set.now }
 {
     let mut kept = Vec::new(alloc);

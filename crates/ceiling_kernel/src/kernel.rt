@@ -47,15 +47,15 @@ impl<'a> Model for Kernel<'a> {
 
     ghost Value = { Node };
 
-    ghost use Rattle.ceiling_kernel.specs.NodeFields.{node_of, IsKept};
+    ghost use Rattle.ceiling_kernel.specs.NodeFields.{node_of, IsNodeKept};
 
     ghost view = { node_of };
 
-    ghost invariant = { IsKept };
+    ghost invariant = { IsNodeKept };
 }
 
 impl<'a> Kernel<'a> {
-    ghost use Rattle.ceiling_kernel.specs.NodeTasks.{HasTasks};
+    ghost use Rattle.ceiling_kernel.specs.NodeTasks.{KeepsTasks};
     ghost use Rattle.ceiling_kernel.specs.declared.kernel.KernelFault.TheVariants.{WrongOrder};
 
     /// The kernel of a set in an order of its indexes, lowest first.
@@ -88,7 +88,7 @@ impl<'a> Kernel<'a> {
 
     // What is kept of its tasks.
     pub(crate) fn tasks(&self) -> &[NodeTask]
-        ensures { HasTasks self.now result.now }
+        ensures { KeepsTasks self.now result.now }
     {
         &self.tasks
     }

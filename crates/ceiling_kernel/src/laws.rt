@@ -6,7 +6,7 @@ ghost use Rattle.task_sheet.specs.Orders.{IsPassingOrder};
 ghost use Rattle.ceiling_kernel.specs.Tick.{Node, Job, picked};
 ghost use Rattle.ceiling_kernel.specs.Trace.{slices_of};
 ghost use Rattle.ceiling_kernel.specs.Readings.{PicksFirst, IdlesEmpty, AreLongestRuns, FinishesAreEnds, UnfinishedLack};
-ghost use Rattle.ceiling_kernel.specs.Waits.{IsNode, IsLegal, NobodyWaits, OneOwner, NoOverrun};
+ghost use Rattle.ceiling_kernel.specs.Waits.{IsNode, AreLegalJobs, NobodyWaits, OneOwner, NoOverrun};
 ghost use Rattle.ceiling_kernel.specs.Jumps.{PickStays, IdleStays};
 ghost use Rattle.ceiling_kernel.specs.Turns.{TasksKeepOrder};
 ghost use Rattle.ceiling_kernel.specs.Bounds.{above_of, after_of, WindowsHold, ResponsesBound, BoundHolds};
@@ -35,19 +35,19 @@ pub fn finishes_are_ends()
 /// at most the ceiling of each: no job waits, and EINVAL can't occur. It holds for every order, passing or not, as long
 /// as no job overruns the one before it.
 pub fn nobody_waits()
-    ensures { (node : Node) (jobs : List Job) → IsNode node → IsLegal node jobs
+    ensures { (node : Node) (jobs : List Job) → IsNode node → AreLegalJobs node jobs
         → NobodyWaits node jobs }
 {}
 
 /// No two jobs hold a lock: each lock has one owner at most, as long as no job overruns the one before it.
 pub fn locks_have_one_owner()
-    ensures { (node : Node) (jobs : List Job) → IsNode node → IsLegal node jobs
+    ensures { (node : Node) (jobs : List Job) → IsNode node → AreLegalJobs node jobs
         → OneOwner node jobs }
 {}
 
 /// Of two jobs of one task, the one that arrives first is ready first: a job is late by less than a period.
 pub fn tasks_keep_order()
-    ensures { (node : Node) (jobs : List Job) → IsNode node → IsLegal node jobs
+    ensures { (node : Node) (jobs : List Job) → IsNode node → AreLegalJobs node jobs
         → TasksKeepOrder jobs }
 {}
 
@@ -67,7 +67,7 @@ pub fn levels_follow_the_order()
 /// In a window of t ticks at most `ceil((t + jitter) / period)` jobs of a task become ready: the number that the analysis
 /// counts (Audsley et al. 1993).
 pub fn windows_hold()
-    ensures { (node : Node) (jobs : List Job) → IsNode node → IsLegal node jobs
+    ensures { (node : Node) (jobs : List Job) → IsNode node → AreLegalJobs node jobs
         → WindowsHold node jobs }
 {}
 
@@ -79,9 +79,9 @@ pub fn responses_bound()
 /// Each job of a task that passes finishes within its bound, counted from its arrival, and in a set with a passing order
 /// no job overruns the one before it (Audsley et al. 1993).
 pub fn bound_holds()
-    ensures bound { (node : Node) (jobs : List Job) → IsNode node → IsLegal node jobs
+    ensures bound { (node : Node) (jobs : List Job) → IsNode node → AreLegalJobs node jobs
         → BoundHolds node jobs }
-    ensures no_overrun { (node : Node) (jobs : List Job) → IsNode node → IsLegal node jobs
+    ensures no_overrun { (node : Node) (jobs : List Job) → IsNode node → AreLegalJobs node jobs
         → IsPassingOrder node.tasks node.order
         → NoOverrun node jobs }
 {}

@@ -10,7 +10,7 @@ ghost use Rattle.ceiling_kernel.specs.Runs.{records_from, Runs, MeetsBounds, IsN
 ghost use Rattle.ceiling_kernel.specs.Waits.{EachIsGranted};
 ghost use Rattle.task_sheet.specs.Orders.{IsPassingOrder};
 ghost use Rattle.ceiling_kernel.specs.NodeTasks.{IsTaskOf};
-ghost use Rattle.ceiling_kernel.specs.States.{held_top, next_change, active_at, shown, IsTidy, IsRunnable, AreFinishes, IsRunning, IsFurther, IsStop};
+ghost use Rattle.ceiling_kernel.specs.States.{held_top, next_change, active_at, slices_shown, IsTidy, IsRunnable, AreFinishes, IsRunning, IsFurther, IsStop};
 
 use crate::accept::accept;
 use crate::kernel::Kernel;
@@ -127,7 +127,8 @@ impl Slices {
     // Adds a run of ticks of one job.
     fn add(&mut self, job: usize, start: u64, stop: u64) -> Result<(), AllocError>
         requires { IsTidy self.old }
-        ensures run { IfOk result (λ _. shown self.new ≡ with_run (shown self.old) job start stop) }
+        ensures run { IfOk result (λ _. slices_shown self.new
+            ≡ with_run (slices_shown self.old) job start stop) }
         ensures tidy { IfOk result (λ _. IsTidy self.new) }
     {
         let Some(last) = self.current else {
@@ -147,7 +148,7 @@ impl Slices {
     // All slices, by time.
     fn close(self) -> Result<Vec<Slice>, AllocError>
         requires { IsTidy self }
-        ensures { IfOk result (λ slices. slices.items ≡ reverse (shown self)) }
+        ensures { IfOk result (λ slices. slices.items ≡ reverse (slices_shown self)) }
     {
         let mut closed = self.closed;
         if let Some(last) = self.current {

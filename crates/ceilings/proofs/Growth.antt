@@ -13,7 +13,7 @@ use Rattle.indexmap.specs.IndexMap.{insert_entry}
 use Rattle.task_sheet.specs.Sheet.{CriticalSection, Task, same_bytes}
 use Rattle.task_sheet.specs.Locks.{names_lock, uses}
 use Rattle.task_sheet.proofs.NameLaws.{same_own, same_is}
-use Rattle.ceilings.specs.Table.{Table, locks_in, users_in, with_user, with_section, with_task}
+use Rattle.ceilings.specs.Table.{Table, locks_in, users_in, with_user, with_section, with_user_of}
 use Rattle.ceilings.specs.IsTableOf.{with_name}
 
 -- ---- the users of a lock
@@ -102,7 +102,7 @@ sections_added index (s ∷ sections) table lock k =
 
 -- after a task's locks are noted, it is among the users of those that it uses
 pub task_added : (index : ℕ) (t : Task) (table : Table) (lock : List ℕ) (k : ℕ)
-    → is_user (with_task index table t) lock k ≡ (is_user table lock k || (uses t lock && eq_by_cmp nat_cmp k index))
+    → is_user (with_user_of index table t) lock k ≡ (is_user table lock k || (uses t lock && eq_by_cmp nat_cmp k index))
 task_added index t table lock k = sections_added index t.sections table lock k
 
 -- ---- the locks
@@ -135,7 +135,7 @@ sections_noted index (s ∷ sections) table =
     ∙ sym (fold-append with_name (locks_in table) s.locks (flat_map (λ x. x.locks) sections))
 
 -- after a task's locks are noted, those that were not seen before stand behind the others
-pub task_noted : (index : ℕ) (t : Task) (table : Table) → locks_in (with_task index table t) ≡ fold with_name (locks_in table) (flat_map (λ s. s.locks) t.sections)
+pub task_noted : (index : ℕ) (t : Task) (table : Table) → locks_in (with_user_of index table t) ≡ fold with_name (locks_in table) (flat_map (λ s. s.locks) t.sections)
 task_noted index t table = sections_noted index t.sections table
 
 -- one step of a loop over a list

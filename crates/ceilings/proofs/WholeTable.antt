@@ -11,7 +11,7 @@ use Rattle.std.specs.Ordering.{nat_cmp, eq_by_cmp}
 use Rattle.task_sheet.specs.Sheet.{Task, no_task, task_at}
 use Rattle.task_sheet.specs.Indexes.{indexes_of}
 use Rattle.task_sheet.specs.Locks.{uses}
-use Rattle.ceilings.specs.Table.{Table, locks_in, users_in, with_task}
+use Rattle.ceilings.specs.Table.{Table, locks_in, users_in, with_user_of}
 use Rattle.ceilings.specs.IsTableOf.{with_name, first_sights, names_in, AreUsersOf}
 use Rattle.ceilings.proofs.Growth.{task_added, task_noted}
 
@@ -29,7 +29,7 @@ none_noted U = record { locks = refl; users = λ lock k. set.contains-empty nat_
 below_more : (b : Bool) (k n : ℕ) (p q : Bool) → (k ≡ n → p ≡ q) → b ≡ eq_by_cmp nat_cmp k n → ((nat_lt k n && q) || (p && b)) ≡ (nat_lt k (n + 1) && q)
 below_more b k n p q same e = grind (arith, nat_tests)
 
-pub one_noted : (U : List Task) (n : ℕ) (t : Task) (table : Table) → n < length U → t ≡ task_at U n → IsTableOfFirst U n table → IsTableOfFirst U (n + 1) (with_task n table t)
+pub one_noted : (U : List Task) (n : ℕ) (t : Task) (table : Table) → n < length U → t ≡ task_at U n → IsTableOfFirst U n table → IsTableOfFirst U (n + 1) (with_user_of n table t)
 one_noted U n t table lt is h = record {
   locks = task_noted n t table ∙ ap (λ found. fold with_name found (flat_map (λ s. s.locks) t.sections)) h.locks
       ∙ sym (fold-append with_name [] (names_in (take n U)) (flat_map (λ s. s.locks) t.sections))

@@ -36,5 +36,5 @@ abbrev pub with_section : ℕ → Table → CriticalSection → Table
 with_section index table s = fold (with_user index) table s.locks
 
 -- the locks of a task, each with one user more
-abbrev pub with_task : ℕ → Table → Task → Table
-with_task index table t = fold (with_section index) table t.sections
+abbrev pub with_user_of : ℕ → Table → Task → Table
+with_user_of index table t = fold (with_section index) table t.sections

@@ -4,7 +4,7 @@ ghost use Rattle.task_sheet.specs.Sheet.{Task, same_bytes, task_at};
 ghost use Rattle.task_sheet.specs.declared.set.TheConstants.{TASK_LIMIT};
 ghost use Rattle.task_sheet.specs.Indexes.{indexes_of};
 ghost use Rattle.task_sheet.specs.Locks.{uses, reaches, ceiling_of};
-ghost use Rattle.ceilings.specs.Table.{locks_in, users_in, some_uses, with_user, with_section, with_task};
+ghost use Rattle.ceilings.specs.Table.{locks_in, users_in, some_uses, with_user, with_section, with_user_of};
 ghost use Rattle.ceilings.specs.IsTableOf.{AreUsersOf, locks_of};
 
 use indexmap::IndexMap;
@@ -47,7 +47,7 @@ impl LockUsers {
     // Notes the task at an index as a user of the locks of its sections.
     fn note_task(&mut self, index: usize, sheet: &Sheet) -> Result<(), AllocError>
         requires { index < TASK_LIMIT }
-        ensures { OnOk result (self.new ≡ with_task index self.old sheet.now) }
+        ensures { OnOk result (self.new ≡ with_user_of index self.old sheet.now) }
     {
         for section in sheet.sections() {
             self.note_section(index, section)?;

@@ -6,7 +6,7 @@ use Rattle.std.proofs.lemmas.List.Elements.{All-from_recursion}
 use Rattle.task_sheet.specs.Sheet.{Task}
 use Rattle.task_sheet.specs.Indexes.{Indexes, with_index, without_index, among}
 use Rattle.task_sheet.specs.Verdicts.{order_of}
-use Rattle.certificate.specs.Body.{Level}
+use Rattle.certificate.specs.Body.{CertLevelData}
 use Rattle.cert_checker.specs.Naming.{task_by_name, levels_of}
 use Rattle.cert_checker.specs.Faults.{are_new, first_unnamed, level_fault, levels_fault}
 use Rattle.cert_checker.specs.declared.levels.LevelCheck.{LevelCheck}
@@ -29,24 +29,24 @@ missing-at L named k (suc n) lt none member out = elim (cases_eq k n) [
 ]
 
 -- one level more
-pub levels-step : (U : List Task) (asked : LevelCheck) (L M : Indexes) (ls : List Level) (i : ℕ) (l : Level) (total : Option CheckFault) → i < length ls → l ≡ get_or ls i l
+pub levels-step : (U : List Task) (asked : LevelCheck) (L M : Indexes) (ls : List CertLevelData) (i : ℕ) (l : CertLevelData) (total : Option CheckFault) → i < length ls → l ≡ get_or ls i l
     → level_fault U asked (i + 1) L l ≡ None → M ≡ without_index L (task_by_name U l.name) → levels_fault U asked (i + 1) L (drop i ls) ≡ total → levels_fault U asked (i + 1 + 1) M (drop (i + 1) ls) ≡ total
 levels-step U asked L M ls i l total lt e none is h =
     ap (λ (X : Indexes). levels_fault U asked (i + 1 + 1) X (drop (i + 1) ls)) is
     ∙ sym (ap (levels_fault U asked (i + 1) L) (dropped ls i l lt e) ∙ rw none refl) ∙ h
 
-pub levels-stop : (U : List Task) (asked : LevelCheck) (L : Indexes) (ls : List Level) (i : ℕ) (l : Level) (fault : CheckFault) (total : Option CheckFault) → i < length ls → l ≡ get_or ls i l
+pub levels-stop : (U : List Task) (asked : LevelCheck) (L : Indexes) (ls : List CertLevelData) (i : ℕ) (l : CertLevelData) (fault : CheckFault) (total : Option CheckFault) → i < length ls → l ≡ get_or ls i l
     → level_fault U asked (i + 1) L l ≡ Some fault → levels_fault U asked (i + 1) L (drop i ls) ≡ total → Some fault ≡ total
 levels-stop U asked L ls i l fault total lt e some h =
     sym (ap (levels_fault U asked (i + 1) L) (dropped ls i l lt e) ∙ rw some refl) ∙ h
 
 -- levels that name tasks each once name tasks
-new-known : (U : List Task) (seen : Indexes) (ls : List Level) → are_new (length U) seen (order_of (levels_of U ls)) ≡ true → AllByRecursion (λ (l : Level). task_by_name U l.name < length U) ls
+new-known : (U : List Task) (seen : Indexes) (ls : List CertLevelData) → are_new (length U) seen (order_of (levels_of U ls)) ≡ true → AllByRecursion (λ (l : CertLevelData). task_by_name U l.name < length U) ls
 new-known U seen [] h = tt
 new-known U seen (l ∷ ls) h =
     let parts = and_parts (nat_lt (task_by_name U l.name) (length U) && not (seen (task_by_name U l.name))) (are_new (length U) (with_index seen (task_by_name U l.name)) (order_of (levels_of U ls))) h in
     let first = and_parts (nat_lt (task_by_name U l.name) (length U)) (not (seen (task_by_name U l.name))) parts.0 in
     (ltb-true (task_by_name U l.name) (length U) first.0, new-known U (with_index seen (task_by_name U l.name)) ls parts.1)
 
-pub levels-known : (U : List Task) (seen : Indexes) (ls : List Level) (b : Bool) → (are_new (length U) seen (order_of (levels_of U ls)) && b) ≡ true → All (λ (l : Level). task_by_name U l.name < length U) ls
-levels-known U seen ls b h = All-from_recursion (λ (l : Level). task_by_name U l.name < length U) ls (new-known U seen ls (and_parts (are_new (length U) seen (order_of (levels_of U ls))) b h).0)
+pub levels-known : (U : List Task) (seen : Indexes) (ls : List CertLevelData) (b : Bool) → (are_new (length U) seen (order_of (levels_of U ls)) && b) ≡ true → All (λ (l : CertLevelData). task_by_name U l.name < length U) ls
+levels-known U seen ls b h = All-from_recursion (λ (l : CertLevelData). task_by_name U l.name < length U) ls (new-known U seen ls (and_parts (are_new (length U) seen (order_of (levels_of U ls))) b h).0)

@@ -12,7 +12,7 @@ use Rattle.task_sheet.specs.Orders.{all_of, must_outrank, is_bound, IsOrderOf}
 use Rattle.task_sheet.specs.Verdicts.{tasks_of, order_of}
 use Rattle.task_sheet.specs.Ready.{time_of, Refutes, AllRefuted, IsReadyLevel, AllReady, IsReadyOrder, IsReadySet}
 use Rattle.task_sheet.proofs.IndexLaws.{IsOrderOf-head, IsOrderOf-rest, without-part_of, order-below}
-use Rattle.certificate.specs.Body.{Reason, Chain, Over, Fail, Level, Body, Best, NoOrder, Cert}
+use Rattle.certificate.specs.Body.{CertReasonData, Chain, Over, Fail, CertLevelData, Body, Best, NoOrder, Cert}
 use Rattle.certificate.specs.Versions.{version_for}
 use Rattle.certificate.proofs.VerdictSpelling.{fails-below}
 use Rattle.cert_checker.specs.Naming.{task_by_name, reason_by_index, failures_of, level_by_index, levels_of, may_serve, IsReadyBody, IsReady}
@@ -43,7 +43,7 @@ found U place None e = refl
 found U place (Some k) e = absurd cc
 
 -- ---- failures
-refutes-sound : (U : List Task) (i : ℕ) (H : Indexes) (reason : Reason) → refutes U i H reason ≡ true → Refutes U i H (reason_by_index U reason)
+refutes-sound : (U : List Task) (i : ℕ) (H : Indexes) (reason : CertReasonData) → refutes U i H reason ≡ true → Refutes U i H (reason_by_index U reason)
 refutes-sound U i H (Chain numbers) h = chain-sound (demand_of U i H) (limit_of (task_at U i)) numbers h
 refutes-sound U i H (Over other) h =
     let k = task_by_name U other in
@@ -51,7 +51,7 @@ refutes-sound U i H (Over other) h =
     let first = and_parts (nat_lt k (length U)) (H k) both.0 in
     (ltb-true k (length U) first.0, first.1, both.1)
 
-refutes-complete : (U : List Task) (i : ℕ) (H : Indexes) (reason : Reason) → Refutes U i H (reason_by_index U reason) → refutes U i H reason ≡ true
+refutes-complete : (U : List Task) (i : ℕ) (H : Indexes) (reason : CertReasonData) → Refutes U i H (reason_by_index U reason) → refutes U i H reason ≡ true
 refutes-complete U i H (Chain numbers) h = chain-complete (demand_of U i H) (limit_of (task_at U i)) numbers h
 refutes-complete U i H (Over other) h =
     let k = task_by_name U other in
@@ -76,10 +76,10 @@ fails-complete U place L (f ∷ fs) known h =
 
 -- ---- a level
 -- the response that a time gives leaves the time
-time-own : (U : List Task) (l : Level) → time_of U (level_by_index U l) ≡ l.time
+time-own : (U : List Task) (l : CertLevelData) → time_of U (level_by_index U l) ≡ l.time
 time-own U l = omega arith
 
-level-sound : (U : List Task) (place : ℕ) (L : Indexes) (l : Level) → ((asked : LevelCheck) → level_fault U asked place L l ≡ None) → IsReadyLevel U L (level_by_index U l)
+level-sound : (U : List Task) (place : ℕ) (L : Indexes) (l : CertLevelData) → ((asked : LevelCheck) → level_fault U asked place L l ≡ None) → IsReadyLevel U L (level_by_index U l)
 level-sound U place L l h =
     let k = task_by_name U l.name in
     let fails = tasks_of (failures_of U l.fails) in
@@ -97,7 +97,7 @@ level-sound U place L l h =
       refuted = fails-sound U place L l.fails (h Chains);
     }
 
-level-complete : (U : List Task) (asked : LevelCheck) (place : ℕ) (L : Indexes) (l : Level) → task_by_name U l.name < length U → IsReadyLevel U L (level_by_index U l) → level_fault U asked place L l ≡ None
+level-complete : (U : List Task) (asked : LevelCheck) (place : ℕ) (L : Indexes) (l : CertLevelData) → task_by_name U l.name < length U → IsReadyLevel U L (level_by_index U l) → level_fault U asked place L l ≡ None
 level-complete U Tasks place L l lt ready =
     let k = task_by_name U l.name in
     let fails = tasks_of (failures_of U l.fails) in
@@ -121,7 +121,7 @@ level-complete U Missing place L l lt ready =
     ap (missing_at U place) (lesser-complete L k fails ready.lesser).1
 
 -- ---- the levels
-levels-sound : (U : List Task) (place : ℕ) (L : Indexes) (ls : List Level) → ((asked : LevelCheck) → levels_fault U asked place L ls ≡ None) → AllReady U L (levels_of U ls)
+levels-sound : (U : List Task) (place : ℕ) (L : Indexes) (ls : List CertLevelData) → ((asked : LevelCheck) → levels_fault U asked place L ls ≡ None) → AllReady U L (levels_of U ls)
 levels-sound U place L [] h = tt
 levels-sound U place L (l ∷ ls) h =
     let rest : LevelCheck → Option CheckFault = λ asked. levels_fault U asked (place + 1) (without_index L (task_by_name U l.name)) ls in (
@@ -129,7 +129,7 @@ levels-sound U place L (l ∷ ls) h =
       levels-sound U (place + 1) (without_index L (task_by_name U l.name)) ls (λ asked. (none-or (level_fault U asked place L l) (rest asked) (h asked)).1),
     )
 
-levels-complete : (U : List Task) (asked : LevelCheck) (place : ℕ) (L : Indexes) (ls : List Level) → IsOrderOf L (order_of (levels_of U ls)) → IsPart L (all_of U) → AllReady U L (levels_of U ls) → levels_fault U asked place L ls ≡ None
+levels-complete : (U : List Task) (asked : LevelCheck) (place : ℕ) (L : Indexes) (ls : List CertLevelData) → IsOrderOf L (order_of (levels_of U ls)) → IsPart L (all_of U) → AllReady U L (levels_of U ls) → levels_fault U asked place L ls ≡ None
 levels-complete U asked place L [] each part ready = refl
 levels-complete U asked place L (l ∷ ls) each part ready =
     let k = task_by_name U l.name in
@@ -143,7 +143,7 @@ guard-none : (b : Bool) (o : Option CheckFault) (fault : CheckFault) → cond b 
 guard-none true o fault e = (refl, e)
 guard-none false o fault e = absurd cc
 
-order-without_fault : (U : List Task) (ls : List Level) → order_fault U ls ≡ None → IsReadyOrder U (levels_of U ls)
+order-without_fault : (U : List Task) (ls : List CertLevelData) → order_fault U ls ≡ None → IsReadyOrder U (levels_of U ls)
 order-without_fault U ls h =
     let n = length U in
     let order = order_of (levels_of U ls) in
@@ -169,7 +169,7 @@ order-without_fault U ls h =
     each a b c d Chains = c
     each a b c d Missing = d
 
-order-ready : (U : List Task) (ls : List Level) → IsReadyOrder U (levels_of U ls) → order_fault U ls ≡ None
+order-ready : (U : List Task) (ls : List CertLevelData) → IsReadyOrder U (levels_of U ls) → order_fault U ls ≡ None
 order-ready U ls ready =
     let n = length U in
     let order = order_of (levels_of U ls) in

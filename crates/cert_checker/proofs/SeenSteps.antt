@@ -8,7 +8,7 @@ use Rattle.std.proofs.lemmas.Bool.{cases_eq, eq-eqb, ne_eqb, lt-ltb}
 use Rattle.task_sheet.specs.Sheet.{Task}
 use Rattle.task_sheet.specs.Indexes.{Indexes, no_index, with_index, among}
 use Rattle.task_sheet.specs.Verdicts.{tasks_of, order_of}
-use Rattle.certificate.specs.Body.{Fail, Level}
+use Rattle.certificate.specs.Body.{Fail, CertLevelData}
 use Rattle.cert_checker.specs.Naming.{task_by_name, failures_of, levels_of}
 use Rattle.cert_checker.specs.Faults.{are_new, has_all}
 
@@ -65,11 +65,11 @@ fails-at U cs i c lt e = ap (λ (x : List Fail). tasks_of (failures_of U x)) (dr
 pub fails-end : (U : List Task) (cs : List Fail) (i : ℕ) → length cs ≤ i → tasks_of (failures_of U (drop i cs)) ≡ []
 fails-end U cs i le = ap (λ (x : List Fail). tasks_of (failures_of U x)) (drop_of_length-le cs le)
 
-pub levels-at : (U : List Task) (ls : List Level) (i : ℕ) (l : Level) → i < length ls → l ≡ get_or ls i l → order_of (levels_of U (drop i ls)) ≡ task_by_name U l.name ∷ order_of (levels_of U (drop (i + 1) ls))
-levels-at U ls i l lt e = ap (λ (x : List Level). order_of (levels_of U x)) (dropped ls i l lt e)
+pub levels-at : (U : List Task) (ls : List CertLevelData) (i : ℕ) (l : CertLevelData) → i < length ls → l ≡ get_or ls i l → order_of (levels_of U (drop i ls)) ≡ task_by_name U l.name ∷ order_of (levels_of U (drop (i + 1) ls))
+levels-at U ls i l lt e = ap (λ (x : List CertLevelData). order_of (levels_of U x)) (dropped ls i l lt e)
 
-pub levels-end : (U : List Task) (ls : List Level) (i : ℕ) → length ls ≤ i → order_of (levels_of U (drop i ls)) ≡ []
-levels-end U ls i le = ap (λ (x : List Level). order_of (levels_of U x)) (drop_of_length-le ls le)
+pub levels-end : (U : List Task) (ls : List CertLevelData) (i : ℕ) → length ls ≤ i → order_of (levels_of U (drop i ls)) ≡ []
+levels-end U ls i le = ap (λ (x : List CertLevelData). order_of (levels_of U x)) (drop_of_length-le ls le)
 
 -- ---- all tasks
 pub has_all-lacks : (n : ℕ) (L : Indexes) (k : ℕ) → k < n → L k ≡ false → has_all n L ≡ false

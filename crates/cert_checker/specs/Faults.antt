@@ -7,7 +7,7 @@ use Rattle.task_sheet.specs.Indexes.{Indexes, no_index, with_index, without_inde
 use Rattle.task_sheet.specs.Demand.{demand_of, limit_of}
 use Rattle.task_sheet.specs.Orders.{all_of, must_outrank, is_bound}
 use Rattle.task_sheet.specs.Verdicts.{tasks_of, order_of}
-use Rattle.certificate.specs.Body.{Reason, Chain, Over, Fail, Level, Body, Best, NoOrder, Cert}
+use Rattle.certificate.specs.Body.{CertReasonData, Chain, Over, Fail, CertLevelData, Body, Best, NoOrder, Cert}
 use Rattle.certificate.specs.Versions.{version_for}
 use Rattle.cert_checker.specs.Naming.{task_by_name, failures_of, levels_of, may_serve}
 use Rattle.cert_checker.specs.Chains.{are_chain}
@@ -57,7 +57,7 @@ abbrev pub is_outranked : List Task → ℕ → Indexes → ℕ → Bool
 is_outranked U i H other = (nat_lt other (length U) && H other) && must_outrank U i other
 
 -- the reason refutes task i below H: a chain, or a task of H above which i must stand
-abbrev pub refutes : List Task → ℕ → Indexes → Reason → Bool
+abbrev pub refutes : List Task → ℕ → Indexes → CertReasonData → Bool
 refutes U i H (Chain numbers) = are_chain (demand_of U i H) (limit_of (task_at U i)) numbers
 refutes U i H (Over other) = is_outranked U i H (task_by_name U other)
 
@@ -87,7 +87,7 @@ missing_at U place (Some k) = Some (MissingFail place (task_at U k).name)
 
 -- ---- the levels, from the lowest up, each with the tasks that are left there
 -- the fault of one level
-abbrev pub level_fault : List Task → LevelCheck → ℕ → Indexes → Level → Option CheckFault
+abbrev pub level_fault : List Task → LevelCheck → ℕ → Indexes → CertLevelData → Option CheckFault
 level_fault U Tasks place L l =
     fault_unless (are_lesser L 0 (task_by_name U l.name) (tasks_of (failures_of U l.fails)))
     (WrongTasks place)
@@ -98,7 +98,8 @@ level_fault U Missing place L l =
     missing_at U place (first_unnamed L (tasks_of (failures_of U l.fails)) (task_by_name U l.name))
 
 -- the first fault of the levels, of one kind
-abbrev pub levels_fault : List Task → LevelCheck → ℕ → Indexes → List Level → Option CheckFault
+abbrev pub levels_fault : List Task → LevelCheck → ℕ → Indexes → List CertLevelData
+    → Option CheckFault
 levels_fault U asked place L [] = None
 levels_fault U asked place L (l ∷ ls) =
     option_or (level_fault U asked place L l)
@@ -106,7 +107,7 @@ levels_fault U asked place L (l ∷ ls) =
 
 -- ---- the whole
 -- the first fault of a `best` certificate: WrongTasks, BadPass, BadChain, MissingFail
-abbrev pub order_fault : List Task → List Level → Option CheckFault
+abbrev pub order_fault : List Task → List CertLevelData → Option CheckFault
 order_fault U levels =
     if are_new (length U) no_index (order_of (levels_of U levels))
     && has_all (length U) (among (order_of (levels_of U levels)))

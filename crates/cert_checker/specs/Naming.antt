@@ -5,7 +5,7 @@ use Rattle.task_sheet.specs.Sheet.{Task, task_at, same_bytes}
 use Rattle.task_sheet.specs.Verdicts as verdict
 use Rattle.task_sheet.specs.Verdicts.{ReasonData, FailureData, LevelData}
 use Rattle.task_sheet.specs.Ready.{IsReadyOrder, IsReadySet}
-use Rattle.certificate.specs.Body.{Reason, Chain, Over, Fail, Level, Body, Best, NoOrder, Cert}
+use Rattle.certificate.specs.Body.{CertReasonData, Chain, Over, Fail, CertLevelData, Body, Best, NoOrder, Cert}
 use Rattle.certificate.specs.Versions.{version_for}
 use Rattle.certificate.specs.declared.version.CertVersion.{CertVersion}
 use Rattle.certificate.specs.declared.version.CertVersion.TheVariants.{First, Second}
@@ -15,7 +15,7 @@ abbrev pub task_by_name : List Task → List ℕ → ℕ
 task_by_name U name = unwrap_or (position (λ s. same_bytes s.name name) U) (length U)
 
 -- a reason, by the other task's index
-abbrev pub reason_by_index : List Task → Reason → ReasonData
+abbrev pub reason_by_index : List Task → CertReasonData → ReasonData
 reason_by_index U (Chain numbers) = verdict.Chain numbers
 reason_by_index U (Over other) = verdict.Over (task_by_name U other)
 
@@ -28,7 +28,7 @@ abbrev pub failures_of : List Task → List Fail → List FailureData
 failures_of U fs = map (failure_of U) fs
 
 -- a level, by its tasks' indexes, with the response that its time gives
-abbrev pub level_by_index : List Task → Level → LevelData
+abbrev pub level_by_index : List Task → CertLevelData → LevelData
 level_by_index U l = record {
   task = task_by_name U l.name;
   response = l.time + (task_at U (task_by_name U l.name)).jitter;
@@ -36,7 +36,7 @@ level_by_index U l = record {
 }
 
 -- levels, by their tasks' indexes
-abbrev pub levels_of : List Task → List Level → List LevelData
+abbrev pub levels_of : List Task → List CertLevelData → List LevelData
 levels_of U ls = map (level_by_index U) ls
 
 -- the body is ready for the set: it shows its order best, or that no order passes

@@ -6,7 +6,7 @@ ghost use Rattle.task_sheet.specs.Demand.{demand_of, limit_of};
 ghost use Rattle.cert_checker.specs.Naming.{task_by_name};
 ghost use Rattle.cert_checker.specs.Work.{demand_from};
 ghost use Rattle.cert_checker.specs.Chains.{may_follow, goes_past, are_chain};
-ghost use Rattle.certificate.specs.ReasonOf.{reason_of};
+ghost use Rattle.certificate.specs.ReasonOf.{reason_seen};
 ghost use Rattle.cert_checker.specs.Faults.{covers, time_stands, is_outranked, refutes, is_refuted};
 ghost use Rattle.cert_checker.specs.Faults.{bad_fail};
 
@@ -105,7 +105,7 @@ fn is_outranked(set: &TaskSet, task: usize, above: Members, other: Name) -> bool
 // Whether the reason refutes a task with these above it.
 fn refutes(set: &TaskSet, task: usize, above: Members, reason: &CertReason) -> bool
     requires { task < length set.now }
-    ensures { result ≡ refutes set.now task (indexes_of above) (reason_of reason.now) }
+    ensures { result ≡ refutes set.now task (indexes_of above) (reason_seen reason.now) }
 {
     match reason {
         CertReason::Chain(numbers) => are_chain(set, task, above, numbers),

@@ -4,7 +4,7 @@ ghost use Rattle.task_sheet.specs.Sheet.{task_at};
 ghost use Rattle.task_sheet.specs.Indexes.{indexes_of, without_index, among};
 ghost use Rattle.task_sheet.specs.Orders.{all_of};
 ghost use Rattle.task_sheet.specs.Verdicts.{tasks_of};
-ghost use Rattle.certificate.specs.Body.{Level};
+ghost use Rattle.certificate.specs.Body.{CertLevelData};
 ghost use Rattle.cert_checker.specs.Naming.{task_by_name, failures_of};
 ghost use Rattle.cert_checker.specs.Faults.{fault_unless, are_lesser, first_unnamed, missing_at};
 ghost use Rattle.cert_checker.specs.Faults.{level_fault, levels_fault};
@@ -111,7 +111,7 @@ fn level_fault(
     fails: &[CertFail],
 ) -> Option<CheckFault>
     requires { task_by_name set.now name < length set.now }
-    ensures { let l : Level = record { name = name; time = time; fails = fails.now } in
+    ensures { let l : CertLevelData = record { name = name; time = time; fails = fails.now } in
         result ≡ level_fault set.now asked level (indexes_of left) l }
 {
     let task = task_by_name(set, name);
@@ -131,7 +131,7 @@ fn level_fault(
 
 /// The first fault of the levels, which name tasks of the set.
 pub fn levels_fault(set: &TaskSet, asked: LevelCheck, levels: &[CertLevel]) -> Option<CheckFault>
-    requires { All (λ (l : Level). task_by_name set.now l.name < length set.now) levels.now }
+    requires { All (λ (l : CertLevelData). task_by_name set.now l.name < length set.now) levels.now }
     ensures { result ≡ levels_fault set.now asked 1 (all_of set.now) levels.now }
 {
     let mut left = Members::all(set.len());

@@ -3,7 +3,7 @@ use Rattle.std.proofs.Common.{◌≡◌, ℕ, ◌<◌, Bool, true, false, cond, 
 use Rattle.std.specs.Prelude.{bytes_eq, IsTrue}
 use Rattle.std.proofs.Math.Bool.{and-false}
 use Rattle.task_sheet.specs.Name.{is_name, IsName}
-use Rattle.certificate.specs.Body.{Reason, Fail}
+use Rattle.certificate.specs.Body.{CertReasonData, Fail}
 use Rattle.lines.specs.Words.{words}
 use Rattle.certificate.specs.Words.{◌>>=◌, over_in, reason_in, fail_in}
 use Rattle.lines.proofs.Parts.{words_some}
@@ -64,7 +64,7 @@ module _ (v : CertVersion) where
       let body : None ≡ fail_body word w name (words rest) = sym (is_found word line w r name rest one two eq named ∙ rw (← none) refl) in
       body ∙ fail_is word line w r name rest one two
 
-  pub is_fail : (word line w r name rest : List ℕ) (reason : Reason) → words line ≡ w ∷ words r → words r ≡ name ∷ words rest → not (bytes_eq w word) ≡ false → IsName name → Some reason ≡ reason_in v (words rest) → Some (record { name = name; reason = reason }) ≡ fail_in v word (words line)
+  pub is_fail : (word line w r name rest : List ℕ) (reason : CertReasonData) → words line ≡ w ∷ words r → words r ≡ name ∷ words rest → not (bytes_eq w word) ≡ false → IsName name → Some reason ≡ reason_in v (words rest) → Some (record { name = name; reason = reason }) ≡ fail_in v word (words line)
   is_fail word line w r name rest reason one two eq named some =
       let body : Some (record { name = name; reason = reason }) ≡ fail_body word w name (words rest) = sym (is_found word line w r name rest one two eq named ∙ rw (← some) refl) in
       body ∙ fail_is word line w r name rest one two

@@ -15,7 +15,7 @@ use Rattle.std.proofs.lemmas.List.Elements.{All-from_recursion}
 use Rattle.std.proofs.lemmas.List.Splits.{slice_split_at, slice_split_none, join_with_byte-slice_split}
 use Rattle.std.proofs.lemmas.Fmt.{digits_decimal}
 use Rattle.task_sheet.specs.Name.{is_name, is_name_byte, IsName}
-use Rattle.certificate.specs.Body.{Reason, Chain, Over, Fail, IsShort, IsReasonText, IsFailText}
+use Rattle.certificate.specs.Body.{CertReasonData, Chain, Over, Fail, IsShort, IsReasonText, IsFailText}
 use Rattle.certificate.specs.Spelling.{numbers_text, reason_text}
 use Rattle.lines.specs.Words.{words}
 use Rattle.certificate.specs.Words.{◌>>=◌, numbers_in, later_in, reason_in, fail_in}
@@ -80,12 +80,12 @@ bytes_again x = (bytes_eq-Decides x x).1 refl
 
 -- ---- a reason
 -- the words of a reason
-abbrev pub reason_words : Reason → List (List ℕ)
+abbrev pub reason_words : CertReasonData → List (List ℕ)
 reason_words (Chain numbers) = map decimal numbers
 reason_words (Over other) = codes "over" ∷ other ∷ []
 
 -- a reason without the space in front of it
-abbrev reason_inner : Reason → List ℕ
+abbrev reason_inner : CertReasonData → List ℕ
 reason_inner (Chain []) = []
 reason_inner (Chain (n ∷ ns)) = decimal n ++ numbers_text ns
 reason_inner (Over other) = codes "over" ++ 32 ∷ other
@@ -97,32 +97,32 @@ over_named Second other fits = fits
 over_plain : All (λ x. (x == 32) ≡ false) (codes "over")
 over_plain = All-from_recursion (λ x. (x == 32) ≡ false) (codes "over") (refl, (refl, (refl, (refl, tt))))
 
-over_takes : (v : CertVersion) (n : List ℕ) (ns : List (List ℕ)) (r : Reason) → later_in v (n ∷ ns) ≡ Some r → (32 ∷ join_with_byte 32 (n ∷ ns) ≡ reason_text r) × IsReasonText v r
+over_takes : (v : CertVersion) (n : List ℕ) (ns : List (List ℕ)) (r : CertReasonData) → later_in v (n ∷ ns) ≡ Some r → (32 ∷ join_with_byte 32 (n ∷ ns) ≡ reason_text r) × IsReasonText v r
 over_takes First n ns r e = absurd cc
 over_takes Second n [] r e = absurd cc
 over_takes Second n (other ∷ x ∷ xs) r e = absurd cc
 over_takes Second n (other ∷ []) r e =
     let g = cond_some (bytes_eq n (codes "over") && is_name other) (Over other) r e in
     let tests = and_parts (bytes_eq n (codes "over")) (is_name other) g.0 in
-    subst (λ (x : Reason). (32 ∷ (n ++ 32 ∷ other) ≡ reason_text x) × IsReasonText Second x) g.1
+    subst (λ (x : CertReasonData). (32 ∷ (n ++ 32 ∷ other) ≡ reason_text x) × IsReasonText Second x) g.1
     (ap (λ (x : List ℕ). 32 ∷ (x ++ 32 ∷ other)) (bytes_same n (codes "over") tests.0), tests.1)
 
 numbers_take_text : (n : List ℕ) (ns : List (List ℕ)) (numbers : List ℕ) → n ∷ ns ≡ map decimal numbers → 32 ∷ join_with_byte 32 (n ∷ ns) ≡ numbers_text numbers
 numbers_take_text n ns [] e = absurd cc
 numbers_take_text n ns (m ∷ ms) e = ap (λ (x : List (List ℕ)). 32 ∷ join_with_byte 32 x) e ∙ join_numbers m ms
 
-reason_takes : (v : CertVersion) (n : List ℕ) (ns : List (List ℕ)) (r : Reason) → reason_in v (n ∷ ns) ≡ Some r → (32 ∷ join_with_byte 32 (n ∷ ns) ≡ reason_text r) × IsReasonText v r
+reason_takes : (v : CertVersion) (n : List ℕ) (ns : List (List ℕ)) (r : CertReasonData) → reason_in v (n ∷ ns) ≡ Some r → (32 ∷ join_with_byte 32 (n ∷ ns) ≡ reason_text r) × IsReasonText v r
 unfolding reason_in
 reason_takes v n ns r = by (numbers_in (n ∷ ns)) refl
   where
     by : (o : Option (List ℕ)) → numbers_in (n ∷ ns) ≡ o → option_or (option_map Chain o) (later_in v (n ∷ ns)) ≡ Some r → (32 ∷ join_with_byte 32 (n ∷ ns) ≡ reason_text r) × IsReasonText v r
     by (Some numbers) is e =
         let taken = numbers_take (n ∷ ns) numbers is in
-        subst (λ (x : Reason). (32 ∷ join_with_byte 32 (n ∷ ns) ≡ reason_text x) × IsReasonText v x) (same_Some (Chain numbers) r e)
+        subst (λ (x : CertReasonData). (32 ∷ join_with_byte 32 (n ∷ ns) ≡ reason_text x) × IsReasonText v x) (same_Some (Chain numbers) r e)
         (numbers_take_text n ns numbers taken.0, (omega (arith, ap length taken.0, length-map numbers decimal), taken.1))
     by None is e = over_takes v n ns r e
 
-reason_again : (v : CertVersion) (r : Reason) → IsReasonText v r → reason_in v (reason_words r) ≡ Some r
+reason_again : (v : CertVersion) (r : CertReasonData) → IsReasonText v r → reason_in v (reason_words r) ≡ Some r
 unfolding reason_in numbers_in
 reason_again v (Chain numbers) fits = rw (numbers_again numbers fits.1) refl
 reason_again First (Over other) fits = absurd fits
@@ -130,7 +130,7 @@ reason_again Second (Over other) fits =
     let is : is_name other ≡ true = fits in
     rw is refl
 
-reason_splits : (v : CertVersion) (r : Reason) → IsReasonText v r → (reason_text r ≡ 32 ∷ reason_inner r) × (words (reason_inner r) ≡ reason_words r) × (0 < length (reason_words r))
+reason_splits : (v : CertVersion) (r : CertReasonData) → IsReasonText v r → (reason_text r ≡ 32 ∷ reason_inner r) × (words (reason_inner r) ≡ reason_words r) × (0 < length (reason_words r))
 reason_splits v (Chain []) fits = absurd (omega (arith, fits.0))
 reason_splits v (Chain (n ∷ ns)) fits = (numbers_text-cons n ns, words_numbers n ns fits.1, omega arith)
 reason_splits v (Over other) fits = (

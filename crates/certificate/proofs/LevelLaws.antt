@@ -11,12 +11,12 @@ use Rattle.std.proofs.lemmas.List.Concat.{flat_map-cons}
 use Rattle.std.proofs.lemmas.List.Elements.{All-append, All-from_recursion}
 use Rattle.std.proofs.lemmas.List.Splits.{slice_split_at, slice_split_none, join_with_byte-slice_split}
 use Rattle.task_sheet.specs.Name.{is_name, IsName}
-use Rattle.certificate.specs.Body.{Fail, Level, IsShort, IsFailText, IsLevelText}
-use Rattle.certificate.specs.Spelling.{fail_line, fail_lines, level_line, level_lines}
+use Rattle.certificate.specs.Body.{Fail, CertLevelData, IsShort, IsFailText, IsLevelText}
+use Rattle.certificate.specs.Spelling.{fail_line, fail_lines, level_spelling, level_spellings}
 use Rattle.lines.specs.Lines.{parts}
 use Rattle.lines.specs.Words.{words, number_in}
 use Rattle.certificate.specs.Words.{fail_in}
-use Rattle.certificate.specs.Lines.{◌>>=◌, At, line_from, wanted, level_of, level_in, fails_case, fails_from, level_at, levels_at}
+use Rattle.certificate.specs.Lines.{◌>>=◌, At, line_from, wanted, level_head, level_in, fails_case, fails_from, level_read, levels_at}
 use Rattle.lines.proofs.NumberLaws.{number_takes, number_again}
 use Rattle.certificate.proofs.WordLaws.{cond_given}
 use Rattle.lines.proofs.Parts.{parts_some}
@@ -31,7 +31,7 @@ abbrev pub level_text : ℕ → List ℕ → ℕ → List ℕ
 level_text k name t = codes "level" ++ 32 ∷ (decimal k ++ 32 ∷ (name ++ 32 ∷ decimal t))
 
 -- ---- the line of a level
-parts_of_level : (k : ℕ) (name : List ℕ) (number time : Option ℕ) (h : List ℕ × ℕ) → level_of k name number time ≡ Some h
+parts_of_level : (k : ℕ) (name : List ℕ) (number time : Option ℕ) (h : List ℕ × ℕ) → level_head k name number time ≡ Some h
     → (number ≡ Some k) × IsName name × ((t : ℕ) × (time ≡ Some t) × ((name, t) ≡ h))
 parts_of_level k name None time h e = absurd cc
 parts_of_level k name (Some m) None h e = absurd cc
@@ -47,7 +47,7 @@ take_level k (w ∷ m ∷ []) h e = absurd cc
 take_level k (w ∷ m ∷ name ∷ []) h e = absurd cc
 take_level k (w ∷ m ∷ name ∷ n ∷ x ∷ xs) h e = absurd cc
 take_level k (w ∷ m ∷ name ∷ n ∷ []) h e =
-    let g = cond_given (bytes_eq w (codes "level")) (level_of k name (number_in m) (number_in n)) h e in
+    let g = cond_given (bytes_eq w (codes "level")) (level_head k name (number_in m) (number_in n)) h e in
     let p = parts_of_level k name (number_in m) (number_in n) h g.1 in
     let number = number_takes m k p.0 in
     let time = number_takes n p.2.0 p.2.1 in
@@ -88,7 +88,7 @@ level_lacks k name t short named brief =
     (All-append (λ x. (x == 10) ≡ false) name (32 ∷ decimal t) (name_lacks 10 name (omega arith) named)
     (All-append (λ x. (x == 10) ≡ false) (32 ∷ []) (decimal t) space (decimal_lacks 10 t (omega arith) (omega arith)))))))
 
-pub level_end : (k : ℕ) (l : Level) (rest : List ℕ) → level_text k l.name l.time ++ 10 ∷ rest ≡ level_line k l ++ rest
+pub level_end : (k : ℕ) (l : CertLevelData) (rest : List ℕ) → level_text k l.name l.time ++ 10 ∷ rest ≡ level_spelling k l ++ rest
 level_end k l rest = simp append_assoc
 
 -- ---- the failures of a level
@@ -131,7 +131,7 @@ fails_clean : All (λ x. (x == 10) ≡ false) (codes "fails")
 fails_clean = All-from_recursion (λ x. (x == 10) ≡ false) (codes "fails") (refl, (refl, (refl, (refl, (refl, tt)))))
 
 -- the number of the line that follows levels
-abbrev pub line_after : ℕ → List Level → ℕ
+abbrev pub line_after : ℕ → List CertLevelData → ℕ
 line_after n [] = n
 line_after n (l ∷ ls) = line_after (n + 1 + length l.fails) ls
 
@@ -153,77 +153,77 @@ module _ (v : CertVersion) where
       ∙ rw (fail_again v (codes "fails") c fails_plain fits.0, fails_again cs rest (n + 1) fits.1 none, same) refl
 
   -- ---- a level
-  pub level_takes : (k : ℕ) (a : At) (x : Level × At) → level_at v k a ≡ Ok x → (left a ≡ level_line k x.0 ++ (fail_lines (codes "fails") x.0.fails ++ left x.1)) × IsLevelText v x.0
-  unfolding level_at
+  pub level_takes : (k : ℕ) (a : At) (x : CertLevelData × At) → level_read v k a ≡ Ok x → (left a ≡ level_spelling k x.0 ++ (fail_lines (codes "fails") x.0.fails ++ left x.1)) × IsLevelText v x.0
+  unfolding level_read
   level_takes k a x e =
       let l = bind_ok (line_from a.parts a.line) (λ l. wanted a.line (level_in k (words l.0)) >>= λ h. Ok (record { name = h.0; time = h.1; fails = (fails_from v l.1.parts l.1.line).0 }, (fails_from v l.1.parts l.1.line).1)) x e in
       let f : List Fail × At = fails_from v l.0.1.parts l.0.1.line in
       let h = bind_ok (wanted a.line (level_in k (words l.0.0))) (λ h. Ok (record { name = h.0; time = h.1; fails = f.0 }, f.1)) x l.2 in
       let t = level_line_takes k l.0.0 h.0 (wanted_ok a.line (level_in k (words l.0.0)) h.0 h.1) in
       let fs = fails_take v l.0.1.parts l.0.1.line in
-      let made : Level = record { name = h.0.0; time = h.0.1; fails = f.0 } in
-      let whole : left a ≡ level_line k made ++ (fail_lines (codes "fails") f.0 ++ left f.1) =
+      let made : CertLevelData = record { name = h.0.0; time = h.0.1; fails = f.0 } in
+      let whole : left a ≡ level_spelling k made ++ (fail_lines (codes "fails") f.0 ++ left f.1) =
       line_takes a.parts a.line l.0 l.1
       ∙ ap (λ (y : List ℕ). y ++ 10 ∷ left l.0.1) t.0
       ∙ ap (λ (y : List ℕ). level_text k h.0.0 h.0.1 ++ 10 ∷ y) fs.0
       ∙ level_end k made (fail_lines (codes "fails") f.0 ++ left f.1) in
-      let both : Level × At = (made, f.1) in
-      subst (λ (y : Level × At). (left a ≡ level_line k y.0 ++ (fail_lines (codes "fails") y.0.fails ++ left y.1)) × IsLevelText v y.0) (ok_is both x h.2)
+      let both : CertLevelData × At = (made, f.1) in
+      subst (λ (y : CertLevelData × At). (left a ≡ level_spelling k y.0 ++ (fail_lines (codes "fails") y.0.fails ++ left y.1)) × IsLevelText v y.0) (ok_is both x h.2)
       (whole, record { name = t.1; short = t.2; fails = fs.1 })
 
-  pub level_again : (k : ℕ) (l : Level) (rest : List ℕ) (n : ℕ) → IsShort k → IsLevelText v l → BeginsNoFailure v rest
-      → level_at v k (record { parts = parts (level_line k l ++ (fail_lines (codes "fails") l.fails ++ rest)); line = n }) ≡ Ok (l, record { parts = parts rest; line = n + 1 + length l.fails })
-  unfolding level_at
+  pub level_again : (k : ℕ) (l : CertLevelData) (rest : List ℕ) (n : ℕ) → IsShort k → IsLevelText v l → BeginsNoFailure v rest
+      → level_read v k (record { parts = parts (level_spelling k l ++ (fail_lines (codes "fails") l.fails ++ rest)); line = n }) ≡ Ok (l, record { parts = parts rest; line = n + 1 + length l.fails })
+  unfolding level_read
   level_again k l rest n short fits none =
       let more : List ℕ = fail_lines (codes "fails") l.fails ++ rest in
-      let line : line_from (parts (level_line k l ++ more)) n ≡ Ok (level_text k l.name l.time, record { parts = parts more; line = n + 1 }) =
+      let line : line_from (parts (level_spelling k l ++ more)) n ≡ Ok (level_text k l.name l.time, record { parts = parts more; line = n + 1 }) =
       ap (λ (y : List ℕ). line_from (parts y) n) (sym (level_end k l more)) ∙ line_again (level_text k l.name l.time) more n (level_lacks k l.name l.time short fits.name fits.short) in
       rw (line, level_line_again k l.name l.time short fits.name fits.short, fails_again l.fails rest (n + 1) fits.fails none) refl
 
   -- ---- levels
-  pub levels_take : (n k : ℕ) (a : At) (x : List Level × At) → levels_at v n k a ≡ Ok x → (left a ≡ level_lines k x.0 ++ left x.1) × (length x.0 ≡ n) × AllByRecursion (IsLevelText v) x.0
+  pub levels_take : (n k : ℕ) (a : At) (x : List CertLevelData × At) → levels_at v n k a ≡ Ok x → (left a ≡ level_spellings k x.0 ++ left x.1) × (length x.0 ≡ n) × AllByRecursion (IsLevelText v) x.0
   unfolding levels_at
   levels_take zero k a x e =
-      let made : List Level × At = ([], a) in
-      subst (λ (y : List Level × At). (left a ≡ level_lines k y.0 ++ left y.1) × (length y.0 ≡ 0) × AllByRecursion (IsLevelText v) y.0) (ok_is made x e) (refl, refl, tt)
+      let made : List CertLevelData × At = ([], a) in
+      subst (λ (y : List CertLevelData × At). (left a ≡ level_spellings k y.0 ++ left y.1) × (length y.0 ≡ 0) × AllByRecursion (IsLevelText v) y.0) (ok_is made x e) (refl, refl, tt)
   levels_take (suc n) k a x e =
-      let f = bind_ok (level_at v k a) (λ first. levels_at v n (k + 1) first.1 >>= λ others. Ok (first.0 ∷ others.0, others.1)) x e in
+      let f = bind_ok (level_read v k a) (λ first. levels_at v n (k + 1) first.1 >>= λ others. Ok (first.0 ∷ others.0, others.1)) x e in
       let o = bind_ok (levels_at v n (k + 1) f.0.1) (λ others. Ok (f.0.0 ∷ others.0, others.1)) x f.2 in
       let first = level_takes k a f.0 f.1 in
       let rest = levels_take n (k + 1) f.0.1 o.0 o.1 in
       let fails : List ℕ = fail_lines (codes "fails") f.0.0.fails in
-      let whole : left a ≡ level_lines k (f.0.0 ∷ o.0.0) ++ left o.0.1 =
-      first.0 ∙ ap (λ (y : List ℕ). level_line k f.0.0 ++ (fails ++ y)) rest.0
-      ∙ ap (λ (y : List ℕ). level_line k f.0.0 ++ y) (sym (append_assoc fails (level_lines (k + 1) o.0.0) (left o.0.1)))
-      ∙ sym (append_assoc (level_line k f.0.0) (fails ++ level_lines (k + 1) o.0.0) (left o.0.1)) in
-      let made : List Level × At = (f.0.0 ∷ o.0.0, o.0.1) in
-      subst (λ (y : List Level × At). (left a ≡ level_lines k y.0 ++ left y.1) × (length y.0 ≡ suc n) × AllByRecursion (IsLevelText v) y.0) (ok_is made x o.2) (whole, ap suc rest.1, (first.1, rest.2))
+      let whole : left a ≡ level_spellings k (f.0.0 ∷ o.0.0) ++ left o.0.1 =
+      first.0 ∙ ap (λ (y : List ℕ). level_spelling k f.0.0 ++ (fails ++ y)) rest.0
+      ∙ ap (λ (y : List ℕ). level_spelling k f.0.0 ++ y) (sym (append_assoc fails (level_spellings (k + 1) o.0.0) (left o.0.1)))
+      ∙ sym (append_assoc (level_spelling k f.0.0) (fails ++ level_spellings (k + 1) o.0.0) (left o.0.1)) in
+      let made : List CertLevelData × At = (f.0.0 ∷ o.0.0, o.0.1) in
+      subst (λ (y : List CertLevelData × At). (left a ≡ level_spellings k y.0 ++ left y.1) × (length y.0 ≡ suc n) × AllByRecursion (IsLevelText v) y.0) (ok_is made x o.2) (whole, ap suc rest.1, (first.1, rest.2))
 
   level_word : (k : ℕ) (name : List ℕ) (t : ℕ) → IsShort k → IsName name → IsShort t → fail_in v (codes "fails") (words (level_text k name t)) ≡ None
   unfolding fail_in
   level_word k name t short named brief = ap (fail_in v (codes "fails")) (words_level k name t short named brief) ∙ refl
 
-  pub levels_begin : (k : ℕ) (ls : List Level) (rest : List ℕ) → k + length ls < 10 ^ 10 → AllByRecursion (IsLevelText v) ls → BeginsNoFailure v rest → BeginsNoFailure v (level_lines k ls ++ rest)
+  pub levels_begin : (k : ℕ) (ls : List CertLevelData) (rest : List ℕ) → k + length ls < 10 ^ 10 → AllByRecursion (IsLevelText v) ls → BeginsNoFailure v rest → BeginsNoFailure v (level_spellings k ls ++ rest)
   levels_begin k [] rest small fits none = none
   levels_begin k (l ∷ ls) rest small fits none =
       let short : IsShort k = omega arith in
       let fails : List ℕ = fail_lines (codes "fails") l.fails in
-      let regrouped : level_text k l.name l.time ++ 10 ∷ (fails ++ (level_lines (k + 1) ls ++ rest)) ≡ level_lines k (l ∷ ls) ++ rest =
-      level_end k l (fails ++ (level_lines (k + 1) ls ++ rest))
-      ∙ ap (λ (y : List ℕ). level_line k l ++ y) (sym (append_assoc fails (level_lines (k + 1) ls) rest))
-      ∙ sym (append_assoc (level_line k l) (fails ++ level_lines (k + 1) ls) rest) in
-      subst (BeginsNoFailure v) regrouped (no_failure v (level_text k l.name l.time) (fails ++ (level_lines (k + 1) ls ++ rest)) (level_lacks k l.name l.time short fits.0.name fits.0.short) (level_word k l.name l.time short fits.0.name fits.0.short))
+      let regrouped : level_text k l.name l.time ++ 10 ∷ (fails ++ (level_spellings (k + 1) ls ++ rest)) ≡ level_spellings k (l ∷ ls) ++ rest =
+      level_end k l (fails ++ (level_spellings (k + 1) ls ++ rest))
+      ∙ ap (λ (y : List ℕ). level_spelling k l ++ y) (sym (append_assoc fails (level_spellings (k + 1) ls) rest))
+      ∙ sym (append_assoc (level_spelling k l) (fails ++ level_spellings (k + 1) ls) rest) in
+      subst (BeginsNoFailure v) regrouped (no_failure v (level_text k l.name l.time) (fails ++ (level_spellings (k + 1) ls ++ rest)) (level_lacks k l.name l.time short fits.0.name fits.0.short) (level_word k l.name l.time short fits.0.name fits.0.short))
 
-  pub levels_again : (ls : List Level) (rest : List ℕ) (k n : ℕ) → k + length ls < 10 ^ 10 → AllByRecursion (IsLevelText v) ls → BeginsNoFailure v rest
-      → levels_at v (length ls) k (record { parts = parts (level_lines k ls ++ rest); line = n }) ≡ Ok (ls, record { parts = parts rest; line = line_after n ls })
+  pub levels_again : (ls : List CertLevelData) (rest : List ℕ) (k n : ℕ) → k + length ls < 10 ^ 10 → AllByRecursion (IsLevelText v) ls → BeginsNoFailure v rest
+      → levels_at v (length ls) k (record { parts = parts (level_spellings k ls ++ rest); line = n }) ≡ Ok (ls, record { parts = parts rest; line = line_after n ls })
   unfolding levels_at
   levels_again [] rest k n small fits none = refl
   levels_again (l ∷ ls) rest k n small fits none =
       let short : IsShort k = omega arith in
       let fewer : k + 1 + length ls < 10 ^ 10 = omega arith in
       let fails : List ℕ = fail_lines (codes "fails") l.fails in
-      let more : List ℕ = level_lines (k + 1) ls ++ rest in
-      let regrouped : level_lines k (l ∷ ls) ++ rest ≡ level_line k l ++ (fails ++ more) =
-      append_assoc (level_line k l) (fails ++ level_lines (k + 1) ls) rest ∙ ap (λ (y : List ℕ). level_line k l ++ y) (append_assoc fails (level_lines (k + 1) ls) rest) in
+      let more : List ℕ = level_spellings (k + 1) ls ++ rest in
+      let regrouped : level_spellings k (l ∷ ls) ++ rest ≡ level_spelling k l ++ (fails ++ more) =
+      append_assoc (level_spelling k l) (fails ++ level_spellings (k + 1) ls) rest ∙ ap (λ (y : List ℕ). level_spelling k l ++ y) (append_assoc fails (level_spellings (k + 1) ls) rest) in
       ap (λ (y : List ℕ). levels_at v (suc (length ls)) k (record { parts = parts y; line = n })) regrouped
       ∙ rw (level_again k l more n short fits.0 (levels_begin (k + 1) ls rest fewer fits.1 none), levels_again ls rest (k + 1) (n + 1 + length l.fails) fewer fits.1 none) refl

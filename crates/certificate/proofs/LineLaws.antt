@@ -13,7 +13,7 @@ use Rattle.certificate.specs.Body.{Fail}
 use Rattle.certificate.specs.Spelling.{fail_line}
 use Rattle.lines.specs.Lines.{parts}
 use Rattle.lines.specs.Words.{words, number_in}
-use Rattle.certificate.specs.Lines.{◌>>=◌, At, line_from, wanted, count_in, few, at_most_32, end_at, is_over}
+use Rattle.certificate.specs.Lines.{◌>>=◌, At, line_from, wanted, count_in, few, at_most_32, end_at, is_at_end}
 use Rattle.certificate.specs.declared.fault.CertFault.{CertFault}
 use Rattle.certificate.specs.declared.fault.CertFault.TheVariants.{BadLine, Trailing}
 use Rattle.lines.proofs.NumberLaws.{number_takes, number_again}
@@ -91,8 +91,8 @@ guard_end false c x y line e = absurd cc
 pub end_takes : (a : At) → end_at a ≡ Ok tt → left a ≡ codes "end\n"
 unfolding end_at
 end_takes a e =
-    let l = bind_ok (line_from a.parts a.line) (λ l. cond (bytes_eq l.0 (codes "end")) (cond (is_over l.1.parts) (Ok tt) (Err Trailing)) (Err (BadLine a.line))) tt e in
-    let g = guard_end (bytes_eq l.0.0 (codes "end")) (is_over l.0.1.parts) tt tt a.line l.2 in
+    let l = bind_ok (line_from a.parts a.line) (λ l. cond (bytes_eq l.0 (codes "end")) (cond (is_at_end l.1.parts) (Ok tt) (Err Trailing)) (Err (BadLine a.line))) tt e in
+    let g = guard_end (bytes_eq l.0.0 (codes "end")) (is_at_end l.0.1.parts) tt tt a.line l.2 in
     let over : left l.0.1 ≡ [] = nil_from_length (left l.0.1) (eqb-true (length (left l.0.1)) 0 g.1) in
     line_takes a.parts a.line l.0 l.1 ∙ ap (λ (y : List ℕ). y ++ 10 ∷ left l.0.1) ((bytes_eq-Decides l.0.0 (codes "end")).0 g.0) ∙ ap (λ (y : List ℕ). codes "end" ++ 10 ∷ y) over
 

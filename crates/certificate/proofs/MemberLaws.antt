@@ -6,7 +6,7 @@ use Rattle.std.specs.Fmt.{decimal}
 use Rattle.std.proofs.lemmas.Bool.Decides.{nat_tests}
 use Rattle.std.proofs.lemmas.List.Concat.{flat_map-cons}
 use Rattle.std.proofs.lemmas.List.Elements.{All-append, All-from_recursion}
-use Rattle.certificate.specs.Body.{Reason, Chain, Over, Fail, IsShort, IsReasonText, IsFailText}
+use Rattle.certificate.specs.Body.{CertReasonData, Chain, Over, Fail, IsShort, IsReasonText, IsFailText}
 use Rattle.certificate.specs.Spelling.{numbers_text, reason_text, fail_line, fail_lines}
 use Rattle.lines.specs.Lines.{parts}
 use Rattle.lines.specs.Words.{words}
@@ -60,7 +60,7 @@ member_plain : (b : ℕ) → b < 45 → All (λ x. (x == b) ≡ false) (codes "m
 member_plain b small = All-from_recursion (λ x. (x == b) ≡ false) (codes "member") (eqb-less 109 b (omega arith), (eqb-less 101 b (omega arith), (eqb-less 109 b (omega arith), (eqb-less 98 b (omega arith), (eqb-less 101 b (omega arith), (eqb-less 114 b (omega arith), tt))))))
 
 module _ (v : CertVersion) where
-  reason_lacks : (reason : Reason) → IsReasonText v reason → All (λ x. (x == 10) ≡ false) (reason_text reason)
+  reason_lacks : (reason : CertReasonData) → IsReasonText v reason → All (λ x. (x == 10) ≡ false) (reason_text reason)
   reason_lacks (Chain numbers) fits = numbers_lack numbers fits.1
   reason_lacks (Over other) fits =
       All-append (λ x. (x == 10) ≡ false) (codes " over ") other (All-from_recursion (λ x. (x == 10) ≡ false) (codes " over ") (refl, (refl, (refl, (refl, (refl, (refl, tt))))))) (name_lacks 10 other (omega arith) (over_named v other fits))

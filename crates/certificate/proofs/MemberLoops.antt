@@ -4,12 +4,12 @@ use Rattle.std.proofs.lemmas.List.{append-nil}
 use Rattle.certificate.specs.declared.fault.CertFault.{CertFault}
 use Rattle.certificate.specs.declared.fault.CertFault.TheVariants.{BadHead, BadLine, Truncated, Trailing, OutOfMemory}
 use Rattle.std.specs.Option.{ok_or}
-use Rattle.lines.specs.declared.place.Place.{Place}
+use Rattle.lines.specs.declared.place.TextPlace.{TextPlace}
 use Rattle.lines.proofs.Parts.{parts_some}
 use Rattle.certificate.specs.Body.{Fail}
 use Rattle.std.proofs.lemmas.List.Splits.{join_with_byte-slice_split}
 use Rattle.lines.specs.Lines.{parts}
-use Rattle.certificate.specs.Lines.{◌>>=◌, At, Fails, Gives, at_place, line_at, line_from, is_over, count_in, member_at, members_at}
+use Rattle.certificate.specs.Lines.{◌>>=◌, At, Fails, Gives, at_place, line_at, line_from, is_at_end, count_in, member_at, members_at}
 use Rattle.certificate.specs.declared.version.CertVersion.{CertVersion}
 
 -- what was read before, and what is still read
@@ -59,13 +59,13 @@ line_is l [] n some = absurd (omega arith)
 line_is l (x ∷ xs) n some = refl
 
 -- what is read of a complete line, or of none
-pub line_at_given : (o : Option (Bor (List ℕ) × Place)) (p : Place) → MatchOption o (parts p.rest.now ≡ p.rest.now ∷ []) (λ x. (parts p.rest.now ≡ x.0.now ∷ parts x.1.rest.now) × (x.1.line ≡ p.line + 1))
+pub line_at_given : (o : Option (Bor (List ℕ) × TextPlace)) (p : TextPlace) → MatchOption o (parts p.rest.now ≡ p.rest.now ∷ []) (λ x. (parts p.rest.now ≡ x.0.now ∷ parts x.1.rest.now) × (x.1.line ≡ p.line + 1))
     → Gives (λ x. (x.0.now, at_place x.1)) (ok_or o Truncated) (line_at (at_place p))
 unfolding line_from
 line_at_given None p told = rw told refl
 line_at_given (Some x) p told = rw (told.0, told.1) (line_is x.0.now (parts x.1.rest.now) p.line (parts_some x.1.rest.now))
 
-pub over_is : (bytes : List ℕ) → is_over (parts bytes) ≡ (length bytes == 0)
+pub over_is : (bytes : List ℕ) → is_at_end (parts bytes) ≡ (length bytes == 0)
 over_is bytes = ap (λ (x : List ℕ). length x == 0) (join_with_byte-slice_split 10 bytes)
 
 pub too_many : (word w n : List ℕ) (xs : List (List ℕ)) → 0 < length xs → None ≡ count_in word (w ∷ n ∷ xs)

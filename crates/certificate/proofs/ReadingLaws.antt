@@ -10,12 +10,12 @@ use Rattle.std.proofs.lemmas.List.Elements.{All-append, All-from_recursion}
 use Rattle.std.proofs.lemmas.List.Splits.{slice_split_at, slice_split_none, join_with_byte-slice_split}
 use Rattle.certificate.specs.declared.version.CertVersion.{CertVersion}
 use Rattle.certificate.specs.declared.version.CertVersion.TheVariants.{First, Second}
-use Rattle.certificate.specs.Body.{Fail, Level, IsBodyText, HasSpelling, Body, Best, NoOrder, Cert}
-use Rattle.certificate.specs.Spelling.{fail_lines, count_line, head_text, head_line, level_lines, body_text, spelling}
+use Rattle.certificate.specs.Body.{Fail, CertLevelData, IsBodyText, HasSpelling, Body, Best, NoOrder, Cert}
+use Rattle.certificate.specs.Spelling.{fail_lines, count_line, head_text, head_line, level_spellings, body_text, spelling}
 use Rattle.lines.specs.Lines.{parts}
 use Rattle.lines.specs.Words.{words}
 use Rattle.certificate.specs.Words.{fail_in}
-use Rattle.certificate.specs.Lines.{◌>>=◌, At, line_from, certificate_in, count_in, end_at, members_at, levels_at, best_of, members_of, body_case, body_at, version_in, versioned, Gives}
+use Rattle.certificate.specs.Lines.{◌>>=◌, At, line_from, certificate_in, count_in, end_at, members_at, levels_at, best_of, members_read, body_case, body_at, version_in, versioned, Gives}
 use Rattle.certificate.specs.declared.fault.CertFault.{CertFault}
 use Rattle.certificate.specs.declared.fault.CertFault.TheVariants.{Trailing}
 use Rattle.certificate.proofs.FailLaws.{decimal_lacks}
@@ -31,18 +31,18 @@ counted word line rest m n e same =
 
 module _ (v : CertVersion) where
   best_takes : (n : ℕ) (a : At) (b : Body) → best_of v n a ≡ Ok b → n ≤ 32
-      → (ls : List Level) × (Best ls ≡ b) × (left a ≡ level_lines 1 ls ++ codes "end\n") × (length ls ≡ n) × IsBodyText v (Best ls)
+      → (ls : List CertLevelData) × (Best ls ≡ b) × (left a ≡ level_spellings 1 ls ++ codes "end\n") × (length ls ≡ n) × IsBodyText v (Best ls)
   unfolding best_of
   best_takes n a b e small =
       let l = bind_ok (levels_at v n 1 a) (λ ls. end_at ls.1 >>= λ end. Ok (Best ls.0)) b e in
       let o = bind_ok (end_at l.0.1) (λ end. Ok (Best l.0.0)) b l.2 in
       let t = levels_take v n 1 a l.0 l.1 in
       let ended : left l.0.1 ≡ codes "end\n" = end_takes l.0.1 o.1 in
-      (l.0.0, ok_is (Best l.0.0) b o.2, t.0 ∙ ap (λ (y : List ℕ). level_lines 1 l.0.0 ++ y) ended, t.1, (omega (arith, t.1), t.2))
+      (l.0.0, ok_is (Best l.0.0) b o.2, t.0 ∙ ap (λ (y : List ℕ). level_spellings 1 l.0.0 ++ y) ended, t.1, (omega (arith, t.1), t.2))
 
-  none_takes : (n : ℕ) (a : At) (b : Body) → members_of v n a ≡ Ok b → n ≤ 32
+  none_takes : (n : ℕ) (a : At) (b : Body) → members_read v n a ≡ Ok b → n ≤ 32
       → (ms : List Fail) × (NoOrder ms ≡ b) × (left a ≡ fail_lines (codes "member") ms ++ codes "end\n") × (length ms ≡ n) × IsBodyText v (NoOrder ms)
-  unfolding members_of
+  unfolding members_read
   none_takes n a b e small =
       let l = bind_ok (members_at v n a) (λ ms. end_at ms.1 >>= λ end. Ok (NoOrder ms.0)) b e in
       let o = bind_ok (end_at l.0.1) (λ end. Ok (NoOrder l.0.0)) b l.2 in
@@ -139,13 +139,13 @@ module _ (v : CertVersion) where
       let plain : All (λ x. (x == 10) ≡ false) (codes "end") = All-from_recursion (λ x. (x == 10) ≡ false) (codes "end") (refl, (refl, (refl, tt))) in
       no_failure v (codes "end") rest plain no_chain
 
-  best_again : (ls : List Level) (rest : List ℕ) (n : ℕ) → IsBodyText v (Best ls) → best_of v (length ls) (record { parts = parts (level_lines 1 ls ++ (codes "end\n" ++ rest)); line = n }) ≡ closed (length rest == 0) (Best ls)
+  best_again : (ls : List CertLevelData) (rest : List ℕ) (n : ℕ) → IsBodyText v (Best ls) → best_of v (length ls) (record { parts = parts (level_spellings 1 ls ++ (codes "end\n" ++ rest)); line = n }) ≡ closed (length rest == 0) (Best ls)
   unfolding best_of
   best_again ls rest n fits =
       rw (levels_again v ls (codes "end\n" ++ rest) 1 n (omega (arith, fits.0)) fits.1 (end_begins rest), end_again rest (line_after n ls)) (closed_bind (length rest == 0) tt (Best ls))
 
-  none_again : (ms : List Fail) (rest : List ℕ) (n : ℕ) → IsBodyText v (NoOrder ms) → members_of v (length ms) (record { parts = parts (fail_lines (codes "member") ms ++ (codes "end\n" ++ rest)); line = n }) ≡ closed (length rest == 0) (NoOrder ms)
-  unfolding members_of
+  none_again : (ms : List Fail) (rest : List ℕ) (n : ℕ) → IsBodyText v (NoOrder ms) → members_read v (length ms) (record { parts = parts (fail_lines (codes "member") ms ++ (codes "end\n" ++ rest)); line = n }) ≡ closed (length rest == 0) (NoOrder ms)
+  unfolding members_read
   none_again ms rest n fits =
       rw (members_again v ms (codes "end\n" ++ rest) n fits.1, end_again rest (n + length ms)) (closed_bind (length rest == 0) tt (NoOrder ms))
 
@@ -158,9 +158,9 @@ module _ (v : CertVersion) where
   pub body_again : (b : Body) (rest : List ℕ) (n : ℕ) → IsBodyText v b → body_at v (record { parts = parts (body_text b ++ rest); line = n }) ≡ closed (length rest == 0) b
   body_again (Best ls) rest n fits =
       let count : List ℕ = codes "best" ++ 32 ∷ decimal (length ls) in
-      ap (λ (y : List ℕ). body_at v (record { parts = parts y; line = n })) (regroup (codes "best") (decimal (length ls)) (level_lines 1 ls) rest)
-      ∙ counted_again count (level_lines 1 ls ++ (codes "end\n" ++ rest)) n (best_plain (length ls) fits.0)
-      ∙ ap (λ (o : Option ℕ). body_case v o (count_in (codes "none") (words count)) (record { parts = parts (level_lines 1 ls ++ (codes "end\n" ++ rest)); line = n + 1 })) (count_again (codes "best") (length ls) best_word fits.0)
+      ap (λ (y : List ℕ). body_at v (record { parts = parts y; line = n })) (regroup (codes "best") (decimal (length ls)) (level_spellings 1 ls) rest)
+      ∙ counted_again count (level_spellings 1 ls ++ (codes "end\n" ++ rest)) n (best_plain (length ls) fits.0)
+      ∙ ap (λ (o : Option ℕ). body_case v o (count_in (codes "none") (words count)) (record { parts = parts (level_spellings 1 ls ++ (codes "end\n" ++ rest)); line = n + 1 })) (count_again (codes "best") (length ls) best_word fits.0)
       ∙ best_again ls rest (n + 1) fits
   body_again (NoOrder ms) rest n fits =
       let count : List ℕ = codes "none" ++ 32 ∷ decimal (length ms) in

@@ -6,24 +6,24 @@ use Rattle.certificate.specs.declared.version.CertVersion.{CertVersion}
 use Rattle.certificate.specs.declared.version.CertVersion.TheVariants.{First, Second}
 
 -- why a task fails: numbers, or the name of a task above which it must stand
-pub data Reason : Type 0 where
-  Chain : (numbers : List ℕ) → Reason
-  Over : (other : List ℕ) → Reason
+pub data CertReasonData : Type 0 where
+  Chain : (numbers : List ℕ) → CertReasonData
+  Over : (other : List ℕ) → CertReasonData
 
 -- a task that fails, and why
 pub record Fail : Type 0 where
   pub name : List ℕ
-  pub reason : Reason
+  pub reason : CertReasonData
 
 -- a level's task, a time that covers its demand, and those that fail there
-pub record Level : Type 0 where
+pub record CertLevelData : Type 0 where
   pub name : List ℕ
   pub time : ℕ
   pub fails : List Fail
 
 -- what a certificate says: levels, or members
 pub data Body : Type 0 where
-  Best : List Level → Body
+  Best : List CertLevelData → Body
   NoOrder : List Fail → Body
 
 -- a certificate: its version, and what it says
@@ -38,7 +38,7 @@ abbrev pub IsShort : ℕ → Type 0
 IsShort n = n < 10 ^ 10
 
 -- numbers of at most ten digits, or, from version 2 on, a name
-abbrev pub IsReasonText : CertVersion → Reason → Type 0
+abbrev pub IsReasonText : CertVersion → CertReasonData → Type 0
 IsReasonText v (Chain numbers) = (0 < length numbers) × AllByRecursion IsShort numbers
 IsReasonText First (Over other) = ⊥
 IsReasonText Second (Over other) = IsName other
@@ -49,7 +49,7 @@ pub record IsFailText (v : CertVersion) (f : Fail) : Type 0 where
   pub reason : IsReasonText v f.reason
 
 -- a name, a number of at most ten digits, and failures that can be written
-pub record IsLevelText (v : CertVersion) (l : Level) : Type 0 where
+pub record IsLevelText (v : CertVersion) (l : CertLevelData) : Type 0 where
   pub name : IsName l.name
   pub short : IsShort l.time
   pub fails : AllByRecursion (IsFailText v) l.fails

@@ -4,11 +4,11 @@ use Rattle.task_sheet.specs.Sheet.{Task, task_at}
 use Rattle.task_sheet.specs.Verdicts as verdict
 use Rattle.task_sheet.specs.Verdicts.{ReasonData, FailureData, LevelData, VerdictData, Admitted, Infeasible}
 use Rattle.task_sheet.specs.Ready.{time_of}
-use Rattle.certificate.specs.Body.{Reason, Chain, Over, Fail, Level, Body, Best, NoOrder, Cert}
+use Rattle.certificate.specs.Body.{CertReasonData, Chain, Over, Fail, CertLevelData, Body, Best, NoOrder, Cert}
 use Rattle.certificate.specs.Versions.{version_for}
 
 -- a reason, by the other task's name
-abbrev pub reason_named : List Task → ReasonData → Reason
+abbrev pub reason_named : List Task → ReasonData → CertReasonData
 reason_named U (verdict.Chain numbers) = Chain numbers
 reason_named U (verdict.Over other) = Over (task_at U other).name
 
@@ -21,12 +21,12 @@ abbrev pub fails_named : List Task → List FailureData → List Fail
 fails_named U fails = map (fail_named U) fails
 
 -- a level, by its tasks' names
-abbrev pub level_named : List Task → LevelData → Level
+abbrev pub level_named : List Task → LevelData → CertLevelData
 level_named U l =
     record { name = (task_at U l.task).name; time = time_of U l; fails = fails_named U l.fails }
 
 -- levels, by their tasks' names
-abbrev pub levels_named : List Task → List LevelData → List Level
+abbrev pub levels_named : List Task → List LevelData → List CertLevelData
 levels_named U levels = map (level_named U) levels
 
 -- what the certificate of a verdict on a set says

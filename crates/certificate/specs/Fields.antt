@@ -8,5 +8,5 @@ abbrev pub cert_in : Inside → Cert
 cert_in a = record { version = a.version; body = body_of a.body }
 
 -- it has a spelling
-abbrev pub IsKept : Inside → Type 0
-IsKept a = HasSpelling (cert_in a)
+abbrev pub IsCertificateKept : Inside → Type 0
+IsCertificateKept a = HasSpelling (cert_in a)

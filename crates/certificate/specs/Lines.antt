@@ -2,13 +2,13 @@
 use Rattle.std.specs.Prelude.{◌≡◌, ℕ, zero, suc, ◌+◌, List, [], ◌∷◌, length, Bool, ◌&&◌, ◌==◌, nat_le, bytes_eq, Option, Some, None, Result, Ok, Err, if◌then◌else◌, codes}
 use Rattle.std.specs.List.{join_with_byte}
 use Rattle.task_sheet.specs.Name.{is_name}
-use Rattle.certificate.specs.Body.{Fail, Level, Body, Best, NoOrder, Cert}
+use Rattle.certificate.specs.Body.{Fail, CertLevelData, Body, Best, NoOrder, Cert}
 use Rattle.certificate.specs.Spelling.{head_text}
 use Rattle.certificate.specs.declared.version.CertVersion.{CertVersion}
 use Rattle.certificate.specs.declared.version.CertVersion.TheVariants.{First, Second}
 use Rattle.lines.specs.Lines.{parts}
 use Rattle.lines.specs.Words.{words, number_in}
-use Rattle.lines.specs.declared.place.Place.{Place}
+use Rattle.lines.specs.declared.place.TextPlace.{TextPlace}
 use Rattle.certificate.specs.Words.{fail_in}
 use Rattle.certificate.specs.declared.fault.CertFault.{CertFault}
 use Rattle.certificate.specs.declared.fault.CertFault.TheVariants.{BadHead, BadLine, Truncated, Trailing, OutOfMemory}
@@ -19,7 +19,7 @@ pub record At : Type 0 where
   pub line : ℕ
 
 -- what is left to read, and the number of the last line
-abbrev pub at_place : Place → At
+abbrev pub at_place : TextPlace → At
 at_place p = record { parts = parts p.rest.now; line = p.line }
 
 infixl 10 ◌>>=◌
@@ -70,14 +70,14 @@ members_at v (suc n) a = do
   Ok (first.0 ∷ others.0, others.1)
 
 -- no byte is left
-abbrev pub is_over : List (List ℕ) → Bool
-is_over xs = length (join_with_byte 10 xs) == 0
+abbrev pub is_at_end : List (List ℕ) → Bool
+is_at_end xs = length (join_with_byte 10 xs) == 0
 
 -- the last line, and nothing behind it
 unfoldable pub end_at : At → Result (Unit {0}) CertFault
 end_at a = do
   x ← line_at a
-  if bytes_eq x.0 (codes "end") then (if is_over x.1.parts then Ok tt else Err Trailing)
+  if bytes_eq x.0 (codes "end") then (if is_at_end x.1.parts then Ok tt else Err Trailing)
       else Err (BadLine a.line)
 
 -- the number, if it is at most 32
@@ -98,10 +98,10 @@ count_in word (w ∷ n ∷ x ∷ xs) = None
 
 -- ---- levels
 -- the name and the time of level k, where the number is k, the name is one and the time is a number
-abbrev pub level_of : ℕ → List ℕ → Option ℕ → Option ℕ → Option (List ℕ × ℕ)
-level_of k name None time = None
-level_of k name (Some m) None = None
-level_of k name (Some m) (Some n) = if (m == k) && is_name name then Some (name, n) else None
+abbrev pub level_head : ℕ → List ℕ → Option ℕ → Option ℕ → Option (List ℕ × ℕ)
+level_head k name None time = None
+level_head k name (Some m) None = None
+level_head k name (Some m) (Some n) = if (m == k) && is_name name then Some (name, n) else None
 
 -- the word, the level's number, a name, and a number
 abbrev pub level_in : ℕ → List (List ℕ) → Option (List ℕ × ℕ)
@@ -110,7 +110,7 @@ level_in k (w ∷ []) = None
 level_in k (w ∷ m ∷ []) = None
 level_in k (w ∷ m ∷ name ∷ []) = None
 level_in k (w ∷ m ∷ name ∷ n ∷ []) =
-    if bytes_eq w (codes "level") then level_of k name (number_in m) (number_in n) else None
+    if bytes_eq w (codes "level") then level_head k name (number_in m) (number_in n) else None
 level_in k (w ∷ m ∷ name ∷ n ∷ x ∷ xs) = None
 
 -- one failure more, or the end of them
@@ -127,17 +127,17 @@ fails_from v (l ∷ x ∷ xs) line =
     (record { parts = l ∷ x ∷ xs; line = line }) (fails_from v (x ∷ xs) (line + 1))
 
 -- the next lines as level k with its failures
-unfoldable pub level_at : CertVersion → ℕ → At → Result (Level × At) CertFault
-level_at v k a = do
+unfoldable pub level_read : CertVersion → ℕ → At → Result (CertLevelData × At) CertFault
+level_read v k a = do
   x ← line_at a
   h ← wanted a.line (level_in k (words x.0))
   Ok (record { name = h.0; time = h.1; fails = (fails_from v x.1.parts x.1.line).0 }, (fails_from v x.1.parts x.1.line).1)
 
 -- n levels, of which the first has the number k
-unfoldable pub levels_at : CertVersion → ℕ → ℕ → At → Result (List Level × At) CertFault
+unfoldable pub levels_at : CertVersion → ℕ → ℕ → At → Result (List CertLevelData × At) CertFault
 levels_at v zero k a = Ok ([], a)
 levels_at v (suc n) k a = do
-  first ← level_at v k a
+  first ← level_read v k a
   others ← levels_at v n (k + 1) first.1
   Ok (first.0 ∷ others.0, others.1)
 
@@ -149,8 +149,8 @@ best_of v n a = do
   Ok (Best ls.0)
 
 -- the next lines as n members
-unfoldable pub members_of : CertVersion → ℕ → At → Result Body CertFault
-members_of v n a = do
+unfoldable pub members_read : CertVersion → ℕ → At → Result Body CertFault
+members_read v n a = do
   ms ← members_at v n a
   end ← end_at ms.1
   Ok (NoOrder ms.0)
@@ -158,7 +158,7 @@ members_of v n a = do
 -- the rest as levels or as members, by the count that was read
 abbrev pub body_case : CertVersion → Option ℕ → Option ℕ → At → Result Body CertFault
 body_case v (Some n) other a = best_of v n a
-body_case v None (Some n) a = members_of v n a
+body_case v None (Some n) a = members_read v n a
 body_case v None None a = Err (BadLine 2)
 
 -- what follows the first line

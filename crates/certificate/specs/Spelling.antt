@@ -2,7 +2,7 @@
 use Rattle.std.specs.Prelude.{ℕ, ◌+◌, List, [], ◌∷◌, ◌++◌, length, codes}
 use Rattle.std.specs.List.{flat_map}
 use Rattle.std.specs.Fmt.{decimal}
-use Rattle.certificate.specs.Body.{Reason, Chain, Over, Fail, Level, Body, Best, NoOrder, Cert}
+use Rattle.certificate.specs.Body.{CertReasonData, Chain, Over, Fail, CertLevelData, Body, Best, NoOrder, Cert}
 use Rattle.certificate.specs.declared.version.CertVersion.{CertVersion}
 use Rattle.certificate.specs.declared.version.CertVersion.TheVariants.{First, Second}
 
@@ -11,7 +11,7 @@ abbrev pub numbers_text : List ℕ → List ℕ
 numbers_text ns = flat_map (λ n. 32 ∷ decimal n) ns
 
 -- a reason behind a name: its numbers, or `over` and the other task's name
-abbrev pub reason_text : Reason → List ℕ
+abbrev pub reason_text : CertReasonData → List ℕ
 reason_text (Chain numbers) = numbers_text numbers
 reason_text (Over other) = codes " over " ++ other
 
@@ -24,14 +24,14 @@ abbrev pub fail_lines : List ℕ → List Fail → List ℕ
 fail_lines word fs = flat_map (fail_line word) fs
 
 -- the line of level k
-abbrev pub level_line : ℕ → Level → List ℕ
-level_line k l = codes "level " ++ decimal k ++ 32 ∷ l.name ++ 32 ∷ decimal l.time ++ 10 ∷ []
+abbrev pub level_spelling : ℕ → CertLevelData → List ℕ
+level_spelling k l = codes "level " ++ decimal k ++ 32 ∷ l.name ++ 32 ∷ decimal l.time ++ 10 ∷ []
 
 -- the levels from k up
-abbrev pub level_lines : ℕ → List Level → List ℕ
-level_lines k [] = []
-level_lines k (l ∷ ls) =
-    level_line k l ++ (fail_lines (codes "fails") l.fails ++ level_lines (k + 1) ls)
+abbrev pub level_spellings : ℕ → List CertLevelData → List ℕ
+level_spellings k [] = []
+level_spellings k (l ∷ ls) =
+    level_spelling k l ++ (fail_lines (codes "fails") l.fails ++ level_spellings (k + 1) ls)
 
 -- the first line without its end
 abbrev pub head_text : CertVersion → List ℕ
@@ -49,7 +49,7 @@ count_line word n = word ++ 32 ∷ decimal n ++ 10 ∷ []
 -- what follows the first line
 abbrev pub body_text : Body → List ℕ
 body_text (Best levels) =
-    count_line (codes "best") (length levels) ++ (level_lines 1 levels ++ codes "end\n")
+    count_line (codes "best") (length levels) ++ (level_spellings 1 levels ++ codes "end\n")
 body_text (NoOrder members) =
     count_line (codes "none") (length members)
     ++ (fail_lines (codes "member") members ++ codes "end\n")

@@ -4,8 +4,8 @@ use Rattle.std.specs.Option.{option_or}
 use Rattle.std.specs.Global.{Vec}
 use Rattle.task_sheet.specs.Name.{is_name}
 use Rattle.lines.specs.Words.{number_in}
-use Rattle.certificate.specs.Body.{Reason, Chain, Over, Fail}
-use Rattle.certificate.specs.ReasonOf.{reason_of}
+use Rattle.certificate.specs.Body.{CertReasonData, Chain, Over, Fail}
+use Rattle.certificate.specs.ReasonOf.{reason_seen}
 use Rattle.certificate.specs.declared.value.CertReason.{CertReason}
 use Rattle.certificate.specs.declared.version.CertVersion.{CertVersion}
 use Rattle.certificate.specs.declared.version.CertVersion.TheVariants.{First, Second}
@@ -25,7 +25,7 @@ numbers_in (w ∷ ws) = do
   Some (n ∷ ns)
 
 -- the word `over` and a name
-abbrev pub over_in : List (List ℕ) → Option Reason
+abbrev pub over_in : List (List ℕ) → Option CertReasonData
 over_in [] = None
 over_in (w ∷ []) = None
 over_in (w ∷ name ∷ []) =
@@ -33,12 +33,12 @@ over_in (w ∷ name ∷ []) =
 over_in (w ∷ name ∷ x ∷ xs) = None
 
 -- the same, from version 2 on
-abbrev pub later_in : CertVersion → List (List ℕ) → Option Reason
+abbrev pub later_in : CertVersion → List (List ℕ) → Option CertReasonData
 later_in First ws = None
 later_in Second ws = over_in ws
 
 -- numbers, or what a later version allows in their place
-unfoldable pub reason_in : CertVersion → List (List ℕ) → Option Reason
+unfoldable pub reason_in : CertVersion → List (List ℕ) → Option CertReasonData
 reason_in v ws = option_or (option_map Chain (numbers_in ws)) (later_in v ws)
 
 -- the word, a name, and a reason
@@ -56,11 +56,11 @@ found None = None
 found (Some v) = Some v.items
 
 -- these, and then the numbers that are found, if all are numbers
-abbrev pub before : List ℕ → Option (List ℕ) → Option (List ℕ)
-before front None = None
-before front (Some ns) = Some (front ++ ns)
+abbrev pub numbers_before : List ℕ → Option (List ℕ) → Option (List ℕ)
+numbers_before front None = None
+numbers_before front (Some ns) = Some (front ++ ns)
 
 -- what a reason says, if there is one
-abbrev pub told : Option CertReason → Option Reason
-told None = None
-told (Some r) = Some (reason_of r)
+abbrev pub reason_told : Option CertReason → Option CertReasonData
+reason_told None = None
+reason_told (Some r) = Some (reason_seen r)

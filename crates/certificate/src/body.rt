@@ -2,14 +2,14 @@
 ghost use Rattle.std.specs.Prelude.{◌≡◌, ◌≤◌, ℕ, Option, Ok};
 ghost use Rattle.certificate.specs.Body.{Body, Cert};
 ghost use Rattle.certificate.specs.BodyOf.{body_of};
-ghost use Rattle.certificate.specs.Lines.{Gives, at_place, best_of, members_of, body_case, body_at, version_in, certificate_in};
+ghost use Rattle.certificate.specs.Lines.{Gives, at_place, best_of, members_read, body_case, body_at, version_in, certificate_in};
 
 use crate::fault::CertFault;
 use crate::levels::levels;
 use crate::reading::{count_of, end, is_word, members, next_line};
 use crate::value::{CertFail, CertLevel};
 use crate::version::CertVersion;
-use lines::Place;
+use lines::TextPlace;
 use std::alloc::Global;
 
 /// What a certificate says.
@@ -27,7 +27,7 @@ fn best_of<'a>(
     alloc: Global,
     version: CertVersion,
     count: u64,
-    at: Place<'a>,
+    at: TextPlace<'a>,
 ) -> Result<CertBody, CertFault>
     requires { count ≤ 32 }
     ensures { Gives body_of result (best_of version count (at_place at.entry)) }
@@ -38,14 +38,14 @@ fn best_of<'a>(
 }
 
 // The rest as members, and the last line.
-#[tactic(auto, unfolding(crate::specs::Lines::members_of))]
+#[tactic(auto, unfolding(crate::specs::Lines::members_read))]
 fn members_of<'a>(
     alloc: Global,
     version: CertVersion,
     count: u64,
-    at: Place<'a>,
+    at: TextPlace<'a>,
 ) -> Result<CertBody, CertFault>
-    ensures { Gives body_of result (members_of version count (at_place at.entry)) }
+    ensures { Gives body_of result (members_read version count (at_place at.entry)) }
 {
     let (members, after) = members(alloc, version, count, at)?;
     end(after)?;
@@ -54,7 +54,11 @@ fn members_of<'a>(
 
 // What follows the first line.
 #[tactic(auto, unfolding(crate::specs::Lines::body_at))]
-fn body_at<'a>(alloc: Global, version: CertVersion, at: Place<'a>) -> Result<CertBody, CertFault>
+fn body_at<'a>(
+    alloc: Global,
+    version: CertVersion,
+    at: TextPlace<'a>,
+) -> Result<CertBody, CertFault>
     ensures { Gives body_of result (body_at version (at_place at.entry)) }
 {
     let (second, after) = next_line(at)?;
@@ -86,7 +90,7 @@ pub fn certificate_in(alloc: Global, bytes: &[u8]) -> Result<(CertVersion, CertB
     ensures { Gives (λ x. let c : Cert = record { version = x.0; body = body_of x.1 } in c)
         result (certificate_in bytes.now) }
 {
-    let (head, after) = next_line(Place::start(bytes))?;
+    let (head, after) = next_line(TextPlace::start(bytes))?;
     let Some(version) = version_in(head) else {
         return Err(CertFault::BadHead);
     };

@@ -4,7 +4,7 @@ ghost use Rattle.std.specs.Io.KnownBytes.{Appends};
 ghost use Rattle.certificate.specs.Body.{Cert, HasSpelling};
 ghost use Rattle.certificate.specs.BodyOf.{body_of};
 ghost use Rattle.certificate.specs.CertificateOf.{certificate_of};
-ghost use Rattle.assignment.specs.Verdict.{set_of, verdict_of};
+ghost use Rattle.assignment.specs.Verdict.{verdict_set, verdict_of};
 ghost use Rattle.certificate.specs.Spelling.{spelling};
 ghost use Rattle.certificate.specs.Lines.{Gives, certificate_in};
 
@@ -31,18 +31,18 @@ impl Model for Certificate {
 
     ghost Value = { Cert };
 
-    ghost use Rattle.certificate.specs.Fields.{cert_in, IsKept};
+    ghost use Rattle.certificate.specs.Fields.{cert_in, IsCertificateKept};
 
     ghost view = { cert_in };
 
-    ghost invariant = { IsKept };
+    ghost invariant = { IsCertificateKept };
 }
 
 impl Certificate {
     /// The certificate of a verdict: its numbers and reasons, with the names of the tasks, of the version that serves the
     /// set. The error is want of memory.
     pub fn of(alloc: Global, verdict: &Verdict) -> Result<Certificate, AllocError>
-        ensures { IfOk result (λ c. c ≡ certificate_of (set_of verdict.now)
+        ensures { IfOk result (λ c. c ≡ certificate_of (verdict_set verdict.now)
             (verdict_of verdict.now)) }
     {
         let set = verdict.set();

@@ -1,15 +1,15 @@
 //! Reading levels.
 ghost use Rattle.std.specs.Prelude.{◌≡◌, ◌+◌, ◌<◌, ◌≤◌, ◌^◌, ℕ, Ok, IfOk, length};
-ghost use Rattle.certificate.specs.Body.{Fail, Level, Body};
+ghost use Rattle.certificate.specs.Body.{Fail, CertLevelData, Body};
 ghost use Rattle.lines.specs.Words.{words};
-ghost use Rattle.certificate.specs.Lines.{Gives, at_place, level_in, level_of, fails_from, level_at, levels_at};
+ghost use Rattle.certificate.specs.Lines.{Gives, at_place, level_in, level_head, fails_from, level_read, levels_at};
 
 use crate::fault::CertFault;
 use crate::reading::{is_word, next_line};
 use crate::value::{CertFail, CertLevel};
 use crate::version::CertVersion;
 use crate::words::fail_of;
-use lines::{Place, complete_line, cut, number_of};
+use lines::{TextPlace, complete_line, cut, number_of};
 use std::alloc::{AllocError, Global};
 use task_sheet::Name;
 
@@ -17,8 +17,8 @@ use task_sheet::Name;
 fn fails<'a>(
     alloc: Global,
     version: CertVersion,
-    at: Place<'a>,
-) -> Result<(Vec<CertFail>, Place<'a>), AllocError>
+    at: TextPlace<'a>,
+) -> Result<(Vec<CertFail>, TextPlace<'a>), AllocError>
     ensures { IfOk result (λ x. (x.0.items, at_place x.1)
         ≡ fails_from version (at_place at.entry).parts at.entry.line) }
 {
@@ -38,7 +38,7 @@ fn fails<'a>(
 
 // The name and the time of level `k`, where the number is `k` and the name is one.
 fn level_of(k: u64, name: &[u8], number: Option<u64>, time: Option<u64>) -> Option<(Name, u64)>
-    ensures { result ≡ level_of k name.now number time }
+    ensures { result ≡ level_head k name.now number time }
 {
     match (number, time) {
         (Some(number), Some(time)) if number == k => match Name::read(name) {
@@ -64,14 +64,14 @@ fn level_in(k: u64, line: &[u8]) -> Option<(Name, u64)>
 }
 
 // The next lines as level `k` with its failures, and the place behind them.
-#[tactic(auto, unfolding(crate::specs::Lines::level_at))]
+#[tactic(auto, unfolding(crate::specs::Lines::level_read))]
 fn level<'a>(
     alloc: Global,
     version: CertVersion,
     k: u64,
-    at: Place<'a>,
-) -> Result<(CertLevel, Place<'a>), CertFault>
-    ensures { Gives (λ x. (x.0, at_place x.1)) result (level_at version k (at_place at.entry)) }
+    at: TextPlace<'a>,
+) -> Result<(CertLevel, TextPlace<'a>), CertFault>
+    ensures { Gives (λ x. (x.0, at_place x.1)) result (level_read version k (at_place at.entry)) }
 {
     let (line, after) = next_line(at)?;
     let Some((name, t)) = level_in(k, line) else {
@@ -86,8 +86,8 @@ pub fn levels<'a>(
     alloc: Global,
     version: CertVersion,
     count: u64,
-    at: Place<'a>,
-) -> Result<(Vec<CertLevel>, Place<'a>), CertFault>
+    at: TextPlace<'a>,
+) -> Result<(Vec<CertLevel>, TextPlace<'a>), CertFault>
     requires { count ≤ 32 }
     ensures { Gives (λ x. (x.0.items, at_place x.1)) result
         (levels_at version count 1 (at_place at.entry)) }

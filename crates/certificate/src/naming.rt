@@ -3,7 +3,7 @@ ghost use Rattle.std.specs.Prelude.{◌≡◌, ◌<◌, length, All, IfOk};
 ghost use Rattle.task_sheet.specs.Verdicts.{FailureData};
 ghost use Rattle.assignment.specs.Outcomes.{reason_of};
 ghost use Rattle.certificate.specs.ReasonOf as cert;
-ghost use Rattle.assignment.specs.Verdict.{set_of, verdict_of};
+ghost use Rattle.assignment.specs.Verdict.{verdict_set, verdict_of};
 ghost use Rattle.certificate.specs.BodyOf.{body_of};
 ghost use Rattle.certificate.specs.CertificateOf.{reason_named, fail_named, fails_named, level_named, levels_named, body_named, IsKnownReason, IsKnownFail, IsKnownLevel};
 
@@ -16,7 +16,7 @@ use task_sheet::TaskSet;
 // A reason, with the name of the other task.
 fn reason_named(alloc: Global, set: &TaskSet, reason: &Reason) -> Result<CertReason, AllocError>
     requires { IsKnownReason (length set.now) (reason_of reason.now) }
-    ensures { IfOk result (λ r. cert.reason_of r ≡ reason_named set.now (reason_of reason.now)) }
+    ensures { IfOk result (λ r. cert.reason_seen r ≡ reason_named set.now (reason_of reason.now)) }
 {
     match reason {
         Reason::Chain(numbers) => Ok(CertReason::Chain(Vec::from_slice(alloc, numbers)?)),
@@ -105,7 +105,7 @@ fn stuck_named(alloc: Global, stuck: &Obstruction) -> Result<Vec<CertFail>, Allo
 /// What the certificate of a verdict says.
 pub fn body_of(alloc: Global, verdict: &Verdict) -> Result<CertBody, AllocError>
     ensures { IfOk result (λ body. body_of body
-        ≡ body_named (set_of verdict.now) (verdict_of verdict.now)) }
+        ≡ body_named (verdict_set verdict.now) (verdict_of verdict.now)) }
 {
     match verdict {
         Verdict::Admitted(best) => Ok(CertBody::Best(best_named(alloc, best)?)),

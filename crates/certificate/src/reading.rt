@@ -8,11 +8,11 @@ use crate::fault::CertFault;
 use crate::value::CertFail;
 use crate::version::CertVersion;
 use crate::words::fail_of;
-use lines::{Place, complete_line, cut, number_of};
+use lines::{TextPlace, complete_line, cut, number_of};
 use std::alloc::Global;
 
 /// The next complete line, and the place behind it; `Truncated` where there is none.
-pub fn next_line<'a>(at: Place<'a>) -> Result<(&'a [u8], Place<'a>), CertFault>
+pub fn next_line<'a>(at: TextPlace<'a>) -> Result<(&'a [u8], TextPlace<'a>), CertFault>
     ensures line { Gives (λ x. (x.0.now, at_place x.1)) result (line_at (at_place at.entry)) }
     ensures less { IfOk result (λ x. length x.1.rest.now < length at.entry.rest.now) }
 {
@@ -24,8 +24,8 @@ pub fn next_line<'a>(at: Place<'a>) -> Result<(&'a [u8], Place<'a>), CertFault>
 fn member<'a>(
     alloc: Global,
     version: CertVersion,
-    at: Place<'a>,
-) -> Result<(CertFail, Place<'a>), CertFault>
+    at: TextPlace<'a>,
+) -> Result<(CertFail, TextPlace<'a>), CertFault>
     ensures { Gives (λ x. (x.0, at_place x.1)) result (member_at version (at_place at.entry)) }
 {
     let (line, after) = next_line(at)?;
@@ -40,8 +40,8 @@ pub fn members<'a>(
     alloc: Global,
     version: CertVersion,
     count: u64,
-    at: Place<'a>,
-) -> Result<(Vec<CertFail>, Place<'a>), CertFault>
+    at: TextPlace<'a>,
+) -> Result<(Vec<CertFail>, TextPlace<'a>), CertFault>
     ensures { Gives (λ x. (x.0.items, at_place x.1)) result
         (members_at version count (at_place at.entry)) }
 {
@@ -57,7 +57,7 @@ pub fn members<'a>(
 
 /// The last line is next, and nothing follows it: else `Truncated`, `BadLine` or `Trailing`.
 #[tactic(auto, using(crate::proofs::MemberLoops::over_is), unfolding(crate::specs::Lines::end_at))]
-pub fn end<'a>(at: Place<'a>) -> Result<(), CertFault>
+pub fn end<'a>(at: TextPlace<'a>) -> Result<(), CertFault>
     ensures { Gives (λ x. x) result (end_at (at_place at.entry)) }
 {
     let (line, after) = next_line(at)?;

@@ -21,11 +21,11 @@ pub struct CertFail {
 
 impl Model for CertFail {
     ghost use Rattle.certificate.specs.Body.{Fail};
-    ghost use Rattle.certificate.specs.ReasonOf.{reason_of};
+    ghost use Rattle.certificate.specs.ReasonOf.{reason_seen};
 
     ghost Value = { Fail };
 
-    ghost view = { λ f. record { name = f.name; reason = reason_of f.reason } };
+    ghost view = { λ f. record { name = f.name; reason = reason_seen f.reason } };
 }
 
 /// A level's task, a time that covers its demand, and the tasks that fail there.
@@ -38,9 +38,9 @@ pub struct CertLevel {
 }
 
 impl Model for CertLevel {
-    ghost use Rattle.certificate.specs.Body.{Level};
+    ghost use Rattle.certificate.specs.Body.{CertLevelData};
 
-    ghost Value = { Level };
+    ghost Value = { CertLevelData };
 
     ghost view = { λ l. record { name = l.name; time = l.t; fails = l.fails.items } };
 }

@@ -1,7 +1,7 @@
 //! The words of a line with a failure.
 ghost use Rattle.std.specs.Prelude.{◌≡◌, IfOk, option_map};
 ghost use Rattle.lines.specs.Words.{words};
-ghost use Rattle.certificate.specs.Words.{numbers_in, over_in, later_in, reason_in, fail_in, found, told};
+ghost use Rattle.certificate.specs.Words.{numbers_in, over_in, later_in, reason_in, fail_in, found, reason_told};
 
 use crate::reading::is_word;
 use crate::value::{CertFail, CertReason};
@@ -32,7 +32,7 @@ pub fn numbers_of(alloc: Global, text: &[u8]) -> Result<Option<Vec<u64>>, AllocE
 
 // The reason of the word `over` and a name.
 fn over_of(text: &[u8]) -> Option<CertReason>
-    ensures { told result ≡ over_in (words text.now) }
+    ensures { reason_told result ≡ over_in (words text.now) }
 {
     let (word, rest) = cut(text, b' ')?;
     match cut(rest, b' ') {
@@ -47,7 +47,7 @@ fn over_of(text: &[u8]) -> Option<CertReason>
 
 // The reason that a later version than the first allows.
 fn later_of(version: CertVersion, text: &[u8]) -> Option<CertReason>
-    ensures { told result ≡ later_in version (words text.now) }
+    ensures { reason_told result ≡ later_in version (words text.now) }
 {
     match version {
         CertVersion::First => None,
@@ -62,7 +62,7 @@ fn reason_of(
     version: CertVersion,
     text: &[u8],
 ) -> Result<Option<CertReason>, AllocError>
-    ensures { IfOk result (λ o. told o ≡ reason_in version (words text.now)) }
+    ensures { IfOk result (λ o. reason_told o ≡ reason_in version (words text.now)) }
 {
     match numbers_of(alloc, text)? {
         Some(numbers) => Ok(Some(CertReason::Chain(numbers))),

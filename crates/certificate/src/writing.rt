@@ -1,11 +1,11 @@
 //! Writing, piece after piece, through bytes that are held back.
 ghost use Rattle.std.specs.Prelude.{◌++◌, ◌∷◌, [], length, codes};
 ghost use Rattle.std.specs.Fmt.{decimal};
-ghost use Rattle.certificate.specs.Body.{Fail, Level, Body};
+ghost use Rattle.certificate.specs.Body.{Fail, CertLevelData, Body};
 ghost use Rattle.certificate.specs.Body.{Cert};
-ghost use Rattle.certificate.specs.ReasonOf.{reason_of};
+ghost use Rattle.certificate.specs.ReasonOf.{reason_seen};
 ghost use Rattle.certificate.specs.BodyOf.{body_of};
-ghost use Rattle.certificate.specs.Spelling.{numbers_text, reason_text, fail_line, fail_lines, level_line, level_lines, head_line, count_line, body_text, spelling};
+ghost use Rattle.certificate.specs.Spelling.{numbers_text, reason_text, fail_line, fail_lines, level_spelling, level_spellings, head_line, count_line, body_text, spelling};
 ghost use Rattle.streams.specs.Sending.{Writes};
 
 use crate::body::CertBody;
@@ -61,7 +61,7 @@ fn put_reason<W: Write + Drop>(
     out: &mut Watched<W>,
 ) -> Result<(), WriteFailed>
     ensures { Writes W.contents out.old held.old out.new held.new result
-        (reason_text (reason_of reason.now)) }
+        (reason_text (reason_seen reason.now)) }
 {
     match reason {
         CertReason::Chain(numbers) => put_numbers(numbers, held, out),
@@ -128,7 +128,7 @@ fn put_level<W: Write + Drop>(
     held: &mut Held,
     out: &mut Watched<W>,
 ) -> Result<(), WriteFailed>
-    ensures { Writes W.contents out.old held.old out.new held.new result (level_line k level.now) }
+    ensures { Writes W.contents out.old held.old out.new held.new result (level_spelling k level.now) }
 {
     put_text(b"level ", held, out)?;
     put_number(k, held, out)?;
@@ -143,7 +143,7 @@ fn put_levels<W: Write + Drop>(
     out: &mut Watched<W>,
 ) -> Result<(), WriteFailed>
     ensures { Writes W.contents out.old held.old out.new held.new result
-        (level_lines 1 levels.now) }
+        (level_spellings 1 levels.now) }
 {
     for (i, level) in levels.iter().enumerate() {
         put_level((i + 1) as u64, level, held, out)?;
@@ -160,7 +160,7 @@ fn put_best<W: Write + Drop>(
 ) -> Result<(), WriteFailed>
     ensures { Writes W.contents out.old held.old out.new held.new result
         (count_line (codes "best") (length levels.now)
-        ++ (level_lines 1 levels.now ++ codes "end\n")) }
+        ++ (level_spellings 1 levels.now ++ codes "end\n")) }
 {
     put_line(b"best", levels.len() as u64, held, out)?;
     put_levels(levels, held, out)?;

@@ -19,7 +19,7 @@ use Rattle.clap.specs.declared.error.kind.ErrorKind.{ErrorKind}
 use Rattle.clap.specs.declared.parser.matches.ValueSource.TheVariants.{CommandLine}
 use Rattle.clap.proofs.ValueTestLemmas.{accepts-Accepts}
 use Rattle.command_line.specs.App.{app_of_number, desk_app, input_rule, number_rule, preference_rule}
-use Rattle.command_line.specs.Commands.{input_of_number, least_of, most_of, number_of}
+use Rattle.command_line.specs.Commands.{input_of_number, least_of, most_of, number_name}
 use Rattle.command_line.specs.declared.calls.OfNumber.{OfNumber}
 use Rattle.command_line.specs.declared.calls.OfNumber.TheVariants.{Releases, Rush}
 use Rattle.command_line.specs.Calls.{TakesNumber}
@@ -38,7 +38,7 @@ record Says (c : OfNumber) (values : List Text) (how : Reading) : Type 0 where
 
 module _ (c : OfNumber) where
   abbrev id : Text
-  id = number_of c
+  id = number_name c
 
   -- a row of the number says it
   abbrev SaysIf : Row → Type 0
@@ -109,7 +109,7 @@ module _ (c : OfNumber) where
   first_rule = with_index 1 (filled (input_rule (input_of_number c)))
 
   abbrev second_rule : Rule
-  second_rule = with_index 2 (filled (number_rule (number_of c) (least_of c) (most_of c)))
+  second_rule = with_index 2 (filled (number_rule (number_name c) (least_of c) (most_of c)))
 
   abbrev third_rule : Rule
   third_rule = with_index 3 (filled help_rule)
@@ -118,11 +118,11 @@ is_accepted : (b : Bool) (k : ErrorKind) → (if b then [] else k ∷ []) ≡ []
 is_accepted true k e = refl
 is_accepted false k e = cc
 
-other_name : (c : OfNumber) → bytes_eq (input_of_number c) (number_of c) ≡ true → ⊥
+other_name : (c : OfNumber) → bytes_eq (input_of_number c) (number_name c) ≡ true → ⊥
 other_name Releases same = cc
 other_name Rush same = cc
 
-no_preference : (c : OfNumber) → bytes_eq (codes "prefer") (number_of c) ≡ true → ⊥
+no_preference : (c : OfNumber) → bytes_eq (codes "prefer") (number_name c) ≡ true → ⊥
 no_preference Releases same = cc
 no_preference Rush same = cc
 
@@ -135,10 +135,10 @@ keeps_second c [] rows fine all = cc
 keeps_second c (v ∷ vs) rows fine all =
     let parser = vp.Unsigned (least_of c) (most_of c) in
     let used = second_empty (range_kinds 1 1 (length (v ∷ vs))) _ fine in
-    let passed = second_empty (repeat_fault false (number_of c) rows) _ used in
+    let passed = second_empty (repeat_fault false (number_name c) rows) _ used in
     let one = first_empty (value_kinds false parser v) _ passed in
     let accepted = is_accepted (accepts false parser v) _ one in
-    set_says c (number_of c) AsWritten (v ∷ vs)
+    set_says c (number_name c) AsWritten (v ∷ vs)
     (λ same. record { first = v; more = vs; are = refl; number = accepts-Accepts false parser v accepted; written = refl }) rows all
 
 keeps_preference : (c : OfNumber) → Keeps false (AllSay c) (filled preference_rule)

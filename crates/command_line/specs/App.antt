@@ -3,7 +3,7 @@ use Rattle.std.specs.Prelude.{ℕ, List, [], ◌∷◌, Some, codes, true, if◌
 use Rattle.clap.specs.Words.{App, Rule, Text, new_app, new_rule, with_rule, with_subcommand}
 use Rattle.clap.specs.declared.builder.ArgAction.TheVariants.{Set}
 use Rattle.clap.specs.declared.builder.value_parser.ValueParser.TheVariants.{Unsigned}
-use Rattle.command_line.specs.Commands.{input_of, input_of_number, least_of, most_of, number_of, second_of, takes_preference, word_of_number, word_of_one, word_of_two}
+use Rattle.command_line.specs.Commands.{input_of, input_of_number, least_of, most_of, number_name, second_of, takes_preference, word_of_number, word_of_one, word_of_two}
 use Rattle.command_line.specs.declared.calls.OfOne.{OfOne}
 use Rattle.command_line.specs.declared.calls.OfOne.TheVariants.{Admit, Certify, Headroom, Settings, Explain, Play}
 use Rattle.command_line.specs.declared.calls.OfTwo.{OfTwo}
@@ -44,7 +44,7 @@ app_of_two c = with_rule (input_app (word_of_two c) (codes "SET")) (input_rule (
 abbrev pub app_of_number : OfNumber → App
 app_of_number c =
     with_rule (input_app (word_of_number c) (input_of_number c))
-    (number_rule (number_of c) (least_of c) (most_of c))
+    (number_rule (number_name c) (least_of c) (most_of c))
 
 -- the program has a version, the words are all arguments, and one of them names a command
 abbrev pub made_bare : App → App

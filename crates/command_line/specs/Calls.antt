@@ -3,7 +3,7 @@ use Rattle.std.specs.Prelude.{◌≡◌, ◌≢◌, ◌⊎◌, ◌≤◌, ℕ, L
 use Rattle.std.specs.Str.Parse.{digits_value, without_leading_plus}
 use Rattle.clap.specs.Words.{HasKind, IsUnsignedIn, Row, Text, fault_of, first_of, one_of, subcommand_of}
 use Rattle.command_line.specs.App.{desk_app}
-use Rattle.command_line.specs.Commands.{input_of, input_of_number, least_of, most_of, number_of, second_of, word_of_number, word_of_one, word_of_two}
+use Rattle.command_line.specs.Commands.{input_of, input_of_number, least_of, most_of, number_name, second_of, word_of_number, word_of_one, word_of_two}
 use Rattle.command_line.specs.declared.calls.Input.{Input}
 use Rattle.command_line.specs.declared.calls.Input.TheVariants.{Standard, File}
 use Rattle.command_line.specs.declared.calls.OfOne.{OfOne}
@@ -31,8 +31,8 @@ Counts c (Some text) number =
 -- the words of the command say a number, and `clap` gives it as it was written
 abbrev pub TakesNumber : OfNumber → List Row → Type 0
 TakesNumber c rows =
-    (text : Text) × (first_of (number_of c) rows ≡ Some text)
-    × (one_of (number_of c) rows ≡ Some text)
+    (text : Text) × (first_of (number_name c) rows ≡ Some text)
+    × (one_of (number_name c) rows ≡ Some text)
     × IsUnsignedIn (least_of c) (most_of c) text
 
 -- a command of the program is named
@@ -65,7 +65,7 @@ IsCall (Some found) (Two c first second by_deadline) =
     × Names (first_of (second_of c) found.1) second × Prefers found.1 by_deadline
 IsCall (Some found) (Number c input number by_deadline) =
     (found.0 ≡ word_of_number c) × Names (first_of (input_of_number c) found.1) input
-    × Counts c (first_of (number_of c) found.1) number × Prefers found.1 by_deadline
+    × Counts c (first_of (number_name c) found.1) number × Prefers found.1 by_deadline
 
 -- no words call `admit` of standard input; else they call what `clap`'s matches of them name
 abbrev pub Calls : List Text → Call → Type 0
@@ -88,14 +88,14 @@ HasNumber (Number c input number by_deadline) = (least_of c ≤ number) × (numb
 HasNumber _ = Unit {0}
 
 -- there are no words, or `clap` takes them
-abbrev pub IsTaken : List Text → Type 0
-IsTaken words = (words ≡ []) ⊎ (fault_of desk_app words ≡ [])
+abbrev pub AreTakenWords : List Text → Type 0
+AreTakenWords words = (words ≡ []) ⊎ (fault_of desk_app words ≡ [])
 
 -- `clap` gives an error of a kind that the words have, or for want of memory; or it takes them, and they prefer
 -- an order that isn't there, or their call names standard input twice
 abbrev pub IsWordsFault : List Text → WordsFault → Type 0
 IsWordsFault words (fault.Clap error) = (words ≢ []) × HasKind (fault_of desk_app words) error
 IsWordsFault words fault.NoSuchPreference =
-    IsTaken words × PrefersOther (subcommand_of desk_app words)
+    AreTakenWords words × PrefersOther (subcommand_of desk_app words)
 IsWordsFault words fault.InputTwice =
-    IsTaken words × (call : Call) × Calls words call × (is_twice call ≡ true)
+    AreTakenWords words × (call : Call) × Calls words call × (is_twice call ≡ true)

@@ -53,9 +53,9 @@ input_of_number Releases = codes "SET"
 input_of_number Rush = codes "SCRIPT"
 
 -- the name of its number
-abbrev pub number_of : OfNumber → Text
-number_of Releases = codes "UNTIL"
-number_of Rush = codes "WORKERS"
+abbrev pub number_name : OfNumber → Text
+number_name Releases = codes "UNTIL"
+number_name Rush = codes "WORKERS"
 
 -- the least number that it takes
 abbrev pub least_of : OfNumber → ℕ

@@ -1,7 +1,7 @@
 //! The calls of `desk`.
 ghost use Rattle.std.specs.Prelude.{◌≡◌};
 ghost use Rattle.command_line.specs.Calls.{is_standard, is_twice};
-ghost use Rattle.command_line.specs.Commands.{input_of, number_of, second_of, word_of_number, word_of_one, word_of_two, input_of_number};
+ghost use Rattle.command_line.specs.Commands.{input_of, number_name, second_of, word_of_number, word_of_one, word_of_two, input_of_number};
 
 /// The most threads that test the set of a commit.
 pub const MOST_WORKERS: usize = 8;
@@ -251,7 +251,7 @@ impl OfNumber {
 
     // The name of its number.
     pub(crate) fn number<'a>(self) -> &'a str
-        ensures { result.now ≡ number_of self }
+        ensures { result.now ≡ number_name self }
     {
         match self {
             OfNumber::Releases => "UNTIL",

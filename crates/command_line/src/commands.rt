@@ -3,7 +3,7 @@ ghost use Rattle.std.specs.Prelude.{◌≡◌, IfOk, false};
 ghost use Rattle.clap.specs.Words.{app_of, new_app, rule_of, with_rule, with_subcommand};
 ghost use Rattle.clap.specs.declared.builder.command.Command.TheViews.{out-Command as fields_of};
 ghost use Rattle.command_line.specs.App.{app_of_number, app_of_one, app_of_two, bare_app, desk_app, input_app, input_rule, number_rule, preference_rule, run_commands, set_commands, with_commands};
-ghost use Rattle.command_line.specs.Commands.{least_of, most_of, number_of};
+ghost use Rattle.command_line.specs.Commands.{least_of, most_of, number_name};
 
 use crate::calls::{LATEST_END, MOST_WORKERS, OfNumber, OfOne, OfTwo};
 use clap::builder::ValueParser;
@@ -59,7 +59,7 @@ fn number_parser<'a>(command: OfNumber) -> ValueParser<'a>
 
 // The number that a command takes.
 fn number_arg<'a>(alloc: Global, command: OfNumber) -> Arg<'a>
-    ensures rule { rule_of result ≡ number_rule (number_of command) (least_of command)
+    ensures rule { rule_of result ≡ number_rule (number_name command) (least_of command)
         (most_of command) }
     ensures local { result.global ≡ false }
 {

@@ -2,8 +2,8 @@
 ghost use Rattle.std.specs.Prelude.{◌≡◌, ◌≢◌, map, Ok, Some, None, Err, IfOk, IfErr, IfSome, true, false, codes};
 ghost use Rattle.clap.specs.Words.{FailsBy, fault_of, first_of, first_value, found_of, rows_of, subcommand_of, subcommand_rows_of};
 ghost use Rattle.command_line.specs.App.{desk_app};
-ghost use Rattle.command_line.specs.Commands.{number_of, word_of_number, word_of_one, word_of_two};
-ghost use Rattle.command_line.specs.Calls.{Calls, Counts, HasNumber, IsCall, IsCommand, IsTaken, IsWordsFault, Names, Prefers, PrefersOther, TakesNumber, is_twice};
+ghost use Rattle.command_line.specs.Commands.{number_name, word_of_number, word_of_one, word_of_two};
+ghost use Rattle.command_line.specs.Calls.{Calls, Counts, HasNumber, IsCall, IsCommand, AreTakenWords, IsWordsFault, Names, Prefers, PrefersOther, TakesNumber, is_twice};
 
 use crate::calls::{Call, Input, OfNumber, OfOne, OfTwo};
 use crate::commands::desk_command;
@@ -60,7 +60,7 @@ fn preference_at(matches: &ArgMatches<'_>) -> Option<bool>
 // The number that the words of the command say.
 fn number_at(matches: &ArgMatches<'_>, command: OfNumber) -> usize
     requires { TakesNumber command (rows_of (found_of matches.now)) }
-    ensures { Counts command (first_of (number_of command)
+    ensures { Counts command (first_of (number_name command)
         (rows_of (found_of matches.now))) result }
 {
     match matches.get_one::<usize>(command.number()) {
@@ -173,7 +173,7 @@ fn call_of<'a>(matches: &ArgMatches<'a>) -> Option<Call<'a>>
 /// Reads the words of a command line, the program's name left out. No words call `admit` of standard input.
 pub fn read_words<'a>(alloc: Global, words: &'a [&'a str]) -> Result<Call<'a>, WordsFault>
     ensures call { IfOk result (Calls (map (λ s. s.now) words.entry.now)) }
-    ensures taken { IfOk result (λ _. IsTaken (map (λ s. s.now) words.entry.now)) }
+    ensures taken { IfOk result (λ _. AreTakenWords (map (λ s. s.now) words.entry.now)) }
     ensures once { IfOk result (λ call. is_twice call ≡ false) }
     ensures number { IfOk result HasNumber }
     ensures fault { IfErr result (IsWordsFault (map (λ s. s.now) words.entry.now)) }

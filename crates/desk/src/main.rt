@@ -5,7 +5,7 @@ ghost use Rattle.std.specs.Prelude.{None};
 
 use advice::Advice;
 use command_line::{Input, read_words};
-use desk_cli::{Refusal, Status, refuse, refuse_words};
+use desk_cli::{CommandRefusal, Status, refuse, refuse_words};
 use dispatch::{NotOpened, Opens, run_call};
 use either::{Either, Left, Right};
 use std::fs::File;
@@ -34,7 +34,7 @@ fn run<T: Threads + Wait + Sync>(rt: &HostRuntime, threads: &T) -> Status {
     let mut texts = Vec::new(rt.alloc());
     for word in &words {
         if texts.push(word.as_str()).is_err() {
-            return refuse(Refusal::OutOfMemory, &mut output);
+            return refuse(CommandRefusal::OutOfMemory, &mut output);
         }
     }
     // Takes the number of a standard stream that is closed, so that no input gets it: a folder is neither read nor
@@ -78,7 +78,7 @@ fn refuse_system(
     errors: &mut Watched<Stderr>,
 ) -> Status {
     if error.kind() == ErrorKind::OutOfMemory {
-        return refuse(Refusal::OutOfMemory, output);
+        return refuse(CommandRefusal::OutOfMemory, output);
     }
     match errors.write(b"error: a word is not UTF-8\n") {
         Ok(()) => Status::BadArguments,

@@ -17,19 +17,19 @@ use Rattle.assignment.specs.declared.placing.Placing.TheVariants.{Best, Stuck}
 use Rattle.assignment.specs.declared.verdict.Verdict.{Verdict}
 use Rattle.assignment.specs.declared.verdict.Verdict.TheVariants as verdict
 use Rattle.judge.specs.Judgements.{all_meet}
-use Rattle.judge.specs.declared.judging.Judged.{Judged}
+use Rattle.judge.specs.declared.judging.JudgedTask.{JudgedTask}
 use Rattle.desk_cli.specs.Admit.{placing_status, verdict_status}
 use Rattle.desk_cli.specs.Judge.{judged_status}
-use Rattle.desk_cli.specs.Outcomes.{AreRead, IsCarriedOut, IsCarriedOutOnBoth, IsRead, IsSaid, IsShown, failed_read}
+use Rattle.desk_cli.specs.Outcomes.{AreRead, IsCarriedOut, IsCarriedOutOnBoth, IsRead, IsSaidOn, IsPrintedOn, failed_read}
 use Rattle.desk_cli.specs.Refusals.{refusal_line, status_of}
-use Rattle.desk_cli.specs.declared.refusal.Refusal.{Refusal}
-use Rattle.desk_cli.specs.declared.refusal.Refusal.TheVariants as refusal
+use Rattle.desk_cli.specs.declared.refusal.CommandRefusal.{CommandRefusal}
+use Rattle.desk_cli.specs.declared.refusal.CommandRefusal.TheVariants as refusal
 use Rattle.desk_cli.specs.declared.release_text.TextFault.TheVariants as text_fault
 use Rattle.desk_cli.specs.declared.status.Status.{Status}
 use Rattle.desk_cli.specs.declared.status.Status.TheVariants.{Done, Infeasible, InputOrOutputFailed, OutOfMemory}
 
 -- of all refusals that of a failed read alone has the status of a failed input or output
-failed_by : (r : Refusal) → status_of r ≡ InputOrOutputFailed → r ≡ failed_read
+failed_by : (r : CommandRefusal) → status_of r ≡ InputOrOutputFailed → r ≡ failed_read
 failed_by (refusal.Input input_fault.ReadFailed) is = refl
 failed_by (refusal.Set set_fault.OutOfMemory) is = cc
 failed_by (refusal.Certificate certificate_fault.OutOfMemory) is = cc
@@ -49,7 +49,7 @@ pub verdict_ends : (v : Verdict) → verdict_status v ≡ InputOrOutputFailed �
 verdict_ends (verdict.Admitted a) is = cc
 verdict_ends (verdict.Infeasible o) is = cc
 
-pub judged_ends : (judged : List Judged) → judged_status judged ≡ InputOrOutputFailed → ⊥
+pub judged_ends : (judged : List JudgedTask) → judged_status judged ≡ InputOrOutputFailed → ⊥
 judged_ends judged = elim (all_meet judged) as (λ b. (if b then Done else Infeasible) ≡ InputOrOutputFailed → ⊥) [ true ↦ λ is. cc | false ↦ λ is. cc ]
 
 -- nor has success
@@ -61,15 +61,15 @@ pub never_err : {T E : Type 0} {x : T} {e : E} → Ok x ≡ Err e → ⊥
 never_err is = cc
 
 -- a refusal that is that of a failed read is shown with its status, also where the writer has failed
-ended : (failed : Bool) (r : Refusal) (s : Status) → (failed ≡ false → s ≡ status_of r) → (failed ≡ true → s ≡ InputOrOutputFailed) → r ≡ failed_read → s ≡ InputOrOutputFailed
+ended : (failed : Bool) (r : CommandRefusal) (s : Status) → (failed ≡ false → s ≡ status_of r) → (failed ≡ true → s ≡ InputOrOutputFailed) → r ≡ failed_read → s ≡ InputOrOutputFailed
 ended true r s status unwritten is = unwritten refl
 ended false r s status unwritten is = status refl ∙ ap status_of is
 
 -- what is shown is what is said, where it is this text with this status, which is none of a failure
 pub shown : {W : Type 0} {says : Option (List ℕ) → Option (List ℕ) → Status → Type 0} {holds : W → Option (List ℕ)} {old new : WatchedData W} {text text' : List ℕ} {done done' s : Status}
-    → IsShown holds old new text done s → text ≡ text' → done ≡ done' → (done' ≡ InputOrOutputFailed → ⊥)
+    → IsPrintedOn holds old new text done s → text ≡ text' → done ≡ done' → (done' ≡ InputOrOutputFailed → ⊥)
     → (Appends (holds old.inner) (holds new.inner) text' → s ≡ done' → says (holds old.inner) (holds new.inner) s)
-    → IsSaid says holds old new s
+    → IsSaidOn says holds old new s
 shown {holds = holds} {old = old} {new = new} told same same' ends tells = record {
   printed = λ sound. tells (subst (λ (t : List ℕ). Appends (holds old.inner) (holds new.inner) t) same (told.printed sound)) (told.status sound ∙ same');
   failed = λ is. elim (told.failed is) [ inl failed ↦ absurd (ends (sym same' ∙ failed)) | inr failed ↦ failed ];
@@ -78,20 +78,20 @@ shown {holds = holds} {old = old} {new = new} told same same' ends tells = recor
 
 -- that memory was wanting is said
 pub wanting : {W : Type 0} {says : Option (List ℕ) → Option (List ℕ) → Status → Type 0} {holds : W → Option (List ℕ)} {old new : WatchedData W} {s : Status}
-    → IsShown holds old new (refusal_line refusal.OutOfMemory) OutOfMemory s
+    → IsPrintedOn holds old new (refusal_line refusal.OutOfMemory) OutOfMemory s
     → (Appends (holds old.inner) (holds new.inner) (refusal_line refusal.OutOfMemory) → s ≡ OutOfMemory → says (holds old.inner) (holds new.inner) s)
-    → IsSaid says holds old new s
+    → IsSaidOn says holds old new s
 wanting told tells = shown told refl refl (λ is. cc) tells
 
 -- what is said is another thing said
 pub said_as : {W : Type 0} {says says' : Option (List ℕ) → Option (List ℕ) → Status → Type 0} {holds : W → Option (List ℕ)} {old new : WatchedData W} {s : Status}
-    → IsSaid says holds old new s → (says (holds old.inner) (holds new.inner) s → says' (holds old.inner) (holds new.inner) s)
-    → IsSaid says' holds old new s
+    → IsSaidOn says holds old new s → (says (holds old.inner) (holds new.inner) s → says' (holds old.inner) (holds new.inner) s)
+    → IsSaidOn says' holds old new s
 said_as told tells = record { printed = λ sound. tells (told.printed sound); failed = told.failed; unwritten = told.unwritten }
 
 -- what is said was printed, and the writer's flag stays
 pub said_sound : {W : Type 0} {says : Option (List ℕ) → Option (List ℕ) → Status → Type 0} {holds : W → Option (List ℕ)} {old new : WatchedData W} {s : Status}
-    → new.has_failed ≡ old.has_failed → (s ≡ InputOrOutputFailed → ⊥) → says (holds old.inner) (holds new.inner) s → IsSaid says holds old new s
+    → new.has_failed ≡ old.has_failed → (s ≡ InputOrOutputFailed → ⊥) → says (holds old.inner) (holds new.inner) s → IsSaidOn says holds old new s
 said_sound same ends says = record {
   printed = λ _. says;
   failed = λ is. absurd (ends is);
@@ -101,9 +101,9 @@ said_sound same ends says = record {
 -- that memory was wanting is said after a text
 pub wanting_after : {W : Type 0} {says : Option (List ℕ) → Option (List ℕ) → Status → Type 0} {holds : W → Option (List ℕ)} {old between new : WatchedData W} {s : Status} (text : List ℕ)
     → between.has_failed ≡ old.has_failed → Appends (holds old.inner) (holds between.inner) text
-    → IsShown holds between new (refusal_line refusal.OutOfMemory) OutOfMemory s
+    → IsPrintedOn holds between new (refusal_line refusal.OutOfMemory) OutOfMemory s
     → (Appends (holds old.inner) (holds new.inner) (text ++ refusal_line refusal.OutOfMemory) → s ≡ OutOfMemory → says (holds old.inner) (holds new.inner) s)
-    → IsSaid says holds old new s
+    → IsSaidOn says holds old new s
 wanting_after {holds = holds} {old = old} {between = between} {new = new} text same wrote told tells = record {
   printed = λ sound. tells (Appends-trans (holds old.inner) (holds between.inner) (holds new.inner) text (refusal_line refusal.OutOfMemory) wrote (told.printed sound)) (told.status sound);
   failed = λ is. elim (told.failed is) [ inl failed ↦ cc | inr failed ↦ failed ];
@@ -112,13 +112,13 @@ wanting_after {holds = holds} {old = old} {between = between} {new = new} text s
 
 -- the writer has failed
 pub broken : {W : Type 0} {says : Option (List ℕ) → Option (List ℕ) → Status → Type 0} {holds : W → Option (List ℕ)} {old new : WatchedData W}
-    → new.has_failed ≡ true → IsSaid says holds old new InputOrOutputFailed
+    → new.has_failed ≡ true → IsSaidOn says holds old new InputOrOutputFailed
 broken failed = record { printed = λ sound. absurd (true≢false (sym failed ∙ sound)); failed = λ _. failed; unwritten = λ _ _. refl }
 
 module _ {R W X : Type 0} {says : Option (List ℕ) → Option (List ℕ) → Option (List ℕ) → Status → Type 0} {has : R → Option (List ℕ)} {holds : W → Option (List ℕ)}
     {input input' : WatchedData R} {output output' : WatchedData W} {s : Status} where
   -- an answer was found on the input, and said
-  pub carried_out : {x : X} → IsRead failed_read input input' (Ok x) → IsSaid (says (has input.inner)) holds output output' s
+  pub carried_out : {x : X} → IsRead failed_read input input' (Ok x) → IsSaidOn (says (has input.inner)) holds output output' s
       → IsCarriedOut says has holds input input' output output' s
   carried_out read told = record {
     printed = told.printed;
@@ -129,12 +129,12 @@ module _ {R W X : Type 0} {says : Option (List ℕ) → Option (List ℕ) → Op
   }
 
   -- the input was refused, and the refusal was shown
-  pub refused : {r : Refusal} → IsRead {T = X} failed_read input input' (Err r) → IsShown holds output output' (refusal_line r) (status_of r) s
+  pub refused : {r : CommandRefusal} → IsRead {T = X} failed_read input input' (Err r) → IsPrintedOn holds output output' (refusal_line r) (status_of r) s
       → (Appends (holds output.inner) (holds output'.inner) (refusal_line r) → s ≡ status_of r → says (has input.inner) (holds output.inner) (holds output'.inner) s)
       → IsCarriedOut says has holds input input' output output' s
   refused {r} read told tells = record {
     printed = λ sound. tells (told.printed sound) (told.status sound);
-    failed = λ is. elim (told.failed is) [ inl failed ↦ inl (read.failed (ap (λ (r : Refusal). Err r) (failed_by r failed))) | inr failed ↦ inr failed ];
+    failed = λ is. elim (told.failed is) [ inl failed ↦ inl (read.failed (ap (λ (r : CommandRefusal). Err r) (failed_by r failed))) | inr failed ↦ inr failed ];
     unread = λ fresh failed sound. ended output'.has_failed r s told.status (told.unwritten sound) (cc (read.answered fresh failed));
     unwritten = told.unwritten;
     turns = read.turns;
@@ -144,7 +144,7 @@ module _ {R S W X : Type 0} {says : Option (List ℕ) → Option (List ℕ) → 
     {has : R → Option (List ℕ)} {has' : S → Option (List ℕ)} {holds : W → Option (List ℕ)}
     {first first' : WatchedData R} {second second' : WatchedData S} {output output' : WatchedData W} {s : Status} where
   -- the same of two inputs
-  pub carried_out_on_both : {x : X} → AreRead failed_read has first first' second second' (Ok x) → IsSaid (says (has first.inner) (has' second.inner)) holds output output' s
+  pub carried_out_on_both : {x : X} → AreRead failed_read has first first' second second' (Ok x) → IsSaidOn (says (has first.inner) (has' second.inner)) holds output output' s
       → IsCarriedOutOnBoth says has has' holds first first' second second' output output' s
   carried_out_on_both read told = record {
     printed = told.printed;
@@ -156,13 +156,13 @@ module _ {R S W X : Type 0} {says : Option (List ℕ) → Option (List ℕ) → 
     first_failed = read.first_failed;
   }
 
-  pub refused_on_both : {r : Refusal} → AreRead {T = X} failed_read has first first' second second' (Err r) → IsShown holds output output' (refusal_line r) (status_of r) s
+  pub refused_on_both : {r : CommandRefusal} → AreRead {T = X} failed_read has first first' second second' (Err r) → IsPrintedOn holds output output' (refusal_line r) (status_of r) s
       → (Appends (holds output.inner) (holds output'.inner) (refusal_line r) → s ≡ status_of r → says (has first.inner) (has' second.inner) (holds output.inner) (holds output'.inner) s)
       → IsCarriedOutOnBoth says has has' holds first first' second second' output output' s
   refused_on_both {r} read told tells = record {
     printed = λ sound. tells (told.printed sound) (told.status sound);
     failed = λ is. elim (told.failed is) [
-      | inl failed ↦ elim (read.failed (ap (λ (r : Refusal). Err r) (failed_by r failed))) [ inl disturbed ↦ inl disturbed | inr disturbed ↦ inr (inl disturbed) ]
+      | inl failed ↦ elim (read.failed (ap (λ (r : CommandRefusal). Err r) (failed_by r failed))) [ inl disturbed ↦ inl disturbed | inr disturbed ↦ inr (inl disturbed) ]
       | inr failed ↦ inr (inr failed)
     ];
     unread = λ fresh fresh' failed sound. ended output'.has_failed r s told.status (told.unwritten sound) (cc (read.answered fresh fresh' failed));

@@ -11,7 +11,7 @@ use Rattle.task_sheet.specs.Orders.{IsPassingOrder}
 use Rattle.task_sheet.specs.Verdicts.{IsVerdictOf, order_of}
 use Rattle.task_sheet.proofs.LevelLaws.{IsBest-one}
 use Rattle.assignment.specs.Placings.{IsPlacingOf, tasks_of_places}
-use Rattle.assignment.specs.Verdict.{set_of, verdict_of}
+use Rattle.assignment.specs.Verdict.{verdict_set, verdict_of}
 use Rattle.assignment.specs.declared.placing.Placing.{Placing}
 use Rattle.assignment.specs.declared.placing.Placing.TheVariants.{Best, Stuck}
 use Rattle.assignment.specs.declared.verdict.Verdict.{Verdict}
@@ -20,8 +20,8 @@ use Rattle.preferences.specs.declared.preferred.Preference.{Preference}
 use Rattle.desk_cli.specs.Admit.{Admits, Places, placing_status, verdict_status}
 use Rattle.desk_cli.specs.Headroom.{AreLines, IsTaskLine, TellsPlaced, placing_order, verdict_order}
 use Rattle.desk_cli.specs.Sets.{HasSet}
-use Rattle.desk_cli.specs.declared.refusal.Refusal.{Refusal}
-use Rattle.desk_cli.specs.declared.refusal.Refusal.TheVariants as refusal
+use Rattle.desk_cli.specs.declared.refusal.CommandRefusal.{CommandRefusal}
+use Rattle.desk_cli.specs.declared.refusal.CommandRefusal.TheVariants as refusal
 use Rattle.desk_cli.specs.declared.status.Status.{Status}
 use Rattle.desk_cli.specs.declared.status.Status.TheVariants as status
 
@@ -48,7 +48,7 @@ WasYes status.Done = Unit {0}
 WasYes _ = ⊥
 
 -- the verdict that says what a placing says has its order
-pub order_same : (U : List Task) (p : Placing) (v : Verdict) → IsPlacingOf U p → set_of v ≡ U → IsVerdictOf (set_of v) (verdict_of v) → verdict_status v ≡ placing_status p → verdict_order v ≡ placing_order p
+pub order_same : (U : List Task) (p : Placing) (v : Verdict) → IsPlacingOf U p → verdict_set v ≡ U → IsVerdictOf (verdict_set v) (verdict_of v) → verdict_status v ≡ placing_status p → verdict_order v ≡ placing_order p
 order_same U (Best places) (Admitted a) placing set verdict same =
     let best = subst (λ (V : List Task). IsVerdictOf V (verdict_of (Admitted a))) set verdict in
     ap (λ (o : List ℕ). Some o) (IsBest-one U (order_of a.levels) (tasks_of_places places.items) best.best placing.best)
@@ -57,7 +57,7 @@ order_same U (Best places) (Infeasible o) placing set verdict same = absurd (sub
 order_same U (Stuck left) (Admitted a) placing set verdict same = absurd (subst WasYes same tt)
 
 -- what is told of a placed set is the answer on what the reader has
-pub admits_placed : (preference : Preference) (known : Option (List ℕ)) (U : List Task) (p : Placing) → Places preference known (Ok (U, p)) → (answer : Result Verdict Refusal) → TellsPlaced U answer
+pub admits_placed : (preference : Preference) (known : Option (List ℕ)) (U : List Task) (p : Placing) → Places preference known (Ok (U, p)) → (answer : Result Verdict CommandRefusal) → TellsPlaced U answer
     → Admits preference known answer
 admits_placed preference known U p placed (Ok v) told = (subst (λ (V : List Task). HasSet preference known V) (sym told.0) placed.0, told.1)
 admits_placed preference known U p placed (Err refusal.OutOfMemory) told = tt

@@ -11,14 +11,14 @@ use Rattle.task_sheet.proofs.TaskLaws.{AllTasks-from_set}
 use Rattle.preferences.specs.declared.preferred.Preference.{Preference}
 use Rattle.assignment.specs.Places.{PlaceData}
 use Rattle.assignment.specs.Placings.{IsPlacingOf, SaysSame, places_of, tasks_of_places}
-use Rattle.assignment.specs.Verdict.{set_of, verdict_of}
+use Rattle.assignment.specs.Verdict.{verdict_set, verdict_of}
 use Rattle.assignment.specs.declared.placing.Placing.{Placing}
 use Rattle.assignment.specs.declared.placing.Placing.TheVariants.{Best, Stuck}
 use Rattle.assignment.specs.declared.verdict.Verdict.{Verdict}
 use Rattle.assignment.specs.declared.verdict.Verdict.TheVariants.{Admitted, Infeasible}
 use Rattle.assignment.proofs.VerdictPlacings.{some_verdict_says}
 use Rattle.settings.specs.Settings.{settings_lines}
-use Rattle.desk_cli.specs.Admit.{Admits, Places, Says, lines_of, placing_status, verdict_status}
+use Rattle.desk_cli.specs.Admit.{Admits, Places, Says, admit_lines, placing_status, verdict_status}
 use Rattle.desk_cli.specs.Headroom.{first_line, placing_first}
 use Rattle.desk_cli.specs.Lines.{admitted_lines, infeasible_line, placing_lines}
 use Rattle.desk_cli.specs.Sets.{HasSet}
@@ -27,9 +27,9 @@ use Rattle.desk_cli.specs.declared.status.Status.{Status}
 
 -- the verdict is one on the set, and says the same
 pub record IsSaidBy (U : List Task) (p : Placing) (v : Verdict) : Type 0 where
-  pub set : set_of v ≡ U
-  pub verdict : IsVerdictOf (set_of v) (verdict_of v)
-  pub lines : lines_of v ≡ placing_lines U p
+  pub set : verdict_set v ≡ U
+  pub verdict : IsVerdictOf (verdict_set v) (verdict_of v)
+  pub lines : admit_lines v ≡ placing_lines U p
   pub settings : settings_of v ≡ placing_settings U p
   pub first : first_line v ≡ placing_first U p
   pub status : verdict_status v ≡ placing_status p

@@ -4,7 +4,7 @@ use Rattle.task_sheet.specs.Sheet.{Task}
 use Rattle.preferences.specs.declared.preferred.Preference.{Preference}
 use Rattle.task_sheet.specs.Verdicts.{IsVerdictOf}
 use Rattle.assignment.specs.Placings.{IsPlacingOf}
-use Rattle.assignment.specs.Verdict.{set_of, verdict_of}
+use Rattle.assignment.specs.Verdict.{verdict_set, verdict_of}
 use Rattle.assignment.specs.declared.placing.Placing.{Placing}
 use Rattle.assignment.specs.declared.placing.Placing.TheVariants.{Best, Stuck}
 use Rattle.assignment.specs.declared.verdict.Verdict.{Verdict}
@@ -12,18 +12,19 @@ use Rattle.assignment.specs.declared.verdict.Verdict.TheVariants.{Admitted, Infe
 use Rattle.desk_cli.specs.Lines.{verdict_lines}
 use Rattle.desk_cli.specs.Printed.{Prints}
 use Rattle.desk_cli.specs.Sets.{HasNoSet, HasSet}
-use Rattle.desk_cli.specs.declared.refusal.Refusal.{Refusal}
+use Rattle.desk_cli.specs.declared.refusal.CommandRefusal.{CommandRefusal}
 use Rattle.desk_cli.specs.declared.status.Status.{Status}
 use Rattle.desk_cli.specs.declared.status.Status.TheVariants as status
 
 -- the answer on what a reader has: the verdict of its set, or why there is none
-abbrev pub Admits : Preference → Option (List ℕ) → Result Verdict Refusal → Type 0
+abbrev pub Admits : Preference → Option (List ℕ) → Result Verdict CommandRefusal → Type 0
 Admits preference known (Ok v) =
-    HasSet preference known (set_of v) × IsVerdictOf (set_of v) (verdict_of v)
+    HasSet preference known (verdict_set v) × IsVerdictOf (verdict_set v) (verdict_of v)
 Admits preference known (Err r) = HasNoSet known r
 
 -- the same, where the answer is a set with its placing
-abbrev pub Places : Preference → Option (List ℕ) → Result (List Task × Placing) Refusal → Type 0
+abbrev pub Places : Preference → Option (List ℕ) → Result (List Task × Placing) CommandRefusal
+    → Type 0
 Places preference known (Ok placed) =
     HasSet preference known placed.0 × IsPlacingOf placed.0 placed.1
 Places preference known (Err r) = HasNoSet known r
@@ -46,5 +47,5 @@ Says lines preference known before after s =
     Prints (Admits preference known) lines verdict_status before after s
 
 -- the lines of a verdict
-abbrev pub lines_of : Verdict → List ℕ
-lines_of v = verdict_lines (set_of v) (verdict_of v)
+abbrev pub admit_lines : Verdict → List ℕ
+admit_lines v = verdict_lines (verdict_set v) (verdict_of v)

@@ -12,8 +12,8 @@ use Rattle.cert_checker.specs.declared.checking.Checked.{Checked}
 use Rattle.cert_checker.specs.declared.checking.Checked.TheVariants.{Best, NoOrder}
 use Rattle.desk_cli.specs.Printed.{Prints}
 use Rattle.desk_cli.specs.Sets.{OnBoth}
-use Rattle.desk_cli.specs.declared.refusal.Refusal.{Refusal}
-use Rattle.desk_cli.specs.declared.refusal.Refusal.TheVariants as refusal
+use Rattle.desk_cli.specs.declared.refusal.CommandRefusal.{CommandRefusal}
+use Rattle.desk_cli.specs.declared.refusal.CommandRefusal.TheVariants as refusal
 use Rattle.desk_cli.specs.declared.status.Status.{Status}
 use Rattle.desk_cli.specs.declared.status.Status.TheVariants as status
 
@@ -23,7 +23,7 @@ Shows U c Best = IsBest U (order_in U c.body)
 Shows U c NoOrder = ¬ IsFeasible U
 
 -- the answer on a set and the text of a certificate
-abbrev pub ChecksText : List Task → List ℕ → Result Checked Refusal → Type 0
+abbrev pub ChecksText : List Task → List ℕ → Result Checked CommandRefusal → Type 0
 ChecksText U text (Ok kind) =
     (c : Cert) × (certificate_in text ≡ Ok c) × IsReady U c × (kind ≡ kind_of c.body)
     × Shows U c kind
@@ -34,7 +34,8 @@ ChecksText U text (Err refusal.OutOfMemory) = Unit {0}
 ChecksText U text _ = ⊥
 
 -- the answer on what the readers have of a set and of a certificate
-abbrev pub Checks : Preference → Option (List ℕ) → Option (List ℕ) → Result Checked Refusal → Type 0
+abbrev pub Checks : Preference → Option (List ℕ) → Option (List ℕ) → Result Checked CommandRefusal
+    → Type 0
 Checks preference set certificate answer = OnBoth ChecksText preference set certificate answer
 
 -- the line of what a certificate shows

@@ -7,7 +7,7 @@ use Rattle.task_sheet.specs.Orders.{IsOrder}
 use Rattle.assignment.specs.Places.{PlaceData}
 use Rattle.assignment.specs.Placings.{tasks_of_places}
 use Rattle.picture.specs.Document.{document}
-use Rattle.picture.specs.declared.rows.Row.{Row}
+use Rattle.picture.specs.declared.rows.TaskRow.{TaskRow}
 use Rattle.desk_cli.specs.Lines.{infeasible_line}
 use Rattle.desk_cli.specs.Printed.{Prints}
 use Rattle.desk_cli.specs.Simulate.{Simulates, simulation_status}
@@ -17,13 +17,13 @@ use Rattle.desk_cli.specs.declared.simulate.Simulated.TheVariants.{Infeasible, R
 use Rattle.desk_cli.specs.declared.status.Status.{Status}
 
 -- the row of a level: its task, and the task's response as the bound
-abbrev pub row_of : List Task → PlaceData → Row
-row_of U place = record { sheet = task_at U place.task; bound = place.response }
+abbrev pub drawn_row : List Task → PlaceData → TaskRow
+drawn_row U place = record { sheet = task_at U place.task; bound = place.response }
 
 -- the rows of an order, the highest level first
-abbrev pub rows_of : List Task → List PlaceData → List Row
+abbrev pub rows_of : List Task → List PlaceData → List TaskRow
 rows_of U [] = []
-rows_of U (place ∷ places) = rows_of U places ++ row_of U place ∷ []
+rows_of U (place ∷ places) = rows_of U places ++ drawn_row U place ∷ []
 
 -- the picture of a run of a set
 abbrev pub picture_of : List Task → Run → List ℕ

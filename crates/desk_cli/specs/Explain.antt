@@ -9,7 +9,7 @@ use Rattle.explain.specs.declared.explanation.Explanation.{Explanation}
 use Rattle.desk_cli.specs.Admit.{Places, placing_status}
 use Rattle.desk_cli.specs.Headroom.{placing_first}
 use Rattle.desk_cli.specs.Printed.{Prints}
-use Rattle.desk_cli.specs.declared.refusal.Refusal.{Refusal}
+use Rattle.desk_cli.specs.declared.refusal.CommandRefusal.{CommandRefusal}
 use Rattle.desk_cli.specs.declared.status.Status.{Status}
 
 -- a set, its placing, and what explains the placing
@@ -19,18 +19,19 @@ pub record ExplainedData : Type 0 where
   pub explanation : Explanation
 
 -- the answer on what a reader has: that of `desk admit`, explained
-abbrev pub AnswersExplained : Preference → Option (List ℕ) → Result ExplainedData Refusal → Type 0
+abbrev pub AnswersExplained : Preference → Option (List ℕ) → Result ExplainedData CommandRefusal
+    → Type 0
 AnswersExplained preference known (Ok e) =
     Places preference known (Ok (e.set, e.placing)) × Explains e.set e.placing e.explanation
 AnswersExplained preference known (Err r) = Places preference known (Err r)
 
 -- what is printed of an explained placing: its first line, and then what explains it
-abbrev pub explained_lines : ExplainedData → List ℕ
-explained_lines e = placing_first e.set e.placing ++ explanation_lines e.set e.explanation
+abbrev pub explained_output : ExplainedData → List ℕ
+explained_output e = placing_first e.set e.placing ++ explanation_lines e.set e.explanation
 
 -- the answer on what the reader had is printed after what the writer held, and the status is the answer's
 abbrev pub SaysExplained : Preference → Option (List ℕ) → (before after : Option (List ℕ)) → Status
     → Type 0
 SaysExplained preference known before after s =
-    Prints (AnswersExplained preference known) explained_lines (λ e. placing_status e.placing)
+    Prints (AnswersExplained preference known) explained_output (λ e. placing_status e.placing)
     before after s

@@ -7,7 +7,7 @@ use Rattle.task_sheet.specs.Sheet.{Task, task_at}
 use Rattle.task_sheet.specs.Indexes.{indexes_of, listed_below}
 use Rattle.task_sheet.specs.Verdicts.{order_of, tasks_of, IsVerdictOf}
 use Rattle.assignment.specs.Placings.{tasks_of_places}
-use Rattle.assignment.specs.Verdict.{set_of, verdict_of}
+use Rattle.assignment.specs.Verdict.{verdict_set, verdict_of}
 use Rattle.assignment.specs.declared.placing.Placing.{Placing}
 use Rattle.assignment.specs.declared.placing.Placing.TheVariants.{Best, Stuck}
 use Rattle.assignment.specs.declared.verdict.Verdict.{Verdict}
@@ -17,8 +17,8 @@ use Rattle.factor.specs.Factors.{AnswersFactor}
 use Rattle.desk_cli.specs.Admit.{Admits, verdict_status}
 use Rattle.desk_cli.specs.Lines.{infeasible_line}
 use Rattle.desk_cli.specs.Refusals.{refusal_line, status_of}
-use Rattle.desk_cli.specs.declared.refusal.Refusal.{Refusal}
-use Rattle.desk_cli.specs.declared.refusal.Refusal.TheVariants as refusal
+use Rattle.desk_cli.specs.declared.refusal.CommandRefusal.{CommandRefusal}
+use Rattle.desk_cli.specs.declared.refusal.CommandRefusal.TheVariants as refusal
 use Rattle.desk_cli.specs.declared.status.Status.{Status}
 use Rattle.desk_cli.specs.declared.status.Status.TheVariants as status
 
@@ -102,22 +102,22 @@ placing_first U (Best places) = codes "admitted " ++ decimal (length places.item
 placing_first U (Stuck left) = infeasible_line U (listed_below (length U) (indexes_of left))
 
 -- what an answer prints, and its status
-abbrev pub Tells : Result Verdict Refusal → List ℕ → Status → Type 0
+abbrev pub Tells : Result Verdict CommandRefusal → List ℕ → Status → Type 0
 Tells (Ok v) text s =
     (rest : List ℕ) × (text ≡ first_line v ++ rest)
-    × Lists (set_of v) (verdict_order v) (verdict_status v) rest s
+    × Lists (verdict_set v) (verdict_order v) (verdict_status v) rest s
 Tells (Err r) text s = (text ≡ refusal_line r) × (s ≡ status_of r)
 
 -- the answer is a verdict on the set, or want of memory
-abbrev pub TellsPlaced : List Task → Result Verdict Refusal → Type 0
-TellsPlaced U (Ok v) = (set_of v ≡ U) × IsVerdictOf (set_of v) (verdict_of v)
+abbrev pub TellsPlaced : List Task → Result Verdict CommandRefusal → Type 0
+TellsPlaced U (Ok v) = (verdict_set v ≡ U) × IsVerdictOf (verdict_set v) (verdict_of v)
 TellsPlaced U (Err refusal.OutOfMemory) = Unit {0}
 TellsPlaced U (Err _) = ⊥
 
 -- such an answer is printed after what the writer held, with its status
 abbrev pub SaysPlaced : List Task → (before after : Option (List ℕ)) → Status → Type 0
 SaysPlaced U before after s =
-    (answer : Result Verdict Refusal) × (text : List ℕ) × TellsPlaced U answer
+    (answer : Result Verdict CommandRefusal) × (text : List ℕ) × TellsPlaced U answer
     × Tells answer text s
     × Appends before after text
 
@@ -125,6 +125,6 @@ SaysPlaced U before after s =
 abbrev pub SaysHeadroom : Preference → Option (List ℕ) → (before after : Option (List ℕ)) → Status
     → Type 0
 SaysHeadroom preference known before after s =
-    (answer : Result Verdict Refusal) × (text : List ℕ) × Admits preference known answer
+    (answer : Result Verdict CommandRefusal) × (text : List ℕ) × Admits preference known answer
     × Tells answer text s
     × Appends before after text

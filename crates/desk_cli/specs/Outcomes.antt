@@ -4,13 +4,13 @@ use Rattle.std.specs.Io.KnownBytes.{Appends}
 use Rattle.streams.specs.Watching.{WatchedData}
 use Rattle.streams.specs.Inputs.{IsDisturbed, IsWithinTurns}
 use Rattle.streams.specs.declared.input.InputFault.TheVariants.{ReadFailed}
-use Rattle.desk_cli.specs.declared.refusal.Refusal.{Refusal}
-use Rattle.desk_cli.specs.declared.refusal.Refusal.TheVariants.{Input}
+use Rattle.desk_cli.specs.declared.refusal.CommandRefusal.{CommandRefusal}
+use Rattle.desk_cli.specs.declared.refusal.CommandRefusal.TheVariants.{Input}
 use Rattle.desk_cli.specs.declared.status.Status.{Status}
 use Rattle.desk_cli.specs.declared.status.Status.TheVariants.{InputOrOutputFailed}
 
 -- the refusal of an input of which a read failed
-abbrev pub failed_read : Refusal
+abbrev pub failed_read : CommandRefusal
 failed_read = Input ReadFailed
 
 -- an input was read within its turns for an answer; where a read failed the answer is this error,
@@ -36,7 +36,7 @@ pub record AreRead {T E R S : Type 0} (error : E) (has : R → Option (List ℕ)
 
 -- a text was printed after what the writer held, with the status that belongs to it; where the
 -- writer has failed, with that of a failed output
-pub record IsShown {W : Type 0} (holds : W → Option (List ℕ)) (old new : WatchedData W)
+pub record IsPrintedOn {W : Type 0} (holds : W → Option (List ℕ)) (old new : WatchedData W)
     (text : List ℕ) (done s : Status) : Type 0 where
   pub printed : new.has_failed ≡ false → Appends (holds old.inner) (holds new.inner) text
   pub status : new.has_failed ≡ false → s ≡ done
@@ -46,7 +46,7 @@ pub record IsShown {W : Type 0} (holds : W → Option (List ℕ)) (old new : Wat
 
 -- what is said was printed with its status, which is that of a failed output where the writer has
 -- failed, and only there
-pub record IsSaid {W : Type 0} (says : (before after : Option (List ℕ)) → Status → Type 0)
+pub record IsSaidOn {W : Type 0} (says : (before after : Option (List ℕ)) → Status → Type 0)
     (holds : W → Option (List ℕ)) (old new : WatchedData W) (s : Status) : Type 0 where
   pub printed : new.has_failed ≡ false → says (holds old.inner) (holds new.inner) s
   pub failed : s ≡ InputOrOutputFailed → new.has_failed ≡ true

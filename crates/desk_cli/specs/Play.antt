@@ -9,8 +9,8 @@ use Rattle.plays.specs.Plays.{PlaysAll, PlaysSome}
 use Rattle.streams.specs.Inputs.{IsReadFrom, IsTooLong}
 use Rattle.desk_cli.specs.Refusals.{refusal_line, status_of}
 use Rattle.streams.specs.declared.input.InputFault.TheVariants as input
-use Rattle.desk_cli.specs.declared.refusal.Refusal.{Refusal}
-use Rattle.desk_cli.specs.declared.refusal.Refusal.TheVariants as refusal
+use Rattle.desk_cli.specs.declared.refusal.CommandRefusal.{CommandRefusal}
+use Rattle.desk_cli.specs.declared.refusal.CommandRefusal.TheVariants as refusal
 use Rattle.desk_cli.specs.declared.status.Status.{Status}
 use Rattle.desk_cli.specs.declared.status.Status.TheVariants as status
 
@@ -19,7 +19,7 @@ abbrev pub IsScript : Option (List ℕ) → List Line → Type 0
 IsScript known lines = (bytes : List ℕ) × IsReadFrom known bytes × (script_in bytes ≡ Ok lines)
 
 -- the answer on what a reader has: the lines of the script that its bytes say, or the first fault of its bytes
-abbrev pub Scripts : Option (List ℕ) → Result (Vec Line) Refusal → Type 0
+abbrev pub Scripts : Option (List ℕ) → Result (Vec Line) CommandRefusal → Type 0
 Scripts known (Ok lines) = IsScript known lines.items
 Scripts known (Err (refusal.Script fault)) =
     (bytes : List ℕ) × IsReadFrom known bytes × IsFault fault (script_in bytes)
@@ -31,7 +31,7 @@ Scripts known _ = ⊥
 -- the script was refused, and nothing of it was played
 abbrev pub IsRefused : Option (List ℕ) → List ℕ → Status → Type 0
 IsRefused known text s =
-    (refusal : Refusal) × Scripts known (Err refusal) × (text ≡ refusal_line refusal)
+    (refusal : CommandRefusal) × Scripts known (Err refusal) × (text ≡ refusal_line refusal)
     × (s ≡ status_of refusal)
 
 -- all lines were played from an empty desk on, and the book was printed; or memory ran out after some of them

@@ -25,8 +25,8 @@ use Rattle.judge.specs.declared.fault.SettingsFault.TheVariants as settings
 use Rattle.rushes.specs.declared.fault.RushFault.{RushFault}
 use Rattle.rushes.specs.declared.fault.RushFault.TheVariants as rush
 use Rattle.streams.specs.declared.input.InputFault.TheVariants as input
-use Rattle.desk_cli.specs.declared.refusal.Refusal.{Refusal}
-use Rattle.desk_cli.specs.declared.refusal.Refusal.TheVariants as refusal
+use Rattle.desk_cli.specs.declared.refusal.CommandRefusal.{CommandRefusal}
+use Rattle.desk_cli.specs.declared.refusal.CommandRefusal.TheVariants as refusal
 use Rattle.desk_cli.specs.declared.status.Status.{Status}
 use Rattle.desk_cli.specs.declared.status.Status.TheVariants as status
 
@@ -164,7 +164,7 @@ rush_words rush.Behind = codes "Behind"
 rush_words rush.ReceiptMismatch = codes "ReceiptMismatch"
 
 -- the name of a refusal with its fields
-abbrev pub words_of : Refusal → List ℕ
+abbrev pub words_of : CommandRefusal → List ℕ
 words_of (refusal.Input input.TooLong) = codes "InputTooLong"
 words_of (refusal.Input input.OutOfMemory) = codes "OutOfMemory"
 words_of (refusal.Input input.ReadFailed) = codes "ReadFailed"
@@ -179,11 +179,11 @@ words_of (refusal.Rush fault) = rush_words fault
 words_of refusal.OutOfMemory = codes "OutOfMemory"
 
 -- the line of a refusal
-abbrev pub refusal_line : Refusal → List ℕ
+abbrev pub refusal_line : CommandRefusal → List ℕ
 refusal_line r = codes "refused: " ++ words_of r ++ codes "\n"
 
 -- the exit status of a refusal
-abbrev pub status_of : Refusal → Status
+abbrev pub status_of : CommandRefusal → Status
 status_of (refusal.Input input.TooLong) = status.BadInput
 status_of (refusal.Input input.OutOfMemory) = status.OutOfMemory
 status_of (refusal.Input input.ReadFailed) = status.InputOrOutputFailed

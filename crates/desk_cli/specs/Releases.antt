@@ -9,20 +9,21 @@ use Rattle.release_list.specs.Densest.{densest_of, list_refusal}
 use Rattle.release_list.specs.Text.{list_lines}
 use Rattle.desk_cli.specs.Printed.{Prints}
 use Rattle.desk_cli.specs.Sets.{HasNoSet, HasSet}
-use Rattle.desk_cli.specs.declared.refusal.Refusal.{Refusal}
-use Rattle.desk_cli.specs.declared.refusal.Refusal.TheVariants as refusal
+use Rattle.desk_cli.specs.declared.refusal.CommandRefusal.{CommandRefusal}
+use Rattle.desk_cli.specs.declared.refusal.CommandRefusal.TheVariants as refusal
 use Rattle.desk_cli.specs.declared.status.Status.{Status}
 use Rattle.desk_cli.specs.declared.status.Status.TheVariants as status
 
 -- the answer on a set: its densest list, or why there is none
-abbrev pub ListsOf : ℕ → List Task → Result (Vec Release) Refusal → Type 0
+abbrev pub ListsOf : ℕ → List Task → Result (Vec Release) CommandRefusal → Type 0
 ListsOf until U (Ok releases) =
     (list_refusal U until ≡ None) × (releases.items ≡ densest_of U until)
 ListsOf until U (Err (refusal.Run fault)) = IsRefusal fault (list_refusal U until)
 ListsOf until U _ = ⊥
 
 -- the answer on what a reader has
-abbrev pub ListsDensest : Preference → ℕ → Option (List ℕ) → Result (Vec Release) Refusal → Type 0
+abbrev pub ListsDensest : Preference → ℕ → Option (List ℕ) → Result (Vec Release) CommandRefusal
+    → Type 0
 ListsDensest preference until known (Ok releases) =
     (U : List Task) × HasSet preference known U × ListsOf until U (Ok releases)
 ListsDensest preference until known (Err r) =

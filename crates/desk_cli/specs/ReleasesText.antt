@@ -12,11 +12,11 @@ until_in (word ∷ number ∷ []) = if bytes_eq word (codes "until") then number
 until_in (word ∷ number ∷ more ∷ rest) = None
 
 -- a release, where the words for its time, its name and how late it is are a number, a name and a number
-abbrev pub release_at : Option ℕ → Option (List ℕ) → Option ℕ → Option Release
-release_at None name late = None
-release_at (Some time) None late = None
-release_at (Some time) (Some name) None = None
-release_at (Some time) (Some name) (Some late) =
+abbrev pub release_read : Option ℕ → Option (List ℕ) → Option ℕ → Option Release
+release_read None name late = None
+release_read (Some time) None late = None
+release_read (Some time) (Some name) None = None
+release_read (Some time) (Some name) (Some late) =
     Some (record { time = time; name = name; late = late })
 
 -- how late a release is, by the word that may follow its name
@@ -28,9 +28,9 @@ late_in (Some word) = number_in word
 abbrev pub release_in : List (List ℕ) → Option Release
 release_in [] = None
 release_in (time ∷ []) = None
-release_in (time ∷ name ∷ []) = release_at (number_in time) (name_in name) (late_in None)
+release_in (time ∷ name ∷ []) = release_read (number_in time) (name_in name) (late_in None)
 release_in (time ∷ name ∷ late ∷ []) =
-    release_at (number_in time) (name_in name) (late_in (Some late))
+    release_read (number_in time) (name_in name) (late_in (Some late))
 release_in (time ∷ name ∷ late ∷ more ∷ rest) = None
 
 -- these, and then the releases that are found; a faulty line stays the fault

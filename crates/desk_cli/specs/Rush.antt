@@ -7,7 +7,7 @@ use Rattle.rushes.specs.Printed.{IsRushText}
 use Rattle.rushes.specs.declared.fault.RushFault.{RushFault}
 use Rattle.desk_cli.specs.Play.{IsRefused, IsScript}
 use Rattle.desk_cli.specs.Refusals.{refusal_line, status_of}
-use Rattle.desk_cli.specs.declared.refusal.Refusal.TheVariants.{Rush}
+use Rattle.desk_cli.specs.declared.refusal.CommandRefusal.TheVariants.{Rush}
 use Rattle.desk_cli.specs.declared.status.Status.{Status}
 use Rattle.desk_cli.specs.declared.status.Status.TheVariants.{Done, InputOrOutputFailed}
 

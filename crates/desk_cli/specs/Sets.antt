@@ -6,8 +6,8 @@ use Rattle.preferences.specs.ReadsPreferred.{ReadsPreferred}
 use Rattle.preferences.specs.declared.preferred.Preference.{Preference}
 use Rattle.streams.specs.Inputs.{IsReadFrom, IsTooLong}
 use Rattle.streams.specs.declared.input.InputFault.TheVariants as input
-use Rattle.desk_cli.specs.declared.refusal.Refusal.{Refusal}
-use Rattle.desk_cli.specs.declared.refusal.Refusal.TheVariants as refusal
+use Rattle.desk_cli.specs.declared.refusal.CommandRefusal.{CommandRefusal}
+use Rattle.desk_cli.specs.declared.refusal.CommandRefusal.TheVariants as refusal
 
 -- the bytes that a reader has say a set, which is this one by a preference
 abbrev pub HasSet : Preference → Option (List ℕ) → List Task → Type 0
@@ -16,7 +16,7 @@ HasSet preference known U =
 
 -- why there is no set: the input was not read, or the first fault of its bytes. Want of memory may come at any time,
 -- and the function's own clause says where a failed read is answered.
-abbrev pub HasNoSet : Option (List ℕ) → Refusal → Type 0
+abbrev pub HasNoSet : Option (List ℕ) → CommandRefusal → Type 0
 HasNoSet known (refusal.Input input.TooLong) = IsTooLong known
 HasNoSet known (refusal.Input input.ReadFailed) = Unit {0}
 HasNoSet known (refusal.Input input.OutOfMemory) = Unit {0}
@@ -30,7 +30,7 @@ abbrev pub HaveBoth : Preference → (set other : Option (List ℕ)) → List Ta
 HaveBoth preference set other U text = HasSet preference set U × IsReadFrom other text
 
 -- why there are not both: one of the inputs was not read, or the first fault of the set's bytes, once both were read
-abbrev pub HaveNotBoth : (set other : Option (List ℕ)) → Refusal → Type 0
+abbrev pub HaveNotBoth : (set other : Option (List ℕ)) → CommandRefusal → Type 0
 HaveNotBoth set other (refusal.Input input.TooLong) = IsTooLong set ⊎ IsTooLong other
 HaveNotBoth set other (refusal.Input input.ReadFailed) = Unit {0}
 HaveNotBoth set other (refusal.Input input.OutOfMemory) = Unit {0}
@@ -42,9 +42,9 @@ HaveNotBoth set other _ = ⊥
 
 -- the answer on what two readers have, where a set and a text have such answers
 abbrev pub OnBoth :
-    {X : Type 0} → (List Task → List ℕ → Result X Refusal → Type 0) → Preference
+    {X : Type 0} → (List Task → List ℕ → Result X CommandRefusal → Type 0) → Preference
     → (set other : Option (List ℕ))
-    → Result X Refusal → Type 0
+    → Result X CommandRefusal → Type 0
 OnBoth answers preference set other (Ok x) =
     (U : List Task) × (text : List ℕ) × HaveBoth preference set other U text × answers U text (Ok x)
 OnBoth answers preference set other (Err r) =

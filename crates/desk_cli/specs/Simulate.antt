@@ -14,36 +14,36 @@ use Rattle.desk_cli.specs.Lines.{infeasible_line}
 use Rattle.desk_cli.specs.Printed.{Prints}
 use Rattle.desk_cli.specs.ReleasesText.{list_in}
 use Rattle.desk_cli.specs.Sets.{HaveBoth, OnBoth}
-use Rattle.desk_cli.specs.TextFaults.{IsFault}
+use Rattle.desk_cli.specs.TextFaults.{IsTextFault}
 use Rattle.desk_cli.specs.TraceLines.{trace_lines}
-use Rattle.desk_cli.specs.declared.refusal.Refusal.{Refusal}
-use Rattle.desk_cli.specs.declared.refusal.Refusal.TheVariants as refusal
+use Rattle.desk_cli.specs.declared.refusal.CommandRefusal.{CommandRefusal}
+use Rattle.desk_cli.specs.declared.refusal.CommandRefusal.TheVariants as refusal
 use Rattle.desk_cli.specs.declared.simulate.Simulated.{Simulated}
 use Rattle.desk_cli.specs.declared.simulate.Simulated.TheVariants.{Infeasible, Ran}
 use Rattle.desk_cli.specs.declared.status.Status.{Status}
 use Rattle.desk_cli.specs.declared.status.Status.TheVariants as status
 
 -- the kernel's answer on the tasks in an order
-abbrev pub RunsOrder : List Task → List ℕ → List Release → ℕ → Result Trace Refusal → Type 0
+abbrev pub RunsOrder : List Task → List ℕ → List Release → ℕ → Result Trace CommandRefusal → Type 0
 RunsOrder U order rs until (Ok trace) = Runs (node_in U order) rs until (Ok trace)
 RunsOrder U order rs until (Err (refusal.Run fault)) = Runs (node_in U order) rs until (Err fault)
 RunsOrder U order rs until (Err refusal.OutOfMemory) = Unit {0}
 RunsOrder U order rs until _ = ⊥
 
 -- what comes of a set and the text of a release list: a run in the set's best order, or that there is no such order
-abbrev pub Simulation : List Task → List ℕ → Simulated → Type 0
-Simulation U text (Ran run) =
+abbrev pub IsSimulated : List Task → List ℕ → Simulated → Type 0
+IsSimulated U text (Ran run) =
     IsBestPlacing U run.places.items × (list_in text ≡ Ok (run.until, run.releases.items))
     × Runs (node_in U (tasks_of_places run.places.items)) run.releases.items run.until
     (Ok run.trace)
-Simulation U text (Infeasible left) =
+IsSimulated U text (Infeasible left) =
     IsGreatestObstruction U (indexes_of left)
     × ((until : ℕ) × (rs : List Release) × (list_in text ≡ Ok (until, rs)))
 
 -- the answer on a set and the text of a release list
-abbrev pub SimulatesText : List Task → List ℕ → Result Simulated Refusal → Type 0
-SimulatesText U text (Ok answer) = Simulation U text answer
-SimulatesText U text (Err (refusal.Text fault)) = IsFault fault (list_in text)
+abbrev pub SimulatesText : List Task → List ℕ → Result Simulated CommandRefusal → Type 0
+SimulatesText U text (Ok answer) = IsSimulated U text answer
+SimulatesText U text (Err (refusal.Text fault)) = IsTextFault fault (list_in text)
 SimulatesText U text (Err (refusal.Run fault)) =
     (places : List PlaceData) × (until : ℕ) × (rs : List Release) × IsBestPlacing U places
     × (list_in text ≡ Ok (until, rs)) × Runs (node_in U (tasks_of_places places)) rs until
@@ -53,7 +53,7 @@ SimulatesText U text _ = ⊥
 
 -- the answer on what the readers have of a set and of a release list, with the set
 abbrev pub Simulates : Preference → Option (List ℕ) → Option (List ℕ)
-    → Result (List Task × Simulated) Refusal → Type 0
+    → Result (List Task × Simulated) CommandRefusal → Type 0
 Simulates preference set releases (Ok answer) =
     (text : List ℕ) × HaveBoth preference set releases answer.0 text
     × SimulatesText answer.0 text (Ok answer.1)

@@ -4,6 +4,6 @@ use Rattle.desk_cli.specs.declared.release_text.TextFault.{TextFault}
 use Rattle.desk_cli.specs.declared.release_text.TextFault.TheVariants.{BadLine, OutOfMemory}
 
 -- the fault is the first faulty line of the reading, or want of memory
-abbrev pub IsFault : {X : Type 0} → TextFault → Result X ℕ → Type 0
-IsFault (BadLine line) read = read ≡ Err line
-IsFault OutOfMemory read = Unit {0}
+abbrev pub IsTextFault : {X : Type 0} → TextFault → Result X ℕ → Type 0
+IsTextFault (BadLine line) read = read ≡ Err line
+IsTextFault OutOfMemory read = Unit {0}

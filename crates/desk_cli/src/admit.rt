@@ -1,12 +1,12 @@
 //! `desk admit`.
 ghost use Rattle.std.specs.Prelude.{◌≡◌};
-ghost use Rattle.desk_cli.specs.Admit.{Admits, Places, Says, lines_of, placing_status, verdict_status};
+ghost use Rattle.desk_cli.specs.Admit.{Admits, Places, Says, admit_lines, placing_status, verdict_status};
 ghost use Rattle.desk_cli.specs.Outcomes.{IsCarriedOut, IsRead, failed_read};
 
 use crate::answer::placing_text;
 use crate::audience::Audience;
 use crate::output::{print, refuse};
-use crate::refusal::Refusal;
+use crate::refusal::CommandRefusal;
 use crate::sets::read_one;
 use crate::status::Status;
 use assignment::{Placing, Verdict, assign, place_all};
@@ -24,7 +24,7 @@ pub(crate) fn decide<R: Read + Drop, P: Audience>(
     preference: Preference,
     set: &mut Watched<R>,
     people: &mut P,
-) -> Result<Verdict, Refusal>
+) -> Result<Verdict, CommandRefusal>
     ensures answer { Admits preference (R.remaining set.old.inner) result }
     ensures read { IsRead failed_read set.old set.new result }
 {
@@ -40,7 +40,7 @@ pub(crate) fn place<R: Read + Drop, P: Audience>(
     preference: Preference,
     set: &mut Watched<R>,
     people: &mut P,
-) -> Result<(TaskSet, Placing), Refusal>
+) -> Result<(TaskSet, Placing), CommandRefusal>
     ensures answer { Places preference (R.remaining set.old.inner) result }
     ensures read { IsRead failed_read set.old set.new result }
 {
@@ -78,13 +78,13 @@ pub fn run_admit<R: Read + Drop, W: Write + Drop, P: Audience>(
     output: &mut Watched<W>,
     people: &mut P,
 ) -> Status
-    ensures { IsCarriedOut (Says lines_of preference) R.remaining W.contents
+    ensures { IsCarriedOut (Says admit_lines preference) R.remaining W.contents
         set.old set.new output.old output.new result }
 {
     match place(alloc, preference, set, people) {
         Ok((tasks, placing)) => match placing_text(alloc, &tasks, &placing) {
             Ok(text) => print(text.as_bytes(), placing_status(&placing), output),
-            Err(_) => refuse(Refusal::OutOfMemory, output),
+            Err(_) => refuse(CommandRefusal::OutOfMemory, output),
         },
         Err(refusal) => refuse(refusal, output),
     }

@@ -5,7 +5,7 @@ ghost use Rattle.desk_cli.specs.Printed.{IsPrinted};
 ghost use Rattle.desk_cli.specs.Lines.{admitted_lines, infeasible_line, level_line, placing_lines};
 
 use crate::output::{print, refuse};
-use crate::refusal::Refusal;
+use crate::refusal::CommandRefusal;
 use crate::status::Status;
 use assignment::{Place, Placing};
 use lines::{push_name, push_names};
@@ -88,6 +88,6 @@ pub(crate) fn print_stuck<W: Write + Drop>(
 {
     match infeasible_text(alloc, set, members) {
         Ok(text) => print(text.as_bytes(), Status::Infeasible, output),
-        Err(_) => refuse(Refusal::OutOfMemory, output),
+        Err(_) => refuse(CommandRefusal::OutOfMemory, output),
     }
 }

@@ -1,6 +1,6 @@
 //! Who is told what became of a command's inputs.
 
-use crate::refusal::Refusal;
+use crate::refusal::CommandRefusal;
 use task_sheet::TaskSet;
 
 /// Which input of a call.
@@ -17,7 +17,7 @@ pub trait Audience {
     fn read(&mut self, set: &TaskSet);
 
     /// An input was refused; its bytes are empty where it was not read, and where the number beside it was refused.
-    fn refused(&mut self, which: Which, bytes: &[u8], refusal: Refusal);
+    fn refused(&mut self, which: Which, bytes: &[u8], refusal: CommandRefusal);
 }
 
 /// Nobody is told.
@@ -27,5 +27,5 @@ pub struct Nobody;
 impl Audience for Nobody {
     fn read(&mut self, _set: &TaskSet) {}
 
-    fn refused(&mut self, _which: Which, _bytes: &[u8], _refusal: Refusal) {}
+    fn refused(&mut self, _which: Which, _bytes: &[u8], _refusal: CommandRefusal) {}
 }

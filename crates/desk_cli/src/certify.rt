@@ -2,12 +2,12 @@
 ghost use Rattle.certificate.specs.Spelling.{spelling};
 ghost use Rattle.desk_cli.specs.Admit.{Says};
 ghost use Rattle.desk_cli.specs.Certify.{certificate_lines};
-ghost use Rattle.desk_cli.specs.Outcomes.{IsCarriedOut, IsShown};
+ghost use Rattle.desk_cli.specs.Outcomes.{IsCarriedOut, IsPrintedOn};
 
 use crate::admit::{decide, status_of};
 use crate::audience::Audience;
 use crate::output::refuse;
-use crate::refusal::Refusal;
+use crate::refusal::CommandRefusal;
 use crate::status::Status;
 use certificate::Certificate;
 use preferences::Preference;
@@ -21,7 +21,7 @@ fn print_certificate<W: Write + Drop>(
     status: Status,
     output: &mut Watched<W>,
 ) -> Status
-    ensures { IsShown W.contents output.old output.new (spelling certificate.now) status result }
+    ensures { IsPrintedOn W.contents output.old output.new (spelling certificate.now) status result }
 {
     match certificate.write(output) {
         Ok(()) => status,
@@ -44,7 +44,7 @@ pub fn run_certify<R: Read + Drop, W: Write + Drop, P: Audience>(
     match decide(alloc, preference, set, people) {
         Ok(verdict) => match Certificate::of(alloc, &verdict) {
             Ok(certificate) => print_certificate(&certificate, status_of(&verdict), output),
-            Err(_) => refuse(Refusal::OutOfMemory, output),
+            Err(_) => refuse(CommandRefusal::OutOfMemory, output),
         },
         Err(refusal) => refuse(refusal, output),
     }

@@ -5,7 +5,7 @@ ghost use Rattle.desk_cli.specs.Outcomes.{AreRead, IsCarriedOutOnBoth, failed_re
 
 use crate::audience::{Audience, Which};
 use crate::output::{print, refuse};
-use crate::refusal::Refusal;
+use crate::refusal::CommandRefusal;
 use crate::sets::{read_two, tell};
 use crate::status::Status;
 use cert_checker::{Checked, check};
@@ -17,7 +17,7 @@ use streams::Watched;
 use task_sheet::TaskSet;
 
 // What a certificate's text shows of a set.
-fn check_text(alloc: Global, tasks: &TaskSet, text: &[u8]) -> Result<Checked, Refusal>
+fn check_text(alloc: Global, tasks: &TaskSet, text: &[u8]) -> Result<Checked, CommandRefusal>
     ensures { ChecksText tasks.now text.now result }
 {
     let certificate = read(alloc, text)?;
@@ -32,7 +32,7 @@ fn checked<R: Read + Drop, S: Read + Drop, P: Audience>(
     set: &mut Watched<R>,
     certificate: &mut Watched<S>,
     people: &mut P,
-) -> Result<Checked, Refusal>
+) -> Result<Checked, CommandRefusal>
     ensures answer { Checks preference (R.remaining set.old.inner)
         (S.remaining certificate.old.inner) result }
     ensures read { AreRead failed_read R.remaining set.old set.new certificate.old certificate.new

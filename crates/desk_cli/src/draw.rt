@@ -4,17 +4,17 @@ ghost use Rattle.task_sheet.specs.Orders.{IsOrder};
 ghost use Rattle.assignment.specs.Placings.{tasks_of_places};
 ghost use Rattle.desk_cli.specs.Printed.{IsPrinted};
 ghost use Rattle.desk_cli.specs.Simulate.{simulation_status};
-ghost use Rattle.desk_cli.specs.Draw.{IsInOrder, SaysDrawn, drawing_said, picture_of, row_of, rows_of};
-ghost use Rattle.desk_cli.specs.Outcomes.{IsCarriedOutOnBoth, IsSaid};
+ghost use Rattle.desk_cli.specs.Draw.{IsInOrder, SaysDrawn, drawing_said, picture_of, drawn_row, rows_of};
+ghost use Rattle.desk_cli.specs.Outcomes.{IsCarriedOutOnBoth, IsSaidOn};
 
 use crate::answer::print_stuck;
 use crate::audience::Audience;
 use crate::output::refuse;
-use crate::refusal::Refusal;
+use crate::refusal::CommandRefusal;
 use crate::simulate::{Run, Simulated, simulated_of};
 use crate::status::Status;
 use assignment::Place;
-use picture::{DrawFault, Row, draw};
+use picture::{DrawFault, TaskRow, draw};
 use preferences::Preference;
 use std::alloc::{AllocError, Global};
 use std::io::{Read, Write};
@@ -22,19 +22,19 @@ use streams::Watched;
 use task_sheet::{Sheet, TaskSet};
 
 // The row of a level.
-fn row_of(alloc: Global, sheets: &[Sheet], place: Place) -> Result<Row, AllocError>
+fn row_of(alloc: Global, sheets: &[Sheet], place: Place) -> Result<TaskRow, AllocError>
     requires { place.task < length sheets.now }
-    ensures { IfOk result (λ row. row ≡ row_of sheets.now place) }
+    ensures { IfOk result (λ row. row ≡ drawn_row sheets.now place) }
 {
     let sheet = sheets[place.task].copy(alloc)?;
-    Ok(Row {
+    Ok(TaskRow {
         sheet,
         bound: place.response,
     })
 }
 
 // The rows of places, the last one first.
-fn rows_of(alloc: Global, sheets: &[Sheet], places: &[Place]) -> Result<Vec<Row>, AllocError>
+fn rows_of(alloc: Global, sheets: &[Sheet], places: &[Place]) -> Result<Vec<TaskRow>, AllocError>
     requires { All (λ task. task < length sheets.now) (tasks_of_places places.now) }
     ensures { IfOk result (λ rows. rows.items ≡ rows_of sheets.now places.now) }
 {
@@ -47,7 +47,7 @@ fn rows_of(alloc: Global, sheets: &[Sheet], places: &[Place]) -> Result<Vec<Row>
 }
 
 // The rows of an order, the highest level first.
-fn rows_in(alloc: Global, set: &TaskSet, places: &[Place]) -> Result<Vec<Row>, AllocError>
+fn rows_in(alloc: Global, set: &TaskSet, places: &[Place]) -> Result<Vec<TaskRow>, AllocError>
     requires { IsOrder set.now (tasks_of_places places.now) }
     ensures rows { IfOk result (λ rows. rows.items ≡ rows_of set.now places.now) }
     ensures few { IfOk result (λ rows. length rows.items ≤ 32) }
@@ -63,15 +63,15 @@ fn draw_run<W: Write + Drop>(
     output: &mut Watched<W>,
 ) -> Status
     requires { IsOrder set.now (tasks_of_places run.now.places.items) }
-    ensures { IsSaid (λ before after s. IsPrinted before after (picture_of set.now run.now)
+    ensures { IsSaidOn (λ before after s. IsPrinted before after (picture_of set.now run.now)
         Status.Done s) W.contents output.old output.new result }
 {
     let Ok(rows) = rows_in(alloc, set, &run.places) else {
-        return refuse(Refusal::OutOfMemory, output);
+        return refuse(CommandRefusal::OutOfMemory, output);
     };
     match draw(alloc, &rows, run.until, &run.releases, &run.trace, output) {
         Ok(()) => Status::Done,
-        Err(DrawFault::OutOfMemory) => refuse(Refusal::OutOfMemory, output),
+        Err(DrawFault::OutOfMemory) => refuse(CommandRefusal::OutOfMemory, output),
         Err(DrawFault::WriteFailed) => Status::InputOrOutputFailed,
     }
 }
@@ -84,7 +84,7 @@ fn draw_simulated<W: Write + Drop>(
     output: &mut Watched<W>,
 ) -> Status
     requires { IsInOrder set.now simulated.now }
-    ensures { IsSaid (λ before after s. IsPrinted before after
+    ensures { IsSaidOn (λ before after s. IsPrinted before after
         (drawing_said set.now simulated.now) (simulation_status simulated.now) s)
         W.contents output.old output.new result }
 {

@@ -12,7 +12,7 @@ use crate::admit::{place, placing_status};
 use crate::audience::Audience;
 use crate::headroom_lines::first_text;
 use crate::output::{print, refuse};
-use crate::refusal::Refusal;
+use crate::refusal::CommandRefusal;
 use crate::status::Status;
 use assignment::Placing;
 use ceilings::LockTable;
@@ -66,7 +66,7 @@ pub fn run_explain<R: Read + Drop, W: Write + Drop, P: Audience>(
     match place(alloc, preference, set, people) {
         Ok((tasks, placing)) => match explained_text(alloc, &tasks, &placing) {
             Ok(text) => print(text.as_bytes(), placing_status(&placing), output),
-            Err(_) => refuse(Refusal::OutOfMemory, output),
+            Err(_) => refuse(CommandRefusal::OutOfMemory, output),
         },
         Err(refusal) => refuse(refusal, output),
     }

@@ -7,13 +7,13 @@ ghost use Rattle.task_sheet.specs.Orders.{IsPassingOrder};
 ghost use Rattle.assignment.specs.Placings.{IsPlacingOf, tasks_of_places};
 ghost use Rattle.desk_cli.specs.Headroom.{AnswersIn, IsLast, IsTaskLine, ListsAll, ListsSome, SaysHeadroom, SaysPlaced, headroom_line, most_words, placing_first, placing_order};
 ghost use Rattle.streams.specs.Sending.{Sends};
-ghost use Rattle.desk_cli.specs.Outcomes.{IsCarriedOut, IsSaid};
+ghost use Rattle.desk_cli.specs.Outcomes.{IsCarriedOut, IsSaidOn};
 
 use crate::admit::{place, placing_status};
 use crate::answer::infeasible_text;
 use crate::audience::Audience;
 use crate::output::refuse;
-use crate::refusal::Refusal;
+use crate::refusal::CommandRefusal;
 use crate::status::Status;
 use assignment::{Place, Placing};
 use ceilings::LockTable;
@@ -260,14 +260,14 @@ fn print_placing<W: Write + Drop>(
 ) -> Status
     requires kept { IsTaskSet set.now }
     requires placing { IsPlacingOf set.now placing.now }
-    ensures { IsSaid (SaysPlaced set.now) W.contents output.old output.new result }
+    ensures { IsSaidOn (SaysPlaced set.now) W.contents output.old output.new result }
 {
     let Ok((table, order, first)) = make_ready(alloc, set, placing) else {
-        return refuse(Refusal::OutOfMemory, output);
+        return refuse(CommandRefusal::OutOfMemory, output);
     };
     match print_lines(alloc, set, &table, &order, first.as_bytes(), output) {
         Ok(()) => placing_status(placing),
-        Err(ListFault::OutOfMemory) => refuse(Refusal::OutOfMemory, output),
+        Err(ListFault::OutOfMemory) => refuse(CommandRefusal::OutOfMemory, output),
         Err(ListFault::WriteFailed) => Status::InputOrOutputFailed,
     }
 }

@@ -5,10 +5,10 @@ ghost use Rattle.desk_cli.specs.Outcomes.{AreRead, IsCarriedOutOnBoth, failed_re
 
 use crate::audience::{Audience, Which};
 use crate::output::{print, refuse};
-use crate::refusal::Refusal;
+use crate::refusal::CommandRefusal;
 use crate::sets::{read_two, tell};
 use crate::status::Status;
-use judge::{Judged, all_meet, judge_settings, judged_text};
+use judge::{JudgedTask, all_meet, judge_settings, judged_text};
 use preferences::Preference;
 use std::alloc::Global;
 use std::io::{Read, Write};
@@ -16,7 +16,11 @@ use streams::Watched;
 use task_sheet::TaskSet;
 
 // What becomes of a set's tasks in the order that the text of settings gives.
-fn judge_text(alloc: Global, tasks: &TaskSet, text: &[u8]) -> Result<Vec<Judged>, Refusal>
+fn judge_text(
+    alloc: Global,
+    tasks: &TaskSet,
+    text: &[u8],
+) -> Result<Vec<JudgedTask>, CommandRefusal>
     ensures answer { JudgesText tasks.now text.now result }
     ensures within { IfOk result (λ judged. All (λ j. j.task < 32) judged.items) }
 {
@@ -31,7 +35,7 @@ fn judged_of<R: Read + Drop, S: Read + Drop, P: Audience>(
     set: &mut Watched<R>,
     settings: &mut Watched<S>,
     people: &mut P,
-) -> Result<(TaskSet, Vec<Judged>), Refusal>
+) -> Result<(TaskSet, Vec<JudgedTask>), CommandRefusal>
     ensures answer { Judges preference (R.remaining set.old.inner)
         (S.remaining settings.old.inner) result }
     ensures within { IfOk result (λ judged. All (λ j. j.task < 32) judged.1.items) }
@@ -45,7 +49,7 @@ fn judged_of<R: Read + Drop, S: Read + Drop, P: Audience>(
 }
 
 // The exit status of an order.
-fn judged_status(judged: &[Judged]) -> Status
+fn judged_status(judged: &[JudgedTask]) -> Status
     ensures { result ≡ judged_status judged.now }
 {
     if all_meet(judged) {
@@ -73,7 +77,7 @@ pub fn run_judge<R: Read + Drop, S: Read + Drop, W: Write + Drop, P: Audience>(
     match judged_of(alloc, preference, set, settings, people) {
         Ok((tasks, judged)) => match judged_text(alloc, &tasks, &judged) {
             Ok(text) => print(text.as_bytes(), judged_status(&judged), output),
-            Err(_) => refuse(Refusal::OutOfMemory, output),
+            Err(_) => refuse(CommandRefusal::OutOfMemory, output),
         },
         Err(refusal) => refuse(refusal, output),
     }

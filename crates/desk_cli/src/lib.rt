@@ -33,7 +33,7 @@ pub use headroom_lines::run_headroom;
 pub use judge_lines::run_judge;
 pub use output::{refuse, refuse_words};
 pub use play::run_play;
-pub use refusal::Refusal;
+pub use refusal::CommandRefusal;
 pub use release_text::{TextFault, read_releases};
 pub use releases::run_releases;
 pub use rush::run_rush;

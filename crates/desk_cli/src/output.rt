@@ -1,11 +1,11 @@
 //! Printing.
 ghost use Rattle.std.specs.Prelude.{◌≡◌, ◌⊎◌, codes, true, false};
 ghost use Rattle.std.specs.Io.KnownBytes.{Appends};
-ghost use Rattle.desk_cli.specs.Outcomes.{IsShown};
+ghost use Rattle.desk_cli.specs.Outcomes.{IsPrintedOn};
 ghost use Rattle.desk_cli.specs.Refusals.{refusal_line, status_of};
 ghost use Rattle.desk_cli.specs.WordsFaults.{IsMemory, fault_status, goes_out};
 
-use crate::refusal::Refusal;
+use crate::refusal::CommandRefusal;
 use crate::status::Status;
 use clap::Error;
 use clap::error::ErrorKind;
@@ -15,7 +15,7 @@ use streams::Watched;
 
 // Prints the text, and gives the status that belongs to it; where the writer fails, the status of that.
 pub(crate) fn print<W: Write + Drop>(text: &[u8], status: Status, output: &mut Watched<W>) -> Status
-    ensures { IsShown W.contents output.old output.new text.now status result }
+    ensures { IsPrintedOn W.contents output.old output.new text.now status result }
 {
     match output.write(text) {
         Ok(()) => status,
@@ -24,8 +24,8 @@ pub(crate) fn print<W: Write + Drop>(text: &[u8], status: Status, output: &mut W
 }
 
 /// Prints the line of a refusal, and gives its exit status.
-pub fn refuse<W: Write + Drop>(refusal: Refusal, output: &mut Watched<W>) -> Status
-    ensures { IsShown W.contents output.old output.new (refusal_line refusal) (status_of refusal)
+pub fn refuse<W: Write + Drop>(refusal: CommandRefusal, output: &mut Watched<W>) -> Status
+    ensures { IsPrintedOn W.contents output.old output.new (refusal_line refusal) (status_of refusal)
         result }
 {
     match write!(output, "{refusal}") {
@@ -63,7 +63,7 @@ pub fn refuse_words<O: Write + Drop, E: Write + Drop>(
         (codes "standard input named twice\n") }
     ensures memory { IsMemory fault.now → output.new.has_failed ≡ false
         → Appends (O.contents output.old.inner) (O.contents output.new.inner)
-        (refusal_line Refusal.OutOfMemory) }
+        (refusal_line CommandRefusal.OutOfMemory) }
     ensures output_alone { goes_out fault.now ≡ true → errors.new ≡ errors.old }
     ensures errors_alone { goes_out fault.now ≡ false → output.new ≡ output.old }
     ensures unwritten { output.old.has_failed ≡ false → errors.old.has_failed ≡ false
@@ -80,7 +80,7 @@ pub fn refuse_words<O: Write + Drop, E: Write + Drop>(
             errors,
         ),
         WordsFault::Clap(error) => match error.kind() {
-            ErrorKind::OutOfMemory => refuse(Refusal::OutOfMemory, output),
+            ErrorKind::OutOfMemory => refuse(CommandRefusal::OutOfMemory, output),
             ErrorKind::DisplayHelp | ErrorKind::DisplayVersion => show(error, Status::Done, output),
             _ => show(error, Status::BadArguments, errors),
         },

@@ -4,7 +4,7 @@ ghost use Rattle.desk_cli.specs.Play.{SaysPlayed, Scripts};
 
 use crate::audience::{Audience, Which};
 use crate::output::refuse;
-use crate::refusal::Refusal;
+use crate::refusal::CommandRefusal;
 use crate::sets::read_told;
 use crate::status::Status;
 use plays::{PlayFault, play_lines};
@@ -18,7 +18,7 @@ pub(crate) fn lines_of<R: Read + Drop, P: Audience>(
     alloc: Global,
     script: &mut Watched<R>,
     people: &mut P,
-) -> Result<Vec<Line>, Refusal>
+) -> Result<Vec<Line>, CommandRefusal>
     ensures answer { Scripts (R.remaining script.old.inner) result }
     ensures read { IsRead failed_read script.old script.new result }
 {
@@ -26,8 +26,8 @@ pub(crate) fn lines_of<R: Read + Drop, P: Audience>(
     match read_script(alloc, &bytes) {
         Ok(lines) => Ok(lines),
         Err(fault) => {
-            people.refused(Which::First, &bytes, Refusal::Script(fault));
-            Err(Refusal::Script(fault))
+            people.refused(Which::First, &bytes, CommandRefusal::Script(fault));
+            Err(CommandRefusal::Script(fault))
         }
     }
 }
@@ -48,7 +48,7 @@ pub fn run_play<R: Read + Drop, W: Write + Drop, P: Audience>(
         Err(refusal) => refuse(refusal, output),
         Ok(lines) => match play_lines(alloc, lines, output) {
             Ok(()) => Status::Done,
-            Err(PlayFault::OutOfMemory) => refuse(Refusal::OutOfMemory, output),
+            Err(PlayFault::OutOfMemory) => refuse(CommandRefusal::OutOfMemory, output),
             Err(PlayFault::WriteFailed) => Status::InputOrOutputFailed,
         },
     }

@@ -1,7 +1,7 @@
 //! Why a command was refused, and the line that says so.
 ghost use Rattle.std.specs.Prelude.{◌≡◌, Some};
 ghost use Rattle.std.specs.Fmt.{DisplaysOnOk};
-ghost use Rattle.desk_cli.specs.declared.refusal.Refusal.TheVariants.{Certificate, Check, Input, OutOfMemory, Run, Rush, Script, Set, Settings, Text};
+ghost use Rattle.desk_cli.specs.declared.refusal.CommandRefusal.TheVariants.{Certificate, Check, Input, OutOfMemory, Run, Rush, Script, Set, Settings, Text};
 ghost use Rattle.desk_cli.specs.Refusals.{cause_words, certificate_words, check_words, fault_words, lone_cause_words, outranks_words, refusal_line, run_words, rush_words, script_words, settings_words, status_of, text_words, words_of};
 
 use crate::release_text::TextFault;
@@ -19,7 +19,7 @@ use task_sheet::{OutranksCause, SetFault, SheetCause};
 
 /// Why a command was refused. Its `Display` is the line that the command prints.
 #[derive(Clone, Copy)]
-pub enum Refusal {
+pub enum CommandRefusal {
     /// An input was not read.
     Input(InputFault),
     /// The set's input is no set.
@@ -42,118 +42,118 @@ pub enum Refusal {
     OutOfMemory,
 }
 
-impl From<InputFault> for Refusal {
+impl From<InputFault> for CommandRefusal {
     ghost from_gives = { λ fault refusal. refusal ≡ Input fault };
 
-    fn from(fault: InputFault) -> Refusal {
-        Refusal::Input(fault)
+    fn from(fault: InputFault) -> CommandRefusal {
+        CommandRefusal::Input(fault)
     }
 }
 
-impl From<SetFault> for Refusal {
+impl From<SetFault> for CommandRefusal {
     ghost from_gives = { λ fault refusal. refusal ≡ Set fault };
 
-    fn from(fault: SetFault) -> Refusal {
-        Refusal::Set(fault)
+    fn from(fault: SetFault) -> CommandRefusal {
+        CommandRefusal::Set(fault)
     }
 }
 
-impl From<CertFault> for Refusal {
+impl From<CertFault> for CommandRefusal {
     ghost from_gives = { λ fault refusal. refusal ≡ Certificate fault };
 
-    fn from(fault: CertFault) -> Refusal {
-        Refusal::Certificate(fault)
+    fn from(fault: CertFault) -> CommandRefusal {
+        CommandRefusal::Certificate(fault)
     }
 }
 
-impl From<CheckFault> for Refusal {
+impl From<CheckFault> for CommandRefusal {
     ghost from_gives = { λ fault refusal. refusal ≡ Check fault };
 
-    fn from(fault: CheckFault) -> Refusal {
-        Refusal::Check(fault)
+    fn from(fault: CheckFault) -> CommandRefusal {
+        CommandRefusal::Check(fault)
     }
 }
 
-impl From<TextFault> for Refusal {
+impl From<TextFault> for CommandRefusal {
     ghost from_gives = { λ fault refusal. refusal ≡ Text fault };
 
-    fn from(fault: TextFault) -> Refusal {
-        Refusal::Text(fault)
+    fn from(fault: TextFault) -> CommandRefusal {
+        CommandRefusal::Text(fault)
     }
 }
 
-impl From<RunFault> for Refusal {
+impl From<RunFault> for CommandRefusal {
     ghost from_gives = { λ fault refusal. refusal ≡ Run fault };
 
-    fn from(fault: RunFault) -> Refusal {
-        Refusal::Run(fault)
+    fn from(fault: RunFault) -> CommandRefusal {
+        CommandRefusal::Run(fault)
     }
 }
 
-impl From<SettingsFault> for Refusal {
+impl From<SettingsFault> for CommandRefusal {
     ghost from_gives = { λ fault refusal. refusal ≡ Settings fault };
 
-    fn from(fault: SettingsFault) -> Refusal {
-        Refusal::Settings(fault)
+    fn from(fault: SettingsFault) -> CommandRefusal {
+        CommandRefusal::Settings(fault)
     }
 }
 
-impl From<ScriptFault> for Refusal {
+impl From<ScriptFault> for CommandRefusal {
     ghost from_gives = { λ fault refusal. refusal ≡ Script fault };
 
-    fn from(fault: ScriptFault) -> Refusal {
-        Refusal::Script(fault)
+    fn from(fault: ScriptFault) -> CommandRefusal {
+        CommandRefusal::Script(fault)
     }
 }
 
-impl From<RushFault> for Refusal {
+impl From<RushFault> for CommandRefusal {
     ghost from_gives = { λ fault refusal. refusal ≡ Rush fault };
 
-    fn from(fault: RushFault) -> Refusal {
-        Refusal::Rush(fault)
+    fn from(fault: RushFault) -> CommandRefusal {
+        CommandRefusal::Rush(fault)
     }
 }
 
-impl From<AllocError> for Refusal {
+impl From<AllocError> for CommandRefusal {
     ghost from_gives = { λ _ refusal. refusal ≡ OutOfMemory };
 
-    fn from(_e: AllocError) -> Refusal {
-        Refusal::OutOfMemory
+    fn from(_e: AllocError) -> CommandRefusal {
+        CommandRefusal::OutOfMemory
     }
 }
 
-impl<T: Drop> From<AllocFailed<T>> for Refusal {
+impl<T: Drop> From<AllocFailed<T>> for CommandRefusal {
     ghost from_gives = { λ _ refusal. refusal ≡ OutOfMemory };
 
-    fn from(_e: AllocFailed<T>) -> Refusal {
-        Refusal::OutOfMemory
+    fn from(_e: AllocFailed<T>) -> CommandRefusal {
+        CommandRefusal::OutOfMemory
     }
 }
 
-impl Refusal {
+impl CommandRefusal {
     /// The exit status.
     pub fn status(self) -> Status
         ensures { result ≡ status_of self }
     {
         match self {
-            Refusal::Input(InputFault::TooLong) => Status::BadInput,
-            Refusal::Input(InputFault::OutOfMemory) => Status::OutOfMemory,
-            Refusal::Input(InputFault::ReadFailed) => Status::InputOrOutputFailed,
-            Refusal::Set(SetFault::OutOfMemory) => Status::OutOfMemory,
-            Refusal::Set(_) => Status::BadInput,
-            Refusal::Certificate(CertFault::OutOfMemory) => Status::OutOfMemory,
-            Refusal::Certificate(_) => Status::BadCertificate,
-            Refusal::Check(_) => Status::BadCertificate,
-            Refusal::Text(TextFault::OutOfMemory) => Status::OutOfMemory,
-            Refusal::Text(_) => Status::BadInput,
-            Refusal::Run(RunFault::OutOfMemory) => Status::OutOfMemory,
-            Refusal::Run(_) => Status::BadInput,
-            Refusal::Settings(SettingsFault::OutOfMemory) => Status::OutOfMemory,
-            Refusal::Settings(_) => Status::BadInput,
-            Refusal::Script(ScriptFault::OutOfMemory) => Status::OutOfMemory,
-            Refusal::Script(_) => Status::BadInput,
-            Refusal::Rush(_) => Status::OutOfMemory,
-            Refusal::OutOfMemory => Status::OutOfMemory,
+            CommandRefusal::Input(InputFault::TooLong) => Status::BadInput,
+            CommandRefusal::Input(InputFault::OutOfMemory) => Status::OutOfMemory,
+            CommandRefusal::Input(InputFault::ReadFailed) => Status::InputOrOutputFailed,
+            CommandRefusal::Set(SetFault::OutOfMemory) => Status::OutOfMemory,
+            CommandRefusal::Set(_) => Status::BadInput,
+            CommandRefusal::Certificate(CertFault::OutOfMemory) => Status::OutOfMemory,
+            CommandRefusal::Certificate(_) => Status::BadCertificate,
+            CommandRefusal::Check(_) => Status::BadCertificate,
+            CommandRefusal::Text(TextFault::OutOfMemory) => Status::OutOfMemory,
+            CommandRefusal::Text(_) => Status::BadInput,
+            CommandRefusal::Run(RunFault::OutOfMemory) => Status::OutOfMemory,
+            CommandRefusal::Run(_) => Status::BadInput,
+            CommandRefusal::Settings(SettingsFault::OutOfMemory) => Status::OutOfMemory,
+            CommandRefusal::Settings(_) => Status::BadInput,
+            CommandRefusal::Script(ScriptFault::OutOfMemory) => Status::OutOfMemory,
+            CommandRefusal::Script(_) => Status::BadInput,
+            CommandRefusal::Rush(_) => Status::OutOfMemory,
+            CommandRefusal::OutOfMemory => Status::OutOfMemory,
         }
     }
 }
@@ -353,26 +353,26 @@ fn write_rush_fault<W: fmt::Write>(fault: RushFault, f: &mut fmt::Formatter<W>) 
 }
 
 // The name of a refusal, with its fields.
-fn write_words<W: fmt::Write>(refusal: Refusal, f: &mut fmt::Formatter<W>) -> fmt::Result
+fn write_words<W: fmt::Write>(refusal: CommandRefusal, f: &mut fmt::Formatter<W>) -> fmt::Result
     ensures { DisplaysOnOk W.write_str_gives f.old result (Some (words_of refusal)) f.new }
 {
     match refusal {
-        Refusal::Input(InputFault::TooLong) => f.write_str("InputTooLong"),
-        Refusal::Input(InputFault::OutOfMemory) => f.write_str("OutOfMemory"),
-        Refusal::Input(InputFault::ReadFailed) => f.write_str("ReadFailed"),
-        Refusal::Set(fault) => write_fault(fault, f),
-        Refusal::Certificate(fault) => write_certificate_fault(fault, f),
-        Refusal::Check(fault) => write_check_fault(fault, f),
-        Refusal::Text(fault) => write_text_fault(fault, f),
-        Refusal::Run(fault) => write_run_fault(fault, f),
-        Refusal::Settings(fault) => write_settings_fault(fault, f),
-        Refusal::Script(fault) => write_script_fault(fault, f),
-        Refusal::Rush(fault) => write_rush_fault(fault, f),
-        Refusal::OutOfMemory => f.write_str("OutOfMemory"),
+        CommandRefusal::Input(InputFault::TooLong) => f.write_str("InputTooLong"),
+        CommandRefusal::Input(InputFault::OutOfMemory) => f.write_str("OutOfMemory"),
+        CommandRefusal::Input(InputFault::ReadFailed) => f.write_str("ReadFailed"),
+        CommandRefusal::Set(fault) => write_fault(fault, f),
+        CommandRefusal::Certificate(fault) => write_certificate_fault(fault, f),
+        CommandRefusal::Check(fault) => write_check_fault(fault, f),
+        CommandRefusal::Text(fault) => write_text_fault(fault, f),
+        CommandRefusal::Run(fault) => write_run_fault(fault, f),
+        CommandRefusal::Settings(fault) => write_settings_fault(fault, f),
+        CommandRefusal::Script(fault) => write_script_fault(fault, f),
+        CommandRefusal::Rush(fault) => write_rush_fault(fault, f),
+        CommandRefusal::OutOfMemory => f.write_str("OutOfMemory"),
     }
 }
 
-impl fmt::Display for Refusal {
+impl fmt::Display for CommandRefusal {
     ghost output = { λ refusal. Some (refusal_line refusal) };
 
     fn fmt<W: fmt::Write>(&self, f: &mut fmt::Formatter<W>) -> fmt::Result {

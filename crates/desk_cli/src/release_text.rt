@@ -3,11 +3,11 @@ ghost use Rattle.std.specs.Prelude.{◌≡◌, Ok, MatchResult, option_map};
 ghost use Rattle.lines.specs.Lines.{kept_from, lines_of};
 ghost use Rattle.lines.specs.Words.{words};
 ghost use Rattle.desk_cli.specs.ReleasesText.{late_in, list_in, release_in, releases_from, until_in};
-ghost use Rattle.desk_cli.specs.TextFaults.{IsFault};
+ghost use Rattle.desk_cli.specs.TextFaults.{IsTextFault};
 ghost use Rattle.desk_cli.specs.declared.release_text.TextFault.TheVariants.{OutOfMemory};
 
 use ceiling_kernel::Release;
-use lines::{Place, Words, name_of, next_kept, number_of};
+use lines::{TextPlace, Words, name_of, next_kept, number_of};
 use std::alloc::{AllocFailed, Global};
 
 /// Why a text is no release list, or want of memory. Lines are counted from 1.
@@ -71,11 +71,11 @@ fn release_of(line: &[u8]) -> Option<Release>
 }
 
 // The releases of the lines that are left.
-fn releases_at<'a>(alloc: Global, at: Place<'a>) -> Result<Vec<Release>, TextFault>
+fn releases_at<'a>(alloc: Global, at: TextPlace<'a>) -> Result<Vec<Release>, TextFault>
     ensures { MatchResult result
         (λ releases. releases_from (kept_from at.entry.line (lines_of at.entry.rest.now))
         ≡ Ok releases.items)
-        (λ fault. IsFault fault (releases_from
+        (λ fault. IsTextFault fault (releases_from
         (kept_from at.entry.line (lines_of at.entry.rest.now)))) }
 {
     let mut at = at;
@@ -95,9 +95,9 @@ fn releases_at<'a>(alloc: Global, at: Place<'a>) -> Result<Vec<Release>, TextFau
 pub fn read_releases(alloc: Global, text: &[u8]) -> Result<(u64, Vec<Release>), TextFault>
     ensures { MatchResult result
         (λ list. list_in text.now ≡ Ok (list.0, list.1.items))
-        (λ fault. IsFault fault (list_in text.now)) }
+        (λ fault. IsTextFault fault (list_in text.now)) }
 {
-    let (line, after) = match next_kept(Place::start(text)) {
+    let (line, after) = match next_kept(TextPlace::start(text)) {
         Ok(found) => found,
         Err(past) => return Err(TextFault::BadLine { line: past }),
     };

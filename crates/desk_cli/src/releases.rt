@@ -4,7 +4,7 @@ ghost use Rattle.desk_cli.specs.Outcomes.{IsCarriedOut, IsRead, failed_read};
 
 use crate::audience::{Audience, Which};
 use crate::output::{print, refuse};
-use crate::refusal::Refusal;
+use crate::refusal::CommandRefusal;
 use crate::sets::{read_one, tell};
 use crate::status::Status;
 use ceiling_kernel::Release;
@@ -16,7 +16,7 @@ use streams::Watched;
 use task_sheet::TaskSet;
 
 // The densest list of a set, or why there is none.
-fn list_of(alloc: Global, tasks: &TaskSet, until: u64) -> Result<Vec<Release>, Refusal>
+fn list_of(alloc: Global, tasks: &TaskSet, until: u64) -> Result<Vec<Release>, CommandRefusal>
     ensures { ListsOf until tasks.now result }
 {
     let releases = densest(alloc, tasks, until)?;
@@ -30,7 +30,7 @@ fn list<R: Read + Drop, P: Audience>(
     set: &mut Watched<R>,
     until: u64,
     people: &mut P,
-) -> Result<Vec<Release>, Refusal>
+) -> Result<Vec<Release>, CommandRefusal>
     ensures answer { ListsDensest preference until (R.remaining set.old.inner) result }
     ensures read { IsRead failed_read set.old set.new result }
 {
@@ -56,7 +56,7 @@ pub fn run_releases<R: Read + Drop, W: Write + Drop, P: Audience>(
     match list(alloc, preference, set, until, people) {
         Ok(releases) => match list_text(alloc, until, &releases) {
             Ok(text) => print(text.as_bytes(), Status::Done, output),
-            Err(_) => refuse(Refusal::OutOfMemory, output),
+            Err(_) => refuse(CommandRefusal::OutOfMemory, output),
         },
         Err(refusal) => refuse(refusal, output),
     }

@@ -8,7 +8,7 @@ ghost use Rattle.desk_cli.specs.Rush.{IsNoted, SaysRushed};
 use crate::audience::Audience;
 use crate::output::refuse;
 use crate::play::lines_of;
-use crate::refusal::Refusal;
+use crate::refusal::CommandRefusal;
 use crate::status::Status;
 use rushes::{RushTexts, rush_lines};
 use std::alloc::Global;
@@ -93,7 +93,7 @@ pub fn run_rush<
         Err(refusal) => refuse(refusal, output),
         Ok(lines) => match rush_lines(rt, alloc, &lines, workers) {
             Ok(texts) => print_both(&texts, output, errors),
-            Err(fault) => refuse(Refusal::Rush(fault), output),
+            Err(fault) => refuse(CommandRefusal::Rush(fault), output),
         },
     }
 }

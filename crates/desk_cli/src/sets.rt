@@ -6,7 +6,7 @@ ghost use Rattle.desk_cli.specs.Outcomes.{AreRead, IsRead, failed_read};
 ghost use Rattle.streams.specs.Inputs.{IsReadFrom, IsTooLong};
 
 use crate::audience::{Audience, Which};
-use crate::refusal::Refusal;
+use crate::refusal::CommandRefusal;
 use preferences::{Preference, read_preferred};
 use std::alloc::Global;
 use std::io::Read;
@@ -26,7 +26,7 @@ pub(crate) fn read_told<R: Read + Drop, P: Audience>(
 {
     let bytes = read_input(alloc, input);
     if let Err(fault) = &bytes {
-        people.refused(which, b"", Refusal::Input(*fault));
+        people.refused(which, b"", CommandRefusal::Input(*fault));
     }
     bytes
 }
@@ -42,7 +42,7 @@ fn set_told<P: Audience>(
 {
     let tasks = read_preferred(alloc, bytes, preference);
     if let Err(fault) = &tasks {
-        people.refused(Which::First, bytes, Refusal::Set(*fault));
+        people.refused(Which::First, bytes, CommandRefusal::Set(*fault));
     }
     tasks
 }
@@ -53,7 +53,7 @@ pub(crate) fn read_one<R: Read + Drop, P: Audience>(
     preference: Preference,
     set: &mut Watched<R>,
     people: &mut P,
-) -> Result<TaskSet, Refusal>
+) -> Result<TaskSet, CommandRefusal>
     ensures answer { MatchResult result (λ tasks. HasSet preference
         (R.remaining set.old.inner) tasks)
         (λ r. HasNoSet (R.remaining set.old.inner) r) }
@@ -73,7 +73,7 @@ pub(crate) fn read_two<R: Read + Drop, S: Read + Drop, P: Audience>(
     set: &mut Watched<R>,
     other: &mut Watched<S>,
     people: &mut P,
-) -> Result<(TaskSet, Vec<u8>), Refusal>
+) -> Result<(TaskSet, Vec<u8>), CommandRefusal>
     ensures answer { MatchResult result
         (λ both. HaveBoth preference (R.remaining set.old.inner)
         (S.remaining other.old.inner) both.0 both.1.items)
@@ -90,7 +90,7 @@ pub(crate) fn read_two<R: Read + Drop, S: Read + Drop, P: Audience>(
 // Tells what became of a set: that an answer on it follows, or that the text of an input, or a number beside the set,
 // was refused.
 pub(crate) fn tell<T, P: Audience>(
-    answer: &Result<T, Refusal>,
+    answer: &Result<T, CommandRefusal>,
     tasks: &TaskSet,
     which: Which,
     text: &[u8],
@@ -98,7 +98,7 @@ pub(crate) fn tell<T, P: Audience>(
 ) {
     match answer {
         Ok(_) => people.read(tasks),
-        Err(Refusal::OutOfMemory) => {}
+        Err(CommandRefusal::OutOfMemory) => {}
         Err(refusal) => people.refused(which, text, *refusal),
     }
 }

@@ -9,7 +9,7 @@ use crate::admit::{place, placing_status};
 use crate::answer::infeasible_text;
 use crate::audience::Audience;
 use crate::output::{print, refuse};
-use crate::refusal::Refusal;
+use crate::refusal::CommandRefusal;
 use crate::status::Status;
 use assignment::Placing;
 use preferences::Preference;
@@ -45,7 +45,7 @@ pub fn run_settings<R: Read + Drop, W: Write + Drop, P: Audience>(
     match place(alloc, preference, set, people) {
         Ok((tasks, placing)) => match node_text(alloc, &tasks, &placing) {
             Ok(text) => print(text.as_bytes(), placing_status(&placing), output),
-            Err(_) => refuse(Refusal::OutOfMemory, output),
+            Err(_) => refuse(CommandRefusal::OutOfMemory, output),
         },
         Err(refusal) => refuse(refusal, output),
     }

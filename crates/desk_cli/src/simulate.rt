@@ -4,12 +4,12 @@ ghost use Rattle.task_sheet.specs.Orders.{IsBest};
 ghost use Rattle.assignment.specs.Placings.{tasks_of_places};
 ghost use Rattle.desk_cli.specs.Printed.{IsPrinted};
 ghost use Rattle.desk_cli.specs.Simulate.{RunsOrder, SaysSimulated, Simulates, SimulatesText, simulation_said, simulation_status};
-ghost use Rattle.desk_cli.specs.Outcomes.{AreRead, IsCarriedOutOnBoth, IsSaid, failed_read};
+ghost use Rattle.desk_cli.specs.Outcomes.{AreRead, IsCarriedOutOnBoth, IsSaidOn, failed_read};
 
 use crate::answer::print_stuck;
 use crate::audience::{Audience, Which};
 use crate::output::{print, refuse};
-use crate::refusal::Refusal;
+use crate::refusal::CommandRefusal;
 use crate::release_text::read_releases;
 use crate::sets::{read_two, tell};
 use crate::status::Status;
@@ -61,14 +61,14 @@ fn run_best(
     places: &[Place],
     until: u64,
     releases: &[Release],
-) -> Result<Trace, Refusal>
+) -> Result<Trace, CommandRefusal>
     requires { IsBest set.now (tasks_of_places places.now) }
     ensures { RunsOrder set.now (tasks_of_places places.now) releases.now until result }
 {
     let order = order_of(alloc, places)?;
     let kernel = match Kernel::new(alloc, set, &order) {
         Ok(kernel) => kernel,
-        Err(KernelFault::OutOfMemory) => return Err(Refusal::OutOfMemory),
+        Err(KernelFault::OutOfMemory) => return Err(CommandRefusal::OutOfMemory),
         Err(KernelFault::WrongOrder) => unreachable!(),
     };
     let trace = kernel.run(alloc, releases, until)?;
@@ -76,7 +76,7 @@ fn run_best(
 }
 
 // What a set and a release list's text come to.
-fn simulate_text(alloc: Global, tasks: &TaskSet, text: &[u8]) -> Result<Simulated, Refusal>
+fn simulate_text(alloc: Global, tasks: &TaskSet, text: &[u8]) -> Result<Simulated, CommandRefusal>
     ensures { SimulatesText tasks.now text.now result }
 {
     let (until, releases) = read_releases(alloc, text)?;
@@ -102,7 +102,7 @@ pub(crate) fn simulated_of<R: Read + Drop, S: Read + Drop, P: Audience>(
     set: &mut Watched<R>,
     releases: &mut Watched<S>,
     people: &mut P,
-) -> Result<(TaskSet, Simulated), Refusal>
+) -> Result<(TaskSet, Simulated), CommandRefusal>
     ensures answer { Simulates preference (R.remaining set.old.inner)
         (S.remaining releases.old.inner) result }
     ensures read { AreRead failed_read R.remaining set.old set.new releases.old releases.new
@@ -121,14 +121,14 @@ fn print_simulated<W: Write + Drop>(
     simulated: &Simulated,
     output: &mut Watched<W>,
 ) -> Status
-    ensures { IsSaid (λ before after s. IsPrinted before after
+    ensures { IsSaidOn (λ before after s. IsPrinted before after
         (simulation_said set.now simulated.now) (simulation_status simulated.now) s)
         W.contents output.old output.new result }
 {
     match simulated {
         Simulated::Ran(run) => match trace_text(alloc, &run.trace) {
             Ok(text) => print(text.as_bytes(), Status::Done, output),
-            Err(_) => refuse(Refusal::OutOfMemory, output),
+            Err(_) => refuse(CommandRefusal::OutOfMemory, output),
         },
         Simulated::Infeasible(members) => print_stuck(alloc, set, *members, output),
     }

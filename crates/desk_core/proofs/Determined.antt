@@ -10,7 +10,7 @@ use Rattle.drafts.specs.declared.change.Change.{Change}
 use Rattle.drafts.specs.declared.change.Refusal.{Refusal}
 use Rattle.drafts.specs.declared.draft.EditRefusal.{EditRefusal}
 use Rattle.drafts.specs.Applied.{set_of, applied}
-use Rattle.drafts.specs.Machine.{Entry, Ruling, Admitted, Refused, Infeasible, IsAnswer}
+use Rattle.drafts.specs.Machine.{Entry, Ruling, Admitted, Refused, Infeasible, IsRuling}
 use Rattle.drafts.specs.Books.{Book, logged, IsNextEntry}
 use Rattle.drafts.specs.Changes.{Draft, on_base, after_put, after_remove}
 use Rattle.desk_core.specs.declared.asked.Asked.{Asked}
@@ -72,7 +72,7 @@ found-one (Ok tasks) found q r s xs ys x y =
     )
 
 -- ---- decisions
-ruling-one : (version : ℕ) (outcome : Result (List Owned) Refusal) (a b : Ruling) → IsAnswer version outcome a → IsAnswer version outcome b → a ≡ b
+ruling-one : (version : ℕ) (outcome : Result (List Owned) Refusal) (a b : Ruling) → IsRuling version outcome a → IsRuling version outcome b → a ≡ b
 ruling-one version (Err refusal) (Refused a) (Refused b) x y = ap (λ (z : Refusal). Refused z) (x ∙ sym y)
 ruling-one version (Err refusal) (Refused a) (Admitted b) x y = absurd y
 ruling-one version (Err refusal) (Refused a) (Infeasible b) x y = absurd y

@@ -27,6 +27,6 @@ pub record IsAskedBy (U : List Task) (found : List Asked) (name : List ℕ) (q :
   pub named : (task_at U q.task).name ≡ name
 
 -- none where no candidate has the name
-abbrev pub IsNamed : List Task → List Asked → List ℕ → Option QuestionData → Type 0
-IsNamed U found name (Some q) = IsAskedBy U found name q
-IsNamed U found name None = (q : QuestionData) → ¬ IsAskedBy U found name q
+abbrev pub IsQuestionNamed : List Task → List Asked → List ℕ → Option QuestionData → Type 0
+IsQuestionNamed U found name (Some q) = IsAskedBy U found name q
+IsQuestionNamed U found name None = (q : QuestionData) → ¬ IsAskedBy U found name q

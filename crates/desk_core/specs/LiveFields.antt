@@ -9,5 +9,5 @@ abbrev pub live_of : Inside → Live
 live_of a = record { draft = a.draft; found = found_of a.stage }
 
 -- what is kept of the test is right
-abbrev pub IsKept : Inside → Type 0
-IsKept a = IsStage (on_base a.draft) a.stage
+abbrev pub IsLiveKept : Inside → Type 0
+IsLiveKept a = IsStage (on_base a.draft) a.stage

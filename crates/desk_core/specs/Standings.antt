@@ -8,7 +8,7 @@ use Rattle.desk_core.specs.declared.asked.Asked.{Asked}
 use Rattle.desk_core.specs.declared.events.Standing.{Standing}
 use Rattle.desk_core.specs.declared.events.Standing.TheVariants.{NoSuchDraft, Untestable, Asking, Tested}
 use Rattle.drafts.specs.Applied.{set_of}
-use Rattle.desk_core.specs.Asking.{IsNextAsked, IsNamed}
+use Rattle.desk_core.specs.Asking.{IsNextAsked, IsQuestionNamed}
 use Rattle.desk_core.specs.Findings.{IsTested}
 use Rattle.desk_core.specs.World.{Live, IsShown}
 use Rattle.drafts.specs.Changes.{on_base}
@@ -39,7 +39,7 @@ IsStanding (Some l) standing = IsStandingOn (on_base l.draft) l.found standing
 abbrev pub IsQuestionOn :
     Result (List Owned) Refusal → List Asked → List ℕ → Option QuestionData → Type 0
 IsQuestionOn (Err refusal) found name question = question ≡ None
-IsQuestionOn (Ok tasks) found name question = IsNamed (set_of tasks) found name question
+IsQuestionOn (Ok tasks) found name question = IsQuestionNamed (set_of tasks) found name question
 
 -- the question on the candidate of a name, for the draft in a slot
 abbrev pub IsQuestionOf : Option Live → List ℕ → Option QuestionData → Type 0

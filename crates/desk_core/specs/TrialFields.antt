@@ -12,7 +12,7 @@ trial_of a = record { set = a.set.value; found = a.found.items }
 
 -- the table is that of the set, the climb is as far as the findings are, and the level that is kept, if any, is the
 -- present one
-pub record IsKept (a : Inside) : Type 0 where
+pub record IsTrialKept (a : Inside) : Type 0 where
   pub tabled : IsTableOf a.set.value a.table
   pub present : LevelState
   pub progress : IsProgress a.set.value a.climb present a.found.items

@@ -11,7 +11,7 @@ use Rattle.drafts.specs.declared.change.Refusal.{Refusal}
 use Rattle.drafts.specs.declared.draft.EditRefusal.{EditRefusal}
 use Rattle.drafts.specs.declared.draft.EditRefusal.TheVariants as draft
 use Rattle.drafts.specs.Applied.{set_of}
-use Rattle.drafts.specs.Machine.{Desk}
+use Rattle.drafts.specs.Machine.{MachineState}
 use Rattle.drafts.specs.Books.{Book, empty_book, logged, IsNextEntry}
 use Rattle.drafts.specs.Changes.{Draft, on_base, after_put, after_remove}
 use Rattle.desk_core.specs.declared.events.Cause.{Cause}
@@ -53,7 +53,7 @@ abbrev pub with_slot : World → ℕ → Option Live → World
 with_slot w number slot = record { book = w.book; drafts = slice_set w.drafts (number - 1) slot }
 
 -- a draft that a team opens on this state
-abbrev pub opened : ℕ → Desk → Live
+abbrev pub opened : ℕ → MachineState → Live
 opened team desk = record { draft = record { team = team; base = desk; changes = [] }; found = [] }
 
 -- the draft with these changes, without findings
@@ -64,7 +64,7 @@ changed l changes = record {
 }
 
 -- the draft on another state, without findings
-abbrev pub rebased : Live → Desk → Live
+abbrev pub rebased : Live → MachineState → Live
 rebased l desk = record {
   draft = record { team = l.draft.team; base = desk; changes = l.draft.changes };
   found = [];

@@ -40,11 +40,11 @@ impl Model for Live {
 
     ghost coded = { Prim.hlevel (codes, chosen.the_row.coded) };
 
-    ghost use Rattle.desk_core.specs.LiveFields.{live_of, IsKept};
+    ghost use Rattle.desk_core.specs.LiveFields.{live_of, IsLiveKept};
 
     ghost view = { live_of };
 
-    ghost invariant = { IsKept };
+    ghost invariant = { IsLiveKept };
 }
 
 // The cause of an edit that is refused.

@@ -20,7 +20,7 @@ use task_sheet::{Name, Sheet};
 
 /// What a slot holds.
 #[derive(Drop)]
-pub enum Kept {
+pub enum SlotContents {
     /// The draft has ended.
     Nothing,
     /// The draft was opened, and nothing was asked of it yet.
@@ -32,7 +32,7 @@ pub enum Kept {
 /// The slot of a draft: the draft, or none where it has ended.
 #[derive(Drop)]
 pub struct Slot {
-    kept: Kept,
+    kept: SlotContents,
 }
 
 impl Model for Slot {
@@ -51,13 +51,13 @@ impl Model for Slot {
 }
 
 // Lets a draft that was only opened grow, so that something can be asked of it.
-fn grow(alloc: Global, kept: &mut Kept) -> Result<(), AllocError>
+fn grow(alloc: Global, kept: &mut SlotContents) -> Result<(), AllocError>
     ensures same { slot_of kept.new ≡ slot_of kept.old }
     ensures ok { OnOk result (IsGrown kept.new) }
 {
-    if let Kept::Opened { team, base } = kept {
+    if let SlotContents::Opened { team, base } = kept {
         let live = Box::new(alloc, Live::new(alloc, *team, base.clone()?))?;
-        *kept = Kept::Grown { live };
+        *kept = SlotContents::Grown { live };
     }
     Ok(())
 }
@@ -68,7 +68,7 @@ impl Slot {
         ensures { result ≡ Some (opened team base.value) }
     {
         Slot {
-            kept: Kept::Opened { team, base },
+            kept: SlotContents::Opened { team, base },
         }
     }
 
@@ -77,7 +77,7 @@ impl Slot {
         ensures { IsTrue result ↔ IsSome self.now }
     {
         match &self.kept {
-            Kept::Nothing => false,
+            SlotContents::Nothing => false,
             _ => true,
         }
     }
@@ -88,7 +88,7 @@ impl Slot {
         ensures err { IfErr result (λ fault. fault.question ≡ question) }
     {
         match &self.kept {
-            Kept::Grown { live } => live.answer(alloc, question),
+            SlotContents::Grown { live } => live.answer(alloc, question),
             _ => question.answer(alloc),
         }
     }
@@ -100,9 +100,9 @@ impl Slot {
     {
         grow(alloc, &mut self.kept)?;
         match &mut self.kept {
-            Kept::Grown { live } => live.standing(alloc),
-            Kept::Opened { .. } => unreachable!(),
-            Kept::Nothing => Ok(Standing::NoSuchDraft),
+            SlotContents::Grown { live } => live.standing(alloc),
+            SlotContents::Opened { .. } => unreachable!(),
+            SlotContents::Nothing => Ok(Standing::NoSuchDraft),
         }
     }
 
@@ -113,9 +113,9 @@ impl Slot {
     {
         grow(alloc, &mut self.kept)?;
         match &mut self.kept {
-            Kept::Grown { live } => live.question(alloc, name),
-            Kept::Opened { .. } => unreachable!(),
-            Kept::Nothing => Ok(None),
+            SlotContents::Grown { live } => live.question(alloc, name),
+            SlotContents::Opened { .. } => unreachable!(),
+            SlotContents::Nothing => Ok(None),
         }
     }
 
@@ -129,9 +129,9 @@ impl Slot {
             return Err(sheet);
         }
         match &mut self.kept {
-            Kept::Grown { live } => live.put(sheet),
-            Kept::Opened { .. } => unreachable!(),
-            Kept::Nothing => {
+            SlotContents::Grown { live } => live.put(sheet),
+            SlotContents::Opened { .. } => unreachable!(),
+            SlotContents::Nothing => {
                 let cause = Cause::NoSuchDraft;
                 Ok(Reply::Refused { cause })
             }
@@ -146,9 +146,9 @@ impl Slot {
     {
         grow(alloc, &mut self.kept)?;
         match &mut self.kept {
-            Kept::Grown { live } => live.remove(name),
-            Kept::Opened { .. } => unreachable!(),
-            Kept::Nothing => {
+            SlotContents::Grown { live } => live.remove(name),
+            SlotContents::Opened { .. } => unreachable!(),
+            SlotContents::Nothing => {
                 let cause = Cause::NoSuchDraft;
                 Ok(Reply::Refused { cause })
             }
@@ -165,9 +165,9 @@ impl Slot {
             return Err(finding);
         }
         match &mut self.kept {
-            Kept::Grown { live } => live.take(alloc, finding),
-            Kept::Opened { .. } => unreachable!(),
-            Kept::Nothing => {
+            SlotContents::Grown { live } => live.take(alloc, finding),
+            SlotContents::Opened { .. } => unreachable!(),
+            SlotContents::Nothing => {
                 let cause = Cause::NoSuchDraft;
                 Ok(Reply::Refused { cause })
             }
@@ -181,9 +181,9 @@ impl Slot {
     {
         grow(alloc, &mut self.kept)?;
         match &mut self.kept {
-            Kept::Grown { live } => live.advance(alloc),
-            Kept::Opened { .. } => unreachable!(),
-            Kept::Nothing => Ok(None),
+            SlotContents::Grown { live } => live.advance(alloc),
+            SlotContents::Opened { .. } => unreachable!(),
+            SlotContents::Nothing => Ok(None),
         }
     }
 
@@ -192,8 +192,8 @@ impl Slot {
         ensures ok { IsAbandonIn self.old result self.new }
         ensures gone { self.new ≡ None }
     {
-        match mem::replace(&mut self.kept, Kept::Nothing) {
-            Kept::Nothing => Reply::Refused {
+        match mem::replace(&mut self.kept, SlotContents::Nothing) {
+            SlotContents::Nothing => Reply::Refused {
                 cause: Cause::NoSuchDraft,
             },
             _ => Reply::Done,
@@ -209,9 +209,9 @@ impl Slot {
     {
         grow(alloc, &mut self.kept)?;
         let live = match &mut self.kept {
-            Kept::Grown { live } => live,
-            Kept::Opened { .. } => unreachable!(),
-            Kept::Nothing => {
+            SlotContents::Grown { live } => live,
+            SlotContents::Opened { .. } => unreachable!(),
+            SlotContents::Nothing => {
                 let cause = Cause::NoSuchDraft;
                 return Ok(Reply::Refused { cause });
             }
@@ -222,7 +222,7 @@ impl Slot {
             return Ok(Reply::Stale { version });
         }
         let decided = book.test_and_enter(alloc, live.draft())?;
-        self.kept = Kept::Nothing;
+        self.kept = SlotContents::Nothing;
         Ok(Reply::Decided {
             place: decided.place,
             entry: decided.entry,

@@ -2,7 +2,7 @@
 
 ghost use Rattle.std.specs.Prelude.{◌≡◌, ◌↔◌, ◌<◌, ◌≤◌, ◌+◌, [], ◌∷◌, ◌++◌, List, length, map, None, Some, ℕ, IsTrue, IsFalse, MatchOption, IfOk, IfErr, OnOk, OnErr, vec_len, vec_capacity};
 ghost use Rattle.std.specs.FinSet.{contains};
-ghost use Rattle.desk_core.specs.Asking.{IsAsking, IsNamed};
+ghost use Rattle.desk_core.specs.Asking.{IsAsking, IsQuestionNamed};
 ghost use Rattle.task_sheet.specs.Indexes.{indexes_of, listed_below, IsPart};
 ghost use Rattle.task_sheet.specs.Sheet.{task_at};
 ghost use Rattle.task_sheet.specs.Orders.{all_of};
@@ -46,11 +46,11 @@ impl Model for Trial {
 
     ghost coded = { Prim.hlevel (codes, chosen.the_row.coded) };
 
-    ghost use Rattle.desk_core.specs.TrialFields.{trial_of, IsKept};
+    ghost use Rattle.desk_core.specs.TrialFields.{trial_of, IsTrialKept};
 
     ghost view = { trial_of };
 
-    ghost invariant = { IsKept };
+    ghost invariant = { IsTrialKept };
 }
 
 // Starts the present level where it is not kept yet, and makes room for one finding.
@@ -258,7 +258,7 @@ impl Trial {
     /// The question on the candidate of a name at the present level; none where no candidate has the name, or the
     /// verdict is complete.
     pub fn question(&self, name: Name) -> Result<Option<Question>, AllocError>
-        ensures { IfOk result (λ question. IsNamed self.now.set self.now.found name question) }
+        ensures { IfOk result (λ question. IsQuestionNamed self.now.set self.now.found name question) }
     {
         if !self.climb.is_unfinished() {
             return Ok(None);

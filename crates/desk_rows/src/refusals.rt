@@ -1,13 +1,13 @@
 //! The lines of refusals that no typed words reach.
 use ceiling_kernel::RunFault;
-use desk_cli::{Refusal, RushFault, Status, refuse};
+use desk_cli::{CommandRefusal, RushFault, Status, refuse};
 use example_sets::name;
 use std::alloc::Global;
 use std::test::Fail;
 use streams::Watched;
 
 // The line of a refusal, and its status.
-fn refused(alloc: Global, refusal: Refusal) -> Result<(String, Status), Fail> {
+fn refused(alloc: Global, refusal: CommandRefusal) -> Result<(String, Status), Fail> {
     let mut printed = Vec::new(alloc);
     let mut writer = Watched::new(&mut printed);
     let status = refuse(refusal, &mut writer);
@@ -16,7 +16,7 @@ fn refused(alloc: Global, refusal: Refusal) -> Result<(String, Status), Fail> {
 
 #[test]
 fn want_of_memory(rt: HostRuntime) -> Result<(), Fail> {
-    let (printed, status) = refused(rt.alloc(), Refusal::OutOfMemory)?;
+    let (printed, status) = refused(rt.alloc(), CommandRefusal::OutOfMemory)?;
     assert_eq!(rt; printed.as_str(), "refused: OutOfMemory\n");
     assert_eq!(rt; status, Status::OutOfMemory);
     Ok(())
@@ -29,7 +29,7 @@ fn overrun(rt: HostRuntime) -> Result<(), Fail> {
         name: name("x")?,
         time: 500,
     };
-    let (printed, status) = refused(rt.alloc(), Refusal::Run(fault))?;
+    let (printed, status) = refused(rt.alloc(), CommandRefusal::Run(fault))?;
     assert_eq!(rt; printed.as_str(), "refused: Overrun x 500\n");
     assert_eq!(rt; status, Status::BadInput);
     Ok(())
@@ -47,7 +47,7 @@ const RUSH_LINES: [(RushFault, &str); 5] = [
 #[test]
 fn faults_of_a_rush(rt: HostRuntime) -> Result<(), Fail> {
     for (fault, line) in RUSH_LINES {
-        let (printed, status) = refused(rt.alloc(), Refusal::Rush(fault))?;
+        let (printed, status) = refused(rt.alloc(), CommandRefusal::Rush(fault))?;
         assert_eq!(rt; printed.as_str(), line);
         assert_eq!(rt; status, Status::OutOfMemory);
     }

@@ -11,13 +11,13 @@ use Rattle.preferences.specs.declared.preferred.Preference.{Preference}
 use Rattle.streams.specs.Watching.{WatchedData}
 use Rattle.streams.specs.declared.input.InputFault.TheVariants.{ReadFailed}
 use Rattle.desk_cli.specs.Refusals.{refusal_line}
-use Rattle.desk_cli.specs.declared.refusal.Refusal.{Refusal}
-use Rattle.desk_cli.specs.declared.refusal.Refusal.TheVariants.{Input}
+use Rattle.desk_cli.specs.declared.refusal.CommandRefusal.{CommandRefusal}
+use Rattle.desk_cli.specs.declared.refusal.CommandRefusal.TheVariants.{Input}
 use Rattle.desk_cli.specs.declared.status.Status.{Status}
 use Rattle.desk_cli.specs.declared.status.Status.TheVariants.{InputOrOutputFailed}
 use Rattle.dispatch.specs.Running.{NumberSays, OneSays, TwoSay}
 
-abbrev pub unread : Refusal
+abbrev pub unread : CommandRefusal
 unread = Input ReadFailed
 
 module _ (before after : Option (List ℕ)) (s : Status) (says : Appends before after (refusal_line unread)) (is : s ≡ InputOrOutputFailed) where

@@ -2,7 +2,7 @@
 use Rattle.std.specs.Prelude.{ℕ, List, Option, Bool, true, false}
 use Rattle.preferences.specs.declared.preferred.Preference.{Preference}
 use Rattle.preferences.specs.declared.preferred.Preference.TheVariants.{Weights, Deadline}
-use Rattle.desk_cli.specs.Admit.{Says, lines_of}
+use Rattle.desk_cli.specs.Admit.{Says, admit_lines}
 use Rattle.desk_cli.specs.Certify.{certificate_lines}
 use Rattle.desk_cli.specs.Check.{SaysChecked}
 use Rattle.desk_cli.specs.Draw.{SaysDrawn}
@@ -35,7 +35,7 @@ preference_of false = Weights
 -- preference where that is a set
 abbrev pub OneSays : OfOne → Preference → Option (List ℕ) → (before after : Option (List ℕ))
     → Status → Type 0
-OneSays Admit preference known before after s = Says lines_of preference known before after s
+OneSays Admit preference known before after s = Says admit_lines preference known before after s
 OneSays Certify preference known before after s =
     Says certificate_lines preference known before after s
 OneSays Headroom preference known before after s = SaysHeadroom preference known before after s

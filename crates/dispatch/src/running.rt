@@ -11,7 +11,7 @@ ghost use Rattle.dispatch.specs.Opened.{AreOpened, AreUnread, HasFailed};
 
 use command_line::{Call, Input, OfNumber, OfOne, OfTwo};
 use desk_cli::{
-    Audience, Refusal, Status, Which, refuse, run_admit, run_certify, run_check, run_draw,
+    Audience, CommandRefusal, Status, Which, refuse, run_admit, run_certify, run_check, run_draw,
     run_explain, run_headroom, run_judge, run_play, run_releases, run_rush, run_settings,
     run_simulate,
 };
@@ -23,7 +23,7 @@ use std::thread::Threads;
 use streams::{InputFault, Watched};
 
 // What an input that was not opened is refused as.
-const NOT_OPENED: Refusal = Refusal::Input(InputFault::ReadFailed);
+const NOT_OPENED: CommandRefusal = CommandRefusal::Input(InputFault::ReadFailed);
 
 /// An input was not opened.
 #[derive(Clone, Copy, Debug, PartialEq, Eq)]
@@ -108,7 +108,7 @@ fn not_opened<S: Read + Drop, W: Write + Drop, P: Audience>(
 ) -> CallEnd<S>
     ensures printed { output.new.has_failed ≡ false
         → Appends (W.contents output.old.inner) (W.contents output.new.inner)
-        (refusal_line (Refusal.Input InputFault.ReadFailed)) }
+        (refusal_line (CommandRefusal.Input InputFault.ReadFailed)) }
     ensures status { output.new.has_failed ≡ false → result.status ≡ Status.InputOrOutputFailed }
     ensures unwritten { output.old.has_failed ≡ false → output.new.has_failed ≡ true
         → result.status ≡ Status.InputOrOutputFailed }

@@ -9,21 +9,21 @@ use Rattle.drafts.specs.declared.change.Refusal.{Refusal}
 use Rattle.drafts.specs.declared.judging.Judged.{Judged}
 use Rattle.drafts.specs.declared.judging.Judged.TheVariants as judged
 use Rattle.drafts.specs.Applied.{set_of, applied}
-use Rattle.drafts.specs.Machine.{Desk, empty_desk, Ruling, Admitted, Refused, Infeasible, Entry, IsAnswer, IsDecision, moved, after_entry, IsLegal, replay, one_if_admitted, admissions}
+use Rattle.drafts.specs.Machine.{MachineState, empty_desk, Ruling, Admitted, Refused, Infeasible, Entry, IsRuling, IsDecision, moved, after_entry, IsLegal, replay, one_if_admitted, admissions}
 use Rattle.drafts.specs.Books.{Book, logged, IsNextEntry}
 use Rattle.drafts.specs.Changes.{Draft}
 use Rattle.drafts.specs.Outcomes.{IsJudged, IsSaid, IsNextState, IsEntryOf, after_next}
 
-pub replay-push : (desk : Desk) (log : List Entry) (e : Entry) → replay desk (log ++ e ∷ []) ≡ after_entry (replay desk log) e
+pub replay-push : (desk : MachineState) (log : List Entry) (e : Entry) → replay desk (log ++ e ∷ []) ≡ after_entry (replay desk log) e
 replay-push desk [] e = refl
 replay-push desk (x ∷ log) e = replay-push (after_entry desk x) log e
 
-pub IsLegal-push : (desk : Desk) (log : List Entry) (e : Entry) → IsLegal desk log → IsDecision (replay desk log) e.team e.changes e.decision → IsLegal desk (log ++ e ∷ [])
+pub IsLegal-push : (desk : MachineState) (log : List Entry) (e : Entry) → IsLegal desk log → IsDecision (replay desk log) e.team e.changes e.decision → IsLegal desk (log ++ e ∷ [])
 IsLegal-push desk [] e legal next = (next, tt)
 IsLegal-push desk (x ∷ log) e legal next = (legal.0, IsLegal-push (after_entry desk x) log e legal.1 next)
 
 -- what was judged is decided as the machine decides
-pub said-answer : (version : ℕ) (outcome : Result (List Owned) Refusal) (j : Judged) (d : Ruling) → IsJudged outcome j → IsSaid version j d → IsAnswer version outcome d
+pub said-answer : (version : ℕ) (outcome : Result (List Owned) Refusal) (j : Judged) (d : Ruling) → IsJudged outcome j → IsSaid version j d → IsRuling version outcome d
 said-answer version (Err refusal) (judged.Refused told) (Refused again) h said = said ∙ h
 said-answer version (Err refusal) (judged.Refused told) (Admitted again) h said = said
 said-answer version (Err refusal) (judged.Refused told) (Infeasible again) h said = said
@@ -43,7 +43,7 @@ said-answer version (Ok tasks) (judged.Stuck o) (Refused again) h said = said
 said-answer version (Ok tasks) (judged.Stuck o) (Admitted again) h said = absurd said
 
 -- and the state moves as the machine moves
-pub next-moved : (desk : Desk) (outcome : Result (List Owned) Refusal) (j : Judged) (d : Ruling) (next : Option Desk) → IsSaid desk.version j d → IsNextState desk outcome j next → after_next desk next ≡ moved desk d outcome
+pub next-moved : (desk : MachineState) (outcome : Result (List Owned) Refusal) (j : Judged) (d : Ruling) (next : Option MachineState) → IsSaid desk.version j d → IsNextState desk outcome j next → after_next desk next ≡ moved desk d outcome
 next-moved desk outcome (judged.Refused told) (Refused again) next said is = ap (λ o. after_next desk o) is
 next-moved desk outcome (judged.Refused told) (Admitted again) next said is = absurd said
 next-moved desk outcome (judged.Refused told) (Infeasible again) next said is = absurd said
@@ -62,13 +62,13 @@ logged-legal b e legal same next = (
 )
 
 -- ---- the version counts the admitted entries
-answered-version : (desk : Desk) (outcome : Result (List Owned) Refusal) (d : Ruling) → IsAnswer desk.version outcome d → (moved desk d outcome).version ≡ desk.version + one_if_admitted d
+answered-version : (desk : MachineState) (outcome : Result (List Owned) Refusal) (d : Ruling) → IsRuling desk.version outcome d → (moved desk d outcome).version ≡ desk.version + one_if_admitted d
 answered-version desk (Ok tasks) (Admitted told) h = refl
 answered-version desk (Err refusal) (Admitted told) h = absurd h
 answered-version desk outcome (Refused told) h = omega arith
 answered-version desk outcome (Infeasible o) h = omega arith
 
-pub replay-version : (desk : Desk) (log : List Entry) → IsLegal desk log → (replay desk log).version ≡ desk.version + admissions log
+pub replay-version : (desk : MachineState) (log : List Entry) → IsLegal desk log → (replay desk log).version ≡ desk.version + admissions log
 replay-version desk [] legal = omega arith
 replay-version desk (e ∷ log) legal = omega (arith, replay-version (after_entry desk e) log legal.1, answered-version desk (applied e.team desk.tasks e.changes) e.decision legal.0)
 
@@ -82,8 +82,8 @@ admissions-few [] = omega arith
 admissions-few (e ∷ log) = omega (arith, one-small e.decision, admissions-few log)
 
 -- so the next version fits
-pub version_room : (desk : Desk) (log : List Entry) → IsLegal empty_desk log → replay empty_desk log ≡ desk → length log < 2 ^ 63 → desk.version + 1 < 2 ^ 64
-version_room desk log legal same few = let e = ap (λ (d : Desk). d.version) same in omega (arith, replay-version empty_desk log legal, admissions-few log)
+pub version_room : (desk : MachineState) (log : List Entry) → IsLegal empty_desk log → replay empty_desk log ≡ desk → length log < 2 ^ 63 → desk.version + 1 < 2 ^ 64
+version_room desk log legal same few = let e = ap (λ (d : MachineState). d.version) same in omega (arith, replay-version empty_desk log legal, admissions-few log)
 
 -- ---- an entry of what was judged, and the state that follows
 module _ (b : Book) (legal : IsLegal empty_desk b.log) (same : replay empty_desk b.log ≡ b.desk) (d : Draft) (j : Judged) (judged : IsJudged (applied d.team b.desk.tasks d.changes) j) (e : Entry) (is : IsEntryOf b.desk.version d j e) where
@@ -94,10 +94,10 @@ module _ (b : Book) (legal : IsLegal empty_desk b.log) (same : replay empty_desk
   outcome = ap (λ t. applied t b.desk.tasks d.changes) (sym is.0) ∙ ap (λ cs. applied e.team b.desk.tasks cs) (sym is.1)
 
   pub entered-kept : IsLegal empty_desk (logged b e).log × (replay empty_desk (logged b e).log ≡ (logged b e).desk)
-  entered-kept = logged-legal b e legal same (subst (λ o. IsAnswer b.desk.version o e.decision) outcome (said-answer b.desk.version (applied d.team b.desk.tasks d.changes) j e.decision judged is.2))
+  entered-kept = logged-legal b e legal same (subst (λ o. IsRuling b.desk.version o e.decision) outcome (said-answer b.desk.version (applied d.team b.desk.tasks d.changes) j e.decision judged is.2))
 
-  pub entered-desk : (next : Option Desk) → IsNextState b.desk (applied d.team b.desk.tasks d.changes) j next → after_next b.desk next ≡ (logged b e).desk
+  pub entered-desk : (next : Option MachineState) → IsNextState b.desk (applied d.team b.desk.tasks d.changes) j next → after_next b.desk next ≡ (logged b e).desk
   entered-desk next to = next-moved b.desk (applied d.team b.desk.tasks d.changes) j e.decision next is.2 to ∙ ap (λ o. moved b.desk e.decision o) outcome
 
 pub version-counts : (b : Book) → IsLegal empty_desk b.log → replay empty_desk b.log ≡ b.desk → b.desk.version ≡ admissions b.log
-version-counts b legal same = let e = ap (λ (d : Desk). d.version) same in omega (arith, replay-version empty_desk b.log legal)
+version-counts b legal same = let e = ap (λ (d : MachineState). d.version) same in omega (arith, replay-version empty_desk b.log legal)

@@ -14,9 +14,9 @@ use Rattle.drafts.specs.declared.change.Change.{Change}
 use Rattle.drafts.specs.declared.change.Change.TheVariants.{Put, Remove}
 use Rattle.drafts.specs.declared.change.Refusal.{Refusal}
 use Rattle.drafts.specs.declared.judging.Judged.TheVariants.{Best}
-use Rattle.drafts.specs.Machine.{Desk, admitted}
+use Rattle.drafts.specs.Machine.{MachineState, admitted}
 use Rattle.drafts.specs.Outcomes.{IsJudged}
-use Rattle.drafts.specs.Applied.{has_name, held, holder_after, is_foreign, owned_of, set_of, teams_of, with_task, without_name, after_change, all_changes, if_few, applied}
+use Rattle.drafts.specs.Applied.{bears_name, held, holder_after, is_foreign, owned_of, set_of, teams_of, with_task, without_name, after_change, all_changes, if_few, applied}
 use Rattle.drafts.proofs.MapLaws.{held-with, held-with_other, held-without, held-without_other}
 use Rattle.drafts.proofs.PutLaws.{then-ok, put-made, remove-made}
 use Rattle.drafts.proofs.ReachedLaws.{none_held}
@@ -75,7 +75,7 @@ module _ (team : ℕ) where
   -- ---- each task's team is the holder of its name
   -- a name that is held among others is not that of a task of another name
   later : (x : Owned) (xs : List Owned) (f : List ℕ → ℕ) → AllByRecursion (λ y. same_name x.sheet y ≡ false) (set_of xs) → ((m : List ℕ) (o : Owned) → held m (x ∷ xs) ≡ Some o → o.team ≡ f m) → (m : List ℕ) (o : Owned) → held m xs ≡ Some o → o.team ≡ f m
-  later x xs f apart so m o is = elim (cases_Bool (has_name m x)) [
+  later x xs f apart so m o is = elim (cases_Bool (bears_name m x)) [
     | inl here ↦ let no : None ≡ Some o = sym (none_held m x xs here apart) ∙ is in absurd (cc)
     | inr other ↦ so m o (rw other is)
   ]
@@ -83,7 +83,7 @@ module _ (team : ℕ) where
   each : (ts : List Owned) (f : List ℕ → ℕ) → AreDistinct same_name (set_of ts) → ((m : List ℕ) (o : Owned) → held m ts ≡ Some o → o.team ≡ f m) → teams_of ts ≡ map (λ s. f s.name) (set_of ts)
   each [] f apart so = refl
   each (x ∷ xs) f apart so =
-      let here : has_name x.sheet.name x ≡ true = (bytes_eq-Decides x.sheet.name x.sheet.name).1 refl in
+      let here : bears_name x.sheet.name x ≡ true = (bytes_eq-Decides x.sheet.name x.sheet.name).1 refl in
       let first : x.team ≡ f x.sheet.name = so x.sheet.name x (rw here refl) in
       let rest : teams_of xs ≡ map (λ s. f s.name) (set_of xs) = each xs f apart.1 (later x xs f apart.0 so) in
       ap (λ t. t ∷ teams_of xs) first ∙ ap (λ ts. f x.sheet.name ∷ ts) rest
@@ -99,17 +99,17 @@ module _ (team : ℕ) where
 
 -- ---- the state after an admission
 -- its tasks are those of the best order's set, with these teams
-after : (team : ℕ) (desk : Desk) (changes : List (List ℕ × Change)) (outcome : Result (List Owned) Refusal) (a : Arc Assignment Global) (teams : List ℕ)
+after : (team : ℕ) (desk : MachineState) (changes : List (List ℕ × Change)) (outcome : Result (List Owned) Refusal) (a : Arc Assignment Global) (teams : List ℕ)
     → applied team desk.tasks changes ≡ outcome → IsJudged outcome (Best a) → IsTaskSet a.value.set → teams ≡ map (λ s. holder_after team desk.tasks s.name) a.value.set
-    → (let next : Desk = record { version = desk.version + 1; tasks = owned_of a.value.set teams } in next) ≡ admitted desk outcome
+    → (let next : MachineState = record { version = desk.version + 1; tasks = owned_of a.value.set teams } in next) ≡ admitted desk outcome
 after team desk changes (Err refusal) a teams is judged valid so = absurd judged
 after team desk changes (Ok tasks) a teams is judged valid so =
     let distinct = subst (λ U. IsTaskSet U) judged.0 valid in
     let set = ap (λ U. owned_of U teams) judged.0 in
     let held = ap (λ ts. owned_of (set_of tasks) ts) (so ∙ ap (λ U. map (λ s. holder_after team desk.tasks s.name) U) judged.0) in
-    ap (λ ts. let next : Desk = record { version = desk.version + 1; tasks = ts } in next) (set ∙ held ∙ holders team desk.tasks tasks changes is distinct.distinct)
+    ap (λ ts. let next : MachineState = record { version = desk.version + 1; tasks = ts } in next) (set ∙ held ∙ holders team desk.tasks tasks changes is distinct.distinct)
 
-pub after-admitted : (team : ℕ) (desk : Desk) (changes : List (List ℕ × Change)) (a : Arc Assignment Global) (teams : List ℕ)
+pub after-admitted : (team : ℕ) (desk : MachineState) (changes : List (List ℕ × Change)) (a : Arc Assignment Global) (teams : List ℕ)
     → IsJudged (applied team desk.tasks changes) (Best a) → IsTaskSet a.value.set → teams ≡ map (λ s. holder_after team desk.tasks s.name) a.value.set
-    → (let next : Desk = record { version = desk.version + 1; tasks = owned_of a.value.set teams } in next) ≡ admitted desk (applied team desk.tasks changes)
+    → (let next : MachineState = record { version = desk.version + 1; tasks = owned_of a.value.set teams } in next) ≡ admitted desk (applied team desk.tasks changes)
 after-admitted team desk changes a teams judged valid so = after team desk changes (applied team desk.tasks changes) a teams refl judged valid so

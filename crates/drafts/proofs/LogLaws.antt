@@ -12,7 +12,7 @@ use Rattle.drafts.specs.declared.change.Change.{Change}
 use Rattle.drafts.specs.declared.change.Change.TheVariants.{Put, Remove}
 use Rattle.drafts.specs.declared.change.Refusal.{Refusal}
 use Rattle.drafts.specs.Applied.{set_of, held, is_foreign, is_there, without_name, after_change, then_on, if_few, all_changes, applied}
-use Rattle.drafts.specs.Machine.{Desk, Ruling, Admitted, Refused, Infeasible, Entry, IsAnswer, moved, after_entry, IsLegal}
+use Rattle.drafts.specs.Machine.{MachineState, Ruling, Admitted, Refused, Infeasible, Entry, IsRuling, moved, after_entry, IsLegal}
 use Rattle.drafts.specs.Commits.{commit_of, commits_of, IsTaskChange, PutTasks}
 use Rattle.drafts.proofs.RosterLaws.{all-placed, set_of-without}
 
@@ -54,14 +54,14 @@ tasks-few ts all = elim (cases_Bool (nat_le (length ts) 32)) [ inl few ↦ rw fe
 tasks-applied : (team : ℕ) (ts : List Owned) (changes : List (List ℕ × Change)) → AreTasks ts → AllByRecursion (λ c. IsTaskChange c.1) changes → ComeToTasks (applied team ts changes)
 tasks-applied team ts changes all are = tasks-then (all_changes team ts changes) if_few (tasks-all team ts changes all are) tasks-few
 
-tasks-moved : (desk : Desk) (d : Ruling) (outcome : Result (List Owned) Refusal) → AreTasks desk.tasks → ComeToTasks outcome → AreTasks (moved desk d outcome).tasks
+tasks-moved : (desk : MachineState) (d : Ruling) (outcome : Result (List Owned) Refusal) → AreTasks desk.tasks → ComeToTasks outcome → AreTasks (moved desk d outcome).tasks
 tasks-moved desk (Admitted version) (Ok ts) all come = come
 tasks-moved desk (Admitted version) (Err refusal) all come = all
 tasks-moved desk (Refused refusal) outcome all come = all
 tasks-moved desk (Infeasible o) outcome all come = all
 
 -- ---- one answer
-answer-one : (version : ℕ) (outcome : Result (List Owned) Refusal) (d e : Ruling) → ComeToTasks outcome → IsAnswer version outcome d → IsAnswer version outcome e → d ≡ e
+answer-one : (version : ℕ) (outcome : Result (List Owned) Refusal) (d e : Ruling) → ComeToTasks outcome → IsRuling version outcome d → IsRuling version outcome e → d ≡ e
 answer-one version (Err refusal) (Refused told) (Refused again) come a b = ap (λ r. Refused r) (a ∙ sym b)
 answer-one version (Err refusal) (Refused told) (Admitted again) come a b = absurd b
 answer-one version (Err refusal) (Refused told) (Infeasible again) come a b = absurd b
@@ -81,7 +81,7 @@ answer-one version (Ok ts) (Infeasible told) (Infeasible again) come a b =
     λ i. Infeasible (record { set = sets i; members = members i })
 
 -- ---- one log
-pub log-one : (desk : Desk) (first second : List Entry) → AreTasks desk.tasks → PutTasks first → commits_of first ≡ commits_of second → IsLegal desk first → IsLegal desk second → first ≡ second
+pub log-one : (desk : MachineState) (first second : List Entry) → AreTasks desk.tasks → PutTasks first → commits_of first ≡ commits_of second → IsLegal desk first → IsLegal desk second → first ≡ second
 log-one desk [] [] all puts same a b = refl
 log-one desk [] (e ∷ second) all puts same a b = cc
 log-one desk (d ∷ first) [] all puts same a b = cc
@@ -90,7 +90,7 @@ log-one desk (d ∷ first) (e ∷ second) all puts same a b =
     let tails : commits_of first ≡ commits_of second = cc in
     let outcome = applied d.team desk.tasks d.changes in
     let come = tasks-applied d.team desk.tasks d.changes all puts.0 in
-    let as_first = subst (λ (c : ℕ × List (List ℕ × Change)). IsAnswer desk.version (applied c.0 desk.tasks c.1) e.decision) (sym heads) b.0 in
+    let as_first = subst (λ (c : ℕ × List (List ℕ × Change)). IsRuling desk.version (applied c.0 desk.tasks c.1) e.decision) (sym heads) b.0 in
     let decisions : d.decision ≡ e.decision = answer-one desk.version outcome d.decision e.decision come a.0 as_first in
     let entries : d ≡ e = λ i. record { team = (heads i).0; changes = (heads i).1; decision = decisions i } in
     let rest = log-one (after_entry desk d) first second (tasks-moved desk d.decision outcome all come) puts.1 tails a.1 (subst (λ x. IsLegal (after_entry desk x) second) (sym entries) b.1) in

@@ -10,24 +10,24 @@ use Rattle.task_sheet.specs.Sheet.{Task, same_bytes}
 use Rattle.task_sheet.specs.TaskSet.{rank_cmp, same_name, AreDistinct}
 use Rattle.task_sheet.proofs.SetLaws.{rank_total, same_turned, below}
 use Rattle.drafts.specs.declared.roster.Owned.{Owned}
-use Rattle.drafts.specs.Applied.{set_of, has_name, held}
+use Rattle.drafts.specs.Applied.{set_of, bears_name, held}
 use Rattle.drafts.specs.Rosters.{IsRoster}
 use Rattle.drafts.proofs.RosterLaws.{less, beyond}
 
 -- what each has, the one that is held has
 of_held : (P : Task → Type 0) (n : List ℕ) (ts : List Owned) (z : Owned) → AllByRecursion P (set_of ts) → held n ts ≡ Some z → P z.sheet
 of_held P n [] z all is = cc
-of_held P n (x ∷ ts) z all is = elim (cases_Bool (has_name n x)) [
+of_held P n (x ∷ ts) z all is = elim (cases_Bool (bears_name n x)) [
   | inl here ↦ let found : Some x ≡ Some z = (rw here at is) in let e : x ≡ z = cc in subst (λ (o : Owned). P o.sheet) e all.0
   | inr away ↦ of_held P n ts z all.1 (rw away at is)
 ]
 
 -- none of a name that none has
-pub none_held : (n : List ℕ) (x : Owned) (ts : List Owned) → has_name n x ≡ true → AllByRecursion (λ y. same_name x.sheet y ≡ false) (set_of ts) → held n ts ≡ None
+pub none_held : (n : List ℕ) (x : Owned) (ts : List Owned) → bears_name n x ≡ true → AllByRecursion (λ y. same_name x.sheet y ≡ false) (set_of ts) → held n ts ≡ None
 none_held n x [] named apart = refl
 none_held n x (y ∷ ts) named apart =
     let e : x.sheet.name ≡ n = (bytes_eq-Decides x.sheet.name n).0 named in
-    let away : has_name n y ≡ false = ap (λ m. same_bytes y.sheet.name m) (sym e) ∙ same_turned y.sheet x.sheet ∙ apart.0 in
+    let away : bears_name n y ≡ false = ap (λ m. same_bytes y.sheet.name m) (sym e) ∙ same_turned y.sheet x.sheet ∙ apart.0 in
     rw away (none_held n x ts named apart.1)
 
 -- what is held under its name isn't before all
@@ -37,7 +37,7 @@ not_before_all x n ts is all =
     let tied : rank_cmp x.sheet x.sheet ≡ Equal = tied_itself rank_total x.sheet in
     cc
 
-own_name : (x : Owned) → has_name x.sheet.name x ≡ true
+own_name : (x : Owned) → bears_name x.sheet.name x ≡ true
 own_name x = (bytes_eq-Decides x.sheet.name x.sheet.name).1 refl
 
 one_head : (x y : Owned) (xs ys : List Owned) → IsStrictlySortedBy rank_cmp (set_of (x ∷ xs)) → IsStrictlySortedBy rank_cmp (set_of (y ∷ ys)) → ((n : List ℕ) → held n (x ∷ xs) ≡ held n (y ∷ ys)) → x ≡ y
@@ -47,7 +47,7 @@ one_head x y xs ys a b same =
     let there : held y.sheet.name (y ∷ ys) ≡ Some y = rw (own_name y) refl in
     let first : held x.sheet.name (y ∷ ys) ≡ Some x = sym (same x.sheet.name) ∙ here in
     let second : held y.sheet.name (x ∷ xs) ≡ Some y = same y.sheet.name ∙ there in
-    elim (cases_Bool (has_name x.sheet.name y)) [
+    elim (cases_Bool (bears_name x.sheet.name y)) [
       | inl named ↦ let found : Some y ≡ Some x = (rw named at first) in cc
       | inr away ↦ elim (cases_Bool (is_lt (rank_cmp x.sheet y.sheet))) [
         | inl lt ↦
@@ -61,7 +61,7 @@ one_head x y xs ys a b same =
 
 one_tail : (x : Owned) (xs ys : List Owned) → AllByRecursion (λ z. same_name x.sheet z ≡ false) (set_of xs) → AllByRecursion (λ z. same_name x.sheet z ≡ false) (set_of ys)
     → ((n : List ℕ) → held n (x ∷ xs) ≡ held n (x ∷ ys)) → (n : List ℕ) → held n xs ≡ held n ys
-one_tail x xs ys a b same n = elim (cases_Bool (has_name n x)) [
+one_tail x xs ys a b same n = elim (cases_Bool (bears_name n x)) [
   | inl here ↦ none_held n x xs here a ∙ sym (none_held n x ys here b)
   | inr away ↦ (rw away at (same n))
 ]

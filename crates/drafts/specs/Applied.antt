@@ -21,16 +21,16 @@ owned_of (s ∷ sheets) [] = []
 owned_of (s ∷ sheets) (t ∷ teams) = record { sheet = s; team = t } ∷ owned_of sheets teams
 
 -- the task has this name
-abbrev pub has_name : List ℕ → Owned → Bool
-has_name name o = same_bytes o.sheet.name name
+abbrev pub bears_name : List ℕ → Owned → Bool
+bears_name name o = same_bytes o.sheet.name name
 
 -- the task of that name, with its team
 abbrev pub held : List ℕ → List Owned → Option Owned
-held name tasks = find (has_name name) tasks
+held name tasks = find (bears_name name) tasks
 
 -- the tasks of other names
 abbrev pub without_name : List ℕ → List Owned → List Owned
-without_name name tasks = filter (λ o. not (has_name name o)) tasks
+without_name name tasks = filter (λ o. not (bears_name name o)) tasks
 
 -- the task stands before the first that isn't of lesser rank
 abbrev pub placed : Owned → List Owned → List Owned

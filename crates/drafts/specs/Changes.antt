@@ -11,12 +11,12 @@ use Rattle.drafts.specs.declared.draft.EditRefusal.{EditRefusal}
 use Rattle.drafts.specs.declared.draft.EditRefusal.TheVariants.{NotYours, NoSuchTask, DraftFull}
 use Rattle.drafts.specs.declared.change.Refusal.{Refusal}
 use Rattle.drafts.specs.Applied.{held, is_foreign, is_there, applied}
-use Rattle.drafts.specs.Machine.{Desk}
+use Rattle.drafts.specs.Machine.{MachineState}
 
 -- a draft: its team, the state that it was opened on, and its changes by name
 pub record Draft : Type 0 where
   pub team : ℕ
-  pub base : Desk
+  pub base : MachineState
   pub changes : List (List ℕ × Change)
 
 -- no two changes are on one name

@@ -21,53 +21,53 @@ pub record Entry : Type 0 where
   pub decision : Ruling
 
 -- the machine's state: how many commits were admitted, and the tasks with their teams
-pub record Desk : Type 0 where
+pub record MachineState : Type 0 where
   pub version : ℕ
   pub tasks : List Owned
 
 -- the state before the first commit
-abbrev pub empty_desk : Desk
+abbrev pub empty_desk : MachineState
 empty_desk = record { version = 0; tasks = [] }
 
 -- what the machine answers to a commit whose changes come to this; an infeasible one with the greatest obstruction
-abbrev pub IsAnswer : ℕ → Result (List Owned) Refusal → Ruling → Type 0
-IsAnswer version (Err refusal) (Refused told) = told ≡ refusal
-IsAnswer version (Ok tasks) (Admitted told) = IsFeasible (set_of tasks) × (told ≡ version + 1)
-IsAnswer version (Ok tasks) (Infeasible o) =
+abbrev pub IsRuling : ℕ → Result (List Owned) Refusal → Ruling → Type 0
+IsRuling version (Err refusal) (Refused told) = told ≡ refusal
+IsRuling version (Ok tasks) (Admitted told) = IsFeasible (set_of tasks) × (told ≡ version + 1)
+IsRuling version (Ok tasks) (Infeasible o) =
     (¬ IsFeasible (set_of tasks)) × (o.set ≡ set_of tasks)
     × verdict.IsVerdictOf (set_of tasks) (verdict.Infeasible o.members)
-IsAnswer version (Err refusal) (Infeasible o) = ⊥
-IsAnswer version (Err refusal) (Admitted told) = ⊥
-IsAnswer version (Ok tasks) (Refused told) = ⊥
+IsRuling version (Err refusal) (Infeasible o) = ⊥
+IsRuling version (Err refusal) (Admitted told) = ⊥
+IsRuling version (Ok tasks) (Refused told) = ⊥
 
 -- the decision is the machine's on the team's changes
-abbrev pub IsDecision : Desk → ℕ → List (List ℕ × Change) → Ruling → Type 0
+abbrev pub IsDecision : MachineState → ℕ → List (List ℕ × Change) → Ruling → Type 0
 IsDecision desk team changes decision =
-    IsAnswer desk.version (applied team desk.tasks changes) decision
+    IsRuling desk.version (applied team desk.tasks changes) decision
 
 -- the state with these tasks, a version on
-abbrev pub admitted : Desk → Result (List Owned) Refusal → Desk
+abbrev pub admitted : MachineState → Result (List Owned) Refusal → MachineState
 admitted desk (Ok tasks) = record { version = desk.version + 1; tasks = tasks }
 admitted desk (Err refusal) = desk
 
 -- the machine moves where it admits, and else stays
-abbrev pub moved : Desk → Ruling → Result (List Owned) Refusal → Desk
+abbrev pub moved : MachineState → Ruling → Result (List Owned) Refusal → MachineState
 moved desk (Admitted version) outcome = admitted desk outcome
 moved desk (Refused refusal) outcome = desk
 moved desk (Infeasible o) outcome = desk
 
 -- the state after an entry
-abbrev pub after_entry : Desk → Entry → Desk
+abbrev pub after_entry : MachineState → Entry → MachineState
 after_entry desk e = moved desk e.decision (applied e.team desk.tasks e.changes)
 
 -- each decision of the log is the machine's at its place
-abbrev pub IsLegal : Desk → List Entry → Type 0
+abbrev pub IsLegal : MachineState → List Entry → Type 0
 IsLegal desk [] = Unit {0}
 IsLegal desk (e ∷ log) =
     IsDecision desk e.team e.changes e.decision × IsLegal (after_entry desk e) log
 
 -- the machine's state after the log
-abbrev pub replay : Desk → List Entry → Desk
+abbrev pub replay : MachineState → List Entry → MachineState
 replay desk [] = desk
 replay desk (e ∷ log) = replay (after_entry desk e) log
 

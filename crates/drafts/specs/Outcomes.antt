@@ -11,7 +11,7 @@ use Rattle.drafts.specs.declared.applying.Applied.TheVariants.{Tasks, Refused}
 use Rattle.drafts.specs.declared.judging.Judged.{Judged}
 use Rattle.drafts.specs.declared.judging.Judged.TheVariants as judged
 use Rattle.drafts.specs.Applied.{owned_of, set_of}
-use Rattle.drafts.specs.Machine.{Desk, Ruling, Entry, admitted}
+use Rattle.drafts.specs.Machine.{MachineState, Ruling, Entry, admitted}
 use Rattle.drafts.specs.Machine as ruling
 use Rattle.drafts.specs.Changes.{Draft}
 
@@ -49,7 +49,8 @@ IsShared (verdict.Infeasible o) (judged.Stuck p) = p.value ≡ o
 IsShared v j = ⊥
 
 -- where it is admitted, the state moves to the tasks that the changes come to
-abbrev pub IsNextState : Desk → Result (List Owned) Refusal → Judged → Option Desk → Type 0
+abbrev pub IsNextState : MachineState → Result (List Owned) Refusal → Judged → Option MachineState
+    → Type 0
 IsNextState desk outcome (judged.Best a) next = next ≡ Some (admitted desk outcome)
 IsNextState desk outcome (judged.Refused refusal) next = next ≡ None
 IsNextState desk outcome (judged.Stuck o) next = next ≡ None
@@ -59,6 +60,6 @@ abbrev pub IsEntryOf : ℕ → Draft → Judged → Entry → Type 0
 IsEntryOf version d j e = (e.team ≡ d.team) × (e.changes ≡ d.changes) × IsSaid version j e.decision
 
 -- the next state, where there is one
-abbrev pub after_next : Desk → Option Desk → Desk
+abbrev pub after_next : MachineState → Option MachineState → MachineState
 after_next desk None = desk
 after_next desk (Some next) = next

@@ -3,8 +3,8 @@ use Rattle.std.specs.Prelude.{ℕ, ◌≤◌}
 use Rattle.drafts.specs.declared.team.Team.TheInside.{Inside}
 
 -- the number of a team
-abbrev pub number_of : Inside → ℕ
-number_of a = a.number
+abbrev pub team_number : Inside → ℕ
+team_number a = a.number
 
 -- the team of a number
 abbrev pub team_of : ℕ → Inside

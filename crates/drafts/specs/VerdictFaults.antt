@@ -18,5 +18,5 @@ IsOnSet (Ok tasks) U = U ≡ set_of tasks
 -- draft and verdict are handed back; a stranger is on another set
 abbrev pub IsVerdictFault : Draft → Verdict → VerdictFault → Type 0
 IsVerdictFault d v (Stranger draft verdict) =
-    (draft ≡ d) × (verdict ≡ v) × (¬ IsOnSet (on_base d) (of.set_of v))
+    (draft ≡ d) × (verdict ≡ v) × (¬ IsOnSet (on_base d) (of.verdict_set v))
 IsVerdictFault d v (OutOfMemory draft verdict) = (draft ≡ d) × (verdict ≡ v)

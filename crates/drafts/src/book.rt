@@ -31,11 +31,11 @@ impl Model for Book {
 
     ghost Value = { Book };
 
-    ghost use Rattle.drafts.specs.BookFields.{book_of, IsKept};
+    ghost use Rattle.drafts.specs.BookFields.{book_of, IsBookKept};
 
     ghost view = { book_of };
 
-    ghost invariant = { IsKept };
+    ghost invariant = { IsBookKept };
 }
 
 /// Where a decision stands in the log, from 1, and its entry.

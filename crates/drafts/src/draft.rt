@@ -33,11 +33,11 @@ impl Model for Draft {
 
     ghost Value = { Draft };
 
-    ghost use Rattle.drafts.specs.DraftFields.{draft_of, IsKept};
+    ghost use Rattle.drafts.specs.DraftFields.{draft_of, IsDraftKept};
 
     ghost view = { draft_of };
 
-    ghost invariant = { IsKept };
+    ghost invariant = { IsDraftKept };
 }
 
 /// Why an edit is refused.

@@ -2,7 +2,7 @@
 
 ghost use Rattle.std.specs.Prelude.{◌≡◌, ◌↔◌, IsTrue, IfOk, IfErr};
 ghost use Rattle.task_sheet.specs.Verdicts.{IsVerdictOf};
-ghost use Rattle.assignment.specs.Verdict.{set_of, verdict_of};
+ghost use Rattle.assignment.specs.Verdict.{verdict_set, verdict_of};
 ghost use Rattle.drafts.specs.Changes.{on_base};
 ghost use Rattle.drafts.specs.Outcomes.{IsJudged, IsShared};
 ghost use Rattle.drafts.specs.VerdictFaults.{IsOnSet, IsVerdictFault};
@@ -27,11 +27,11 @@ impl Model for Proposal {
 
     ghost Value = { ProposalData };
 
-    ghost use Rattle.drafts.specs.ProposalFields.{proposal_of, IsKept};
+    ghost use Rattle.drafts.specs.ProposalFields.{proposal_of, IsProposalKept};
 
     ghost view = { proposal_of };
 
-    ghost invariant = { IsKept };
+    ghost invariant = { IsProposalKept };
 }
 
 /// Memory was wanting; the draft is handed back.
@@ -51,8 +51,8 @@ pub enum VerdictFault {
 // Whether the verdict is on the set that a draft's changes come to.
 fn is_on(alloc: Global, draft: &Draft, verdict: &Verdict) -> Result<bool, AllocError>
     ensures same { IfOk result (λ same. IsTrue same
-        ↔ IsOnSet (on_base draft.now) (set_of verdict.now)) }
-    ensures verdict { IsVerdictOf (set_of verdict.now) (verdict_of verdict.now) }
+        ↔ IsOnSet (on_base draft.now) (verdict_set verdict.now)) }
+    ensures verdict { IsVerdictOf (verdict_set verdict.now) (verdict_of verdict.now) }
 {
     let set = verdict.set();
     match draft.applied(alloc)? {
@@ -78,7 +78,7 @@ pub fn propose_with(alloc: Global, draft: Draft, verdict: Verdict) -> Result<Pro
     ensures ok { IfOk result (λ proposal. (proposal.draft ≡ draft)
         × IsShared verdict proposal.judged) }
     ensures right { IfOk result IsProposal }
-    ensures same { IfOk result (λ proposal. IsOnSet (on_base draft) (set_of verdict)) }
+    ensures same { IfOk result (λ proposal. IsOnSet (on_base draft) (verdict_set verdict)) }
     ensures err { IfErr result (IsVerdictFault draft verdict) }
 {
     match is_on(alloc, &draft, &verdict) {

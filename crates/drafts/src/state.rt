@@ -26,15 +26,15 @@ pub struct NodeState {
 }
 
 impl Model for NodeState {
-    ghost use Rattle.drafts.specs.Machine.{Desk};
+    ghost use Rattle.drafts.specs.Machine.{MachineState};
 
-    ghost Value = { Desk };
+    ghost Value = { MachineState };
 
-    ghost use Rattle.drafts.specs.StateFields.{desk_of, IsKept};
+    ghost use Rattle.drafts.specs.StateFields.{desk_of, IsStateKept};
 
     ghost view = { desk_of };
 
-    ghost invariant = { IsKept };
+    ghost invariant = { IsStateKept };
 }
 
 // The set with the index as a member where it is wanted.

@@ -17,9 +17,9 @@ impl Model for Team {
 
     ghost coded = { coded_ℕ };
 
-    ghost use Rattle.drafts.specs.Teams.{number_of, team_of, IsTeam};
+    ghost use Rattle.drafts.specs.Teams.{team_number, team_of, IsTeam};
 
-    ghost view = { number_of };
+    ghost view = { team_number };
 
     ghost invariant = { IsTeam };
 

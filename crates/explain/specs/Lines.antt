@@ -59,14 +59,14 @@ account_lines U a =
     ++ parts_lines U a.parts
 
 -- those of a level, which has a number
-abbrev pub level_lines : List Task → ℕ → AccountData → List ℕ
-level_lines U number a = decimal number ++ codes " " ++ account_lines U a
+abbrev pub level_account_lines : List Task → ℕ → AccountData → List ℕ
+level_account_lines U number a = decimal number ++ codes " " ++ account_lines U a
 
 -- those of each level, of which the first has a number
 abbrev pub response_lines : List Task → ℕ → List AccountData → List ℕ
 response_lines U number [] = []
 response_lines U number (a ∷ accounts) =
-    level_lines U number a ++ response_lines U (number + 1) accounts
+    level_account_lines U number a ++ response_lines U (number + 1) accounts
 
 -- why a task of a conflict may not stand below the others
 abbrev pub need_lines : List Task → Need → List ℕ

@@ -1,7 +1,7 @@
 //! The lines of an explanation.
 ghost use Rattle.std.specs.Prelude.{◌≡◌, ◌++◌, length, IfOk, OnOk, string_bytes};
 ghost use Rattle.task_sheet.specs.Indexes.{indexes_of, listed_below};
-ghost use Rattle.explain.specs.Lines.{above_line, above_lines, account_lines, blocked_line, blocker_line, conflict_line, explained_lines, explanation_lines, jitter_line, level_lines, load_line, need_lines, needs_lines, parts_lines, response_lines};
+ghost use Rattle.explain.specs.Lines.{above_line, above_lines, account_lines, blocked_line, blocker_line, conflict_line, explained_lines, explanation_lines, jitter_line, level_account_lines, load_line, need_lines, needs_lines, parts_lines, response_lines};
 
 use crate::accounts::Account;
 use crate::blocker::Blocker;
@@ -106,7 +106,7 @@ fn push_level(
     account: &Account,
 ) -> Result<(), AllocError>
     ensures { OnOk result (string_bytes text.new ≡ string_bytes text.old
-        ++ level_lines set.now number account.now) }
+        ++ level_account_lines set.now number account.now) }
 {
     write!(text, "{number} ")?;
     push_account(text, set, account)

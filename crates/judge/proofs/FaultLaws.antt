@@ -5,7 +5,7 @@ use Rattle.std.proofs.lemmas.List.{drop_more, take_more}
 use Rattle.std.proofs.lemmas.Option.{slice_get_within, get_or_from_slice_get}
 use Rattle.task_sheet.specs.Sheet.{Task}
 use Rattle.task_sheet.specs.Indexes.{greatest_below}
-use Rattle.judge.specs.Faults.{is_set, line_again, mutexless, number_of, top_of, wrong_lock}
+use Rattle.judge.specs.Faults.{is_set, line_again, mutexless, setting_number, top_number, wrong_lock}
 use Rattle.judge.specs.declared.rows.Setting.{Setting}
 
 -- the first element from a place on that passes, by the element there
@@ -21,11 +21,11 @@ module _ (locks : List (List ℕ)) (k : ℕ) (lock : List ℕ) (at : slice_get l
   mutexless_step [] b is some = absurd (omega arith)
   mutexless_step (m ∷ mutexes) b is some = find_step (λ q. not (is_set (m ∷ mutexes) q)) locks k lock cut ∙ rw is refl
 
-  pub wrong_step : (U : List Task) (threads mutexes : List Setting) (n top : ℕ) → n ≡ number_of mutexes lock → top ≡ top_of U threads lock → 0 < length mutexes
+  pub wrong_step : (U : List Task) (threads mutexes : List Setting) (n top : ℕ) → n ≡ setting_number mutexes lock → top ≡ top_number U threads lock → 0 < length mutexes
       → wrong_lock U (drop k locks) threads mutexes ≡ cond (not (n == top)) (Some lock) (wrong_lock U (drop (k + 1) locks) threads mutexes)
   wrong_step U threads [] n top is is' some = absurd (omega arith)
   wrong_step U threads (m ∷ mutexes) n top is is' some =
-      find_step (λ q. not (number_of (m ∷ mutexes) q == top_of U threads q)) locks k lock cut ∙ rw (is, is') refl
+      find_step (λ q. not (setting_number (m ∷ mutexes) q == top_number U threads q)) locks k lock cut ∙ rw (is, is') refl
 
 -- the settings from a place on, with those before it
 pub again_step : (alike : Setting → Setting → Bool) (xs : List Setting) (k : ℕ) (x : Setting) (b : Bool) → k < length xs → x ≡ get_or xs k x → b ≡ list_any (λ before. alike before x) (take k xs)

@@ -10,8 +10,8 @@ use Rattle.std.proofs.lemmas.List.Folds.{list_any-append}
 use Rattle.task_sheet.specs.Sheet.{Task}
 use Rattle.task_sheet.specs.Indexes.{among, indexes_of, with_index}
 use Rattle.task_sheet.proofs.MembersIndexes.{indexes_of-insert}
-use Rattle.judge.specs.Judgements.{AllJudged, IsJudged, tasks_of}
-use Rattle.judge.specs.declared.judging.Judged.{Judged}
+use Rattle.judge.specs.Judgements.{AllJudged, IsJudgementOf, order_judged}
+use Rattle.judge.specs.declared.judging.JudgedTask.{JudgedTask}
 
 or_turned : (b c : Bool) → (b || (c || false)) ≡ (c || b)
 or_turned true true = refl
@@ -35,26 +35,26 @@ members_step m n xs k lt so is =
     ∙ sym (among-push (take k xs) (get_or xs k 0)) ∙ ap among (sym (take_more xs k 0 lt))
 
 -- those that are judged so far, in front of the rest of the order
-pub record IsJudgedTo (U : List Task) (order : List ℕ) (place : ℕ) (judged : List Judged) : Type 0 where
-  pub tasks : tasks_of judged ≡ take place order
-  pub front : (rest : List Judged) → tasks_of rest ≡ drop place order → AllJudged U rest → AllJudged U (judged ++ rest)
+pub record IsJudgedTo (U : List Task) (order : List ℕ) (place : ℕ) (judged : List JudgedTask) : Type 0 where
+  pub tasks : order_judged judged ≡ take place order
+  pub front : (rest : List JudgedTask) → order_judged rest ≡ drop place order → AllJudged U rest → AllJudged U (judged ++ rest)
 
-pub judged_step : (U : List Task) (order : List ℕ) (place : ℕ) (judged judged' : List Judged) (j : Judged) → place < length order → IsJudgedTo U order place judged → j.task ≡ get_or order place 0 → IsJudged U (get_or order place 0) (among (drop (place + 1) order)) j.judgement → judged' ≡ judged ++ j ∷ [] → IsJudgedTo U order (place + 1) judged'
+pub judged_step : (U : List Task) (order : List ℕ) (place : ℕ) (judged judged' : List JudgedTask) (j : JudgedTask) → place < length order → IsJudgedTo U order place judged → j.task ≡ get_or order place 0 → IsJudgementOf U (get_or order place 0) (among (drop (place + 1) order)) j.judgement → judged' ≡ judged ++ j ∷ [] → IsJudgedTo U order (place + 1) judged'
 judged_step U order place judged judged' j lt so task is pushed = record {
-  tasks = ap tasks_of pushed ∙ map_push (λ (x : Judged). x.task) judged j ∙ ap (λ xs. xs ++ j.task ∷ []) so.tasks ∙ ap (λ i. take place order ++ i ∷ []) task ∙ sym (take_more order place 0 lt);
+  tasks = ap order_judged pushed ∙ map_push (λ (x : JudgedTask). x.task) judged j ∙ ap (λ xs. xs ++ j.task ∷ []) so.tasks ∙ ap (λ i. take place order ++ i ∷ []) task ∙ sym (take_more order place 0 lt);
   front = λ rest same all.
-      let here = subst (λ i. IsJudged U i (among (tasks_of rest)) j.judgement) (sym task) (subst (λ xs. IsJudged U (get_or order place 0) (among xs) j.judgement) (sym same) is) in
-      let from : tasks_of (j ∷ rest) ≡ drop place order = ap (λ xs. j.task ∷ xs) same ∙ ap (λ i. i ∷ drop (place + 1) order) task ∙ sym (drop_more order place 0 lt) in
+      let here = subst (λ i. IsJudgementOf U i (among (order_judged rest)) j.judgement) (sym task) (subst (λ xs. IsJudgementOf U (get_or order place 0) (among xs) j.judgement) (sym same) is) in
+      let from : order_judged (j ∷ rest) ≡ drop place order = ap (λ xs. j.task ∷ xs) same ∙ ap (λ i. i ∷ drop (place + 1) order) task ∙ sym (drop_more order place 0 lt) in
       subst (λ xs. AllJudged U xs) (sym (ap (λ xs. xs ++ rest) pushed ∙ append_assoc judged (j ∷ []) rest)) (so.front (j ∷ rest) from (here, all));
 }
 
-pub judged_start : (U : List Task) (order : List ℕ) (judged : List Judged) → judged ≡ [] → IsJudgedTo U order 0 judged
+pub judged_start : (U : List Task) (order : List ℕ) (judged : List JudgedTask) → judged ≡ [] → IsJudgedTo U order 0 judged
 judged_start U order judged none = record {
-  tasks = ap tasks_of none;
+  tasks = ap order_judged none;
   front = λ rest same all. subst (λ xs. AllJudged U (xs ++ rest)) (sym none) all;
 }
 
-pub judged_end : (U : List Task) (order : List ℕ) (place : ℕ) (judged : List Judged) → length order ≤ place → IsJudgedTo U order place judged → (tasks_of judged ≡ order) × AllJudged U judged
+pub judged_end : (U : List Task) (order : List ℕ) (place : ℕ) (judged : List JudgedTask) → length order ≤ place → IsJudgedTo U order place judged → (order_judged judged ≡ order) × AllJudged U judged
 judged_end U order place judged past so = (
   so.tasks ∙ take_all place order past,
   subst (λ xs. AllJudged U xs) (append-nil judged) (so.front [] (sym (drop_of_length-le order past)) tt),

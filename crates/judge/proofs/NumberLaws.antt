@@ -18,18 +18,18 @@ use Rattle.task_sheet.specs.Indexes.{Indexes, listed_below, without_index}
 use Rattle.task_sheet.specs.Orders.{all_of, IsOrder, IsOrderOf}
 use Rattle.task_sheet.proofs.IndexLaws.{without-parts, IsOrderOf-head, IsOrderOf-rest, listed-order}
 use Rattle.assignment.proofs.GatherLaws.{listed_below-member}
-use Rattle.judge.specs.Faults.{is_set, line_again, number_at, number_of, same_number, threadless}
+use Rattle.judge.specs.Faults.{is_set, line_again, thread_number, setting_number, same_number, threadless}
 use Rattle.judge.specs.Node.{IsOrderBy}
 use Rattle.judge.specs.declared.order.Numbered.{Numbered}
 use Rattle.judge.specs.declared.rows.Setting.{Setting}
 
 -- one more task, by rank
-pub numbered_step : (U : List Task) (threads : List Setting) (k : ℕ) (xs xs' : List Numbered) (number : ℕ) → k < length U → number ≡ number_at U threads k
-    → map (λ n. n.task) xs ≡ listed_below k (all_of U) → All (λ n. n.number ≡ number_at U threads n.task) xs → xs' ≡ xs ++ record { number = number; task = k } ∷ []
-    → (map (λ n. n.task) xs' ≡ listed_below (k + 1) (all_of U)) × All (λ n. n.number ≡ number_at U threads n.task) xs'
+pub numbered_step : (U : List Task) (threads : List Setting) (k : ℕ) (xs xs' : List Numbered) (number : ℕ) → k < length U → number ≡ thread_number U threads k
+    → map (λ n. n.task) xs ≡ listed_below k (all_of U) → All (λ n. n.number ≡ thread_number U threads n.task) xs → xs' ≡ xs ++ record { number = number; task = k } ∷ []
+    → (map (λ n. n.task) xs' ≡ listed_below (k + 1) (all_of U)) × All (λ n. n.number ≡ thread_number U threads n.task) xs'
 numbered_step U threads k xs xs' number lt is tasks numbers pushed =
     let one : Numbered = record { number = number; task = k } in
-    let P : Numbered → Type 0 = λ n. n.number ≡ number_at U threads n.task in (
+    let P : Numbered → Type 0 = λ n. n.number ≡ thread_number U threads n.task in (
       ap (λ (ns : List Numbered). map (λ (n : Numbered). n.task) ns) pushed ∙ map_push (λ (n : Numbered). n.task) xs one ∙ ap (λ (ts : List ℕ). ts ++ k ∷ []) tasks ∙ sym (listed_below-member k (all_of U) (lt-ltb k (length U) lt)),
       subst (λ (ns : List Numbered). All P ns) (sym pushed) (All-push P xs one numbers is),
     )
@@ -41,14 +41,14 @@ no_setting = record { line = 0; name = []; number = 0 }
 
 -- where some setting is of a name, its number is that of one of them
 number_found : (settings : List Setting) (name : List ℕ) → is_set settings name ≡ true
-    → (p : ℕ) × (p < length settings) × (same_bytes (get_or settings p no_setting).name name ≡ true) × (number_of settings name ≡ (get_or settings p no_setting).number)
+    → (p : ℕ) × (p < length settings) × (same_bytes (get_or settings p no_setting).name name ≡ true) × (setting_number settings name ≡ (get_or settings p no_setting).number)
 number_found [] name h = absurd (true≢false (sym h))
 number_found (s ∷ settings) name h = elim (cases_Bool (same_bytes s.name name)) [
-  | inl here ↦ (0, omega arith, here, ap (λ b. cond b s.number (number_of settings name)) here)
+  | inl here ↦ (0, omega arith, here, ap (λ b. cond b s.number (setting_number settings name)) here)
   | inr other ↦
       let later : is_set settings name ≡ true = elim (or_cases (same_bytes s.name name) (is_set settings name) h) [ inl here ↦ absurd (both_ways (same_bytes s.name name) other here) | inr more ↦ more ] in
       let found = number_found settings name later in
-      (suc found.0, omega (arith, found.1), found.2, ap (λ b. cond b s.number (number_of settings name)) other ∙ found.3)
+      (suc found.0, omega (arith, found.1), found.2, ap (λ b. cond b s.number (setting_number settings name)) other ∙ found.3)
 ]
 
 -- a test that fails on all of a list fails on each
@@ -116,7 +116,7 @@ module _ (U : List Task) (threads : List Setting) (kept : IsTaskSet U) (all : th
   ]
 
   -- two tasks of one number have one name
-  one_name : (i j : ℕ) → i < length U → j < length U → number_at U threads i ≡ number_at U threads j → same_name (task_at U i) (task_at U j) ≡ true
+  one_name : (i j : ℕ) → i < length U → j < length U → thread_number U threads i ≡ thread_number U threads j → same_name (task_at U i) (task_at U j) ≡ true
   one_name i j lt lt' same =
       let first = number_found threads (task_at U i).name (all_threads U threads all i lt) in
       let second = number_found threads (task_at U j).name (all_threads U threads all j lt') in
@@ -126,7 +126,7 @@ module _ (U : List Task) (threads : List Setting) (kept : IsTaskSet U) (all : th
       let names : (task_at U i).name ≡ (task_at U j).name = sym own ∙ ap (λ p. (get_or threads p no_setting).name) place ∙ other in
       subst (λ name. same_bytes (task_at U i).name name ≡ true) names (nat_list_eq_equiv.refl (task_at U i).name)
 
-  one_task : (i j : ℕ) → i < length U → j < length U → number_at U threads i ≡ number_at U threads j → i ≡ j
+  one_task : (i j : ℕ) → i < length U → j < length U → thread_number U threads i ≡ thread_number U threads j → i ≡ j
   one_task i j lt lt' same = elim (cases_order i j) [
     | inl e ↦ e
     | inr either ↦ elim either [
@@ -147,7 +147,7 @@ module _ (U : List Task) (threads : List Setting) (kept : IsTaskSet U) (all : th
   abbrev no_numbered : Numbered
   no_numbered = record { number = 0; task = 0 }
 
-  module _ (xs ys : List Numbered) (tasks : map (λ n. n.task) xs ≡ listed_below (length U) (all_of U)) (numbers : All (λ n. n.number ≡ number_at U threads n.task) xs)
+  module _ (xs ys : List Numbered) (tasks : map (λ n. n.task) xs ≡ listed_below (length U) (all_of U)) (numbers : All (λ n. n.number ≡ thread_number U threads n.task) xs)
       (moved : IsPermutation xs ys) (rising : IsNonDecreasingBy (λ n. n.number) ys) where
     abbrev order : List ℕ
     order = map (λ n. n.task) ys
@@ -160,18 +160,18 @@ module _ (U : List Task) (threads : List Setting) (kept : IsTaskSet U) (all : th
     task_here : (k : ℕ) → k < length ys → get_or order k 0 ≡ (get_or ys k no_numbered).task
     task_here k lt = get_or-map (λ (n : Numbered). n.task) ys k no_numbered 0 lt
 
-    number_here : (k : ℕ) → k < length ys → number_at U threads (get_or order k 0) ≡ (get_or ys k no_numbered).number
-    number_here k lt = ap (number_at U threads) (task_here k lt) ∙ sym (All-permutation (λ (n : Numbered). n.number ≡ number_at U threads n.task) xs ys moved numbers k no_numbered lt)
+    number_here : (k : ℕ) → k < length ys → thread_number U threads (get_or order k 0) ≡ (get_or ys k no_numbered).number
+    number_here k lt = ap (thread_number U threads) (task_here k lt) ∙ sym (All-permutation (λ (n : Numbered). n.number ≡ thread_number U threads n.task) xs ys moved numbers k no_numbered lt)
 
     in_set : (k : ℕ) → k < length ys → get_or order k 0 < length U
     in_set k lt = ((order_iff (length U) order).1 each).0 k 0 (omega (arith, length-map ys (λ (n : Numbered). n.task)))
 
-    step : (k : ℕ) → k + 1 < length ys → number_at U threads (get_or order k 0) < number_at U threads (get_or order (k + 1) 0)
+    step : (k : ℕ) → k + 1 < length ys → thread_number U threads (get_or order k 0) < thread_number U threads (get_or order (k + 1) 0)
     step k lt =
         let le = rising k (k + 1) no_numbered (omega arith) lt in
         let here = number_here k (omega arith) in
         let next = number_here (k + 1) lt in
-        elim (cases_lt (number_at U threads (get_or order k 0)) (number_at U threads (get_or order (k + 1) 0))) [
+        elim (cases_lt (thread_number U threads (get_or order k 0)) (thread_number U threads (get_or order (k + 1) 0))) [
           | inl less ↦ less
           | inr not_less ↦
               let same : get_or order k 0 ≡ get_or order (k + 1) 0 = one_task _ _ (in_set k (omega arith)) (in_set (k + 1) lt) (omega arith) in
@@ -183,8 +183,8 @@ module _ (U : List Task) (threads : List Setting) (kept : IsTaskSet U) (all : th
     ordered = record {
       each_once = each;
       rises = λ k lt.
-          let short : k + 1 < length ys = omega (arith, length-map order (number_at U threads), length-map ys (λ (n : Numbered). n.task)) in
+          let short : k + 1 < length ys = omega (arith, length-map order (thread_number U threads), length-map ys (λ (n : Numbered). n.task)) in
           let here : k < length order = omega (arith, length-map ys (λ (n : Numbered). n.task)) in
           let next : k + 1 < length order = omega (arith, length-map ys (λ (n : Numbered). n.task)) in
-          rw (get_or-map (number_at U threads) order k 0 0 here, get_or-map (number_at U threads) order (k + 1) 0 0 next) (step k short);
+          rw (get_or-map (thread_number U threads) order k 0 0 here, get_or-map (thread_number U threads) order (k + 1) 0 0 next) (step k short);
     }

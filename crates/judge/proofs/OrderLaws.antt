@@ -11,12 +11,12 @@ use Rattle.task_sheet.proofs.PassingLaws.{IsResponseOf-one, is_bound-at, Passes-
 use Rattle.task_sheet.proofs.IndexLaws.{IsOrderOf-among, IsOrderOf-head, IsOrderOf-rest, without-member, without-part_of}
 use Rattle.assignment.specs.Places.{PlaceData}
 use Rattle.assignment.specs.Placings.{AllRespond, IsBestPlacing, tasks_of_places}
-use Rattle.judge.specs.Judgements.{AllJudged, IsJudged, all_meet, does_meet, judged_of, tasks_of}
-use Rattle.judge.specs.Faults.{number_at}
+use Rattle.judge.specs.Judgements.{AllJudged, IsJudgementOf, all_meet, does_meet, judged_of, order_judged}
+use Rattle.judge.specs.Faults.{thread_number}
 use Rattle.judge.specs.Rows.{threads_of}
 use Rattle.judge.specs.Node.{IsNodeOrder}
-use Rattle.judge.specs.declared.rows.Row.{Row}
-use Rattle.judge.specs.declared.judging.Judged.{Judged}
+use Rattle.judge.specs.declared.rows.SettingRow.{SettingRow}
+use Rattle.judge.specs.declared.judging.JudgedTask.{JudgedTask}
 use Rattle.judge.specs.declared.judging.Judgement.{Judgement}
 use Rattle.judge.specs.declared.judging.Judgement.TheVariants.{Meets, Misses, Below}
 
@@ -37,7 +37,7 @@ least_one U i H j k first second = elim (cases_order j k) [
   ]
 ]
 
-one_judgement : (U : List Task) (i : ℕ) (H : Indexes) (j k : Judgement) → IsJudged U i H j → IsJudged U i H k → j ≡ k
+one_judgement : (U : List Task) (i : ℕ) (H : Indexes) (j k : Judgement) → IsJudgementOf U i H j → IsJudgementOf U i H k → j ≡ k
 one_judgement U i H (Meets r) (Meets s) a b = ap (λ (n : ℕ). Meets n) (IsResponseOf-one U i H r s a.1 b.1)
 one_judgement U i H (Meets r) Misses a b = absurd (b.1 (meets_passes U i H r a.1 a.2))
 one_judgement U i H (Meets r) (Below k) a b = absurd (both_ways _ a.0 (over_is_bound U i H k b))
@@ -49,45 +49,45 @@ one_judgement U i H (Below j) Misses a b = absurd (both_ways _ b.0 (over_is_boun
 one_judgement U i H (Below j) (Below k) a b = ap (λ (n : ℕ). Below n) (least_one U i H j k a b)
 
 -- ---- an order
-same_judged : (a b : Judged) → a.task ≡ b.task → a.judgement ≡ b.judgement → a ≡ b
-same_judged a b task judgement = λ i. let j : Judged = record { task = task i; judgement = judgement i } in j
+same_judged : (a b : JudgedTask) → a.task ≡ b.task → a.judgement ≡ b.judgement → a ≡ b
+same_judged a b task judgement = λ i. let j : JudgedTask = record { task = task i; judgement = judgement i } in j
 
-pub one_judged : (U : List Task) (first second : List Judged) → tasks_of first ≡ tasks_of second → AllJudged U first → AllJudged U second → first ≡ second
+pub one_judged : (U : List Task) (first second : List JudgedTask) → order_judged first ≡ order_judged second → AllJudged U first → AllJudged U second → first ≡ second
 one_judged U [] [] same a b = refl
 one_judged U [] (k ∷ ks) same a b = cc
 one_judged U (j ∷ js) [] same a b = cc
 one_judged U (j ∷ js) (k ∷ ks) same a b =
     let task : j.task ≡ k.task = cc in
-    let tasks : tasks_of js ≡ tasks_of ks = cc in
-    let other = subst (λ i. IsJudged U i (among (tasks_of ks)) k.judgement) (sym task) b.0 in
-    let here = subst (λ is. IsJudged U j.task (among is) k.judgement) (sym tasks) other in
-    let first = same_judged j k task (one_judgement U j.task (among (tasks_of js)) j.judgement k.judgement a.0 here) in
+    let tasks : order_judged js ≡ order_judged ks = cc in
+    let other = subst (λ i. IsJudgementOf U i (among (order_judged ks)) k.judgement) (sym task) b.0 in
+    let here = subst (λ is. IsJudgementOf U j.task (among is) k.judgement) (sym tasks) other in
+    let first = same_judged j k task (one_judgement U j.task (among (order_judged js)) j.judgement k.judgement a.0 here) in
     let rest = one_judged U js ks tasks a.1 b.1 in
     λ i. first i ∷ rest i
 
-meets_stands : (U : List Task) (i : ℕ) (H : Indexes) (j : Judgement) → IsJudged U i H j → does_meet j ≡ true → Stands U i H
+meets_stands : (U : List Task) (i : ℕ) (H : Indexes) (j : Judgement) → IsJudgementOf U i H j → does_meet j ≡ true → Stands U i H
 meets_stands U i H (Meets r) is meets = (meets_passes U i H r is.1 is.2, is.0)
 meets_stands U i H Misses is meets = absurd (true≢false (sym meets))
 meets_stands U i H (Below k) is meets = absurd (true≢false (sym meets))
 
-stands_meets : (U : List Task) (i : ℕ) (H : Indexes) (j : Judgement) → IsJudged U i H j → Stands U i H → does_meet j ≡ true
+stands_meets : (U : List Task) (i : ℕ) (H : Indexes) (j : Judgement) → IsJudgementOf U i H j → Stands U i H → does_meet j ≡ true
 stands_meets U i H (Meets r) is stands = refl
 stands_meets U i H Misses is stands = absurd (is.1 stands.0)
 stands_meets U i H (Below k) is stands = absurd (both_ways _ stands.1 (over_is_bound U i H k is))
 
-pub judged_passing : (U : List Task) (judged : List Judged) → AllJudged U judged → all_meet judged ≡ true → AllStand U (tasks_of judged)
+pub judged_passing : (U : List Task) (judged : List JudgedTask) → AllJudged U judged → all_meet judged ≡ true → AllStand U (order_judged judged)
 judged_passing U [] each all = tt
 judged_passing U (j ∷ judged) each all =
     let both = and_parts (does_meet j.judgement) (all_meet judged) all in
-    (meets_stands U j.task (among (tasks_of judged)) j.judgement each.0 both.0, judged_passing U judged each.1 both.1)
+    (meets_stands U j.task (among (order_judged judged)) j.judgement each.0 both.0, judged_passing U judged each.1 both.1)
 
-pub passing_judged : (U : List Task) (judged : List Judged) → AllJudged U judged → AllStand U (tasks_of judged) → all_meet judged ≡ true
+pub passing_judged : (U : List Task) (judged : List JudgedTask) → AllJudged U judged → AllStand U (order_judged judged) → all_meet judged ≡ true
 passing_judged U [] each all = refl
 passing_judged U (j ∷ judged) each all =
-    and_from _ _ (stands_meets U j.task (among (tasks_of judged)) j.judgement each.0 all.0) (passing_judged U judged each.1 all.1)
+    and_from _ _ (stands_meets U j.task (among (order_judged judged)) j.judgement each.0 all.0) (passing_judged U judged each.1 all.1)
 
 -- ---- the best order
-pub judged_tasks : (places : List PlaceData) → tasks_of (judged_of places) ≡ tasks_of_places places
+pub judged_tasks : (places : List PlaceData) → order_judged (judged_of places) ≡ tasks_of_places places
 judged_tasks [] = refl
 judged_tasks (p ∷ places) = ap (λ ts. p.task ∷ ts) (judged_tasks places)
 
@@ -96,7 +96,7 @@ judged_meet [] = refl
 judged_meet (p ∷ places) = judged_meet places
 
 -- a task that stands has its response within its deadline
-stands_judged : (U : List Task) (i : ℕ) (H : Indexes) (r : ℕ) → AllTasks U → i < length U → Stands U i H → IsResponseOf U i H r → IsJudged U i H (Meets r)
+stands_judged : (U : List Task) (i : ℕ) (H : Indexes) (r : ℕ) → AllTasks U → i < length U → Stands U i H → IsResponseOf U i H r → IsJudgementOf U i H (Meets r)
 stands_judged U i H r valid lt stands response =
     let found = (Passes-iff_response U valid i H lt).0 stands.0 in
     (stands.1, response, omega (arith, IsResponseOf-one U i H r found.0 response found.1, found.2))
@@ -106,7 +106,7 @@ placing_judged U L [] valid part each all respond = tt
 placing_judged U L (p ∷ places) valid part each all respond =
     let rest = IsOrderOf-rest L p.task (tasks_of_places places) each in
     let above = IsOrderOf-among (without_index L p.task) (tasks_of_places places) rest in
-    let same : without_index L p.task ≡ among (tasks_of (judged_of places)) = sym above ∙ ap among (sym (judged_tasks places)) in
+    let same : without_index L p.task ≡ among (order_judged (judged_of places)) = sym above ∙ ap among (sym (judged_tasks places)) in
     let stands = subst (λ ts. Stands U p.task (among ts)) (sym (judged_tasks places)) all.0 in
     let response = subst (λ H. IsResponseOf U p.task H p.response) same respond.0 in
     let lt = ltb-true p.task (length U) (part p.task (IsOrderOf-head L p.task (tasks_of_places places) each)) in
@@ -155,12 +155,12 @@ module _ (f : ℕ → ℕ) where
       ]
 
 -- the rows of a reading
-abbrev rows_or_none : Result (List Row) ℕ → List Row
+abbrev rows_or_none : Result (List SettingRow) ℕ → List SettingRow
 rows_or_none (Ok rows) = rows
 rows_or_none (Err line) = []
 
 pub one_node_order : (U : List Task) (text first second : List ℕ) → IsNodeOrder U text first → IsNodeOrder U text second → first ≡ second
 one_node_order U text first second a b =
     let rows : b.rows ≡ a.rows = ap rows_or_none (sym b.read ∙ a.read) in
-    let rises = subst (λ (rows : List Row). IsStrictlyIncreasing (map (number_at U (threads_of rows)) second)) rows b.by_numbers.rises in
-    one_order (number_at U (threads_of a.rows)) (all_of U) first second a.by_numbers.each_once b.by_numbers.each_once a.by_numbers.rises rises
+    let rises = subst (λ (rows : List SettingRow). IsStrictlyIncreasing (map (thread_number U (threads_of rows)) second)) rows b.by_numbers.rises in
+    one_order (thread_number U (threads_of a.rows)) (all_of U) first second a.by_numbers.each_once b.by_numbers.each_once a.by_numbers.rises rises

@@ -24,7 +24,7 @@ use Rattle.ceilings.specs.IsTableOf.{with_name, names_in, locks_of}
 use Rattle.settings.specs.Settings.{mutex_line, mutex_lines, settings_lines, thread_line, thread_lines}
 use Rattle.settings.proofs.LockLaws.{has_ceiling}
 use Rattle.judge.specs.Rows.{mutexes_of, rows_in, threads_of}
-use Rattle.judge.specs.Faults.{is_no_lock, is_no_task, is_set, line_again, line_fault, mutexless, name_fault, number_at, number_of, rows_fault, same_name, same_number, setting_fault, top_of, wrong_lock}
+use Rattle.judge.specs.Faults.{is_no_lock, is_no_task, is_set, line_again, line_fault, mutexless, name_fault, thread_number, setting_number, rows_fault, same_setting_name, same_number, setting_fault, top_number, wrong_lock}
 use Rattle.std.specs.Option.{option_map}
 use Rattle.judge.specs.Node.{IsNodeOrder, IsOrderBy}
 use Rattle.judge.specs.declared.rows.Setting.{Setting}
@@ -198,7 +198,7 @@ seen_apart (q ∷ names) seen h = seen_apart names (with_name seen q) (by (list_
     by false e = apart_push seen q h (none_each (same_bytes q) seen e)
 
 -- ---- mutexes
-mutexes_apart : (U : List Task) (order : List ℕ) (locks : List (List ℕ)) (line : ℕ) → Apart locks → AreDistinct same_name (set_in line (mutexes_in U order locks))
+mutexes_apart : (U : List Task) (order : List ℕ) (locks : List (List ℕ)) (line : ℕ) → Apart locks → AreDistinct same_setting_name (set_in line (mutexes_in U order locks))
 mutexes_apart U order [] line apart = tt
 mutexes_apart U order (lock ∷ locks) line apart = (go locks (line + 1) apart.0, mutexes_apart U order locks (line + 1) apart.1)
   where
@@ -218,14 +218,14 @@ set_lock U order (q ∷ locks) line lock h = elim (or_cases (same_bytes lock q) 
   | inr later ↦ or_right _ _ (set_lock U order locks (line + 1) lock later)
 ]
 
-pub number_lock : (U : List Task) (order : List ℕ) (locks : List (List ℕ)) (line : ℕ) (lock : List ℕ) → list_any (same_bytes lock) locks ≡ true → number_of (set_in line (mutexes_in U order locks)) lock ≡ level_of U order lock
+pub number_lock : (U : List Task) (order : List ℕ) (locks : List (List ℕ)) (line : ℕ) (lock : List ℕ) → list_any (same_bytes lock) locks ≡ true → setting_number (set_in line (mutexes_in U order locks)) lock ≡ level_of U order lock
 number_lock U order [] line lock h = absurd (true≢false (sym h))
 number_lock U order (q ∷ locks) line lock h = elim (cases_Bool (same_bytes q lock)) [
   | inl here ↦
-      ap (λ b. cond b (level_of U order q) (number_of (set_in (line + 1) (mutexes_in U order locks)) lock)) here ∙ ap (λ name. level_of U order name) (same_is q lock here)
+      ap (λ b. cond b (level_of U order q) (setting_number (set_in (line + 1) (mutexes_in U order locks)) lock)) here ∙ ap (λ name. level_of U order name) (same_is q lock here)
   | inr other ↦
       let later : list_any (same_bytes lock) locks ≡ true = elim (or_cases (same_bytes lock q) (list_any (same_bytes lock) locks) h) [ inl same ↦ absurd (both_ways (same_bytes q lock) other (turned q lock ∙ same)) | inr more ↦ more ] in
-      ap (λ b. cond b (level_of U order q) (number_of (set_in (line + 1) (mutexes_in U order locks)) lock)) other ∙ number_lock U order locks (line + 1) lock later
+      ap (λ b. cond b (level_of U order q) (setting_number (set_in (line + 1) (mutexes_in U order locks)) lock)) other ∙ number_lock U order locks (line + 1) lock later
 ]
 
 -- where each lock has a mutex, none lacks one
@@ -234,7 +234,7 @@ mutexless_none locks [] none = refl
 mutexless_none locks (m ∷ mutexes) none = none
 
 -- where each mutex is at the number of its highest user, none is wrong
-wrong_none : (U : List Task) (locks : List (List ℕ)) (threads mutexes : List Setting) → find (λ lock. not (number_of mutexes lock == top_of U threads lock)) locks ≡ None → wrong_lock U locks threads mutexes ≡ None
+wrong_none : (U : List Task) (locks : List (List ℕ)) (threads mutexes : List Setting) → find (λ lock. not (setting_number mutexes lock == top_number U threads lock)) locks ≡ None → wrong_lock U locks threads mutexes ≡ None
 wrong_none U locks threads [] none = refl
 wrong_none U locks threads (m ∷ mutexes) none = none
 
@@ -297,7 +297,7 @@ module _ (U : List Task) (kept : IsTaskSet U) where
       each_of (λ j. same_bytes (task_at U i).name (task_at U j).name ≡ false) (without_index L i) above (IsOrderOf-rest L i above each)
       (λ j member. names_apart i j (in_set L i part (IsOrderOf-head L i above each)) (in_set L j part (without-parts L i j member).0) (without-parts L i j member).1)
 
-  threads_apart : (L : Indexes) (order : List ℕ) (line level : ℕ) → IsPart L (all_of U) → IsOrderOf L order → AreDistinct same_name (set_in line (threads_in U level order))
+  threads_apart : (L : Indexes) (order : List ℕ) (line level : ℕ) → IsPart L (all_of U) → IsOrderOf L order → AreDistinct same_setting_name (set_in line (threads_in U level order))
   threads_apart L [] line level part each = tt
   threads_apart L (i ∷ above) line level part each = (
     go above (line + 1) (level + 1) (others_apart L i above part each),
@@ -317,16 +317,16 @@ module _ (U : List Task) (kept : IsTaskSet U) where
   )
 
   -- the number of the task at a place
-  number_place : (L : Indexes) (order : List ℕ) (line level p : ℕ) → IsPart L (all_of U) → IsOrderOf L order → p < length order → number_of (set_in line (threads_in U level order)) (task_at U (get_or order p 0)).name ≡ level + p
+  number_place : (L : Indexes) (order : List ℕ) (line level p : ℕ) → IsPart L (all_of U) → IsOrderOf L order → p < length order → setting_number (set_in line (threads_in U level order)) (task_at U (get_or order p 0)).name ≡ level + p
   number_place L [] line level p part each lt = absurd (omega arith)
   number_place L (i ∷ above) line level zero part each lt =
-      ap (λ b. cond b level (number_of (set_in (line + 1) (threads_in U (level + 1) above)) (task_at U i).name)) (same_own (task_at U i).name) ∙ omega arith
+      ap (λ b. cond b level (setting_number (set_in (line + 1) (threads_in U (level + 1) above)) (task_at U i).name)) (same_own (task_at U i).name) ∙ omega arith
   number_place L (i ∷ above) line level (suc p) part each lt =
       let name : List ℕ = (task_at U (get_or above p 0)).name in
       let rest = IsOrderOf-rest L i above each in
       let member : without_index L i (get_or above p 0) ≡ true = ap (λ X. X (get_or above p 0)) (sym (IsOrderOf-among (without_index L i) above rest)) ∙ among_at above p (omega arith) in
       let apart : same_bytes (task_at U i).name name ≡ false = names_apart i (get_or above p 0) (in_set L i part (IsOrderOf-head L i above each)) (in_set L (get_or above p 0) part (without-parts L i (get_or above p 0) member).0) (without-parts L i (get_or above p 0) member).1 in
-      ap (λ b. cond b level (number_of (set_in (line + 1) (threads_in U (level + 1) above)) name)) apart
+      ap (λ b. cond b level (setting_number (set_in (line + 1) (threads_in U (level + 1) above)) name)) apart
       ∙ number_place (without_index L i) above (line + 1) (level + 1) p (without-part_of (length U) L i part) rest (omega arith) ∙ omega arith
 
   entries_named : (order : List ℕ) (level : ℕ) → AllByRecursion (λ i. i < length U) order → 1 ≤ level → level + length order ≤ 1000001 → AllByRecursion IsEntry (threads_in U level order)
@@ -344,14 +344,14 @@ module _ (U : List Task) (kept : IsTaskSet U) where
     place_in : (k : ℕ) → k < length U → (j : ℕ) × (j < length order) × (get_or order j 0 ≡ k)
     place_in k lt = place_of order k (ap (λ X. X k) (IsOrderOf-among (all_of U) order each) ∙ lt-ltb k (length U) lt)
 
-    number_in_order : (line p : ℕ) → p < length order → number_at U (set_in line (threads_in U 1 order)) (get_or order p 0) ≡ 1 + p
+    number_in_order : (line p : ℕ) → p < length order → thread_number U (set_in line (threads_in U 1 order)) (get_or order p 0) ≡ 1 + p
     number_in_order line p lt = number_place (all_of U) order line 1 p (λ k h. h) each lt
 
     rising : (line : ℕ) → IsOrderBy U (set_in line (threads_in U 1 order)) order
     rising line = record {
       each_once = each;
       rises = λ k lt.
-          let f : ℕ → ℕ = number_at U (set_in line (threads_in U 1 order)) in
+          let f : ℕ → ℕ = thread_number U (set_in line (threads_in U 1 order)) in
           let next : k + 1 < length order = omega (arith, lt, length-map order f) in
           let here : k < length order = omega arith in
           rw (get_or-map f order k 0 0 here, get_or-map f order (k + 1) 0 0 next) (omega (arith, number_in_order line k here, number_in_order line (k + 1) next));
@@ -374,26 +374,26 @@ module _ (U : List Task) (kept : IsTaskSet U) where
         (record { named = h.0; some = within.0; within = omega (arith, within.1) }, mutexes_named locks h.1 g.1)
 
     -- the number of a lock's highest user is its ceiling
-    top_is : (line : ℕ) (lock : List ℕ) → HasCeiling U order lock → top_of U (set_in line (threads_in U 1 order)) lock ≡ level_of U order lock
+    top_is : (line : ℕ) (lock : List ℕ) → HasCeiling U order lock → top_number U (set_in line (threads_in U 1 order)) lock ≡ level_of U order lock
     top_is line lock has =
         let threads = set_in line (threads_in U 1 order) in
-        let f : ℕ → ℕ = λ k. cond (uses (task_at U k) lock) (number_at U threads k) 0 in
+        let f : ℕ → ℕ = λ k. cond (uses (task_at U k) lock) (thread_number U threads k) 0 in
         let high = (ceiling-highest U lock order has.0).0 has.1 in
         let is : level_of U order lock ≡ has.0 = ap (λ o. unwrap_or o 0) has.1 in
         let i : ℕ = get_or order high.0 0 in
         let lt : i < length U = ltb-true i (length U) (ap (λ X. X i) (sym (IsOrderOf-among (all_of U) order each)) ∙ among_at order high.0 high.2.in_order) in
-        let value : f i ≡ 1 + high.0 = ap (λ b. cond b (number_at U threads i) 0) high.2.user ∙ number_in_order line high.0 high.2.in_order in
+        let value : f i ≡ 1 + high.0 = ap (λ b. cond b (thread_number U threads i) 0) high.2.user ∙ number_in_order line high.0 high.2.in_order in
         let above : has.0 ≤ greatest_below (length U) f = omega (arith, le-greatest_below (length U) f i lt, value, high.1) in
         let below : greatest_below (length U) f ≤ has.0 = greatest_below-le (length U) f has.0 (λ k within. elim (cases_Bool (uses (task_at U k) lock)) [
           | inl user ↦
               let place = place_in k within in
-              let number : number_at U threads k ≡ 1 + place.0 = ap (number_at U threads) (sym place.2) ∙ number_in_order line place.0 place.1 in
-              let here : f k ≡ number_at U threads k = ap (λ b. cond b (number_at U threads k) 0) user in
+              let number : thread_number U threads k ≡ 1 + place.0 = ap (thread_number U threads) (sym place.2) ∙ number_in_order line place.0 place.1 in
+              let here : f k ≡ thread_number U threads k = ap (λ b. cond b (thread_number U threads k) 0) user in
               elim (cases_lt high.0 place.0) [
                 | inl past ↦ absurd (both_ways (uses (task_at U k) lock) (subst (λ j. uses (task_at U j) lock ≡ false) place.2 (high.2.none_above place.0 past place.1)) user)
                 | inr le ↦ omega (arith, here, number, high.1, le)
               ]
-          | inr other ↦ let here : f k ≡ 0 = ap (λ b. cond b (number_at U threads k) 0) other in omega (arith, here)
+          | inr other ↦ let here : f k ≡ 0 = ap (λ b. cond b (thread_number U threads k) 0) other in omega (arith, here)
         ]) in
         omega (arith, above, below, is)
 
@@ -436,8 +436,8 @@ module _ (U : List Task) (kept : IsTaskSet U) where
       no_line =
           let tasks = ap (option_map (λ (s : Setting). s.line)) (find_none (is_no_task U) threads (known_threads (all_of U) order 1 1 (λ k h. h) each)) in
           let held = ap (option_map (λ (s : Setting). s.line)) (find_none (is_no_lock U) mutexes (known_locks U order (locks_of U) n each_lock)) in
-          let names = again_none same_name [] threads (unseen same_name threads) (threads_apart (all_of U) order 1 1 (λ k h. h) each) in
-          let lock_names = again_none same_name [] mutexes (unseen same_name mutexes) (mutexes_apart U order (locks_of U) n (seen_apart (names_in U) [] tt)) in
+          let names = again_none same_setting_name [] threads (unseen same_setting_name threads) (threads_apart (all_of U) order 1 1 (λ k h. h) each) in
+          let lock_names = again_none same_setting_name [] mutexes (unseen same_setting_name mutexes) (mutexes_apart U order (locks_of U) n (seen_apart (names_in U) [] tt)) in
           let numbers = again_none same_number [] threads (unseen same_number threads) (numbers_apart U order 1 1) in
           rw (tasks, held, names, lock_names, numbers) refl
 
@@ -447,15 +447,15 @@ module _ (U : List Task) (kept : IsTaskSet U) where
           let member : among order k ≡ true = ap (λ j. among order j) (sym place.2) ∙ among_at order place.0 place.1 in
           ap (λ (t : Task). not (is_set threads t.name)) (get_or_default U k d no_task lt) ∙ ap not (set_thread U order 1 1 k member)
 
-      right_number : (lock : List ℕ) → IsLock lock → not (number_of mutexes lock == top_of U threads lock) ≡ false
+      right_number : (lock : List ℕ) → IsLock lock → not (setting_number mutexes lock == top_number U threads lock) ≡ false
       right_number lock is =
-          ap not (eq-eqb (number_of mutexes lock) (top_of U threads lock) (number_lock U order (locks_of U) n lock is ∙ sym (top_is 1 lock (has_ceiling lock U order each is))))
+          ap not (eq-eqb (setting_number mutexes lock) (top_number U threads lock) (number_lock U order (locks_of U) n lock is ∙ sym (top_is 1 lock (has_ceiling lock U order each is))))
 
       no_name : name_fault U threads mutexes ≡ None
       no_name =
           let tasks = ap (option_map (λ (t : Task). t.name)) (find_none (λ t. not (is_set threads t.name)) U (recursion_from_All (λ (t : Task). not (is_set threads t.name) ≡ false) U has_thread)) in
           let held = mutexless_none (locks_of U) mutexes (find_none (λ lock. not (is_set mutexes lock)) (locks_of U) (each_to IsLock (λ lock. not (is_set mutexes lock) ≡ false) (locks_of U) (λ lock is. ap not (set_lock U order (locks_of U) n lock is)) each_lock)) in
-          let right = wrong_none U (locks_of U) threads mutexes (find_none (λ lock. not (number_of mutexes lock == top_of U threads lock)) (locks_of U) (each_to IsLock (λ lock. not (number_of mutexes lock == top_of U threads lock) ≡ false) (locks_of U) right_number each_lock)) in
+          let right = wrong_none U (locks_of U) threads mutexes (find_none (λ lock. not (setting_number mutexes lock == top_number U threads lock)) (locks_of U) (each_to IsLock (λ lock. not (setting_number mutexes lock == top_number U threads lock) ≡ false) (locks_of U) right_number each_lock)) in
           rw (tasks, held, right) refl
 
     pub comes_back : IsNodeOrder U (settings_lines U order) order

@@ -15,9 +15,9 @@ use Rattle.lines.specs.Words.{words, name_in}
 use Rattle.lines.proofs.Digits.{own}
 use Rattle.lines.proofs.NumberLaws.{number_again}
 use Rattle.lines.proofs.Parts.{line_cut}
-use Rattle.judge.specs.Rows.{in_range, number_in_range, row_in, row_of, rows_from}
-use Rattle.judge.specs.declared.rows.Row.{Row}
-use Rattle.judge.specs.declared.rows.Row.TheVariants.{Thread, Mutex}
+use Rattle.judge.specs.Rows.{in_range, number_in_range, setting_row_in, setting_row, rows_from}
+use Rattle.judge.specs.declared.rows.SettingRow.{SettingRow}
+use Rattle.judge.specs.declared.rows.SettingRow.TheVariants.{Thread, Mutex}
 use Rattle.judge.specs.declared.rows.TheConstants.{NUMBER_LIMIT}
 use Rattle.judge.specs.declared.rows.Setting.{Setting}
 
@@ -67,12 +67,12 @@ word_of false = codes "mutex"
 abbrev pub entry_text : Entry → List ℕ
 entry_text e = word_of e.is_thread ++ 32 ∷ (e.name ++ 32 ∷ decimal e.number)
 
-abbrev pub row_from : Bool → Setting → Row
+abbrev pub row_from : Bool → Setting → SettingRow
 row_from true s = Thread s
 row_from false s = Mutex s
 
 -- the row of a line with a number
-abbrev pub row_at : ℕ → Entry → Row
+abbrev pub row_at : ℕ → Entry → SettingRow
 row_at line e = row_from e.is_thread (record { line = line; name = e.name; number = e.number })
 
 word_lacks : (b : ℕ) → b < 45 → (kind : Bool) → All (λ x. (x == b) ≡ false) (word_of kind)
@@ -86,7 +86,7 @@ words_entry e is =
     (slice_split_at (λ b. b == 32) e.name 32 (decimal e.number) (name_lacks 32 e.name (omega arith) is.named) refl
     ∙ ap (λ (ws : List (List ℕ)). e.name ∷ ws) (slice_split_none (λ b. b == 32) (decimal e.number) (decimal_lacks 32 e.number (omega arith) (omega (arith, is.within)))))
 
-spelled : (kind : Bool) (s : Setting) → row_of (word_of kind) s ≡ Some (row_from kind s)
+spelled : (kind : Bool) (s : Setting) → setting_row (word_of kind) s ≡ Some (row_from kind s)
 spelled true s = refl
 spelled false s = refl
 
@@ -99,9 +99,9 @@ number_is n some within = ap in_range (number_again n (omega arith)) ∙ range_i
 name_is : (name : List ℕ) → IsName name → name_in name ≡ Some name
 name_is name named = ap (λ b. cond b (Some name) None) named
 
-row_entry : (line : ℕ) (e : Entry) → IsEntry e → row_in line (words (entry_text e)) ≡ Some (row_at line e)
+row_entry : (line : ℕ) (e : Entry) → IsEntry e → setting_row_in line (words (entry_text e)) ≡ Some (row_at line e)
 row_entry line e is =
-    ap (row_in line) (words_entry e is)
+    ap (setting_row_in line) (words_entry e is)
     ∙ rw (name_is e.name is.named, number_is e.number is.some is.within) (spelled e.is_thread (record { line = line; name = e.name; number = e.number }))
 
 ends : (e : Entry) → IsEntry e → All (λ x. (x == 10) ≡ false) (entry_text e)
@@ -121,7 +121,7 @@ text_of [] = []
 text_of (e ∷ es) = entry_text e ++ 10 ∷ text_of es
 
 -- the rows of lines, of which the first has a number
-abbrev pub rows_of : ℕ → List Entry → List Row
+abbrev pub rows_of : ℕ → List Entry → List SettingRow
 rows_of line [] = []
 rows_of line (e ∷ es) = row_at line e ∷ rows_of (line + 1) es
 

@@ -9,12 +9,12 @@ use Rattle.task_sheet.specs.Indexes.{indexes_of, with_index}
 use Rattle.task_sheet.proofs.MembersIndexes.{indexes_of-insert}
 use Rattle.judge.specs.Judgements.{does_meet}
 use Rattle.judge.specs.Lines.{missed_of}
-use Rattle.judge.specs.declared.judging.Judged.{Judged}
+use Rattle.judge.specs.declared.judging.JudgedTask.{JudgedTask}
 use Rattle.judge.specs.declared.judging.Judgement.TheVariants.{Meets}
 use Rattle.judge.proofs.JudgedLaws.{turned}
 
 -- stands past the end of a list
-abbrev pub no_judged : Judged
+abbrev pub no_judged : JudgedTask
 no_judged = record { task = 0; judgement = Meets 0 }
 
 -- one task more, which meets its deadline or misses it
@@ -30,7 +30,7 @@ more true false = refl
 more false true = refl
 more false false = refl
 
-missed_push : (xs : List Judged) (j : Judged) (meets : Bool) → meets ≡ does_meet j.judgement → missed_of (xs ++ j ∷ []) ≡ cond meets (missed_of xs) (with_index (missed_of xs) j.task)
+missed_push : (xs : List JudgedTask) (j : JudgedTask) (meets : Bool) → meets ≡ does_meet j.judgement → missed_of (xs ++ j ∷ []) ≡ cond meets (missed_of xs) (with_index (missed_of xs) j.task)
 missed_push xs j true is = fun_ext (λ k.
     list_any-append (λ x. (x.task == k) && not (does_meet x.judgement)) xs (j ∷ [])
     ∙ ap (λ m. missed_of xs k || (((j.task == k) && not m) || false)) (sym is) ∙ kept (missed_of xs k) (j.task == k))
@@ -38,7 +38,7 @@ missed_push xs j false is = fun_ext (λ k.
     list_any-append (λ x. (x.task == k) && not (does_meet x.judgement)) xs (j ∷ [])
     ∙ ap (λ m. missed_of xs k || (((j.task == k) && not m) || false)) (sym is) ∙ more (missed_of xs k) (j.task == k) ∙ ap (λ b. b || missed_of xs k) (turned j.task k))
 
-pub missed_step : (m n : set.FinSet nat_cmp) (xs : List Judged) (k : ℕ) (d : Judged) (meets : Bool) → k < length xs → meets ≡ does_meet (get_or xs k d).judgement → indexes_of m ≡ missed_of (take k xs)
+pub missed_step : (m n : set.FinSet nat_cmp) (xs : List JudgedTask) (k : ℕ) (d : JudgedTask) (meets : Bool) → k < length xs → meets ≡ does_meet (get_or xs k d).judgement → indexes_of m ≡ missed_of (take k xs)
     → n ≡ cond meets m (set.insert m (get_or xs k d).task) → indexes_of n ≡ missed_of (take (k + 1) xs)
 missed_step m n xs k d true lt is so next =
     ap indexes_of next ∙ so ∙ sym (ap missed_of (take_more xs k d lt) ∙ missed_push (take k xs) (get_or xs k d) true is)

@@ -9,7 +9,7 @@ use Rattle.ceilings.specs.IsTableOf.{locks_of}
 use Rattle.judge.specs.Rows.{mutexes_of, rows_in, threads_of}
 use Rattle.judge.specs.declared.fault.SettingsFault.{SettingsFault}
 use Rattle.judge.specs.declared.fault.SettingsFault.TheVariants as fault
-use Rattle.judge.specs.declared.rows.Row.{Row}
+use Rattle.judge.specs.declared.rows.SettingRow.{SettingRow}
 use Rattle.judge.specs.declared.rows.Setting.{Setting}
 
 -- ---- what is set
@@ -18,18 +18,20 @@ abbrev pub is_set : List Setting → List ℕ → Bool
 is_set settings name = list_any (λ s. same_bytes s.name name) settings
 
 -- the number of the first setting of this name, and 0 of none
-abbrev pub number_of : List Setting → List ℕ → ℕ
-number_of [] name = 0
-number_of (s ∷ settings) name = if same_bytes s.name name then s.number else number_of settings name
+abbrev pub setting_number : List Setting → List ℕ → ℕ
+setting_number [] name = 0
+setting_number (s ∷ settings) name =
+    if same_bytes s.name name then s.number else setting_number settings name
 
 -- the number of a task's thread
-abbrev pub number_at : List Task → List Setting → ℕ → ℕ
-number_at U threads task = number_of threads (task_at U task).name
+abbrev pub thread_number : List Task → List Setting → ℕ → ℕ
+thread_number U threads task = setting_number threads (task_at U task).name
 
 -- the number of the highest user of a lock
-abbrev pub top_of : List Task → List Setting → List ℕ → ℕ
-top_of U threads lock =
-    greatest_below (length U) (λ k. if uses (task_at U k) lock then number_at U threads k else 0)
+abbrev pub top_number : List Task → List Setting → List ℕ → ℕ
+top_number U threads lock =
+    greatest_below (length U) (λ k. if uses (task_at U k) lock then thread_number U threads k
+    else 0)
 
 -- ---- the tests
 -- no task has the name of the thread
@@ -52,8 +54,8 @@ line_again alike seen (s ∷ settings) =
     else line_again alike (seen ++ s ∷ []) settings
 
 -- the two are of one name
-abbrev pub same_name : Setting → Setting → Bool
-same_name r s = same_bytes r.name s.name
+abbrev pub same_setting_name : Setting → Setting → Bool
+same_setting_name r s = same_bytes r.name s.name
 
 -- the two have one number
 abbrev pub same_number : Setting → Setting → Bool
@@ -73,7 +75,7 @@ abbrev pub wrong_lock : List Task → List (List ℕ) → (threads mutexes : Lis
     → Option (List ℕ)
 wrong_lock U locks threads [] = None
 wrong_lock U locks threads (m ∷ mutexes) =
-    find (λ lock. not (number_of (m ∷ mutexes) lock == top_of U threads lock)) locks
+    find (λ lock. not (setting_number (m ∷ mutexes) lock == top_number U threads lock)) locks
 
 -- ---- the faults
 -- the first reason that the lines of threads and mutexes give
@@ -81,8 +83,8 @@ abbrev pub line_fault : List Task → (threads mutexes : List Setting) → Optio
 line_fault U threads mutexes =
     option_or (option_map (λ line. fault.UnknownTask line) (line_where (is_no_task U) threads))
     (option_or (option_map (λ line. fault.UnknownLock line) (line_where (is_no_lock U) mutexes))
-    (option_or (option_map (λ line. fault.SameTask line) (line_again same_name [] threads))
-    (option_or (option_map (λ line. fault.SameLock line) (line_again same_name [] mutexes))
+    (option_or (option_map (λ line. fault.SameTask line) (line_again same_setting_name [] threads))
+    (option_or (option_map (λ line. fault.SameLock line) (line_again same_setting_name [] mutexes))
     (option_map (λ line. fault.SameNumber line) (line_again same_number [] threads)))))
 
 -- the first reason that a task or a lock gives
@@ -98,7 +100,7 @@ setting_fault U threads mutexes =
     option_or (line_fault U threads mutexes) (name_fault U threads mutexes)
 
 -- the first reason of a reading
-abbrev pub rows_fault : List Task → Result (List Row) ℕ → Option SettingsFault
+abbrev pub rows_fault : List Task → Result (List SettingRow) ℕ → Option SettingsFault
 rows_fault U (Err line) = Some (fault.BadLine line)
 rows_fault U (Ok rows) = setting_fault U (threads_of rows) (mutexes_of rows)
 
@@ -108,12 +110,12 @@ settings_fault U text = rows_fault U (rows_in text)
 
 -- ---- how they are found
 -- a fault is want of memory, or the first faulty line
-abbrev pub IsRowsFault : SettingsFault → Result (List Row) ℕ → Type 0
+abbrev pub IsRowsFault : SettingsFault → Result (List SettingRow) ℕ → Type 0
 IsRowsFault fault.OutOfMemory read = Unit {0}
 IsRowsFault (fault.BadLine line) read = read ≡ Err line
 IsRowsFault _ read = ⊥
 
 -- a fault is want of memory, or the first reason
-abbrev pub IsFault : SettingsFault → Option SettingsFault → Type 0
-IsFault fault.OutOfMemory reason = Unit {0}
-IsFault e reason = reason ≡ Some e
+abbrev pub IsSettingsFault : SettingsFault → Option SettingsFault → Type 0
+IsSettingsFault fault.OutOfMemory reason = Unit {0}
+IsSettingsFault e reason = reason ≡ Some e

@@ -7,26 +7,27 @@ use Rattle.task_sheet.specs.Demand.{IsResponseOf, Passes}
 use Rattle.task_sheet.specs.Orders.{is_bound}
 use Rattle.task_sheet.specs.Verdicts.{IsLeastOver}
 use Rattle.assignment.specs.Places.{PlaceData}
-use Rattle.judge.specs.declared.judging.Judged.{Judged}
+use Rattle.judge.specs.declared.judging.JudgedTask.{JudgedTask}
 use Rattle.judge.specs.declared.judging.Judgement.{Judgement}
 use Rattle.judge.specs.declared.judging.Judgement.TheVariants.{Meets, Misses, Below}
 
 -- what becomes of task i with the tasks H above it: its response, which is within its deadline; or it doesn't pass; or
 -- it stands below tasks that it must outrank, of which one has the least rank
-abbrev pub IsJudged : List Task → ℕ → Indexes → Judgement → Type 0
-IsJudged U i H (Meets response) =
+abbrev pub IsJudgementOf : List Task → ℕ → Indexes → Judgement → Type 0
+IsJudgementOf U i H (Meets response) =
     IsFalse (is_bound U i H) × IsResponseOf U i H response × (response ≤ (task_at U i).deadline)
-IsJudged U i H Misses = IsFalse (is_bound U i H) × ¬ Passes U i H
-IsJudged U i H (Below other) = IsLeastOver U i H other
+IsJudgementOf U i H Misses = IsFalse (is_bound U i H) × ¬ Passes U i H
+IsJudgementOf U i H (Below other) = IsLeastOver U i H other
 
 -- the tasks, the lowest first
-abbrev pub tasks_of : List Judged → List ℕ
-tasks_of judged = map (λ j. j.task) judged
+abbrev pub order_judged : List JudgedTask → List ℕ
+order_judged judged = map (λ j. j.task) judged
 
 -- what becomes of each task of an order, with those after it above it
-abbrev pub AllJudged : List Task → List Judged → Type 0
+abbrev pub AllJudged : List Task → List JudgedTask → Type 0
 AllJudged U [] = Unit {0}
-AllJudged U (j ∷ above) = IsJudged U j.task (among (tasks_of above)) j.judgement × AllJudged U above
+AllJudged U (j ∷ above) =
+    IsJudgementOf U j.task (among (order_judged above)) j.judgement × AllJudged U above
 
 -- the task meets its deadline
 abbrev pub does_meet : Judgement → Bool
@@ -35,9 +36,9 @@ does_meet Misses = false
 does_meet (Below other) = false
 
 -- each task meets its deadline
-abbrev pub all_meet : List Judged → Bool
+abbrev pub all_meet : List JudgedTask → Bool
 all_meet judged = list_all (λ j. does_meet j.judgement) judged
 
 -- each task of a placing meets its deadline, with its response
-abbrev pub judged_of : List PlaceData → List Judged
+abbrev pub judged_of : List PlaceData → List JudgedTask
 judged_of places = map (λ p. record { task = p.task; judgement = Meets p.response }) places

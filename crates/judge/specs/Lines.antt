@@ -6,13 +6,13 @@ use Rattle.task_sheet.specs.Sheet.{Task, task_at}
 use Rattle.task_sheet.specs.Indexes.{Indexes, listed_below}
 use Rattle.lines.specs.Naming.{name_at, named}
 use Rattle.judge.specs.Judgements.{all_meet, does_meet}
-use Rattle.judge.specs.declared.judging.Judged.{Judged}
+use Rattle.judge.specs.declared.judging.JudgedTask.{JudgedTask}
 use Rattle.judge.specs.declared.judging.Judgement.{Judgement}
 use Rattle.judge.specs.declared.judging.Judgement.TheVariants.{Meets, Misses, Below}
 
 -- ---- the first line
 -- the tasks that don't meet their deadlines
-abbrev pub missed_of : List Judged → Indexes
+abbrev pub missed_of : List JudgedTask → Indexes
 missed_of judged k = list_any (λ j. (j.task == k) && not (does_meet j.judgement)) judged
 
 -- the tasks that don't meet their deadlines, by rank
@@ -20,8 +20,8 @@ abbrev pub missed_line : List Task → Indexes → List ℕ
 missed_line U missed = codes "misses" ++ named U (listed_below (length U) missed) ++ codes "\n"
 
 -- how many tasks there are, where all meet their deadlines, and else those that don't
-abbrev pub first_line : List Task → List Judged → List ℕ
-first_line U judged =
+abbrev pub meets_line : List Task → List JudgedTask → List ℕ
+meets_line U judged =
     if all_meet judged then codes "meets " ++ decimal (length judged) ++ codes "\n"
     else missed_line U (missed_of judged)
 
@@ -33,16 +33,17 @@ judgement_words U deadline Misses = codes "misses " ++ decimal deadline
 judgement_words U deadline (Below other) = codes "below " ++ name_at U other
 
 -- the line of a level
-abbrev pub judged_line : List Task → ℕ → Judged → List ℕ
+abbrev pub judged_line : List Task → ℕ → JudgedTask → List ℕ
 judged_line U level j =
     decimal level ++ codes " " ++ name_at U j.task ++ codes " "
     ++ judgement_words U (task_at U j.task).deadline j.judgement ++ codes "\n"
 
 -- a line for each level, of which the first has a number
-abbrev pub level_lines : List Task → ℕ → List Judged → List ℕ
-level_lines U level [] = []
-level_lines U level (j ∷ judged) = judged_line U level j ++ level_lines U (level + 1) judged
+abbrev pub judged_level_lines : List Task → ℕ → List JudgedTask → List ℕ
+judged_level_lines U level [] = []
+judged_level_lines U level (j ∷ judged) =
+    judged_line U level j ++ judged_level_lines U (level + 1) judged
 
 -- whether all tasks meet their deadlines, and then each, the lowest first
-abbrev pub judged_lines : List Task → List Judged → List ℕ
-judged_lines U judged = first_line U judged ++ level_lines U 1 judged
+abbrev pub judged_lines : List Task → List JudgedTask → List ℕ
+judged_lines U judged = meets_line U judged ++ judged_level_lines U 1 judged

@@ -4,18 +4,18 @@ use Rattle.std.specs.List.Sorted.{IsStrictlyIncreasing}
 use Rattle.task_sheet.specs.Sheet.{Task}
 use Rattle.task_sheet.specs.Orders.{IsOrder}
 use Rattle.judge.specs.Rows.{rows_in, threads_of}
-use Rattle.judge.specs.Faults.{number_at, settings_fault}
-use Rattle.judge.specs.declared.rows.Row.{Row}
+use Rattle.judge.specs.Faults.{thread_number, settings_fault}
+use Rattle.judge.specs.declared.rows.SettingRow.{SettingRow}
 use Rattle.judge.specs.declared.rows.Setting.{Setting}
 
 -- an order of the set in which the numbers of the threads rise
 pub record IsOrderBy (U : List Task) (threads : List Setting) (order : List ℕ) : Type 0 where
   pub each_once : IsOrder U order
-  pub rises : IsStrictlyIncreasing (map (number_at U threads) order)
+  pub rises : IsStrictlyIncreasing (map (thread_number U threads) order)
 
 -- a text is settings of a set, and this is the order that they give, the lowest first
 pub record IsNodeOrder (U : List Task) (text order : List ℕ) : Type 0 where
   pub sound : settings_fault U text ≡ None
-  pub rows : List Row
+  pub rows : List SettingRow
   pub read : rows_in text ≡ Ok rows
   pub by_numbers : IsOrderBy U (threads_of rows) order

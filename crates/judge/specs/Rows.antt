@@ -3,8 +3,8 @@
 use Rattle.std.specs.Prelude.{ℕ, ◌&&◌, nat_le, List, [], ◌∷◌, ◌++◌, Option, Some, None, Result, Ok, Err, bytes_eq, codes, if◌then◌else◌}
 use Rattle.lines.specs.Lines.{kept_lines}
 use Rattle.lines.specs.Words.{name_in, number_in, words}
-use Rattle.judge.specs.declared.rows.Row.{Row}
-use Rattle.judge.specs.declared.rows.Row.TheVariants.{Thread, Mutex}
+use Rattle.judge.specs.declared.rows.SettingRow.{SettingRow}
+use Rattle.judge.specs.declared.rows.SettingRow.TheVariants.{Thread, Mutex}
 use Rattle.judge.specs.declared.rows.TheConstants.{NUMBER_LIMIT}
 use Rattle.judge.specs.declared.rows.Setting.{Setting}
 
@@ -26,62 +26,63 @@ setting_at line (Some name) (Some number) =
     Some (record { line = line; name = name; number = number })
 
 -- what a line of this first word says
-abbrev pub row_of : List ℕ → Setting → Option Row
-row_of word setting =
+abbrev pub setting_row : List ℕ → Setting → Option SettingRow
+setting_row word setting =
     if bytes_eq word (codes "thread") then Some (Thread setting)
     else if bytes_eq word (codes "mutex") then Some (Mutex setting)
     else None
 
 -- the same, where there is a setting
-abbrev pub row_at : List ℕ → Option Setting → Option Row
-row_at word None = None
-row_at word (Some setting) = row_of word setting
+abbrev pub setting_row_if : List ℕ → Option Setting → Option SettingRow
+setting_row_if word None = None
+setting_row_if word (Some setting) = setting_row word setting
 
 -- what a line `thread NAME NUMBER` or `mutex NAME NUMBER` says
-abbrev pub row_in : ℕ → List (List ℕ) → Option Row
-row_in line [] = None
-row_in line (word ∷ []) = None
-row_in line (word ∷ name ∷ []) = None
-row_in line (word ∷ name ∷ number ∷ []) =
-    row_at word (setting_at line (name_in name) (number_in_range number))
-row_in line (word ∷ name ∷ number ∷ more ∷ rest) = None
+abbrev pub setting_row_in : ℕ → List (List ℕ) → Option SettingRow
+setting_row_in line [] = None
+setting_row_in line (word ∷ []) = None
+setting_row_in line (word ∷ name ∷ []) = None
+setting_row_in line (word ∷ name ∷ number ∷ []) =
+    setting_row_if word (setting_at line (name_in name) (number_in_range number))
+setting_row_in line (word ∷ name ∷ number ∷ more ∷ rest) = None
 
 -- ---- a text
 -- these, and then the rows that are found; a faulty line stays the fault
-abbrev pub before : List Row → Result (List Row) ℕ → Result (List Row) ℕ
+abbrev pub before : List SettingRow → Result (List SettingRow) ℕ → Result (List SettingRow) ℕ
 before front (Ok rows) = Ok (front ++ rows)
 before front (Err line) = Err line
 
 -- one row more in front, or the number of the bad line
-abbrev pub with_row : ℕ → Option Row → Result (List Row) ℕ → Result (List Row) ℕ
+abbrev pub with_row : ℕ → Option SettingRow → Result (List SettingRow) ℕ
+    → Result (List SettingRow) ℕ
 with_row line None rest = Err line
 with_row line (Some row) rest = before (row ∷ []) rest
 
 -- the rows of numbered lines, or the number of the first faulty line
-abbrev pub rows_from : List (ℕ × List ℕ) → Result (List Row) ℕ
+abbrev pub rows_from : List (ℕ × List ℕ) → Result (List SettingRow) ℕ
 rows_from [] = Ok []
-rows_from (l ∷ ls) = with_row l.0 (row_in l.0 (words l.1)) (rows_from ls)
+rows_from (l ∷ ls) = with_row l.0 (setting_row_in l.0 (words l.1)) (rows_from ls)
 
 -- the rows of the lines of a text that are not skipped, or the number of the first faulty line
-abbrev pub rows_in : List ℕ → Result (List Row) ℕ
+abbrev pub rows_in : List ℕ → Result (List SettingRow) ℕ
 rows_in text = rows_from (kept_lines text)
 
 -- what a row sets of a thread, in front of what others set
-abbrev pub with_thread : Row → List Setting → List Setting
+abbrev pub with_thread : SettingRow → List Setting → List Setting
 with_thread (Thread setting) threads = setting ∷ threads
 with_thread (Mutex setting) threads = threads
 
 -- what a row sets of a mutex, in front of what others set
-abbrev pub with_mutex : Row → List Setting → List Setting
+abbrev pub with_mutex : SettingRow → List Setting → List Setting
 with_mutex (Thread setting) mutexes = mutexes
 with_mutex (Mutex setting) mutexes = setting ∷ mutexes
 
 -- what is set of threads, in the order of the lines
-abbrev pub threads_of : List Row → List Setting
+abbrev pub threads_of : List SettingRow → List Setting
 threads_of [] = []
 threads_of (row ∷ rows) = with_thread row (threads_of rows)
 
 -- what is set of mutexes, in the order of the lines
-abbrev pub mutexes_of : List Row → List Setting
+abbrev pub mutexes_of : List SettingRow → List Setting
 mutexes_of [] = []
 mutexes_of (row ∷ rows) = with_mutex row (mutexes_of rows)

@@ -3,7 +3,7 @@ ghost use Rattle.std.specs.Prelude.{◌≡◌, ◌<◌, ◌+◌, length, slice_i
 ghost use Rattle.task_sheet.specs.declared.set.TheConstants.{TASK_LIMIT};
 ghost use Rattle.task_sheet.specs.Indexes.{among, indexes_of};
 ghost use Rattle.ceilings.specs.IsTableOf.{IsTableOf};
-ghost use Rattle.judge.specs.Judgements.{AllJudged, IsJudged, all_meet, does_meet, tasks_of};
+ghost use Rattle.judge.specs.Judgements.{AllJudged, IsJudgementOf, all_meet, does_meet, order_judged};
 
 use assignment::least_over;
 use ceilings::LockTable;
@@ -24,7 +24,7 @@ pub enum Judgement {
 
 /// A task of an order, by its index, with what becomes of it.
 #[derive(Clone, Copy)]
-pub struct Judged {
+pub struct JudgedTask {
     pub task: usize,
     pub judgement: Judgement,
 }
@@ -45,7 +45,7 @@ fn members_of(order: &[usize]) -> Members
 fn judge_task(set: &TaskSet, table: &LockTable, task: usize, above: Members) -> Judgement
     requires table { IsTableOf set.now table.now }
     requires task { task < length set.now }
-    ensures { IsJudged set.now task (indexes_of above) result }
+    ensures { IsJudgementOf set.now task (indexes_of above) result }
 {
     match least_over(set, table, task, above) {
         Some(other) => Judgement::Below { other },
@@ -57,18 +57,18 @@ fn judge_task(set: &TaskSet, table: &LockTable, task: usize, above: Members) -> 
 }
 
 // What becomes of the task at a place of an order.
-fn judge_place(set: &TaskSet, table: &LockTable, order: &[usize], place: usize) -> Judged
+fn judge_place(set: &TaskSet, table: &LockTable, order: &[usize], place: usize) -> JudgedTask
     requires table { IsTableOf set.now table.now }
     requires within { All (λ index. index < length set.now) order.now }
     requires place { place < length order.now }
     ensures task { result.task ≡ slice_index order.now place }
-    ensures judged { IsJudged set.now (slice_index order.now place)
+    ensures judged { IsJudgementOf set.now (slice_index order.now place)
         (among (drop (place + 1) order.now)) result.judgement }
 {
     let task = order[place];
     let above = members_of(&order[place + 1..]);
     let judgement = judge_task(set, table, task, above);
-    Judged { task, judgement }
+    JudgedTask { task, judgement }
 }
 
 /// What becomes of each task of an order, the lowest first, with the tasks after it above it: for every order, whether
@@ -78,10 +78,10 @@ pub fn judge_order(
     set: &TaskSet,
     table: &LockTable,
     order: &[usize],
-) -> Result<Vec<Judged>, AllocError>
+) -> Result<Vec<JudgedTask>, AllocError>
     requires table { IsTableOf set.now table.now }
     requires within { All (λ index. index < length set.now) order.now }
-    ensures order { IfOk result (λ judged. tasks_of judged.items ≡ order.now) }
+    ensures order { IfOk result (λ judged. order_judged judged.items ≡ order.now) }
     ensures judged { IfOk result (λ judged. AllJudged set.now judged.items) }
 {
     let mut judged = Vec::with_capacity(alloc, order.len())?;
@@ -102,7 +102,7 @@ pub(crate) fn does_meet(judgement: Judgement) -> bool
 }
 
 /// Whether each task of an order meets its deadline.
-pub fn all_meet(judged: &[Judged]) -> bool
+pub fn all_meet(judged: &[JudgedTask]) -> bool
     ensures { result ≡ all_meet judged.now }
 {
     judged.iter().all(|entry| does_meet(entry.judgement))

@@ -6,20 +6,20 @@ ghost use Rattle.task_sheet.specs.Orders.{AllStand, IsOrder};
 ghost use Rattle.assignment.specs.Places.{PlaceData};
 ghost use Rattle.assignment.specs.Placings.{IsBestPlacing, tasks_of_places};
 ghost use Rattle.settings.specs.Settings.{settings_lines};
-ghost use Rattle.judge.specs.Judgements.{AllJudged, all_meet, judged_of, tasks_of};
+ghost use Rattle.judge.specs.Judgements.{AllJudged, all_meet, judged_of, order_judged};
 ghost use Rattle.judge.specs.Node.{IsNodeOrder};
-ghost use Rattle.judge.specs.declared.judging.Judged.{Judged};
+ghost use Rattle.judge.specs.declared.judging.JudgedTask.{JudgedTask};
 
 /// An order is judged in one way at most.
 pub fn judged_is_one()
-    ensures { (U : List Task) (first second : List Judged) → tasks_of first ≡ tasks_of second
+    ensures { (U : List Task) (first second : List JudgedTask) → order_judged first ≡ order_judged second
         → AllJudged U first → AllJudged U second → first ≡ second }
 {}
 
 /// All tasks of an order are judged to meet their deadlines exactly where each may stand below those after it.
 pub fn passing_is_judged()
-    ensures { (U : List Task) (judged : List Judged) → AllJudged U judged
-        → IsTrue (all_meet judged) ↔ AllStand U (tasks_of judged) }
+    ensures { (U : List Task) (judged : List JudgedTask) → AllJudged U judged
+        → IsTrue (all_meet judged) ↔ AllStand U (order_judged judged) }
 {}
 
 /// The best order is judged to meet all deadlines, with the responses that its placing has.
@@ -27,7 +27,7 @@ pub fn best_is_judged()
     ensures judged { (U : List Task) (places : List PlaceData) → AllTasks U → IsBestPlacing U places
         → AllJudged U (judged_of places) }
     ensures order { (places : List PlaceData)
-        → tasks_of (judged_of places) ≡ tasks_of_places places }
+        → order_judged (judged_of places) ≡ tasks_of_places places }
     ensures meets { (places : List PlaceData) → IsTrue (all_meet (judged_of places)) }
 {}
 
@@ -46,8 +46,8 @@ pub fn settings_are_read()
 /// What the settings of the best order print is judged to meet all deadlines, with the responses that its placing has;
 /// and in no other way.
 pub fn best_settings_meet()
-    ensures { (U : List Task) (places : List PlaceData) (judged : List Judged) → IsTaskSet U
+    ensures { (U : List Task) (places : List PlaceData) (judged : List JudgedTask) → IsTaskSet U
         → IsBestPlacing U places
-        → IsNodeOrder U (settings_lines U (tasks_of_places places)) (tasks_of judged)
+        → IsNodeOrder U (settings_lines U (tasks_of_places places)) (order_judged judged)
         → AllJudged U judged → judged ≡ judged_of places }
 {}

@@ -13,8 +13,8 @@ mod settings_fault;
 mod text;
 
 pub use crate::fault::SettingsFault;
-pub use crate::judging::{Judged, Judgement, all_meet, judge_order};
+pub use crate::judging::{JudgedTask, Judgement, all_meet, judge_order};
 pub use crate::node::judge_settings;
 pub use crate::reading::read_settings;
-pub use crate::rows::{NUMBER_LIMIT, Row, Setting};
+pub use crate::rows::{NUMBER_LIMIT, Setting, SettingRow};
 pub use crate::text::judged_text;

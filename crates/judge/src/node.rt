@@ -1,12 +1,12 @@
 //! What becomes of the tasks of a node.
 ghost use Rattle.std.specs.Prelude.{◌≡◌, ◌<◌, All, MatchResult, IfOk};
 ghost use Rattle.task_sheet.specs.declared.set.TheConstants.{TASK_LIMIT};
-ghost use Rattle.judge.specs.Faults.{IsFault, settings_fault};
-ghost use Rattle.judge.specs.Judgements.{AllJudged, tasks_of};
+ghost use Rattle.judge.specs.Faults.{IsSettingsFault, settings_fault};
+ghost use Rattle.judge.specs.Judgements.{AllJudged, order_judged};
 ghost use Rattle.judge.specs.Node.{IsNodeOrder};
 
 use crate::fault::SettingsFault;
-use crate::judging::{Judged, judge_order};
+use crate::judging::{JudgedTask, judge_order};
 use crate::reading::read_settings;
 use ceilings::LockTable;
 use std::alloc::Global;
@@ -18,11 +18,11 @@ pub fn judge_settings(
     alloc: Global,
     set: &TaskSet,
     text: &[u8],
-) -> Result<Vec<Judged>, SettingsFault>
+) -> Result<Vec<JudgedTask>, SettingsFault>
     ensures judged { MatchResult result
-        (λ judged. IsNodeOrder set.now text.now (tasks_of judged.items)
+        (λ judged. IsNodeOrder set.now text.now (order_judged judged.items)
         × AllJudged set.now judged.items)
-        (λ fault. IsFault fault (settings_fault set.now text.now)) }
+        (λ fault. IsSettingsFault fault (settings_fault set.now text.now)) }
     ensures within { IfOk result (λ judged. All (λ j. j.task < TASK_LIMIT) judged.items) }
 {
     let table = LockTable::new(alloc, set)?;

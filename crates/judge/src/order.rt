@@ -3,7 +3,7 @@ ghost use Rattle.std.specs.Prelude.{◌≡◌, [], length, map, None, All, IfOk}
 ghost use Rattle.task_sheet.specs.TaskSet.{IsTaskSet};
 ghost use Rattle.task_sheet.specs.Indexes.{listed_below};
 ghost use Rattle.task_sheet.specs.Orders.{all_of};
-ghost use Rattle.judge.specs.Faults.{line_again, number_at, same_number, threadless};
+ghost use Rattle.judge.specs.Faults.{line_again, thread_number, same_number, threadless};
 ghost use Rattle.judge.specs.Node.{IsOrderBy};
 
 use crate::rows::Setting;
@@ -27,7 +27,7 @@ fn numbered_of(
     ensures tasks { IfOk result (λ numbered. map (λ n. n.task) numbered.items
         ≡ listed_below (length set.now) (all_of set.now)) }
     ensures numbers { IfOk result (λ numbered.
-        All (λ n. n.number ≡ number_at set.now threads.now n.task) numbered.items) }
+        All (λ n. n.number ≡ thread_number set.now threads.now n.task) numbered.items) }
     ensures kept { IsTaskSet set.now }
 {
     let sheets = set.sheets();

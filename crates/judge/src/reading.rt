@@ -1,7 +1,7 @@
 //! Reading settings.
 ghost use Rattle.std.specs.Prelude.{◌≡◌, MatchResult};
 ghost use Rattle.ceilings.specs.IsTableOf.{IsTableOf};
-ghost use Rattle.judge.specs.Faults.{IsFault, settings_fault};
+ghost use Rattle.judge.specs.Faults.{IsSettingsFault, settings_fault};
 ghost use Rattle.judge.specs.Node.{IsNodeOrder};
 
 use crate::fault::SettingsFault;
@@ -23,7 +23,7 @@ pub fn read_settings(
     requires { IsTableOf set.now table.now }
     ensures { MatchResult result
         (λ order. IsNodeOrder set.now text.now order.items)
-        (λ fault. IsFault fault (settings_fault set.now text.now)) }
+        (λ fault. IsSettingsFault fault (settings_fault set.now text.now)) }
 {
     let rows = read_rows(alloc, text)?;
     let threads = threads_of(alloc, &rows)?;

@@ -2,10 +2,10 @@
 ghost use Rattle.std.specs.Prelude.{◌≡◌, Ok, MatchResult, IfOk};
 ghost use Rattle.lines.specs.Words.{words};
 ghost use Rattle.judge.specs.Faults.{IsRowsFault};
-ghost use Rattle.judge.specs.Rows.{mutexes_of, number_in_range, row_in, row_of, rows_in, threads_of};
+ghost use Rattle.judge.specs.Rows.{mutexes_of, number_in_range, setting_row_in, setting_row, rows_in, threads_of};
 
 use crate::fault::SettingsFault;
-use lines::{Place, Words, name_of, next_kept, number_of};
+use lines::{TextPlace, Words, name_of, next_kept, number_of};
 use std::alloc::{AllocError, Global};
 use task_sheet::Name;
 
@@ -25,7 +25,7 @@ pub struct Setting {
 
 /// A line of settings.
 #[derive(Clone, Copy)]
-pub enum Row {
+pub enum SettingRow {
     Thread(Setting),
     Mutex(Setting),
 }
@@ -43,21 +43,21 @@ fn number_in_range(word: &[u8]) -> Option<u64>
 }
 
 // The row of a first word.
-fn row_of(word: &[u8], setting: Setting) -> Option<Row>
-    ensures { result ≡ row_of word.now setting }
+fn row_of(word: &[u8], setting: Setting) -> Option<SettingRow>
+    ensures { result ≡ setting_row word.now setting }
 {
     if word == b"thread".as_slice() {
-        Some(Row::Thread(setting))
+        Some(SettingRow::Thread(setting))
     } else if word == b"mutex".as_slice() {
-        Some(Row::Mutex(setting))
+        Some(SettingRow::Mutex(setting))
     } else {
         None
     }
 }
 
 // The row that a line says.
-fn read_row(line: u64, text: &[u8]) -> Option<Row>
-    ensures { result ≡ row_in line (words text.now) }
+fn read_row(line: u64, text: &[u8]) -> Option<SettingRow>
+    ensures { result ≡ setting_row_in line (words text.now) }
 {
     let mut words = Words::of(text);
     let word = words.next()?;
@@ -74,11 +74,11 @@ fn read_row(line: u64, text: &[u8]) -> Option<Row>
 }
 
 // The rows of a text. Empty lines and lines that begin with `#` are skipped and counted; the last line may lack its LF.
-pub(crate) fn read_rows(alloc: Global, text: &[u8]) -> Result<Vec<Row>, SettingsFault>
+pub(crate) fn read_rows(alloc: Global, text: &[u8]) -> Result<Vec<SettingRow>, SettingsFault>
     ensures { MatchResult result
         (λ rows. rows_in text.now ≡ Ok rows.items) (λ fault. IsRowsFault fault (rows_in text.now)) }
 {
-    let mut at = Place::start(text);
+    let mut at = TextPlace::start(text);
     let mut rows = Vec::new(alloc);
     while let Ok((line, after)) = next_kept(at) {
         let Some(row) = read_row(line.number, line.text) else {
@@ -91,12 +91,12 @@ pub(crate) fn read_rows(alloc: Global, text: &[u8]) -> Result<Vec<Row>, Settings
 }
 
 // What is set of threads.
-pub(crate) fn threads_of(alloc: Global, rows: &[Row]) -> Result<Vec<Setting>, AllocError>
+pub(crate) fn threads_of(alloc: Global, rows: &[SettingRow]) -> Result<Vec<Setting>, AllocError>
     ensures { IfOk result (λ threads. threads.items ≡ threads_of rows.now) }
 {
     let mut threads = Vec::new(alloc);
     for row in rows {
-        if let Row::Thread(setting) = row {
+        if let SettingRow::Thread(setting) = row {
             threads.push(*setting)?;
         }
     }
@@ -104,12 +104,12 @@ pub(crate) fn threads_of(alloc: Global, rows: &[Row]) -> Result<Vec<Setting>, Al
 }
 
 // What is set of mutexes.
-pub(crate) fn mutexes_of(alloc: Global, rows: &[Row]) -> Result<Vec<Setting>, AllocError>
+pub(crate) fn mutexes_of(alloc: Global, rows: &[SettingRow]) -> Result<Vec<Setting>, AllocError>
     ensures { IfOk result (λ mutexes. mutexes.items ≡ mutexes_of rows.now) }
 {
     let mut mutexes = Vec::new(alloc);
     for row in rows {
-        if let Row::Mutex(setting) = row {
+        if let SettingRow::Mutex(setting) = row {
             mutexes.push(*setting)?;
         }
     }

@@ -2,7 +2,7 @@
 ghost use Rattle.std.specs.Prelude.{◌≡◌, ◌==◌, []};
 ghost use Rattle.std.specs.List.{list_any};
 ghost use Rattle.ceilings.specs.IsTableOf.{IsTableOf, locks_of};
-ghost use Rattle.judge.specs.Faults.{is_no_lock, is_no_task, is_set, line_again, line_fault, line_where, mutexless, name_fault, number_of, same_name, same_number, setting_fault, threadless, top_of, wrong_lock};
+ghost use Rattle.judge.specs.Faults.{is_no_lock, is_no_task, is_set, line_again, line_fault, line_where, mutexless, name_fault, setting_number, same_setting_name, same_number, setting_fault, threadless, top_number, wrong_lock};
 
 use crate::fault::SettingsFault;
 use crate::rows::Setting;
@@ -18,7 +18,7 @@ fn is_set(settings: &[Setting], name: Name) -> bool
 
 // The number of the first setting of this name, and 0 of none.
 pub(crate) fn number_of(settings: &[Setting], name: Name) -> u64
-    ensures { result ≡ number_of settings.now name }
+    ensures { result ≡ setting_number settings.now name }
 {
     for setting in settings {
         if setting.name == name {
@@ -31,7 +31,7 @@ pub(crate) fn number_of(settings: &[Setting], name: Name) -> u64
 // The number of the highest user of a lock.
 fn top_of(set: &TaskSet, table: &LockTable, threads: &[Setting], lock: Name) -> u64
     requires { IsTableOf set.now table.now }
-    ensures { result ≡ top_of set.now threads.now lock }
+    ensures { result ≡ top_number set.now threads.now lock }
 {
     let users = table.users(lock);
     let mut top = 0;
@@ -92,7 +92,7 @@ fn unknown_lock(set: &TaskSet, table: &LockTable, mutexes: &[Setting]) -> Option
 
 // The line of the first setting that has the name of one before it.
 fn name_again(settings: &[Setting]) -> Option<u64>
-    ensures { result ≡ line_again same_name [] settings.now }
+    ensures { result ≡ line_again same_setting_name [] settings.now }
 {
     for (place, setting) in settings.iter().enumerate() {
         if is_set(&settings[..place], setting.name) {

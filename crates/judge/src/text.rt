@@ -3,9 +3,9 @@ ghost use Rattle.std.specs.Prelude.{◌≡◌, ◌++◌, ◌<◌, All, OnOk, IfO
 ghost use Rattle.task_sheet.specs.declared.set.TheConstants.{TASK_LIMIT};
 ghost use Rattle.task_sheet.specs.Sheet.{task_at};
 ghost use Rattle.task_sheet.specs.Indexes.{indexes_of};
-ghost use Rattle.judge.specs.Lines.{first_line, judged_line, judged_lines, judgement_words, level_lines, missed_line, missed_of};
+ghost use Rattle.judge.specs.Lines.{meets_line, judged_line, judged_lines, judgement_words, judged_level_lines, missed_line, missed_of};
 
-use crate::judging::{Judged, Judgement, all_meet, does_meet};
+use crate::judging::{JudgedTask, Judgement, all_meet, does_meet};
 use lines::{push_name, push_names};
 use std::alloc::{AllocError, Global};
 use task_sheet::{Members, TaskSet};
@@ -21,7 +21,7 @@ fn deadline_of(set: &TaskSet, task: usize) -> u64
 }
 
 // The tasks that don't meet their deadlines.
-fn missed_of(judged: &[Judged]) -> Members
+fn missed_of(judged: &[JudgedTask]) -> Members
     requires { All (λ j. j.task < TASK_LIMIT) judged.now }
     ensures { indexes_of result ≡ missed_of judged.now }
 {
@@ -45,10 +45,10 @@ fn push_missed(text: &mut String, set: &TaskSet, missed: Members) -> Result<(), 
 }
 
 // The first line.
-fn push_first(text: &mut String, set: &TaskSet, judged: &[Judged]) -> Result<(), AllocError>
+fn push_first(text: &mut String, set: &TaskSet, judged: &[JudgedTask]) -> Result<(), AllocError>
     requires { All (λ j. j.task < TASK_LIMIT) judged.now }
     ensures { OnOk result (string_bytes text.new
-        ≡ string_bytes text.old ++ first_line set.now judged.now) }
+        ≡ string_bytes text.old ++ meets_line set.now judged.now) }
 {
     if all_meet(judged) {
         let count = judged.len();
@@ -82,7 +82,7 @@ fn push_judged(
     text: &mut String,
     set: &TaskSet,
     level: usize,
-    judged: &Judged,
+    judged: &JudgedTask,
 ) -> Result<(), AllocError>
     ensures { OnOk result (string_bytes text.new
         ≡ string_bytes text.old ++ judged_line set.now level judged.now) }
@@ -96,7 +96,11 @@ fn push_judged(
 
 /// The lines that say what becomes of the tasks of an order, the lowest first: whether all meet their deadlines, and then
 /// each. The error is want of memory.
-pub fn judged_text(alloc: Global, set: &TaskSet, judged: &[Judged]) -> Result<String, AllocError>
+pub fn judged_text(
+    alloc: Global,
+    set: &TaskSet,
+    judged: &[JudgedTask],
+) -> Result<String, AllocError>
     requires { All (λ j. j.task < TASK_LIMIT) judged.now }
     ensures { IfOk result (λ text. string_bytes text ≡ judged_lines set.now judged.now) }
 {

@@ -3,7 +3,7 @@ use Rattle.std.proofs.Common.{rules, ◌≡◌, ◌≢◌, ℕ, List, [], Bool, 
 use Rattle.desk_cli.specs.Statuses.{code_of}
 use Rattle.desk_cli.specs.declared.status.Status.{Status}
 use Rattle.desk_cli.specs.declared.status.Status.TheVariants.{InputOrOutputFailed}
-use Rattle.libdesk.specs.Answers.{Answers, Fills, GivesUp}
+use Rattle.libdesk.specs.Answers.{AnswersCall, Fills, GivesUp}
 
 -- by cases of the status: of a failed write nothing is handed out, and any other shows that none has failed
 pub answered : (says : Option (List ℕ) → Option (List ℕ) → Status → Type 0) (failed : Bool) (s : Status)
@@ -12,5 +12,5 @@ pub answered : (says : Option (List ℕ) → Option (List ℕ) → Status → Ty
     → (failed ≡ true → s ≡ InputOrOutputFailed)
     → (s ≢ InputOrOutputFailed → Fills text before after × (count ≡ length text) × (number ≡ code_of s))
     → (s ≡ InputOrOutputFailed → GivesUp before after count number)
-    → Answers says before after count number
+    → AnswersCall says before after count number
 answered says failed s text before after count number printed unwritten given gave_up = Prim.search (rules)

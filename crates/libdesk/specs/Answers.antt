@@ -11,9 +11,10 @@ Fills text before after =
     × (length before < length text → after ≡ before)
 
 -- the room, the count and the number are those of what a command prints, and of its status
-abbrev pub Gives : (Option (List ℕ) → Option (List ℕ) → Status → Type 0) → List ℕ → List ℕ → ℕ → ℕ
+abbrev pub GivesCall : (Option (List ℕ) → Option (List ℕ) → Status → Type 0) → List ℕ → List ℕ → ℕ
+    → ℕ
     → Type 0
-Gives says before after count number =
+GivesCall says before after count number =
     (text : List ℕ) × (s : Status) × says (Some []) (Some text) s
     × Fills text before after × (count ≡ length text) × (number ≡ code_of s)
 
@@ -22,7 +23,8 @@ abbrev pub GivesUp : List ℕ → List ℕ → ℕ → ℕ → Type 0
 GivesUp before after count number = (after ≡ before) × (count ≡ 0) × (number ≡ code_of OutOfMemory)
 
 -- what a call answers, by a command over its inputs
-abbrev pub Answers : (Option (List ℕ) → Option (List ℕ) → Status → Type 0) → List ℕ → List ℕ → ℕ → ℕ
+abbrev pub AnswersCall : (Option (List ℕ) → Option (List ℕ) → Status → Type 0) → List ℕ → List ℕ → ℕ
+    → ℕ
     → Type 0
-Answers says before after count number =
-    Gives says before after count number ⊎ GivesUp before after count number
+AnswersCall says before after count number =
+    GivesCall says before after count number ⊎ GivesUp before after count number

@@ -1,6 +1,6 @@
 //! The commands over one input.
 ghost use Rattle.std.specs.Prelude.{◌≡◌, length, Some};
-ghost use Rattle.desk_cli.specs.Admit.{Says, lines_of};
+ghost use Rattle.desk_cli.specs.Admit.{Says, admit_lines};
 ghost use Rattle.desk_cli.specs.Certify.{certificate_lines};
 ghost use Rattle.desk_cli.specs.Explain.{SaysExplained};
 ghost use Rattle.desk_cli.specs.Headroom.{SaysHeadroom};
@@ -8,7 +8,7 @@ ghost use Rattle.desk_cli.specs.Play.{SaysPlayed};
 ghost use Rattle.desk_cli.specs.Releases.{SaysList};
 ghost use Rattle.desk_cli.specs.Settings.{settings_of};
 ghost use Rattle.preferences.specs.declared.preferred.Preference.TheVariants.{Weights};
-ghost use Rattle.libdesk.specs.Answers.{Answers};
+ghost use Rattle.libdesk.specs.Answers.{AnswersCall};
 
 use crate::hand_out::hand_out;
 use desk_cli::{
@@ -22,7 +22,7 @@ use streams::Watched;
 #[unsafe(no_mangle)]
 pub extern "C" fn desk_admit(alloc: Global, set: &[u8], room: &mut [u8], status: &mut u8) -> usize
     ensures room { length room.new ≡ length room.old }
-    ensures answer { Answers (Says lines_of Weights
+    ensures answer { AnswersCall (Says admit_lines Weights
         (Some set.now)) room.old room.new result status.new }
 {
     let mut output = Watched::new(Vec::new(alloc));
@@ -40,7 +40,7 @@ pub extern "C" fn desk_admit(alloc: Global, set: &[u8], room: &mut [u8], status:
 #[unsafe(no_mangle)]
 pub extern "C" fn desk_certify(alloc: Global, set: &[u8], room: &mut [u8], status: &mut u8) -> usize
     ensures room { length room.new ≡ length room.old }
-    ensures answer { Answers (Says certificate_lines Weights
+    ensures answer { AnswersCall (Says certificate_lines Weights
         (Some set.now)) room.old room.new result status.new }
 {
     let mut output = Watched::new(Vec::new(alloc));
@@ -63,7 +63,7 @@ pub extern "C" fn desk_headroom(
     status: &mut u8,
 ) -> usize
     ensures room { length room.new ≡ length room.old }
-    ensures answer { Answers (SaysHeadroom Weights
+    ensures answer { AnswersCall (SaysHeadroom Weights
         (Some set.now)) room.old room.new result status.new }
 {
     let mut output = Watched::new(Vec::new(alloc));
@@ -86,7 +86,7 @@ pub extern "C" fn desk_settings(
     status: &mut u8,
 ) -> usize
     ensures room { length room.new ≡ length room.old }
-    ensures answer { Answers (Says settings_of Weights
+    ensures answer { AnswersCall (Says settings_of Weights
         (Some set.now)) room.old room.new result status.new }
 {
     let mut output = Watched::new(Vec::new(alloc));
@@ -104,7 +104,7 @@ pub extern "C" fn desk_settings(
 #[unsafe(no_mangle)]
 pub extern "C" fn desk_explain(alloc: Global, set: &[u8], room: &mut [u8], status: &mut u8) -> usize
     ensures room { length room.new ≡ length room.old }
-    ensures answer { Answers (SaysExplained Weights
+    ensures answer { AnswersCall (SaysExplained Weights
         (Some set.now)) room.old room.new result status.new }
 {
     let mut output = Watched::new(Vec::new(alloc));
@@ -122,7 +122,7 @@ pub extern "C" fn desk_explain(alloc: Global, set: &[u8], room: &mut [u8], statu
 #[unsafe(no_mangle)]
 pub extern "C" fn desk_play(alloc: Global, script: &[u8], room: &mut [u8], status: &mut u8) -> usize
     ensures room { length room.new ≡ length room.old }
-    ensures answer { Answers (SaysPlayed (Some script.now)) room.old room.new result status.new }
+    ensures answer { AnswersCall (SaysPlayed (Some script.now)) room.old room.new result status.new }
 {
     let mut output = Watched::new(Vec::new(alloc));
     let ended = run_play(alloc, &mut Watched::new(script), &mut output, &mut Nobody);
@@ -139,7 +139,7 @@ pub extern "C" fn desk_releases(
     status: &mut u8,
 ) -> usize
     ensures room { length room.new ≡ length room.old }
-    ensures answer { Answers (SaysList Weights until
+    ensures answer { AnswersCall (SaysList Weights until
         (Some set.now)) room.old room.new result status.new }
 {
     let mut output = Watched::new(Vec::new(alloc));

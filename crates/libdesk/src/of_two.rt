@@ -5,7 +5,7 @@ ghost use Rattle.desk_cli.specs.Draw.{SaysDrawn};
 ghost use Rattle.desk_cli.specs.Judge.{SaysJudged};
 ghost use Rattle.desk_cli.specs.Simulate.{SaysSimulated};
 ghost use Rattle.preferences.specs.declared.preferred.Preference.TheVariants.{Weights};
-ghost use Rattle.libdesk.specs.Answers.{Answers};
+ghost use Rattle.libdesk.specs.Answers.{AnswersCall};
 
 use crate::hand_out::hand_out;
 use desk_cli::{Nobody, run_check, run_draw, run_judge, run_simulate};
@@ -23,7 +23,7 @@ pub extern "C" fn desk_check(
     status: &mut u8,
 ) -> usize
     ensures room { length room.new ≡ length room.old }
-    ensures answer { Answers (SaysChecked Weights (Some set.now)
+    ensures answer { AnswersCall (SaysChecked Weights (Some set.now)
         (Some certificate.now)) room.old room.new result status.new }
 {
     let mut output = Watched::new(Vec::new(alloc));
@@ -48,7 +48,7 @@ pub extern "C" fn desk_judge(
     status: &mut u8,
 ) -> usize
     ensures room { length room.new ≡ length room.old }
-    ensures answer { Answers (SaysJudged Weights (Some set.now)
+    ensures answer { AnswersCall (SaysJudged Weights (Some set.now)
         (Some settings.now)) room.old room.new result status.new }
 {
     let mut output = Watched::new(Vec::new(alloc));
@@ -73,7 +73,7 @@ pub extern "C" fn desk_simulate(
     status: &mut u8,
 ) -> usize
     ensures room { length room.new ≡ length room.old }
-    ensures answer { Answers (SaysSimulated Weights (Some set.now)
+    ensures answer { AnswersCall (SaysSimulated Weights (Some set.now)
         (Some releases.now)) room.old room.new result status.new }
 {
     let mut output = Watched::new(Vec::new(alloc));
@@ -98,7 +98,7 @@ pub extern "C" fn desk_draw(
     status: &mut u8,
 ) -> usize
     ensures room { length room.new ≡ length room.old }
-    ensures answer { Answers (SaysDrawn Weights (Some set.now)
+    ensures answer { AnswersCall (SaysDrawn Weights (Some set.now)
         (Some releases.now)) room.old room.new result status.new }
 {
     let mut output = Watched::new(Vec::new(alloc));

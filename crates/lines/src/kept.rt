@@ -3,7 +3,7 @@ ghost use Rattle.std.specs.Prelude.{◌≡◌, ◌+◌, ◌<◌, ◌∷◌, [], 
 ghost use Rattle.lines.specs.Lines.{is_skipped, kept_from, lines_of};
 
 use crate::next::next_line;
-use crate::place::Place;
+use crate::place::TextPlace;
 
 /// A line that is not skipped.
 #[derive(Clone, Copy)]
@@ -25,7 +25,7 @@ fn is_skipped(line: &[u8]) -> bool
 
 /// The next line that is neither empty nor begins with `#`, and the place behind it; where there is none, one more
 /// than the number of the last line. The last line may lack its LF.
-pub fn next_kept<'a>(at: Place<'a>) -> Result<(KeptLine<'a>, Place<'a>), u64>
+pub fn next_kept<'a>(at: TextPlace<'a>) -> Result<(KeptLine<'a>, TextPlace<'a>), u64>
     ensures line { MatchResult result
         (λ x. kept_from at.entry.line (lines_of at.entry.rest.now)
         ≡ (x.0.number, x.0.text.now) ∷ kept_from x.1.line (lines_of x.1.rest.now))

@@ -16,5 +16,5 @@ pub use kept::{KeptLine, next_kept};
 pub use naming::{push_name, push_names};
 pub use next::{complete_line, next_line};
 pub use numbers::{name_of, number_of};
-pub use place::Place;
+pub use place::TextPlace;
 pub use words::Words;

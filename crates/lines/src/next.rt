@@ -3,10 +3,10 @@ ghost use Rattle.std.specs.Prelude.{◌≡◌, ◌+◌, ◌<◌, ◌∷◌, [], 
 ghost use Rattle.lines.specs.Lines.{lines_of, parts};
 
 use crate::cutting::cut;
-use crate::place::Place;
+use crate::place::TextPlace;
 
 /// The next line that ends with LF, and the place behind it.
-pub fn complete_line<'a>(at: Place<'a>) -> Option<(&'a [u8], Place<'a>)>
+pub fn complete_line<'a>(at: TextPlace<'a>) -> Option<(&'a [u8], TextPlace<'a>)>
     ensures line { MatchOption result (parts at.entry.rest.now ≡ at.entry.rest.now ∷ [])
         (λ x. (parts at.entry.rest.now ≡ x.0.now ∷ parts x.1.rest.now)
         × (x.1.line ≡ at.entry.line + 1)) }
@@ -15,7 +15,7 @@ pub fn complete_line<'a>(at: Place<'a>) -> Option<(&'a [u8], Place<'a>)>
     let (line, rest) = cut(at.rest, b'\n')?;
     Some((
         line,
-        Place {
+        TextPlace {
             rest,
             line: at.line + 1,
         },
@@ -23,7 +23,7 @@ pub fn complete_line<'a>(at: Place<'a>) -> Option<(&'a [u8], Place<'a>)>
 }
 
 /// The next line, and the place behind it; the last line may lack its LF.
-pub fn next_line<'a>(at: Place<'a>) -> Option<(&'a [u8], Place<'a>)>
+pub fn next_line<'a>(at: TextPlace<'a>) -> Option<(&'a [u8], TextPlace<'a>)>
     ensures line { MatchOption result (lines_of at.entry.rest.now ≡ [])
         (λ x. (lines_of at.entry.rest.now ≡ x.0.now ∷ lines_of x.1.rest.now)
         × (x.1.line ≡ at.entry.line + 1)) }
@@ -36,7 +36,7 @@ pub fn next_line<'a>(at: Place<'a>) -> Option<(&'a [u8], Place<'a>)>
         Some((line, after)) => Some((line, after)),
         None => Some((
             at.rest,
-            Place {
+            TextPlace {
                 rest: &[],
                 line: at.line + 1,
             },

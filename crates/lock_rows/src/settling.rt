@@ -4,7 +4,7 @@ ghost use Rattle.std.specs.Prelude.{◌≡◌};
 use crate::desks::{
     Pair, closed, commit_both, committed, draft_both, drafted, opened, response, said, two_teams,
 };
-use book_lock::{Closing, Desk, DeskFault, Outcome, Pass};
+use book_lock::{Closing, Desk, DeskFault, Pass, Settlement};
 use drafts::{Draft, EditCause, Proposal, ProposeFault, propose};
 use example_sets::{again, name};
 use std::alloc::Global;
@@ -170,7 +170,7 @@ fn outcome_of<L: Ledger, R: Wait>(
     desk: &Desk<L>,
     pass: &mut Pass<L>,
     proposal: Proposal,
-) -> Result<Outcome, Fail> {
+) -> Result<Settlement, Fail> {
     let answer = again!(
         desk.settle(rt, alloc, pass, proposal),
         DeskFault::OutOfMemory { proposal }
@@ -182,18 +182,18 @@ fn outcome_of<L: Ledger, R: Wait>(
 }
 
 // The place of a proposal that is decided.
-fn place_of(outcome: &Outcome) -> Option<usize> {
+fn place_of(outcome: &Settlement) -> Option<usize> {
     match outcome {
-        Outcome::Decided { place } => Some(*place),
-        Outcome::Stale { .. } => None,
+        Settlement::Decided { place } => Some(*place),
+        Settlement::Stale { .. } => None,
     }
 }
 
 // The version of the fresh state, where a proposal is stale, and the response of a in it.
-fn fresh_in(outcome: &Outcome) -> Result<Option<(u64, u64)>, Fail> {
+fn fresh_in(outcome: &Settlement) -> Result<Option<(u64, u64)>, Fail> {
     match outcome {
-        Outcome::Decided { .. } => Ok(None),
-        Outcome::Stale { fresh, .. } => Ok(Some((fresh.version(), response(fresh, "a")?))),
+        Settlement::Decided { .. } => Ok(None),
+        Settlement::Stale { fresh, .. } => Ok(Some((fresh.version(), response(fresh, "a")?))),
     }
 }
 

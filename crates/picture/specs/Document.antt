@@ -8,7 +8,7 @@ use Rattle.ceiling_kernel.specs.declared.trace.Slice.{Slice}
 use Rattle.ceiling_kernel.specs.declared.trace.Trace.{Trace}
 use Rattle.ceiling_kernel.specs.Releases.{release_at}
 use Rattle.ceiling_kernel.specs.Runs.{no_record}
-use Rattle.picture.specs.declared.rows.Row.{Row}
+use Rattle.picture.specs.declared.rows.TaskRow.{TaskRow}
 use Rattle.picture.specs.declared.marks.Mark.{Mark}
 use Rattle.picture.specs.declared.marks.Mark.TheVariants.{Arrival, Ready, Bound, Deadline}
 use Rattle.picture.specs.declared.ground.TheConstants.{STYLE}
@@ -37,8 +37,8 @@ title_text rows jobs until =
     ∷ codes " us</title>\n" ∷ [])
 
 -- the first lines
-abbrev pub head_text : Frame → (rows jobs until : ℕ) → List ℕ
-head_text f rows jobs until =
+abbrev pub document_head : Frame → (rows jobs until : ℕ) → List ℕ
+document_head f rows jobs until =
     codes "<?xml version=\"1.0\" encoding=\"UTF-8\"?>\n<svg xmlns=\"http://www.w3.org/2000/svg\" "
     ++ measures_text f (top_of rows + 60) ++ title_text rows jobs until
 
@@ -47,15 +47,15 @@ abbrev pub ticks_text : Frame → (bottom step : ℕ) → List ℕ
 ticks_text f bottom step = each (f.until / step + 1) (λ i. tick_text f bottom step (i * step))
 
 -- the lines of the rows
-abbrev pub lines_text : Frame → List Row → List ℕ
+abbrev pub lines_text : Frame → List TaskRow → List ℕ
 lines_text f rows = each (length rows) (line_text f)
 
 -- the names of the rows
-abbrev pub own_names : List Row → List ℕ
+abbrev pub own_names : List TaskRow → List ℕ
 own_names rows = each (length rows) (λ k. name_text k (row_at rows k))
 
 -- the same as a group, so that they can stand again
-abbrev pub names_group : List Row → List ℕ
+abbrev pub names_group : List TaskRow → List ℕ
 names_group rows = codes "<g id=\"n\">\n" ++ own_names rows ++ codes "</g>\n"
 
 -- the names again, wherever there is room for the longest
@@ -63,18 +63,18 @@ abbrev pub names_again : Frame → List ℕ
 names_again f = each ((f.span - 2000) / 3000) again_text
 
 -- the scale, the lines and the names of the rows, and the names again
-abbrev pub rows_text : Frame → List Row → List ℕ
+abbrev pub rows_text : Frame → List TaskRow → List ℕ
 rows_text f rows =
     ticks_text f (top_of (length rows)) (step_of f) ++ lines_text f rows ++ names_group rows
     ++ names_again f
 
 -- what stands still
-abbrev pub ground_text : Frame → List Row → (jobs until : ℕ) → List ℕ
+abbrev pub ground_text : Frame → List TaskRow → (jobs until : ℕ) → List ℕ
 ground_text f rows jobs until =
-    head_text f (length rows) jobs until ++ STYLE.now ++ rows_text f rows
+    document_head f (length rows) jobs until ++ STYLE.now ++ rows_text f rows
 
 -- each job
-abbrev pub jobs_text : Frame → List Row → List JobRecord → List ℕ
+abbrev pub jobs_text : Frame → List TaskRow → List JobRecord → List ℕ
 jobs_text f rows jobs =
     each (length jobs) (λ i. on_row rows (record_at jobs i).name (job_text f (record_at jobs i)))
 
@@ -84,41 +84,41 @@ of_job text None = []
 of_job text (Some job) = text job
 
 -- a slice in the row of its job's task, of a job that has executed e ticks before it
-abbrev pub slice_by : Frame → List Row → List JobRecord → (e : ℕ) → Slice → List ℕ
+abbrev pub slice_by : Frame → List TaskRow → List JobRecord → (e : ℕ) → Slice → List ℕ
 slice_by f rows jobs e s =
     of_job (λ job. on_row rows job.name (slice_text f e s)) (slice_get jobs s.job)
 
 -- slice n
-abbrev pub slice_in : Frame → List Row → List JobRecord → List Slice → ℕ → List ℕ
+abbrev pub slice_in : Frame → List TaskRow → List JobRecord → List Slice → ℕ → List ℕ
 slice_in f rows jobs slices n =
     slice_by f rows jobs (executed_in slices n (slice_at slices n).job) (slice_at slices n)
 
 -- each slice, by time
-abbrev pub slices_text : Frame → List Row → List JobRecord → List Slice → List ℕ
+abbrev pub slices_text : Frame → List TaskRow → List JobRecord → List Slice → List ℕ
 slices_text f rows jobs slices = each (length slices) (slice_in f rows jobs slices)
 
 -- a mark of a kind for each release
-abbrev pub each_mark : Frame → List Row → Mark → List Release → List ℕ
+abbrev pub each_mark : Frame → List TaskRow → Mark → List Release → List ℕ
 each_mark f rows mark rs =
     each (length rs) (λ i. on_row rows (release_at rs i).name (mark_text f mark (release_at rs i)))
 
 -- the marks of a kind, as one path
-abbrev pub marks_text : Frame → List Row → Mark → List Release → List ℕ
+abbrev pub marks_text : Frame → List TaskRow → Mark → List Release → List ℕ
 marks_text f rows mark rs = mark_head mark ++ each_mark f rows mark rs ++ codes "\"/>\n"
 
 -- the marks of all kinds
-abbrev pub all_marks : Frame → List Row → List Release → List ℕ
+abbrev pub all_marks : Frame → List TaskRow → List Release → List ℕ
 all_marks f rows rs =
     marks_text f rows Ready rs ++ marks_text f rows Arrival rs ++ marks_text f rows Bound rs
     ++ marks_text f rows Deadline rs
 
 -- the document in a frame: what stands still, the jobs, the slices over them, and the marks
-abbrev pub framed : Frame → List Row → ℕ → List Release → Trace → List ℕ
+abbrev pub framed : Frame → List TaskRow → ℕ → List Release → Trace → List ℕ
 framed f rows until rs trace =
     ground_text f rows (length trace.jobs.items) until ++ jobs_text f rows trace.jobs.items
     ++ slices_text f rows trace.jobs.items trace.slices.items ++ all_marks f rows rs
     ++ codes "</svg>\n"
 
 -- THE DOCUMENT: the picture of a trace below a time
-abbrev pub document : List Row → ℕ → List Release → Trace → List ℕ
+abbrev pub document : List TaskRow → ℕ → List Release → Trace → List ℕ
 document rows until rs trace = framed (frame_of rows until) rows until rs trace

@@ -6,12 +6,12 @@ use Rattle.task_sheet.specs.Sheet.{CriticalSection}
 use Rattle.ceiling_kernel.specs.declared.trace.Release.{Release}
 use Rattle.ceiling_kernel.specs.declared.trace.JobRecord.{JobRecord}
 use Rattle.ceiling_kernel.specs.declared.trace.Slice.{Slice}
-use Rattle.picture.specs.declared.rows.Row.{Row}
+use Rattle.picture.specs.declared.rows.TaskRow.{TaskRow}
 use Rattle.picture.specs.declared.marks.Mark.{Mark}
 use Rattle.picture.specs.declared.marks.Mark.TheVariants.{Arrival, Ready, Bound, Deadline}
-use Rattle.picture.specs.Frame.{Frame, x_of, end_of, right_of, top_of, unit_of, unit_name}
+use Rattle.picture.specs.Frame.{Frame, x_of, frame_end, right_of, top_of, unit_of, unit_name}
 use Rattle.picture.specs.Rows.{each}
-use Rattle.picture.specs.Sections.{dark_from, dark_to, section_at, fits}
+use Rattle.picture.specs.Sections.{dark_from, dark_to, nth_section, fits}
 
 -- ---- ground
 -- a line down through the rows, and its time
@@ -26,10 +26,10 @@ tick_text f bottom step time =
 abbrev pub line_text : Frame → ℕ → List ℕ
 line_text f k =
     concat (codes "<path class=\"l\" d=\"M160 " ∷ decimal (top_of k + 490) ∷ codes "H"
-    ∷ decimal (end_of f) ∷ codes "\"/>\n" ∷ [])
+    ∷ decimal (frame_end f) ∷ codes "\"/>\n" ∷ [])
 
 -- the name of a row
-abbrev pub name_text : ℕ → Row → List ℕ
+abbrev pub name_text : ℕ → TaskRow → List ℕ
 name_text k row =
     concat (codes "<text class=\"n\" x=\"160\" y=\"" ∷ decimal (top_of k + 140) ∷ codes "\">"
     ∷ row.sheet.name
@@ -53,14 +53,14 @@ abbrev pub span_text : Frame → (k start stop : ℕ) → List ℕ
 span_text f k start stop = bar_path (x_of f start) (right_of f start stop) (top_of k + 305)
 
 -- the box of a job from its arrival, up to its bound if it is done, else open at the end
-abbrev pub job_box : Frame → ℕ → Row → JobRecord → Option ℕ → List ℕ
+abbrev pub job_box : Frame → ℕ → TaskRow → JobRecord → Option ℕ → List ℕ
 job_box f k row job (Some finish) =
     concat (codes "<path class=\"w\" d=\"" ∷ span_text f k job.release (job.release + row.bound)
     ∷ codes "\"><title>" ∷ [])
 job_box f k row job None =
     concat (codes "<path class=\"w\" d=\"M" ∷ decimal (x_of f job.release) ∷ codes " "
     ∷ decimal (top_of k + 305)
-    ∷ codes "H" ∷ decimal (end_of f) ∷ codes "l60 30-60 30 60 30-60 30 60 30-60 30H"
+    ∷ codes "H" ∷ decimal (frame_end f) ∷ codes "l60 30-60 30 60 30-60 30 60 30-60 30H"
     ∷ decimal (x_of f job.release) ∷ codes "z\"><title>" ∷ [])
 
 -- whose job it is, and when it arrives
@@ -68,28 +68,28 @@ abbrev pub arrival_words : JobRecord → List ℕ
 arrival_words job = concat (job.name ∷ codes ": arrival " ∷ decimal job.release ∷ codes ", " ∷ [])
 
 -- when it is done, and how long after its arrival
-abbrev pub finish_words : JobRecord → Option ℕ → List ℕ
-finish_words job (Some finish) =
+abbrev pub done_words : JobRecord → Option ℕ → List ℕ
+done_words job (Some finish) =
     concat (codes "done " ∷ decimal finish ∷ codes ", response " ∷ decimal (finish - job.release)
     ∷ codes ", " ∷ [])
-finish_words job None = codes "not done, "
+done_words job None = codes "not done, "
 
 -- how long after its arrival it is done at the latest, and has to be
-abbrev pub limit_words : Row → List ℕ
+abbrev pub limit_words : TaskRow → List ℕ
 limit_words row =
     concat (codes "bound " ∷ decimal row.bound ∷ codes ", deadline " ∷ decimal row.sheet.deadline
     ∷ codes " us</title></path>\n" ∷ [])
 
 -- what is told of a job
-abbrev pub job_words : Row → JobRecord → List ℕ
-job_words row job = arrival_words job ++ finish_words job job.finish ++ limit_words row
+abbrev pub job_words : TaskRow → JobRecord → List ℕ
+job_words row job = arrival_words job ++ done_words job job.finish ++ limit_words row
 
 -- a job
-abbrev pub job_text : Frame → JobRecord → ℕ → Row → List ℕ
+abbrev pub job_text : Frame → JobRecord → ℕ → TaskRow → List ℕ
 job_text f job k row = job_box f k row job job.finish ++ job_words row job
 
 -- a slice
-abbrev pub bar_text : Frame → Slice → ℕ → Row → List ℕ
+abbrev pub bar_text : Frame → Slice → ℕ → TaskRow → List ℕ
 bar_text f s k row =
     concat (codes "<path class=\"e\" d=\"" ∷ span_text f k s.start s.stop ∷ codes "\"><title>"
     ∷ row.sheet.name ∷ codes " "
@@ -115,7 +115,7 @@ abbrev pub label_text : (x right k : ℕ) → List (List ℕ) → List ℕ
 label_text x right k locks = if fits ((right - x) / 68) locks then label_in x right k locks else []
 
 -- the box of a part, up to the names of its locks
-abbrev pub part_head : Frame → ℕ → Row → (start stop : ℕ) → List ℕ
+abbrev pub part_head : Frame → ℕ → TaskRow → (start stop : ℕ) → List ℕ
 part_head f k row start stop =
     concat (codes "<path class=\"h\" d=\"" ∷ span_text f k start stop ∷ codes "\"><title>"
     ∷ row.sheet.name
@@ -128,25 +128,25 @@ part_end start stop =
     ∷ [])
 
 -- a part of a slice in which its job holds locks
-abbrev pub part_text : Frame → ℕ → Row → List (List ℕ) → (start stop : ℕ) → List ℕ
+abbrev pub part_text : Frame → ℕ → TaskRow → List (List ℕ) → (start stop : ℕ) → List ℕ
 part_text f k row locks start stop =
     part_head f k row start stop ++ names_text locks ++ part_end start stop
     ++ label_text (x_of f start) (x_of f stop) k locks
 
 -- the darker part of a slice for a section, if there is one
-abbrev pub dark_text : Frame → (e : ℕ) → Slice → ℕ → Row → CriticalSection → List ℕ
+abbrev pub dark_text : Frame → (e : ℕ) → Slice → ℕ → TaskRow → CriticalSection → List ℕ
 dark_text f e s k row x =
     if nat_lt (dark_from x e) (dark_to x e s)
     then part_text f k row x.locks (s.start + dark_from x e) (s.start + dark_to x e s)
     else []
 
 -- the darker parts of a slice for some sections
-abbrev pub darks_text : Frame → (e : ℕ) → Slice → ℕ → Row → List CriticalSection → List ℕ
+abbrev pub darks_text : Frame → (e : ℕ) → Slice → ℕ → TaskRow → List CriticalSection → List ℕ
 darks_text f e s k row sections =
-    each (length sections) (λ i. dark_text f e s k row (section_at sections i))
+    each (length sections) (λ i. dark_text f e s k row (nth_section sections i))
 
 -- a slice and its darker parts, of a job that has executed e ticks before it
-abbrev pub slice_text : Frame → (e : ℕ) → Slice → ℕ → Row → List ℕ
+abbrev pub slice_text : Frame → (e : ℕ) → Slice → ℕ → TaskRow → List ℕ
 slice_text f e s k row = bar_text f s k row ++ darks_text f e s k row row.sheet.sections
 
 -- ---- marks
@@ -172,7 +172,7 @@ later_text f r len y shape =
     else []
 
 -- a mark of a release in row k: an arrow up, a stroke, a tick at the bound, an arrow down
-abbrev pub mark_text : Frame → Mark → Release → ℕ → Row → List ℕ
+abbrev pub mark_text : Frame → Mark → Release → ℕ → TaskRow → List ℕ
 mark_text f Arrival r k row = arrival_text f r (top_of k + 510)
 mark_text f Ready r k row = ready_text f r (top_of k + 610)
 mark_text f Bound r k row =

@@ -1,6 +1,6 @@
 -- How time and rows lie in the picture, in units of which ten are a pixel.
 use Rattle.std.specs.Prelude.{ℕ, ◌+◌, ◌*◌, ◌/◌, ◌%◌, ◌<◌, ◌≤◌, min, max, Bool, nat_le, ◌==◌, if◌then◌else◌, List, [], ◌∷◌, codes}
-use Rattle.picture.specs.declared.rows.Row.{Row}
+use Rattle.picture.specs.declared.rows.TaskRow.{TaskRow}
 
 -- a span of time in microseconds, and its width
 pub record Frame : Type 0 where
@@ -15,7 +15,7 @@ pub record IsFrame (f : Frame) : Type 0 where
   pub narrow : f.span ≤ 159500
 
 -- the shortest period, or one that was found before
-abbrev pub least_period : ℕ → List Row → ℕ
+abbrev pub least_period : ℕ → List TaskRow → ℕ
 least_period least [] = least
 least_period least (row ∷ rows) = least_period (min least row.sheet.period) rows
 
@@ -25,7 +25,7 @@ frame_until least until =
     record { until = until; span = min (max (240 * until / least) 9500) 159500 }
 
 -- the frame of a run of these rows: at least a microsecond long, and within the horizon
-abbrev pub frame_of : List Row → ℕ → Frame
+abbrev pub frame_of : List TaskRow → ℕ → Frame
 frame_of rows until = frame_until (max (least_period 10000000 rows) 1) (max (min until 60000000) 1)
 
 -- where a time lies; later ones lie at the end
@@ -33,8 +33,8 @@ abbrev pub x_of : Frame → ℕ → ℕ
 x_of f time = 160 + min time f.until * f.span / f.until
 
 -- where the end lies
-abbrev pub end_of : Frame → ℕ
-end_of f = 160 + f.span
+abbrev pub frame_end : Frame → ℕ
+frame_end f = 160 + f.span
 
 -- where a part ends, which is at least a hair wide
 abbrev pub right_of : Frame → ℕ → ℕ → ℕ

@@ -1,7 +1,7 @@
 -- The rows of the picture, and texts one after the other.
 use Rattle.std.specs.Prelude.{ℕ, zero, suc, Option, Some, None, List, [], ◌++◌, position, slice_index_or}
 use Rattle.task_sheet.specs.Sheet.{no_task, same_bytes}
-use Rattle.picture.specs.declared.rows.Row.{Row}
+use Rattle.picture.specs.declared.rows.TaskRow.{TaskRow}
 
 -- the texts of the numbers below n, one after the other
 unfoldable pub each : ℕ → (ℕ → List ℕ) → List ℕ
@@ -9,22 +9,22 @@ each zero text = []
 each (suc n) text = each n text ++ text n
 
 -- stands past the end of some rows
-abbrev pub no_row : Row
+abbrev pub no_row : TaskRow
 no_row = record { sheet = no_task; bound = 0 }
 
 -- the row at a place, from 0
-abbrev pub row_at : List Row → ℕ → Row
+abbrev pub row_at : List TaskRow → ℕ → TaskRow
 row_at rows k = slice_index_or rows k no_row
 
 -- the place of the row of the task with a name
-abbrev pub row_named : List Row → List ℕ → Option ℕ
+abbrev pub row_named : List TaskRow → List ℕ → Option ℕ
 row_named rows name = position (λ r. same_bytes r.sheet.name name) rows
 
 -- a text for a row, if there is one
-abbrev pub in_row : List Row → (ℕ → Row → List ℕ) → Option ℕ → List ℕ
+abbrev pub in_row : List TaskRow → (ℕ → TaskRow → List ℕ) → Option ℕ → List ℕ
 in_row rows text None = []
 in_row rows text (Some k) = text k (row_at rows k)
 
 -- a text for the row of the task with a name
-abbrev pub on_row : List Row → List ℕ → (ℕ → Row → List ℕ) → List ℕ
+abbrev pub on_row : List TaskRow → List ℕ → (ℕ → TaskRow → List ℕ) → List ℕ
 on_row rows name text = in_row rows text (row_named rows name)

@@ -44,8 +44,8 @@ abbrev pub no_section : CriticalSection
 no_section = record { locks = []; at = 0; len = 0 }
 
 -- the section at a place, from 0
-abbrev pub section_at : List CriticalSection → ℕ → CriticalSection
-section_at xs i = slice_index_or xs i no_section
+abbrev pub nth_section : List CriticalSection → ℕ → CriticalSection
+nth_section xs i = slice_index_or xs i no_section
 
 -- names with a space before each have at most so many letters
 abbrev pub fits : ℕ → List (List ℕ) → Bool

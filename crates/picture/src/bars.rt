@@ -8,7 +8,7 @@ ghost use Rattle.picture.specs.Document.{slice_by, slices_text};
 use crate::boxes::bar_of;
 use crate::frame::{Frame, x_of};
 use crate::page::Page;
-use crate::rows::{Row, find_row};
+use crate::rows::{TaskRow, find_row};
 use crate::ticks::executed_after;
 use ceiling_kernel::{JobRecord, Slice};
 use std::io::Write;
@@ -40,7 +40,7 @@ impl<W: Write + Drop> Page<'_, W> {
         frame: Frame,
         slice: Slice,
         k: usize,
-        row: &Row,
+        row: &TaskRow,
     ) -> Result<(), WriteFailed>
         requires { k ≤ 32 }
         ensures { Puts W.contents self.old self.new result (bar_text frame slice k row.now) }
@@ -62,7 +62,7 @@ impl<W: Write + Drop> Page<'_, W> {
         executed: u64,
         slice: Slice,
         k: usize,
-        row: &Row,
+        row: &TaskRow,
     ) -> Result<(), WriteFailed>
         requires { k ≤ 32 }
         ensures { Puts W.contents self.old self.new result
@@ -76,7 +76,7 @@ impl<W: Write + Drop> Page<'_, W> {
     fn put_slice(
         &mut self,
         frame: Frame,
-        rows: &[Row],
+        rows: &[TaskRow],
         jobs: &[JobRecord],
         executed: u64,
         slice: Slice,
@@ -98,7 +98,7 @@ impl<W: Write + Drop> Page<'_, W> {
     pub(crate) fn put_slices(
         &mut self,
         frame: Frame,
-        rows: &[Row],
+        rows: &[TaskRow],
         jobs: &[JobRecord],
         slices: &[Slice],
         executed: &mut [u64],

@@ -6,7 +6,7 @@ ghost use Rattle.picture.specs.Document.{framed, document};
 
 use crate::frame::{Frame, frame_of};
 use crate::page::Page;
-use crate::rows::Row;
+use crate::rows::TaskRow;
 use ceiling_kernel::{JobRecord, Release, Trace};
 use std::alloc::{AllocError, Global};
 use std::io::Write;
@@ -43,7 +43,7 @@ fn no_ticks(alloc: Global, jobs: usize) -> Result<Vec<u64>, AllocError>
 fn put_document<W: Write + Drop>(
     page: &mut Page<'_, W>,
     frame: Frame,
-    rows: &[Row],
+    rows: &[TaskRow],
     until: u64,
     releases: &[Release],
     trace: &Trace,
@@ -65,7 +65,7 @@ fn put_document<W: Write + Drop>(
 
 // The document, sent whole.
 fn put_all<W: Write + Drop>(
-    rows: &[Row],
+    rows: &[TaskRow],
     until: u64,
     releases: &[Release],
     trace: &Trace,
@@ -91,7 +91,7 @@ fn put_all<W: Write + Drop>(
 /// anything is written.
 pub fn draw<W: Write + Drop>(
     alloc: Global,
-    rows: &[Row],
+    rows: &[TaskRow],
     until: u64,
     releases: &[Release],
     trace: &Trace,

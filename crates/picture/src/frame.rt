@@ -1,8 +1,8 @@
 //! How time and rows lie in the picture.
 ghost use Rattle.std.specs.Prelude.{◌≡◌, ◌+◌, ◌*◌, ◌<◌, ◌≤◌};
-ghost use Rattle.picture.specs.Frame.{frame_of, least_period, x_of, end_of, right_of, top_of, is_wide, decade_of, step_in, step_of, unit_of, unit_name};
+ghost use Rattle.picture.specs.Frame.{frame_of, least_period, x_of, frame_end, right_of, top_of, is_wide, decade_of, step_in, step_of, unit_of, unit_name};
 
-use crate::rows::Row;
+use crate::rows::TaskRow;
 use std::marker::Model;
 
 // A span of time in microseconds, and its width.
@@ -25,7 +25,7 @@ impl Model for Frame {
 }
 
 // The shortest period of the rows.
-fn least_period(rows: &[Row]) -> u64
+fn least_period(rows: &[TaskRow]) -> u64
     ensures { result ≡ least_period 10000000 rows.now }
 {
     let mut least = 10_000_000;
@@ -36,7 +36,7 @@ fn least_period(rows: &[Row]) -> u64
 }
 
 // The frame of a run of the rows.
-pub(crate) fn frame_of(rows: &[Row], until: u64) -> Frame
+pub(crate) fn frame_of(rows: &[TaskRow], until: u64) -> Frame
     ensures { result ≡ frame_of rows.now until }
 {
     let least = least_period(rows).max(1);
@@ -65,7 +65,7 @@ pub(crate) fn x_after(frame: Frame, time: u64, len: u64) -> u64
 
 // Where the end lies.
 pub(crate) fn end_of(frame: Frame) -> u64
-    ensures { result ≡ end_of frame }
+    ensures { result ≡ frame_end frame }
 {
     160 + frame.span
 }

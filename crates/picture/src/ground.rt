@@ -3,11 +3,11 @@ ghost use Rattle.std.specs.Prelude.{◌≤◌, ◌<◌, length};
 ghost use Rattle.picture.specs.Puts.{Puts};
 ghost use Rattle.picture.specs.Elements.{tick_text, line_text, name_text, again_text};
 ghost use Rattle.picture.specs.declared.ground.TheConstants.{STYLE};
-ghost use Rattle.picture.specs.Document.{measures_text, title_text, head_text, ticks_text, lines_text, own_names, names_group, names_again, rows_text, ground_text};
+ghost use Rattle.picture.specs.Document.{measures_text, title_text, document_head, ticks_text, lines_text, own_names, names_group, names_again, rows_text, ground_text};
 
 use crate::frame::{Frame, end_of, step_of, top_of, unit_name, unit_of, x_of};
 use crate::page::Page;
-use crate::rows::Row;
+use crate::rows::TaskRow;
 use std::io::Write;
 use streams::WriteFailed;
 
@@ -48,7 +48,7 @@ impl<W: Write + Drop> Page<'_, W> {
         until: u64,
     ) -> Result<(), WriteFailed>
         requires { rows ≤ 32 }
-        ensures { Puts W.contents self.old self.new result (head_text frame rows jobs until) }
+        ensures { Puts W.contents self.old self.new result (document_head frame rows jobs until) }
     {
         self.put(
             "<?xml version=\"1.0\" encoding=\"UTF-8\"?>\n<svg xmlns=\"http://www.w3.org/2000/svg\" ",
@@ -100,7 +100,7 @@ impl<W: Write + Drop> Page<'_, W> {
     }
 
     // The lines of the rows.
-    fn put_lines(&mut self, frame: Frame, rows: &[Row]) -> Result<(), WriteFailed>
+    fn put_lines(&mut self, frame: Frame, rows: &[TaskRow]) -> Result<(), WriteFailed>
         requires { length rows.now ≤ 32 }
         ensures { Puts W.contents self.old self.new result (lines_text frame rows.now) }
     {
@@ -111,7 +111,7 @@ impl<W: Write + Drop> Page<'_, W> {
     }
 
     // The name of a row.
-    fn put_row_name(&mut self, k: usize, row: &Row) -> Result<(), WriteFailed>
+    fn put_row_name(&mut self, k: usize, row: &TaskRow) -> Result<(), WriteFailed>
         requires { k ≤ 32 }
         ensures { Puts W.contents self.old self.new result (name_text k row.now) }
     {
@@ -124,7 +124,7 @@ impl<W: Write + Drop> Page<'_, W> {
     }
 
     // The names of the rows.
-    fn put_own_names(&mut self, rows: &[Row]) -> Result<(), WriteFailed>
+    fn put_own_names(&mut self, rows: &[TaskRow]) -> Result<(), WriteFailed>
         requires { length rows.now ≤ 32 }
         ensures { Puts W.contents self.old self.new result (own_names rows.now) }
     {
@@ -155,7 +155,7 @@ impl<W: Write + Drop> Page<'_, W> {
     }
 
     // The names of the rows, as a group.
-    fn put_group(&mut self, rows: &[Row]) -> Result<(), WriteFailed>
+    fn put_group(&mut self, rows: &[TaskRow]) -> Result<(), WriteFailed>
         requires { length rows.now ≤ 32 }
         ensures { Puts W.contents self.old self.new result (names_group rows.now) }
     {
@@ -165,7 +165,7 @@ impl<W: Write + Drop> Page<'_, W> {
     }
 
     // The scale, the lines and the names of the rows, and the names again.
-    fn put_rows(&mut self, frame: Frame, rows: &[Row]) -> Result<(), WriteFailed>
+    fn put_rows(&mut self, frame: Frame, rows: &[TaskRow]) -> Result<(), WriteFailed>
         requires { length rows.now ≤ 32 }
         ensures { Puts W.contents self.old self.new result (rows_text frame rows.now) }
     {
@@ -186,7 +186,7 @@ impl<W: Write + Drop> Page<'_, W> {
     pub(crate) fn put_ground(
         &mut self,
         frame: Frame,
-        rows: &[Row],
+        rows: &[TaskRow],
         jobs: usize,
         until: u64,
     ) -> Result<(), WriteFailed>

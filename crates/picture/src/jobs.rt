@@ -2,13 +2,13 @@
 ghost use Rattle.std.specs.Prelude.{◌+◌, ◌≤◌, length};
 ghost use Rattle.picture.specs.Puts.{Puts};
 ghost use Rattle.picture.specs.Rows.{on_row};
-ghost use Rattle.picture.specs.Elements.{job_box, arrival_words, finish_words, limit_words, job_words, job_text};
+ghost use Rattle.picture.specs.Elements.{job_box, arrival_words, done_words, limit_words, job_words, job_text};
 ghost use Rattle.picture.specs.Document.{jobs_text};
 
 use crate::boxes::bar_of;
 use crate::frame::{Frame, end_of, top_of, x_after, x_of};
 use crate::page::Page;
-use crate::rows::{Row, find_row};
+use crate::rows::{TaskRow, find_row};
 use ceiling_kernel::JobRecord;
 use std::io::Write;
 use streams::WriteFailed;
@@ -19,7 +19,7 @@ impl<W: Write + Drop> Page<'_, W> {
         &mut self,
         frame: Frame,
         k: usize,
-        row: &Row,
+        row: &TaskRow,
         job: &JobRecord,
     ) -> Result<(), WriteFailed>
         requires { k ≤ 32 }
@@ -54,7 +54,7 @@ impl<W: Write + Drop> Page<'_, W> {
 
     // When it is done, and how long after its arrival, if it is.
     fn put_finish_words(&mut self, job: &JobRecord) -> Result<(), WriteFailed>
-        ensures { Puts W.contents self.old self.new result (finish_words job.now job.now.finish) }
+        ensures { Puts W.contents self.old self.new result (done_words job.now job.now.finish) }
     {
         match job.finish {
             Some(finish) => {
@@ -66,7 +66,7 @@ impl<W: Write + Drop> Page<'_, W> {
     }
 
     // How long after its arrival a job is done at the latest, and has to be.
-    fn put_limit_words(&mut self, row: &Row) -> Result<(), WriteFailed>
+    fn put_limit_words(&mut self, row: &TaskRow) -> Result<(), WriteFailed>
         ensures { Puts W.contents self.old self.new result (limit_words row.now) }
     {
         let bound = row.bound;
@@ -78,7 +78,7 @@ impl<W: Write + Drop> Page<'_, W> {
     }
 
     // What is told of a job.
-    fn put_job_words(&mut self, row: &Row, job: &JobRecord) -> Result<(), WriteFailed>
+    fn put_job_words(&mut self, row: &TaskRow, job: &JobRecord) -> Result<(), WriteFailed>
         ensures { Puts W.contents self.old self.new result (job_words row.now job.now) }
     {
         self.put_arrival_words(job)?;
@@ -91,7 +91,7 @@ impl<W: Write + Drop> Page<'_, W> {
         &mut self,
         frame: Frame,
         k: usize,
-        row: &Row,
+        row: &TaskRow,
         job: &JobRecord,
     ) -> Result<(), WriteFailed>
         requires { k ≤ 32 }
@@ -102,7 +102,12 @@ impl<W: Write + Drop> Page<'_, W> {
     }
 
     // A job in the row of its task.
-    fn put_job(&mut self, frame: Frame, rows: &[Row], job: &JobRecord) -> Result<(), WriteFailed>
+    fn put_job(
+        &mut self,
+        frame: Frame,
+        rows: &[TaskRow],
+        job: &JobRecord,
+    ) -> Result<(), WriteFailed>
         requires { length rows.now ≤ 32 }
         ensures { Puts W.contents self.old self.new result
             (on_row rows.now job.now.name (job_text frame job.now)) }
@@ -117,7 +122,7 @@ impl<W: Write + Drop> Page<'_, W> {
     pub(crate) fn put_jobs(
         &mut self,
         frame: Frame,
-        rows: &[Row],
+        rows: &[TaskRow],
         jobs: &[JobRecord],
     ) -> Result<(), WriteFailed>
         requires { length rows.now ≤ 32 }

@@ -16,4 +16,4 @@ mod rows;
 mod ticks;
 
 pub use document::{DrawFault, draw};
-pub use rows::Row;
+pub use rows::TaskRow;

@@ -9,12 +9,12 @@ const ROOM: usize = 512;
 
 // A line. It lies in the value itself, and takes no memory.
 #[derive(Drop)]
-pub(crate) struct Line {
+pub(crate) struct PictureLine {
     bytes: [u8; ROOM],
     len: usize,
 }
 
-impl std::marker::Model for Line {
+impl std::marker::Model for PictureLine {
     ghost use Rattle.std.specs.Prelude.{ℕ, List, take, ◌≤◌};
     ghost use Rattle.picture.specs.declared.line.TheConstants.{ROOM};
 
@@ -25,11 +25,11 @@ impl std::marker::Model for Line {
     ghost invariant = { λ l. l.len ≤ ROOM };
 }
 
-impl Line {
-    pub(crate) fn new() -> Line
+impl PictureLine {
+    pub(crate) fn new() -> PictureLine
         ensures { result ≡ [] }
     {
-        Line {
+        PictureLine {
             bytes: [0; ROOM],
             len: 0,
         }
@@ -58,7 +58,7 @@ impl Line {
     }
 }
 
-impl Write for Line {
+impl Write for PictureLine {
     ghost use Rattle.std.specs.Prelude.{Some};
 
     ghost contents = { λ l. Some l };

@@ -7,7 +7,7 @@ ghost use Rattle.picture.specs.Document.{marks_text, all_marks, each_mark};
 
 use crate::frame::{Frame, top_of, x_after, x_of};
 use crate::page::Page;
-use crate::rows::{Row, find_row};
+use crate::rows::{TaskRow, find_row};
 use ceiling_kernel::Release;
 use std::io::Write;
 use streams::WriteFailed;
@@ -79,7 +79,7 @@ impl<W: Write + Drop> Page<'_, W> {
         mark: Mark,
         release: Release,
         k: usize,
-        row: &Row,
+        row: &TaskRow,
     ) -> Result<(), WriteFailed>
         requires { k ≤ 32 }
         ensures { Puts W.contents self.old self.new result
@@ -105,7 +105,7 @@ impl<W: Write + Drop> Page<'_, W> {
     fn put_mark(
         &mut self,
         frame: Frame,
-        rows: &[Row],
+        rows: &[TaskRow],
         mark: Mark,
         release: Release,
     ) -> Result<(), WriteFailed>
@@ -135,7 +135,7 @@ impl<W: Write + Drop> Page<'_, W> {
     fn put_each_mark(
         &mut self,
         frame: Frame,
-        rows: &[Row],
+        rows: &[TaskRow],
         mark: Mark,
         releases: &[Release],
     ) -> Result<(), WriteFailed>
@@ -153,7 +153,7 @@ impl<W: Write + Drop> Page<'_, W> {
     fn put_marks(
         &mut self,
         frame: Frame,
-        rows: &[Row],
+        rows: &[TaskRow],
         mark: Mark,
         releases: &[Release],
     ) -> Result<(), WriteFailed>
@@ -170,7 +170,7 @@ impl<W: Write + Drop> Page<'_, W> {
     pub(crate) fn put_all_marks(
         &mut self,
         frame: Frame,
-        rows: &[Row],
+        rows: &[TaskRow],
         releases: &[Release],
     ) -> Result<(), WriteFailed>
         requires { length rows.now ≤ 32 }

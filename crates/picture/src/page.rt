@@ -3,7 +3,7 @@ ghost use Rattle.std.specs.Prelude.{◌≡◌, [], true, IfSome, OnOk, OnErr};
 ghost use Rattle.std.specs.Io.KnownBytes.{Appends};
 ghost use Rattle.picture.specs.Puts.{Puts};
 
-use crate::line::Line;
+use crate::line::PictureLine;
 use std::fmt::Display;
 use std::io::Write;
 use streams::{Held, Watched, WriteFailed};
@@ -43,7 +43,7 @@ impl<'a, W: Write + Drop> Page<'a, W> {
         ensures failed { OnErr result (self.new.out.now.has_failed ≡ true) }
         ensures same { self.new.out.ghost_name ≡ self.old.out.ghost_name }
     {
-        let mut line = Line::new();
+        let mut line = PictureLine::new();
         match write!(line, "{text}") {
             Ok(()) => self.held.put(line.bytes(), self.out),
             Err(_) => {

@@ -7,7 +7,7 @@ ghost use Rattle.picture.specs.Elements.{names_text, label_head, label_in, label
 use crate::boxes::bar_of;
 use crate::frame::{Frame, top_of, x_after, x_of};
 use crate::page::Page;
-use crate::rows::Row;
+use crate::rows::TaskRow;
 use crate::ticks::{dark_from, dark_to, fits};
 use ceiling_kernel::Slice;
 use std::io::Write;
@@ -99,7 +99,7 @@ impl<W: Write + Drop> Page<'_, W> {
         &mut self,
         frame: Frame,
         k: usize,
-        row: &Row,
+        row: &TaskRow,
         start: u64,
         stop: u64,
     ) -> Result<(), WriteFailed>
@@ -123,7 +123,7 @@ impl<W: Write + Drop> Page<'_, W> {
         &mut self,
         frame: Frame,
         k: usize,
-        row: &Row,
+        row: &TaskRow,
         section: &Section,
         start: u64,
         stop: u64,
@@ -145,7 +145,7 @@ impl<W: Write + Drop> Page<'_, W> {
         executed: u64,
         slice: Slice,
         k: usize,
-        row: &Row,
+        row: &TaskRow,
         section: &Section,
     ) -> Result<(), WriteFailed>
         requires { k ≤ 32 }
@@ -170,7 +170,7 @@ impl<W: Write + Drop> Page<'_, W> {
         executed: u64,
         slice: Slice,
         k: usize,
-        row: &Row,
+        row: &TaskRow,
         sections: &[Section],
     ) -> Result<(), WriteFailed>
         requires { k ≤ 32 }
@@ -190,7 +190,7 @@ impl<W: Write + Drop> Page<'_, W> {
         executed: u64,
         slice: Slice,
         k: usize,
-        row: &Row,
+        row: &TaskRow,
     ) -> Result<(), WriteFailed>
         requires { k ≤ 32 }
         ensures { Puts W.contents self.old self.new result

@@ -6,13 +6,13 @@ use task_sheet::{Name, Sheet};
 
 /// A row: a task, and how long after its arrival each of its jobs is done, in microseconds.
 #[derive(Drop)]
-pub struct Row {
+pub struct TaskRow {
     pub sheet: Sheet,
     pub bound: u64,
 }
 
 // The place of the row of the task with a name.
-pub(crate) fn find_row(rows: &[Row], name: Name) -> Option<usize>
+pub(crate) fn find_row(rows: &[TaskRow], name: Name) -> Option<usize>
     ensures place { result ≡ row_named rows.now name }
     ensures within { IfSome result (λ k. k < length rows.now) }
 {

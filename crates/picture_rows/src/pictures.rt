@@ -1,7 +1,7 @@
 //! Pictures of runs.
 use ceiling_kernel::{Kernel, Release, RunFault, Trace};
 use example_sets::{again, name, set_of};
-use picture::{DrawFault, Row, draw};
+use picture::{DrawFault, TaskRow, draw};
 use std::alloc::Global;
 use std::test::Fail;
 use streams::Watched;
@@ -106,11 +106,11 @@ const EMPTY_PICTURE: (&str, &str) = (
 );
 
 // The rows of a set, where each task has the bound beside its index.
-fn rows_of(alloc: Global, set: &TaskSet, bounds: &[(usize, u64)]) -> Result<Vec<Row>, Fail> {
+fn rows_of(alloc: Global, set: &TaskSet, bounds: &[(usize, u64)]) -> Result<Vec<TaskRow>, Fail> {
     let mut rows = Vec::new(alloc);
     for (index, bound) in bounds {
         let sheet = set.get(*index).ok_or("no task")?;
-        rows.push(Row {
+        rows.push(TaskRow {
             sheet: again!(sheet.copy(alloc))?,
             bound: *bound,
         })?;
@@ -140,7 +140,7 @@ fn run_of(
 // The picture of a run, whose writer has room for all of it.
 fn picture_of(
     alloc: Global,
-    rows: &[Row],
+    rows: &[TaskRow],
     until: u64,
     releases: &[Release],
     trace: &Trace,

@@ -12,7 +12,7 @@ use Rattle.desk_core.proofs.RunLaws.{IsRun-append}
 use Rattle.scripts.specs.declared.line.Line.{Line}
 use Rattle.scripts.specs.declared.line.Row.{Row}
 use Rattle.scripts.specs.declared.line.Row.TheVariants.{Open, Put, Remove, Found, Test, Commit, Abandon}
-use Rattle.plays.specs.Plays.{Answers, IsBrought, IsFoundLine, IsBroughtAll, IsPlayed, ArePlayed, AreEventsOf, AreEvents, IsLedBy, first_cause, no_levels}
+use Rattle.plays.specs.Plays.{Answers, IsFindingPlayed, IsFoundLine, IsBroughtAll, IsPlayed, ArePlayed, AreEventsOf, AreEvents, IsLedBy, first_cause, no_levels}
 
 -- ---- runs, one after the other
 led-append : (w u v : World) (es fs : List Event) → IsLedBy w es u → IsLedBy u fs v → IsLedBy w (es ++ fs) v
@@ -43,7 +43,7 @@ led-all w draft (f ∷ fs) v is =
 abbrev Led : World → Row → World → Type 0
 Led w row v = (events : List Event) × AreEventsOf row events × IsLedBy w events v
 
-led-brought : (w : World) (draft : ℕ) (name : List ℕ) (other : ℕ) (v : World) (text : List ℕ) (f : Option FindingData) → IsBrought w draft v text f → Led w (Found draft name other) v
+led-brought : (w : World) (draft : ℕ) (name : List ℕ) (other : ℕ) (v : World) (text : List ℕ) (f : Option FindingData) → IsFindingPlayed w draft v text f → Led w (Found draft name other) v
 led-brought w draft name other v text None is = ([], inl refl, led-none w v is.0)
 led-brought w draft name other v text (Some f) is = (event.Found draft f ∷ [], inr (f, refl), led-one w (event.Found draft f) v text is)
 

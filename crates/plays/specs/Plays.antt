@@ -6,7 +6,7 @@ use Rattle.drafts.specs.declared.roster.Owned.{Owned}
 use Rattle.drafts.specs.declared.change.Refusal.{Refusal}
 use Rattle.drafts.specs.Applied.{set_of}
 use Rattle.drafts.specs.Changes.{on_base}
-use Rattle.drafts.specs.Machine.{Desk}
+use Rattle.drafts.specs.Machine.{MachineState}
 use Rattle.desk_core.specs.declared.events.Cause.{Cause}
 use Rattle.desk_core.specs.declared.events.Cause.TheVariants as cause
 use Rattle.desk_core.specs.declared.events.Event.{Event}
@@ -44,9 +44,9 @@ first_cause (Some why) None = Some why
 first_cause (Some why) (Some other) = Some other
 
 -- the finding is brought; there is none where nothing is asked by that name
-abbrev pub IsBrought : World → ℕ → World → List ℕ → Option FindingData → Type 0
-IsBrought w draft v text None = (v ≡ w) × (text ≡ refused_line (codes "NoQuestion"))
-IsBrought w draft v text (Some finding) = Answers w (event.Found draft finding) v text
+abbrev pub IsFindingPlayed : World → ℕ → World → List ℕ → Option FindingData → Type 0
+IsFindingPlayed w draft v text None = (v ≡ w) × (text ≡ refused_line (codes "NoQuestion"))
+IsFindingPlayed w draft v text (Some finding) = Answers w (event.Found draft finding) v text
 
 -- a draft is brought the finding on the task of that name at the present level of another
 abbrev pub IsFoundLine : World → ℕ → List ℕ → ℕ → World → List ℕ → Option Cause → Type 0
@@ -54,7 +54,7 @@ IsFoundLine w draft name other v text (Some why) = (v ≡ w) × (text ≡ refuse
 IsFoundLine w draft name other v text None =
     (finding : Option FindingData)
     × IsQuestionOf (live_at w.drafts other) name (option_map (λ f. f.question) finding)
-    × IsBrought w draft v text finding
+    × IsFindingPlayed w draft v text finding
 
 -- ---- all findings that a draft misses
 -- the draft was brought these findings, the last one first, each on the missing candidate of least rank
@@ -66,17 +66,18 @@ IsBroughtAll w draft (f ∷ findings) v =
     × Happens u (event.Found draft f) r v
 
 -- nothing is asked any more, and this is said
-abbrev pub IsSaid : Standing → List ℕ → Type 0
-IsSaid (standing.Asking question) text = ⊥
-IsSaid (standing.Tested infeasible) text = text ≡ tested_line infeasible.items
-IsSaid standing.NoSuchDraft text = text ≡ refused_line (cause_word cause.NoSuchDraft)
-IsSaid standing.Untestable text = text ≡ refused_line (cause_word cause.Untestable)
+abbrev pub IsStandingSaid : Standing → List ℕ → Type 0
+IsStandingSaid (standing.Asking question) text = ⊥
+IsStandingSaid (standing.Tested infeasible) text = text ≡ tested_line infeasible.items
+IsStandingSaid standing.NoSuchDraft text = text ≡ refused_line (cause_word cause.NoSuchDraft)
+IsStandingSaid standing.Untestable text = text ≡ refused_line (cause_word cause.Untestable)
 
 -- a line `test`
 abbrev pub IsTestLine : World → ℕ → World → List ℕ → Type 0
 IsTestLine w draft v text =
     (findings : List FindingData) × (s : Standing)
-    × IsBroughtAll w draft findings v × IsStanding (live_at v.drafts draft) s × IsSaid s text
+    × IsBroughtAll w draft findings v × IsStanding (live_at v.drafts draft) s
+    × IsStandingSaid s text
 
 -- ---- lines
 -- a row leads from one world to another, and this is printed
@@ -123,7 +124,7 @@ abbrev pub IsLedBy : World → List Event → World → Type 0
 IsLedBy w events v = (replies : List Reply) × IsRun w events replies v
 
 -- the book: its version and the best order of its tasks
-abbrev pub IsBookText : Desk → List ℕ → Type 0
+abbrev pub IsBookText : MachineState → List ℕ → Type 0
 IsBookText desk text =
     (levels : List LevelData) × IsBestOrder (set_of desk.tasks) levels
     × (text ≡ state_lines desk.version desk.tasks levels)

@@ -52,8 +52,8 @@ ruling_line (Refused refusal) = refused_line (refusal_words refusal)
 ruling_line (Infeasible o) = codes "infeasible" ++ named o.set (tasks_of o.members) ++ codes "\n"
 
 -- a level is decided
-abbrev pub level_line : ℕ → List ℕ → ℕ → List ℕ
-level_line level name response =
+abbrev pub level_done_line : ℕ → List ℕ → ℕ → List ℕ
+level_done_line level name response =
     codes "level " ++ decimal level ++ codes " " ++ name ++ codes " " ++ decimal response
     ++ codes "\n"
 
@@ -67,7 +67,7 @@ abbrev pub printed : Reply → List ℕ
 printed (reply.Opened draft version) = opened_line draft version
 printed reply.Done = codes "ok\n"
 printed reply.Taken = codes "taken\n"
-printed (reply.LevelDone level name response) = level_line level name response
+printed (reply.LevelDone level name response) = level_done_line level name response
 printed (reply.Tested infeasible) = tested_line infeasible.items
 printed (reply.Stale version) = codes "stale " ++ decimal version ++ codes "\n"
 printed (reply.Decided place entry) = ruling_line entry.value.decision

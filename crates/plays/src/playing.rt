@@ -3,7 +3,7 @@ ghost use Rattle.std.specs.Prelude.{◌≡◌, ◌≢◌, ℕ, List, Err, OnOk, 
 ghost use Rattle.std.specs.Io.KnownBytes.{Appends};
 ghost use Rattle.streams.specs.Sending.{Sends};
 ghost use Rattle.desk_core.specs.World.{live_at, start};
-ghost use Rattle.plays.specs.Plays.{Answers, first_cause, IsFoundLine, IsPlayed, IsSaid, IsTestLine, no_levels, PlaysAll, PlaysSome};
+ghost use Rattle.plays.specs.Plays.{Answers, first_cause, IsFoundLine, IsPlayed, IsStandingSaid, IsTestLine, no_levels, PlaysAll, PlaysSome};
 ghost use Rattle.plays.specs.Testing.{IsOver};
 
 use crate::asking::{bring_all, find, why_not};
@@ -59,7 +59,7 @@ fn play_found(
 // What is said of a draft that asks nothing.
 fn standing_text(alloc: Global, standing: &Standing) -> Result<String, AllocError>
     requires { IsOver standing.now }
-    ensures { IfOk result (λ text. IsSaid standing.now (string_bytes text)) }
+    ensures { IfOk result (λ text. IsStandingSaid standing.now (string_bytes text)) }
 {
     match standing {
         Standing::NoSuchDraft => refused_text(alloc, Cause::NoSuchDraft),

@@ -3,7 +3,7 @@ ghost use Rattle.std.specs.Prelude.{◌≡◌, ◌++◌, OnOk, IfOk, slice_get, 
 ghost use Rattle.task_sheet.specs.Verdicts.{tasks_of};
 ghost use Rattle.lines.specs.Naming.{named};
 ghost use Rattle.drafts.specs.Applied.{set_of};
-ghost use Rattle.plays.specs.Printed.{cause_word, held_line, held_lines, holder, level_line, names_text, opened_line, printed, refusal_words, refused_line, ruling_line, state_lines, team_text, tested_line};
+ghost use Rattle.plays.specs.Printed.{cause_word, held_line, held_lines, holder, level_done_line, names_text, opened_line, printed, refusal_words, refused_line, ruling_line, state_lines, team_text, tested_line};
 ghost use Rattle.plays.specs.Plays.{IsBookText};
 ghost use Rattle.drafts.specs.Rulings.{ruling_of};
 
@@ -113,7 +113,7 @@ fn opened_text(alloc: Global, draft: usize, version: u64) -> Result<String, Allo
 
 // The line of a level that is decided.
 fn level_text(alloc: Global, level: usize, name: Name, response: u64) -> Result<String, AllocError>
-    ensures { IfOk result (λ text. string_bytes text ≡ level_line level name response) }
+    ensures { IfOk result (λ text. string_bytes text ≡ level_done_line level name response) }
 {
     let mut text = String::from_str(alloc, "level ")?;
     write!(text, "{level} ")?;

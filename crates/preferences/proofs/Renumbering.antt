@@ -9,7 +9,7 @@ use Rattle.task_sheet.specs.Indexes.{Indexes, below, among, with_index, sum_belo
 use Rattle.task_sheet.specs.Locks.{shares_lock, reaches}
 use Rattle.task_sheet.specs.Demand.{greatest_of, longest_reached, blocking_of, interference_of, demand_of, limit_of}
 use Rattle.task_sheet.specs.Orders.{must_outrank, is_bound, Stands, AllStand, IsPassingOrder, IsFeasible}
-use Rattle.preferences.specs.Preferences.{names_of, KeepsOrders}
+use Rattle.preferences.specs.Preferences.{order_names, KeepsOrders}
 use Rattle.task_sheet.proofs.Below.{greatest_below-le, le-greatest_below, some_below-at, some_below-witness, some_below-none}
 
 -- a renumbering of the tasks below n that turns itself back
@@ -160,10 +160,10 @@ module _ (turn : ℕ → ℕ) (U V : List Task) (are : AreRenumbered turn U V) w
     same = λ k. ((task_at U k).weight, ap (λ (t : Task). weighing t (task_at U k).weight) (sym (own k).1));
   }
 
-  names-turned : (order : List ℕ) → names_of V (map turn order) ≡ names_of U order
+  names-turned : (order : List ℕ) → order_names V (map turn order) ≡ order_names U order
   names-turned [] = refl
   names-turned (i ∷ above) =
-      ap (λ (t : Task). t.name ∷ names_of V (map turn above)) (own i).1
+      ap (λ (t : Task). t.name ∷ order_names V (map turn above)) (own i).1
       ∙ ap (λ (ns : List (List ℕ)). (task_at U i).name ∷ ns) (names-turned above)
 
   pub KeepsOrders-turned : KeepsOrders U V

@@ -29,11 +29,11 @@ abbrev pub unweighed : List Task → List Task
 unweighed U = map (λ t. weighing t 0) U
 
 -- the names of an order's tasks
-abbrev pub names_of : List Task → List ℕ → List (List ℕ)
-names_of U order = map (λ k. (task_at U k).name) order
+abbrev pub order_names : List Task → List ℕ → List (List ℕ)
+order_names U order = map (λ k. (task_at U k).name) order
 
 -- each passing order of the first set is one of the second, by the names of its tasks
 abbrev pub KeepsOrders : List Task → List Task → Type 0
 KeepsOrders U V =
     (order : List ℕ) → IsPassingOrder U order
-    → (other : List ℕ) × IsPassingOrder V other × (names_of V other ≡ names_of U order)
+    → (other : List ℕ) × IsPassingOrder V other × (order_names V other ≡ order_names U order)

@@ -13,32 +13,32 @@ use Rattle.book_lock.specs.Settles.{IsReceived}
 use Rattle.book_lock.specs.declared.commit.CommitCause.{CommitCause}
 use Rattle.book_lock.specs.declared.commit.CommitCause.TheVariants.{OtherTeam, BadWorkers, ThreadRefused, GateShut, OutOfMemory}
 use Rattle.book_lock.specs.declared.commit.CommitFault.{CommitFault}
-use Rattle.rushes.specs.Hands.{Hand, draft_at, IsCommitted}
-use Rattle.rushes.specs.HandFields.{IsOwn, AllOwn}
+use Rattle.rushes.specs.Hands.{Hand, draft_at, IsTeamCommit}
+use Rattle.rushes.specs.HandFields.{IsOfTeam, AllOwn}
 
-pub AllOwn-push : (team : ℕ) (slots : List (Option Draft)) (slot : Option Draft) → AllOwn team slots → IsOwn team slot → AllOwn team (slots ++ slot ∷ [])
+pub AllOwn-push : (team : ℕ) (slots : List (Option Draft)) (slot : Option Draft) → AllOwn team slots → IsOfTeam team slot → AllOwn team (slots ++ slot ∷ [])
 AllOwn-push team [] slot all one = (one, tt)
 AllOwn-push team (x ∷ slots) slot all one = (all.0, AllOwn-push team slots slot all.1 one)
 
-pub AllOwn-set : (team : ℕ) (slots : List (Option Draft)) (i : ℕ) (slot : Option Draft) → AllOwn team slots → IsOwn team slot → AllOwn team (set slots i slot)
+pub AllOwn-set : (team : ℕ) (slots : List (Option Draft)) (i : ℕ) (slot : Option Draft) → AllOwn team slots → IsOfTeam team slot → AllOwn team (set slots i slot)
 AllOwn-set team [] i slot all one = tt
 AllOwn-set team (x ∷ slots) zero slot all one = (one, all.1)
 AllOwn-set team (x ∷ slots) (suc i) slot all one = (all.0, AllOwn-set team slots i slot all.1 one)
 
-pub AllOwn-at : (team : ℕ) (slots : List (Option Draft)) (i : ℕ) → AllOwn team slots → IsOwn team (get_or slots i None)
+pub AllOwn-at : (team : ℕ) (slots : List (Option Draft)) (i : ℕ) → AllOwn team slots → IsOfTeam team (get_or slots i None)
 AllOwn-at team [] i all = tt
 AllOwn-at team (x ∷ slots) zero all = all.0
 AllOwn-at team (x ∷ slots) (suc i) all = AllOwn-at team slots i all.1
 
 -- a list that one was pushed to, or not
 pub AllOwn-pushed : {E : Type 0} (team : ℕ) (old new : List (Option Draft)) (slot : Option Draft) (result : Result (Unit {0}) E)
-    → new ≡ (if is_ok result then old ++ slot ∷ [] else old) → IsOwn team slot → AllOwn team old → AllOwn team new
+    → new ≡ (if is_ok result then old ++ slot ∷ [] else old) → IsOfTeam team slot → AllOwn team old → AllOwn team new
 AllOwn-pushed team old new slot (Ok done) is one all = subst (λ xs. AllOwn team xs) (sym is) (AllOwn-push team old slot all one)
 AllOwn-pushed team old new slot (Err e) is one all = subst (λ xs. AllOwn team xs) (sym is) all
 
-pub AllOwn-read : (team : ℕ) (slots : List (Option Draft)) (i : ℕ) (slot : Option Draft) → AllOwn team slots → i < length slots → slot ≡ get_or slots i slot → IsOwn team slot
+pub AllOwn-read : (team : ℕ) (slots : List (Option Draft)) (i : ℕ) (slot : Option Draft) → AllOwn team slots → i < length slots → slot ≡ get_or slots i slot → IsOfTeam team slot
 AllOwn-read team [] i slot all lt is = absurd (omega arith)
-AllOwn-read team (x ∷ slots) zero slot all lt is = subst (λ (o : Option Draft). IsOwn team o) (sym is) all.0
+AllOwn-read team (x ∷ slots) zero slot all lt is = subst (λ (o : Option Draft). IsOfTeam team o) (sym is) all.0
 AllOwn-read team (x ∷ slots) (suc i) slot all lt is = AllOwn-read team slots i slot all.1 (omega arith) is
 
 -- ---- what a commit leaves of the pass
@@ -70,7 +70,7 @@ other_cause workers d p OutOfMemory team good so is = elim is [ inl e ↦ cc | i
 -- the others stay the team's
 pub AllOwn-gone : (team now : ℕ) (slots : List (Option Draft)) (i : ℕ) (slot : Option Draft) → slot ≡ None → now ≡ team → AllOwn team slots → AllOwn now (set slots i slot)
 AllOwn-gone team now slots i slot gone same all =
-    subst (λ (t : ℕ). AllOwn t (set slots i slot)) (sym same) (AllOwn-set team slots i slot all (subst (λ (o : Option Draft). IsOwn team o) (sym gone) tt))
+    subst (λ (t : ℕ). AllOwn t (set slots i slot)) (sym same) (AllOwn-set team slots i slot all (subst (λ (o : Option Draft). IsOfTeam team o) (sym gone) tt))
 
 -- the item at an index, by another default
 item_at : (slots : List (Option Draft)) (i : ℕ) (x y : Option Draft) → i < length slots → get_or slots i x ≡ get_or slots i y
@@ -88,9 +88,9 @@ after h drafts pass = record { drafts = drafts; own = h.own; pass = pass; notes 
 
 pub committed_as : (workers : ℕ) (h : Hand) (number i : ℕ) (d : Draft) (slot : Option Draft) (new : Known) (place : ℕ)
     → i + 1 ≡ number → draft_at h.drafts number ≡ Some d → slot ≡ None → Commits (λ q. ⊥) (λ q. ⊥) workers d h.pass (Ok place) new
-    → IsCommitted workers h number (after h (set h.drafts i slot) new) (draft_at h.drafts number)
+    → IsTeamCommit workers h number (after h (set h.drafts i slot) new) (draft_at h.drafts number)
 committed_as workers h number i d slot new place next there gone commits =
     let index : i ≡ number - 1 = omega arith in
     let same : after h (set h.drafts i slot) new ≡ after h (set h.drafts (number - 1) None) new =
     λ j. after h (set h.drafts (index j) (gone j)) new in
-    subst (λ (o : Option Draft). IsCommitted workers h number (after h (set h.drafts i slot) new) o) (sym there) (place, new, commits, same)
+    subst (λ (o : Option Draft). IsTeamCommit workers h number (after h (set h.drafts i slot) new) o) (sym there) (place, new, commits, same)

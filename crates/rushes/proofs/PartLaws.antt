@@ -4,16 +4,16 @@ use Rattle.std.specs.Prelude.{Result, Ok, Err, IfOk, IfErr}
 use Rattle.std.proofs.lemmas.Bool.{cases_order}
 use Rattle.std.proofs.lemmas.Bool.Decides.{Decides-eqb}
 use Rattle.drafts.specs.Machine.{Entry}
-use Rattle.book_lock.specs.Passes.{Known, newcomer, newcomers, has_team, places_of, HaveReceipts}
+use Rattle.book_lock.specs.Passes.{Known, newcomer, newcomers, has_team, placed_entries, HaveReceipts}
 use Rattle.scripts.specs.declared.line.Line.{Line}
-use Rattle.rushes.specs.Hands.{Hand, fresh, AreDone, AreParts}
+use Rattle.rushes.specs.Hands.{Hand, new_hand, AreDone, AreParts}
 use Rattle.rushes.specs.Starts.{Each, IsEnd, first_fault}
 use Rattle.rushes.specs.declared.fault.RushFault.{RushFault}
 use Rattle.rushes.proofs.RunLaws.{lines_team}
 
 -- so many teams, from that one on, after their lines
 abbrev pub AreAfter : ℕ → List Line → ℕ → ℕ → List Hand → Type 0
-AreAfter workers lines first n teams = Each (λ start last. AreDone workers (fresh start) lines last) (newcomers first n) teams
+AreAfter workers lines first n teams = Each (λ start last. AreDone workers (new_hand start) lines last) (newcomers first n) teams
 
 -- the parts of the ledger that a team's pass begins with, where so many teams come after it
 abbrev parts_with : ℕ → ℕ → ℕ
@@ -36,19 +36,19 @@ pub all_there : (workers : ℕ) (lines : List Line) (first n : ℕ) (teams : Lis
 all_there workers lines first zero teams runs team low high = absurd (omega arith)
 all_there workers lines first (suc n) [] runs team low high = absurd runs
 all_there workers lines first (suc n) (k ∷ ks) runs team low high = elim (cases_order first team) [
-  | inl same ↦ or_left (k.pass.team == team) (has_team team (passes_in ks)) ((Decides-eqb k.pass.team team).1 (lines_team workers (fresh (newcomer first (parts_with first n))) k lines runs.0 ∙ same))
+  | inl same ↦ or_left (k.pass.team == team) (has_team team (passes_in ks)) ((Decides-eqb k.pass.team team).1 (lines_team workers (new_hand (newcomer first (parts_with first n))) k lines runs.0 ∙ same))
   | inr (inl less) ↦ or_right (k.pass.team == team) (has_team team (passes_in ks)) (all_there workers lines (first + 1) n ks runs.1 team (omega arith) (omega arith))
   | inr (inr more) ↦ absurd (omega arith)
 ]
 
 -- the notes of each team, with the entries that are the receipts of its passes, are its part
 pub parts_of : (workers : ℕ) (lines : List Line) (first n : ℕ) (teams : List Hand) (log : List Entry) → AreAfter workers lines first n teams
-    → ((team : ℕ) → first ≤ team → team < first + n → HaveReceipts team (places_of team 1 log) (passes_in teams)) → AreParts workers lines log first (map (λ last. last.notes) teams)
+    → ((team : ℕ) → first ≤ team → team < first + n → HaveReceipts team (placed_entries team 1 log) (passes_in teams)) → AreParts workers lines log first (map (λ last. last.notes) teams)
 parts_of workers lines first zero [] log runs have = tt
 parts_of workers lines first zero (k ∷ ks) log runs have = absurd runs
 parts_of workers lines first (suc n) [] log runs have = absurd runs
 parts_of workers lines first (suc n) (k ∷ ks) log runs have = (
-  (parts_with first n, k, runs.0, (have first (omega arith) (omega arith)).0 (lines_team workers (fresh (newcomer first (parts_with first n))) k lines runs.0), refl),
+  (parts_with first n, k, runs.0, (have first (omega arith) (omega arith)).0 (lines_team workers (new_hand (newcomer first (parts_with first n))) k lines runs.0), refl),
   parts_of workers lines (first + 1) n ks log runs.1 (λ team low high. (have team (omega arith) (omega arith)).1),
 )
 
@@ -71,7 +71,7 @@ finish_end workers lines (Err over) at by from start ended is so =
     subst (λ (r : Result Hand RushFault). IsEnd workers lines start r) (sym so.1) is.1
 
 -- where all ends are teams, these are what the lines made
-pub all_run : (workers : ℕ) (lines : List Line) (starts : List Known) (teams : List Hand) → Each (λ start ended. IsEnd workers lines start ended) starts (map (λ last. Ok last) teams) → Each (λ start last. AreDone workers (fresh start) lines last) starts teams
+pub all_run : (workers : ℕ) (lines : List Line) (starts : List Known) (teams : List Hand) → Each (λ start ended. IsEnd workers lines start ended) starts (map (λ last. Ok last) teams) → Each (λ start last. AreDone workers (new_hand start) lines last) starts teams
 all_run workers lines [] [] all = tt
 all_run workers lines (s ∷ starts) (k ∷ teams) all = (all.0, all_run workers lines starts teams all.1)
 all_run workers lines [] (k ∷ teams) all = absurd all

@@ -10,7 +10,7 @@ use Rattle.rushes.specs.declared.note.Missed.{Missed}
 use Rattle.scripts.specs.declared.line.Line.{Line}
 use Rattle.scripts.specs.declared.line.Row.{Row}
 use Rattle.scripts.specs.declared.line.Row.TheVariants.{Open, Put, Remove, Found, Test, Commit, Abandon}
-use Rattle.rushes.specs.Hands.{Hand, fresh, draft_at, with_draft, after_edit, IsCommitted, abandoned, IsDone, told, noting, IsLineDone, AreDone}
+use Rattle.rushes.specs.Hands.{Hand, new_hand, draft_at, with_draft, after_edit, IsTeamCommit, abandoned, IsRowDone, told, noting, IsLineDone, AreDone}
 
 opened_team : (h k : Hand) (b : Bool) → MatchBool b ((d : Draft) × IsOpenedFor h.pass d × (k ≡ with_draft h true (Some d))) (k ≡ with_draft h false None) → k.pass.team ≡ h.pass.team
 opened_team h k true so = ap (λ (x : Hand). x.pass.team) so.2
@@ -20,7 +20,7 @@ edited_team : (h k : Hand) (number : ℕ) (edit : Draft → Result (List (List �
 edited_team h k number edit None so = ap (λ (x : Hand). x.pass.team) so
 edited_team h k number edit (Some d) so = ap (λ (x : Hand). x.pass.team) so
 
-committed_team : (workers : ℕ) (h k : Hand) (number : ℕ) (slot : Option Draft) → IsCommitted workers h number k slot → k.pass.team ≡ h.pass.team
+committed_team : (workers : ℕ) (h k : Hand) (number : ℕ) (slot : Option Draft) → IsTeamCommit workers h number k slot → k.pass.team ≡ h.pass.team
 committed_team workers h k number None so = ap (λ (x : Hand). x.pass.team) so
 committed_team workers h k number (Some d) so = ap (λ (x : Hand). x.pass.team) so.3 ∙ ap (λ (p : Known). p.team) so.2.3.entered.3
 
@@ -28,7 +28,7 @@ abandoned_team : (h k : Hand) (number : ℕ) (slot : Option Draft) → k ≡ aba
 abandoned_team h k number None so = ap (λ (x : Hand). x.pass.team) so
 abandoned_team h k number (Some d) so = ap (λ (x : Hand). x.pass.team) so
 
-row_team : (workers : ℕ) (h k : Hand) (row : Row) → IsDone workers h row k → k.pass.team ≡ h.pass.team
+row_team : (workers : ℕ) (h k : Hand) (row : Row) → IsRowDone workers h row k → k.pass.team ≡ h.pass.team
 row_team workers h k (Open team) so = opened_team h k (team == h.pass.team) so
 row_team workers h k (Put number sheet) so = edited_team h k number (λ d. after_put d sheet) (draft_at h.drafts number) so
 row_team workers h k (Remove number name) so = edited_team h k number (λ d. after_remove d name) (draft_at h.drafts number) so

@@ -3,11 +3,11 @@ use Rattle.std.specs.Prelude.{◌≡◌, ℕ, List, [], ◌∷◌, Option, None,
 use Rattle.drafts.specs.Changes.{Draft}
 
 -- a draft is of that team
-abbrev pub IsOwn : ℕ → Option Draft → Type 0
-IsOwn team None = Unit {0}
-IsOwn team (Some d) = d.team ≡ team
+abbrev pub IsOfTeam : ℕ → Option Draft → Type 0
+IsOfTeam team None = Unit {0}
+IsOfTeam team (Some d) = d.team ≡ team
 
 -- each draft is one of the team
 abbrev pub AllOwn : ℕ → List (Option Draft) → Type 0
 AllOwn team [] = Unit {0}
-AllOwn team (slot ∷ slots) = IsOwn team slot × AllOwn team slots
+AllOwn team (slot ∷ slots) = IsOfTeam team slot × AllOwn team slots

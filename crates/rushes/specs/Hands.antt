@@ -7,7 +7,7 @@ use Rattle.drafts.specs.Machine.{Entry}
 use Rattle.drafts.specs.Changes.{Draft, after_put, after_remove}
 use Rattle.book_lock.specs.declared.closing.Closing.{Closing}
 use Rattle.book_lock.specs.Opening.{IsOpenedFor}
-use Rattle.book_lock.specs.Passes.{Known, newcomer, places_of}
+use Rattle.book_lock.specs.Passes.{Known, newcomer, placed_entries}
 use Rattle.book_lock.specs.Commits.{Commits}
 use Rattle.rushes.specs.declared.note.Missed.{Missed}
 use Rattle.rushes.specs.declared.note.Missed.TheVariants.{PutRefused, RemoveRefused, Ended}
@@ -25,8 +25,8 @@ pub record Hand : Type 0 where
   pub notes : List Note
 
 -- before the first line
-abbrev pub fresh : Known → Hand
-fresh pass = record { drafts = []; own = []; pass = pass; notes = [] }
+abbrev pub new_hand : Known → Hand
+new_hand pass = record { drafts = []; own = []; pass = pass; notes = [] }
 
 -- a slot that is there
 abbrev pub if_there : Option (Option Draft) → Option Draft
@@ -52,8 +52,8 @@ with_draft h own slot =
     record { drafts = h.drafts ++ slot ∷ []; own = h.own ++ own ∷ []; pass = h.pass; notes = h.notes }
 
 -- the draft of that number is this now
-abbrev pub with_slot : Hand → ℕ → Option Draft → Hand
-with_slot h number slot =
+abbrev pub with_hand_slot : Hand → ℕ → Option Draft → Hand
+with_hand_slot h number slot =
     record { drafts = slice_set h.drafts (number - 1) slot; own = h.own; pass = h.pass; notes = h.notes }
 
 -- and the pass is this
@@ -77,44 +77,44 @@ edited d (Ok changes) = record { team = d.team; base = d.base; changes = changes
 abbrev pub after_edit : Hand → ℕ → (Draft → Result (List (List ℕ × Change)) EditRefusal)
     → Option Draft → Hand
 after_edit h number edit None = h
-after_edit h number edit (Some d) = with_slot h number (Some (edited d (edit d)))
+after_edit h number edit (Some d) = with_hand_slot h number (Some (edited d (edit d)))
 
 -- a commit of the team's draft of that number, by at most so many workers at an open gate: its decision is the pass's
 -- last receipt, and the draft has ended
-abbrev pub IsCommitted : ℕ → Hand → ℕ → Hand → Option Draft → Type 0
-IsCommitted workers h number k None = k ≡ h
-IsCommitted workers h number k (Some d) =
+abbrev pub IsTeamCommit : ℕ → Hand → ℕ → Hand → Option Draft → Type 0
+IsTeamCommit workers h number k None = k ≡ h
+IsTeamCommit workers h number k (Some d) =
     (place : ℕ) × (pass : Known)
     × Commits (λ question. ⊥) (λ question. ⊥) workers d h.pass (Ok place) pass
-    × (k ≡ with_pass (with_slot h number None) pass)
+    × (k ≡ with_pass (with_hand_slot h number None) pass)
 
 -- the team's draft of that number ends without a decision
 abbrev pub abandoned : Hand → ℕ → Option Draft → Hand
 abandoned h number None = h
-abandoned h number (Some d) = with_slot h number None
+abandoned h number (Some d) = with_hand_slot h number None
 
 -- what a line makes of the team's drafts and pass
-abbrev pub IsDone : ℕ → Hand → Row → Hand → Type 0
-IsDone workers h (Open team) k = IsOpened h team k
-IsDone workers h (Put number sheet) k =
+abbrev pub IsRowDone : ℕ → Hand → Row → Hand → Type 0
+IsRowDone workers h (Open team) k = IsOpened h team k
+IsRowDone workers h (Put number sheet) k =
     k ≡ after_edit h number (λ d. after_put d sheet) (draft_at h.drafts number)
-IsDone workers h (Remove number name) k =
+IsRowDone workers h (Remove number name) k =
     k ≡ after_edit h number (λ d. after_remove d name) (draft_at h.drafts number)
-IsDone workers h (Found number name other) k = k ≡ h
-IsDone workers h (Test number) k = k ≡ h
-IsDone workers h (Commit number) k = IsCommitted workers h number k (draft_at h.drafts number)
-IsDone workers h (Abandon number) k = k ≡ abandoned h number (draft_at h.drafts number)
+IsRowDone workers h (Found number name other) k = k ≡ h
+IsRowDone workers h (Test number) k = k ≡ h
+IsRowDone workers h (Commit number) k = IsTeamCommit workers h number k (draft_at h.drafts number)
+IsRowDone workers h (Abandon number) k = k ≡ abandoned h number (draft_at h.drafts number)
 
 -- ---- what is told
 -- the draft that a line is on; 0 where it opens one
-abbrev pub draft_of : Row → ℕ
-draft_of (Open team) = 0
-draft_of (Put number sheet) = number
-draft_of (Remove number name) = number
-draft_of (Found number name other) = number
-draft_of (Test number) = number
-draft_of (Commit number) = number
-draft_of (Abandon number) = number
+abbrev pub line_draft : Row → ℕ
+line_draft (Open team) = 0
+line_draft (Put number sheet) = number
+line_draft (Remove number name) = number
+line_draft (Found number name other) = number
+line_draft (Test number) = number
+line_draft (Commit number) = number
+line_draft (Abandon number) = number
 
 -- the draft of that number is the team's, and has ended
 abbrev pub has_ended : Hand → ℕ → Bool
@@ -147,7 +147,7 @@ told_edit h (Abandon number) = None
 
 -- why a line did nothing that is the team's, if so
 abbrev pub told : Hand → Row → Option Missed
-told h row = if has_ended h (draft_of row) then Some (Ended (draft_of row)) else told_edit h row
+told h row = if has_ended h (line_draft row) then Some (Ended (line_draft row)) else told_edit h row
 
 -- it is told of the line with this number
 abbrev pub noting : Hand → ℕ → Option Missed → Hand
@@ -162,7 +162,7 @@ noting h number (Some missed) = record {
 -- one line: what it makes of the team, and what is told of it
 abbrev pub IsLineDone : ℕ → Hand → Line → Hand → Type 0
 IsLineDone workers h line k =
-    (mid : Hand) × IsDone workers h line.row mid × (k ≡ noting mid line.number (told h line.row))
+    (mid : Hand) × IsRowDone workers h line.row mid × (k ≡ noting mid line.number (told h line.row))
 
 -- lines, one after the other
 abbrev pub AreDone : ℕ → Hand → List Line → Hand → Type 0
@@ -173,9 +173,9 @@ AreDone workers h (line ∷ lines) k =
 -- ---- all teams
 -- these entries with their places are what the lines of a team came to, whatever parts of the ledger its pass has, and
 -- these notes are what is told of its lines
-abbrev pub IsPart : ℕ → List Line → ℕ → List (ℕ × Entry) → List Note → Type 0
-IsPart workers lines team entries notes =
-    (parts : ℕ) × (last : Hand) × AreDone workers (fresh (newcomer team parts)) lines last
+abbrev pub IsTeamPart : ℕ → List Line → ℕ → List (ℕ × Entry) → List Note → Type 0
+IsTeamPart workers lines team entries notes =
+    (parts : ℕ) × (last : Hand) × AreDone workers (new_hand (newcomer team parts)) lines last
     × (last.pass.receipts ≡ entries)
     × (last.notes ≡ notes)
 
@@ -183,12 +183,12 @@ IsPart workers lines team entries notes =
 abbrev pub AreParts : ℕ → List Line → List Entry → ℕ → List (List Note) → Type 0
 AreParts workers lines log team [] = Unit {0}
 AreParts workers lines log team (notes ∷ rest) =
-    IsPart workers lines team (places_of team 1 log) notes
+    IsTeamPart workers lines team (placed_entries team 1 log) notes
     × AreParts workers lines log (team + 1) rest
 
 -- the state and the log of a desk that was closed
-abbrev pub book_of : Closing → Book
-book_of c = record { desk = c.state.value; log = map (λ e. e.value) c.log.items }
+abbrev pub closed_book : Closing → Book
+closed_book c = record { desk = c.state.value; log = map (λ e. e.value) c.log.items }
 
 -- each entry is of a team from 1 to 8
 abbrev pub AreOfTeams : List Entry → Type 0

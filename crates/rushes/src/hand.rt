@@ -2,11 +2,11 @@
 ghost use Rattle.std.specs.Prelude.{◌≡◌, ◌+◌, ◌<◌, [], length, None, Some, OnOk, IfOk, IsSome, MatchOption, slice_index_or};
 ghost use Rattle.candidate_workers.specs.Faults.{IsBadCount};
 ghost use Rattle.drafts.specs.Changes.{after_put, after_remove};
-ghost use Rattle.rushes.specs.Hands.{abandoned, after_edit, AreDone, draft_at, draft_of, fresh, has_ended, IsCommitted, IsDone, IsLineDone, IsOpened, noting, own_at, refused, told, told_edit};
+ghost use Rattle.rushes.specs.Hands.{abandoned, after_edit, AreDone, draft_at, line_draft, new_hand, has_ended, IsTeamCommit, IsRowDone, IsLineDone, IsOpened, noting, own_at, refused, told, told_edit};
 
 use crate::fault::RushFault;
 use crate::note::{Missed, Note};
-use crate::slot::Slot;
+use crate::slot::DraftSlot;
 use book_lock::{CommitCause, Desk, OpenFault, Pass};
 use candidate_workers::OpenGate;
 use drafts::{EditRefusal, Team};
@@ -22,7 +22,7 @@ use task_sheet::{Name, Sheet};
 /// its lines that did nothing.
 #[derive(Drop)]
 pub(crate) struct Hand<L: Ledger> {
-    drafts: Vec<Slot>,
+    drafts: Vec<DraftSlot>,
     own: Vec<bool>,
     pass: Pass<L>,
     notes: Vec<Note>,
@@ -45,7 +45,7 @@ impl<L: Ledger> Model for Hand<L> {
 }
 
 // The index of a draft that is the team's and hasn't ended.
-fn index_of(drafts: &[Slot], number: usize) -> Option<usize>
+fn index_of(drafts: &[DraftSlot], number: usize) -> Option<usize>
     ensures { MatchOption result (draft_at drafts.now number ≡ None)
         (λ i. (i + 1 ≡ number) × (i < length drafts.now)
         × (draft_at drafts.now number ≡ slice_index_or drafts.now i None)
@@ -77,7 +77,7 @@ fn is_own(own: &[bool], number: usize) -> bool
 
 // The draft that a line is on; 0 where it opens one.
 fn draft_of(row: &Row) -> usize
-    ensures { result ≡ draft_of row.now }
+    ensures { result ≡ line_draft row.now }
 {
     match row {
         Row::Open { .. } => 0,
@@ -92,7 +92,7 @@ fn draft_of(row: &Row) -> usize
 
 impl<L: Ledger> Hand<L> {
     fn new(alloc: Global, pass: Pass<L>) -> Hand<L>
-        ensures { result ≡ fresh pass }
+        ensures { result ≡ new_hand pass }
     {
         Hand {
             drafts: Vec::new(alloc),
@@ -114,13 +114,13 @@ impl<L: Ledger> Hand<L> {
     {
         self.own.reserve(1)?;
         if team.number() != self.pass.team().number() {
-            self.drafts.push(Slot::empty())?;
+            self.drafts.push(DraftSlot::empty())?;
             self.own.push_reserved(false);
             return Ok(());
         }
         match desk.open(rt, alloc, &self.pass) {
             Ok(draft) => {
-                self.drafts.push(Slot::of(alloc, draft)?)?;
+                self.drafts.push(DraftSlot::of(alloc, draft)?)?;
                 self.own.push_reserved(true);
                 Ok(())
             }
@@ -176,7 +176,7 @@ impl<L: Ledger> Hand<L> {
         workers: usize,
     ) -> Result<(), RushFault>
         requires { IsBadCount workers → ⊥ }
-        ensures { OnOk result (IsCommitted workers self.old number self.new
+        ensures { OnOk result (IsTeamCommit workers self.old number self.new
             (draft_at self.old.drafts number)) }
     {
         let Some(i) = index_of(&self.drafts, number) else {
@@ -222,7 +222,7 @@ impl<L: Ledger> Hand<L> {
         workers: usize,
     ) -> Result<Option<Missed>, RushFault>
         requires { IsBadCount workers → ⊥ }
-        ensures done { OnOk result (IsDone workers self.old row.now self.new) }
+        ensures done { OnOk result (IsRowDone workers self.old row.now self.new) }
         ensures told { IfOk result (λ missed. missed ≡ told_edit self.old row.now) }
     {
         match row {
@@ -314,7 +314,7 @@ pub(crate) fn run_lines<L: Ledger, R: Threads + Wait>(
     workers: usize,
 ) -> Result<Hand<L>, RushFault>
     requires { IsBadCount workers → ⊥ }
-    ensures { IfOk result (λ last. AreDone workers (fresh pass) lines.now last) }
+    ensures { IfOk result (λ last. AreDone workers (new_hand pass) lines.now last) }
 {
     let mut hand = Hand::new(alloc, pass);
     for line in lines {

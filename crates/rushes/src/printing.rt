@@ -1,6 +1,6 @@
 //! The lines of a log, and of what is told of lines that did nothing.
 ghost use Rattle.std.specs.Prelude.{◌≡◌, ◌≤◌, ◌++◌, codes, OnOk, IfOk, map, string_bytes};
-ghost use Rattle.rushes.specs.Hands.{AreOfTeams, book_of};
+ghost use Rattle.rushes.specs.Hands.{AreOfTeams, closed_book};
 ghost use Rattle.rushes.specs.Printed.{all_note_lines, edit_word, entry_line, IsBookLog, missed_words, note_line, note_lines};
 
 use crate::hand::Hand;
@@ -33,8 +33,8 @@ fn push_entry(
 /// The lines of a log, and then those of the state that it comes to. Each entry tells its team's number, which is one
 /// from 1 to 8.
 pub(crate) fn log_text(alloc: Global, closing: &Closing) -> Result<String, AllocError>
-    ensures text { IfOk result (λ text. IsBookLog (book_of closing.now) (string_bytes text)) }
-    ensures teams { OnOk result (AreOfTeams (book_of closing.now).log) }
+    ensures text { IfOk result (λ text. IsBookLog (closed_book closing.now) (string_bytes text)) }
+    ensures teams { OnOk result (AreOfTeams (closed_book closing.now).log) }
 {
     let mut text = String::new(alloc);
     let log = closing.log.as_slice();

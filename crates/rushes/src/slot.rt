@@ -2,7 +2,7 @@
 ghost use Rattle.std.specs.Prelude.{◌≡◌, ◌↔◌, IfOk, OnOk, IsTrue, IsSome, ℕ, None, Some, option_map};
 ghost use Rattle.drafts.specs.Changes.{after_put, after_remove};
 ghost use Rattle.rushes.specs.Hands.{edited, refused};
-ghost use Rattle.rushes.specs.HandFields.{IsOwn};
+ghost use Rattle.rushes.specs.HandFields.{IsOfTeam};
 
 use drafts::{Draft, EditCause, EditRefusal, PutFault};
 use std::alloc::{AllocError, Global};
@@ -12,11 +12,11 @@ use task_sheet::{Name, Sheet};
 /// A draft, or none where it is another team's or has ended. Each team has a slot for each draft of the script, so an
 /// empty one is small.
 #[derive(Drop)]
-pub(crate) struct Slot {
+pub(crate) struct DraftSlot {
     draft: Option<Box<Draft>>,
 }
 
-impl Model for Slot {
+impl Model for DraftSlot {
     ghost use Rattle.std.specs.Prelude.{Option, option_map};
     ghost use Rattle.drafts.specs.Changes.{Draft};
 
@@ -25,18 +25,18 @@ impl Model for Slot {
     ghost view = { λ s. option_map (λ b. b.value) s.draft };
 }
 
-impl Slot {
-    pub(crate) fn empty() -> Slot
+impl DraftSlot {
+    pub(crate) fn empty() -> DraftSlot
         ensures { result ≡ None }
     {
-        Slot { draft: None }
+        DraftSlot { draft: None }
     }
 
-    pub(crate) fn of(alloc: Global, draft: Draft) -> Result<Slot, AllocError>
+    pub(crate) fn of(alloc: Global, draft: Draft) -> Result<DraftSlot, AllocError>
         ensures { IfOk result (λ slot. slot ≡ Some draft) }
     {
         let boxed = Box::new(alloc, draft)?;
-        Ok(Slot { draft: Some(boxed) })
+        Ok(DraftSlot { draft: Some(boxed) })
     }
 
     /// Whether there is a draft.
@@ -63,7 +63,7 @@ impl Slot {
             (λ d. edited d (after_put d sheet)) self.old) }
         ensures refused { IfOk result (λ refusal. refusal
             ≡ refused (λ d. after_put d sheet) self.old) }
-        ensures own { (team : ℕ) → IsOwn team self.old → IsOwn team self.new }
+        ensures own { (team : ℕ) → IsOfTeam team self.old → IsOfTeam team self.new }
     {
         let Some(draft) = &mut self.draft else {
             return Ok(None);
@@ -91,7 +91,7 @@ impl Slot {
             (λ d. edited d (after_remove d name)) self.old) }
         ensures refused { IfOk result (λ refusal. refusal
             ≡ refused (λ d. after_remove d name) self.old) }
-        ensures own { (team : ℕ) → IsOwn team self.old → IsOwn team self.new }
+        ensures own { (team : ℕ) → IsOfTeam team self.old → IsOfTeam team self.new }
     {
         let Some(draft) = &mut self.draft else {
             return Ok(None);

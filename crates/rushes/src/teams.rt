@@ -18,15 +18,15 @@ use std::thread::{Promise, PromisedHandle, Scope, Threads};
 pub(crate) type Ended<L> = Result<Hand<L>, RushFault>;
 
 /// What a thread gives back is what the lines made of this pass.
-pub(crate) struct Kept<'a, L: Ledger> {
+pub(crate) struct TeamPromise<'a, L: Ledger> {
     lines: &'a [Line],
     pass: Snapshot<Pass<L>>,
     workers: usize,
 }
 
-impl<'a, L: Ledger> Drop for Kept<'a, L> {
+impl<'a, L: Ledger> Drop for TeamPromise<'a, L> {
     fn drop(self) {
-        let Kept {
+        let TeamPromise {
             lines: _,
             pass: _,
             workers: _,
@@ -34,12 +34,12 @@ impl<'a, L: Ledger> Drop for Kept<'a, L> {
     }
 }
 
-impl<'a, L: Ledger> Promise<Result<Hand<L>, RushFault>> for Kept<'a, L> {
+impl<'a, L: Ledger> Promise<Result<Hand<L>, RushFault>> for TeamPromise<'a, L> {
     ghost kept_by = { λ p r. IsEnd p.workers p.lines.now p.pass.value r };
 }
 
 // The thread of a team; or what the team came to, if it needs none or got none.
-type Started<'a, L> = Result<PromisedHandle<Ended<L>, Kept<'a, L>>, Ended<L>>;
+type Started<'a, L> = Result<PromisedHandle<Ended<L>, TeamPromise<'a, L>>, Ended<L>>;
 
 // Whether a line opens a draft for that team.
 fn has_lines(lines: &[Line], team: u64) -> bool {
@@ -72,7 +72,7 @@ fn start<'s, 'e: 's, L: Ledger + Send + Sync, R: Threads + Wait + Sync>(
     if !has_lines(lines, pass.team().number()) {
         return Err(run_lines(rt, alloc, desk, pass, lines, workers));
     }
-    let kept = Kept {
+    let kept = TeamPromise {
         lines,
         pass: Snapshot::of(&pass),
         workers,

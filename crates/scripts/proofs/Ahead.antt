@@ -2,7 +2,7 @@
 use Rattle.std.proofs.Common.{◌≡◌, ℕ, List, [], ◌∷◌, ◌++◌, Result, Ok, Err, refl, sym, ap, ◌∙◌, append_assoc, append-nil}
 use Rattle.scripts.specs.declared.line.RowFault.{RowFault}
 use Rattle.scripts.specs.declared.line.RowFault.TheVariants.{Bad, Sheet, BadJitter, Outranks, OutOfMemory}
-use Rattle.scripts.specs.Gives.{Fails}
+use Rattle.scripts.specs.Gives.{FailsRow}
 use Rattle.scripts.specs.Rows.{◌>>=◌, each_in}
 
 -- these, and then those that are read
@@ -28,8 +28,8 @@ module _ {A : Type 0} (read : List ℕ → Result A RowFault) where
       let one : ahead front (each_in read all) ≡ Err fault = rw (cut, is) refl in
       sym so_far ∙ one
 
-  pub each_fails : (front : List A) (w : List ℕ) (ws all : List (List ℕ)) (fault : RowFault) (total : Result (List A) RowFault) → all ≡ w ∷ ws → Fails fault (read w)
-      → ahead front (each_in read all) ≡ total → Fails fault total
+  pub each_fails : (front : List A) (w : List ℕ) (ws all : List (List ℕ)) (fault : RowFault) (total : Result (List A) RowFault) → all ≡ w ∷ ws → FailsRow fault (read w)
+      → ahead front (each_in read all) ≡ total → FailsRow fault total
   each_fails front w ws all Bad total cut is so_far = each_stops front w ws all Bad total cut is so_far
   each_fails front w ws all (Sheet cause) total cut is so_far = each_stops front w ws all (Sheet cause) total cut is so_far
   each_fails front w ws all BadJitter total cut is so_far = each_stops front w ws all BadJitter total cut is so_far

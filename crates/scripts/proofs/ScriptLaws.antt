@@ -7,7 +7,7 @@ use Rattle.scripts.specs.declared.line.Row.TheVariants.{Open, Put, Remove, Found
 use Rattle.scripts.specs.declared.line.RowFault.{RowFault}
 use Rattle.scripts.specs.declared.line.RowFault.TheVariants as row
 use Rattle.scripts.specs.declared.line.ScriptFault.{ScriptFault}
-use Rattle.scripts.specs.Gives.{Fails}
+use Rattle.scripts.specs.Gives.{FailsRow}
 use Rattle.scripts.specs.Rows.{row_in}
 use Rattle.scripts.specs.Script.{before, fault_at, opened_after, script_from, IsFault}
 
@@ -47,7 +47,7 @@ module _ (front : List Line) (opened number : ℕ) (text : List ℕ) (ls all : L
       let one : before front (script_from opened all) ≡ Err (fault_at number fault) = rw (cut, is) refl in
       sym read.so_far ∙ one
 
-  pub script_fails : (fault : RowFault) → Fails fault (row_in opened (words text)) → IsFault (fault_at number fault) total
+  pub script_fails : (fault : RowFault) → FailsRow fault (row_in opened (words text)) → IsFault (fault_at number fault) total
   script_fails row.Bad is = stops row.Bad is
   script_fails (row.Sheet cause) is = stops (row.Sheet cause) is
   script_fails row.BadJitter is = stops row.BadJitter is

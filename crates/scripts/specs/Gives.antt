@@ -4,21 +4,21 @@ use Rattle.scripts.specs.declared.line.RowFault.{RowFault}
 use Rattle.scripts.specs.declared.line.RowFault.TheVariants.{Bad, Sheet, BadJitter, Outranks, OutOfMemory}
 
 -- the reading has this fault; want of memory says nothing of it
-abbrev pub Fails : {Y : Type 0} → RowFault → Result Y RowFault → Type 0
-Fails OutOfMemory read = Unit {0}
-Fails Bad read = read ≡ Err Bad
-Fails (Sheet cause) read = read ≡ Err (Sheet cause)
-Fails BadJitter read = read ≡ Err BadJitter
-Fails (Outranks cause) read = read ≡ Err (Outranks cause)
+abbrev pub FailsRow : {Y : Type 0} → RowFault → Result Y RowFault → Type 0
+FailsRow OutOfMemory read = Unit {0}
+FailsRow Bad read = read ≡ Err Bad
+FailsRow (Sheet cause) read = read ≡ Err (Sheet cause)
+FailsRow BadJitter read = read ≡ Err BadJitter
+FailsRow (Outranks cause) read = read ≡ Err (Outranks cause)
 
 -- a result is that of the definition, or want of memory
-abbrev pub Gives : {X Y : Type 0} → (X → Y) → Result X RowFault → Result Y RowFault → Type 0
-Gives view (Ok x) read = read ≡ Ok (view x)
-Gives view (Err e) read = Fails e read
+abbrev pub GivesRow : {X Y : Type 0} → (X → Y) → Result X RowFault → Result Y RowFault → Type 0
+GivesRow view (Ok x) read = read ≡ Ok (view x)
+GivesRow view (Err e) read = FailsRow e read
 
 -- a result is the first so many of the list that the definition gives, or want of memory
 abbrev pub GivesFirst : {X A : Type 0} → ℕ → (X → List A) → Result X RowFault
     → Result (List A) RowFault → Type 0
 GivesFirst {A = A} most view (Ok x) read =
     (all : List A) × (read ≡ Ok all) × (view x ≡ take most all)
-GivesFirst most view (Err e) read = Fails e read
+GivesFirst most view (Err e) read = FailsRow e read

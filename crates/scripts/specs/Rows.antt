@@ -18,14 +18,14 @@ abbrev pub ◌>>=◌ : {A B : Type 0} → Result A RowFault → (A → Result B 
 (Err e) >>= f = Err e
 
 -- what is wanted has to be there
-abbrev pub wanted : {A : Type 0} → Option A → Result A RowFault
-wanted None = Err Bad
-wanted (Some x) = Ok x
+abbrev pub or_bad : {A : Type 0} → Option A → Result A RowFault
+or_bad None = Err Bad
+or_bad (Some x) = Ok x
 
 -- the first word, and the words behind it
-abbrev pub first : List (List ℕ) → Result (List ℕ × List (List ℕ)) RowFault
-first [] = Err Bad
-first (w ∷ ws) = Ok (w, ws)
+abbrev pub head_word : List (List ℕ) → Result (List ℕ × List (List ℕ)) RowFault
+head_word [] = Err Bad
+head_word (w ∷ ws) = Ok (w, ws)
 
 -- no word may be left
 abbrev pub at_end : {A : Type 0} → List (List ℕ) → A → Result A RowFault
@@ -75,37 +75,37 @@ round byte text = pair_of (slice_split (λ b. b == byte) text)
 -- a number, and the words behind it
 unfoldable pub next_number : List (List ℕ) → Result (ℕ × List (List ℕ)) RowFault
 next_number ws = do
-  w ← first ws
-  n ← wanted (number_in w.0)
+  w ← head_word ws
+  n ← or_bad (number_in w.0)
   Ok (n, w.1)
 
 -- a draft, and the words behind it
 unfoldable pub next_draft : ℕ → List (List ℕ) → Result (ℕ × List (List ℕ)) RowFault
 next_draft opened ws = do
-  w ← first ws
-  n ← wanted (draft_in opened w.0)
+  w ← head_word ws
+  n ← or_bad (draft_in opened w.0)
   Ok (n, w.1)
 
 -- a name, and the words behind it
 unfoldable pub next_name : List (List ℕ) → Result (List ℕ × List (List ℕ)) RowFault
 next_name ws = do
-  w ← first ws
-  n ← wanted (name_in w.0)
+  w ← head_word ws
+  n ← or_bad (name_in w.0)
   Ok (n, w.1)
 
 -- ---- sections
 -- the names that words are
-abbrev pub names_in : List (List ℕ) → Result (List (List ℕ)) RowFault
-names_in ws = each_in (λ w. wanted (name_in w)) ws
+abbrev pub word_names : List (List ℕ) → Result (List (List ℕ)) RowFault
+word_names ws = each_in (λ w. or_bad (name_in w)) ws
 
 -- a section as `LOCK+LOCK@AT:LEN`
 unfoldable pub section_in : List ℕ → Result CriticalSection RowFault
 section_in word = do
-  sides ← wanted (round 64 word)
-  span ← wanted (round 58 sides.1)
-  at ← wanted (number_in span.0)
-  len ← wanted (number_in span.1)
-  locks ← names_in (slice_split (λ b. b == 43) sides.0)
+  sides ← or_bad (round 64 word)
+  span ← or_bad (round 58 sides.1)
+  at ← or_bad (number_in span.0)
+  len ← or_bad (number_in span.1)
+  locks ← word_names (slice_split (λ b. b == 43) sides.0)
   Ok (record { locks = locks; at = at; len = len })
 
 -- the sections that words are
@@ -133,14 +133,14 @@ next_field key [] = (None, [])
 next_field key (w ∷ ws) = field_case (value_in key w) w ws
 
 -- the number that a value is, and 0 of no value
-abbrev pub number_or_zero : Option (List ℕ) → Result ℕ RowFault
-number_or_zero None = Ok 0
-number_or_zero (Some text) = wanted (number_in text)
+abbrev pub value_or_zero : Option (List ℕ) → Result ℕ RowFault
+value_or_zero None = Ok 0
+value_or_zero (Some text) = or_bad (number_in text)
 
 -- the names between the signs `+` of a value, and none of no value
 abbrev pub names_or_none : Option (List ℕ) → Result (List (List ℕ)) RowFault
 names_or_none None = Ok []
-names_or_none (Some text) = names_in (slice_split (λ b. b == 43) text)
+names_or_none (Some text) = word_names (slice_split (λ b. b == 43) text)
 
 -- ---- lines, by the words behind the first
 -- a valid sheet
@@ -149,8 +149,8 @@ valid None task = Ok task
 valid (Some cause) task = Err (Sheet cause)
 
 -- the sheet with a jitter, which is below its deadline
-abbrev pub late : ℕ → Task → Result Task RowFault
-late jitter task =
+abbrev pub sheet_with_jitter : ℕ → Task → Result Task RowFault
+sheet_with_jitter jitter task =
     if nat_lt jitter task.deadline then Ok (with_jitter task jitter) else Err BadJitter
 
 -- a valid sheet that names these tasks
@@ -175,18 +175,18 @@ sheet_in ws = do
   deadline ← next_number period.1
   cost ← next_number deadline.1
   let delay : Option (List ℕ) × List (List ℕ) = next_field (codes "j") cost.1
-  jitter ← number_or_zero delay.0
+  jitter ← value_or_zero delay.0
   let over : Option (List ℕ) × List (List ℕ) = next_field (codes "over") delay.1
   names ← names_or_none over.0
   sheet ← made_in name.0 weight.0 period.0 deadline.0 cost.0 over.1
-  later ← late jitter sheet
+  later ← sheet_with_jitter jitter sheet
   valid_over (outranks_fault name.0 names) (outranking later names)
 
 -- what the words behind `open` say
 unfoldable pub open_in : List (List ℕ) → Result Row RowFault
 open_in ws = do
-  w ← first ws
-  team ← wanted (team_in w.0)
+  w ← head_word ws
+  team ← or_bad (team_in w.0)
   at_end w.1 (Open team)
 
 -- what the words behind `put` say
@@ -207,7 +207,7 @@ remove_in opened ws = do
 unfoldable pub other_in : ℕ → ℕ → List (List ℕ) → Result ℕ RowFault
 other_in opened draft [] = Ok draft
 other_in opened draft (w ∷ ws) = do
-  other ← wanted (draft_in opened w)
+  other ← or_bad (draft_in opened w)
   at_end ws other
 
 -- what the words behind `found` say
@@ -242,5 +242,5 @@ row_of opened word ws =
 -- what the words of a line say, where so many drafts were opened above it
 unfoldable pub row_in : ℕ → List (List ℕ) → Result Row RowFault
 row_in opened ws = do
-  w ← first ws
+  w ← head_word ws
   row_of opened w.0 w.1

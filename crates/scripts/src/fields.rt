@@ -1,7 +1,7 @@
 //! Words that are fields of a line.
 ghost use Rattle.std.specs.Prelude.{◌≡◌, MatchOption, option_map};
-ghost use Rattle.scripts.specs.Gives.{Gives};
-ghost use Rattle.scripts.specs.Rows.{draft_in, first, is_over, next_draft, next_field, next_name, next_number, number_or_zero, only_draft, other_in, round, team_in, value_in};
+ghost use Rattle.scripts.specs.Gives.{GivesRow};
+ghost use Rattle.scripts.specs.Rows.{draft_in, head_word, is_over, next_draft, next_field, next_name, next_number, value_or_zero, only_draft, other_in, round, team_in, value_in};
 
 use crate::line::RowFault;
 use drafts::Team;
@@ -17,7 +17,7 @@ pub(crate) fn is_over(words: &mut Words<'_>) -> bool
 
 /// The next word; without it the line is bad.
 pub(crate) fn next<'a>(words: &mut Words<'a>) -> Result<&'a [u8], RowFault>
-    ensures { Gives (λ x. (x.now, words.new)) result (first words.old) }
+    ensures { GivesRow (λ x. (x.now, words.new)) result (head_word words.old) }
 {
     match words.next() {
         Some(word) => Ok(word),
@@ -76,7 +76,7 @@ pub(crate) fn next_field<'a>(key: &[u8], words: &mut Words<'a>) -> Option<&'a [u
 
 /// The number that a value is, and 0 of no value.
 pub(crate) fn number_or_zero(value: Option<&[u8]>) -> Result<u64, RowFault>
-    ensures { Gives (λ x. x) result (number_or_zero (option_map (λ v. v.now) value.entry)) }
+    ensures { GivesRow (λ x. x) result (value_or_zero (option_map (λ v. v.now) value.entry)) }
 {
     let Some(text) = value else {
         return Ok(0);
@@ -90,7 +90,7 @@ pub(crate) fn number_or_zero(value: Option<&[u8]>) -> Result<u64, RowFault>
 /// The next word as a number.
 #[tactic(auto, unfolding(crate::specs::Rows::next_number))]
 pub(crate) fn next_number(words: &mut Words<'_>) -> Result<u64, RowFault>
-    ensures { Gives (λ x. (x, words.new)) result (next_number words.old) }
+    ensures { GivesRow (λ x. (x, words.new)) result (next_number words.old) }
 {
     match number_of(next(words)?) {
         Some(number) => Ok(number),
@@ -101,7 +101,7 @@ pub(crate) fn next_number(words: &mut Words<'_>) -> Result<u64, RowFault>
 /// The next word as a draft, where so many were opened.
 #[tactic(auto, unfolding(crate::specs::Rows::next_draft))]
 pub(crate) fn next_draft(opened: usize, words: &mut Words<'_>) -> Result<usize, RowFault>
-    ensures { Gives (λ x. (x, words.new)) result (next_draft opened words.old) }
+    ensures { GivesRow (λ x. (x, words.new)) result (next_draft opened words.old) }
 {
     match draft_of(opened, next(words)?) {
         Some(draft) => Ok(draft),
@@ -112,7 +112,7 @@ pub(crate) fn next_draft(opened: usize, words: &mut Words<'_>) -> Result<usize, 
 /// The next word as a name.
 #[tactic(auto, unfolding(crate::specs::Rows::next_name))]
 pub(crate) fn next_name(words: &mut Words<'_>) -> Result<Name, RowFault>
-    ensures { Gives (λ x. (x, words.new)) result (next_name words.old) }
+    ensures { GivesRow (λ x. (x, words.new)) result (next_name words.old) }
 {
     match name_of(next(words)?) {
         Some(name) => Ok(name),
@@ -123,7 +123,7 @@ pub(crate) fn next_name(words: &mut Words<'_>) -> Result<Name, RowFault>
 /// The one word that is left as a draft.
 #[tactic(auto, unfolding(crate::specs::Rows::only_draft))]
 pub(crate) fn only_draft(opened: usize, words: &mut Words<'_>) -> Result<usize, RowFault>
-    ensures { Gives (λ x. x) result (only_draft opened words.old) }
+    ensures { GivesRow (λ x. x) result (only_draft opened words.old) }
 {
     let draft = next_draft(opened, words)?;
     if is_over(words) {
@@ -140,7 +140,7 @@ pub(crate) fn other_of(
     draft: usize,
     words: &mut Words<'_>,
 ) -> Result<usize, RowFault>
-    ensures { Gives (λ x. x) result (other_in opened draft words.old) }
+    ensures { GivesRow (λ x. x) result (other_in opened draft words.old) }
 {
     let Some(word) = words.next() else {
         return Ok(draft);

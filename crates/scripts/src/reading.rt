@@ -4,7 +4,7 @@ ghost use Rattle.scripts.specs.Script.{IsFault, fault_at, opened_after, script_i
 
 use crate::line::{Line, Row, RowFault, ScriptFault};
 use crate::rows::read_row;
-use lines::{Place, next_kept};
+use lines::{TextPlace, next_kept};
 use std::alloc::Global;
 
 // How many drafts were opened, after a line.
@@ -46,7 +46,7 @@ pub fn read_script(alloc: Global, text: &[u8]) -> Result<Vec<Line>, ScriptFault>
 {
     let mut lines = Vec::new(alloc);
     let mut opened = 0;
-    let mut at = Place::start(text);
+    let mut at = TextPlace::start(text);
     while let Ok((line, after)) = next_kept(at) {
         let row = match read_row(alloc, opened, line.text) {
             Ok(row) => row,

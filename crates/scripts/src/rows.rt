@@ -2,8 +2,8 @@
 ghost use Rattle.std.specs.Prelude.{◌≡◌, IfOk, List, bytes_eq, take};
 ghost use Rattle.task_sheet.specs.Sheet.{CriticalSection, task_of};
 ghost use Rattle.task_sheet.specs.SheetFault.{sheet_fault};
-ghost use Rattle.scripts.specs.Gives.{Gives};
-ghost use Rattle.scripts.specs.Rows.{found_in, late, made_in, open_in, put_in, remove_in, row_in, row_of, sheet_in, valid};
+ghost use Rattle.scripts.specs.Gives.{GivesRow};
+ghost use Rattle.scripts.specs.Rows.{found_in, sheet_with_jitter, made_in, open_in, put_in, remove_in, row_in, row_of, sheet_in, valid};
 ghost use Rattle.lines.specs.Words.{words};
 
 use crate::fields::{
@@ -18,7 +18,7 @@ use task_sheet::{Name, OutranksFault, Section, Sheet, SheetFault};
 
 // The sheet with a jitter.
 fn late(sheet: Sheet, jitter: u64) -> Result<Sheet, RowFault>
-    ensures { Gives (λ x. x) result (late jitter sheet) }
+    ensures { GivesRow (λ x. x) result (sheet_with_jitter jitter sheet) }
 {
     match sheet.jittered(jitter) {
         Ok(sheet) => Ok(sheet),
@@ -37,7 +37,7 @@ fn valid(
 ) -> Result<Sheet, RowFault>
     ensures gives { (all : List CriticalSection) → sections.items ≡ take 9 all
         → let task = task_of name weight period deadline cost all in
-        Gives (λ x. x) result (valid (sheet_fault task) task) }
+        GivesRow (λ x. x) result (valid (sheet_fault task) task) }
     ensures named { IfOk result (λ sheet. sheet.name ≡ name) }
 {
     match Sheet::new(name, weight, period, deadline, cost, sections) {
@@ -57,7 +57,7 @@ fn made_of(
     deadline: u64,
     cost: u64,
 ) -> Result<Sheet, RowFault>
-    ensures gives { Gives (λ x. x) result (made_in name weight period deadline cost words.old) }
+    ensures gives { GivesRow (λ x. x) result (made_in name weight period deadline cost words.old) }
     ensures named { IfOk result (λ sheet. sheet.name ≡ name) }
 {
     let sections = sections_of(alloc, words)?;
@@ -67,7 +67,7 @@ fn made_of(
 // The sheet of the values that are left.
 #[tactic(auto, unfolding(crate::specs::Rows::sheet_in))]
 fn sheet_of(alloc: Global, words: &mut Words<'_>) -> Result<Sheet, RowFault>
-    ensures { Gives (λ x. x) result (sheet_in words.old) }
+    ensures { GivesRow (λ x. x) result (sheet_in words.old) }
 {
     let name = next_name(words)?;
     let weight = next_number(words)?;
@@ -86,7 +86,7 @@ fn sheet_of(alloc: Global, words: &mut Words<'_>) -> Result<Sheet, RowFault>
 
 #[tactic(auto, unfolding(crate::specs::Rows::open_in))]
 fn open_of(words: &mut Words<'_>) -> Result<Row, RowFault>
-    ensures { Gives (λ x. x) result (open_in words.old) }
+    ensures { GivesRow (λ x. x) result (open_in words.old) }
 {
     match team_of(next(words)?) {
         Some(team) if is_over(words) => Ok(Row::Open { team }),
@@ -96,7 +96,7 @@ fn open_of(words: &mut Words<'_>) -> Result<Row, RowFault>
 
 #[tactic(auto, unfolding(crate::specs::Rows::put_in))]
 fn put_of(alloc: Global, opened: usize, words: &mut Words<'_>) -> Result<Row, RowFault>
-    ensures { Gives (λ x. x) result (put_in opened words.old) }
+    ensures { GivesRow (λ x. x) result (put_in opened words.old) }
 {
     let draft = next_draft(opened, words)?;
     let sheet = sheet_of(alloc, words)?;
@@ -108,7 +108,7 @@ fn put_of(alloc: Global, opened: usize, words: &mut Words<'_>) -> Result<Row, Ro
 
 #[tactic(auto, unfolding(crate::specs::Rows::remove_in))]
 fn remove_of(opened: usize, words: &mut Words<'_>) -> Result<Row, RowFault>
-    ensures { Gives (λ x. x) result (remove_in opened words.old) }
+    ensures { GivesRow (λ x. x) result (remove_in opened words.old) }
 {
     let draft = next_draft(opened, words)?;
     let name = next_name(words)?;
@@ -121,7 +121,7 @@ fn remove_of(opened: usize, words: &mut Words<'_>) -> Result<Row, RowFault>
 
 #[tactic(auto, unfolding(crate::specs::Rows::found_in))]
 fn found_of(opened: usize, words: &mut Words<'_>) -> Result<Row, RowFault>
-    ensures { Gives (λ x. x) result (found_in opened words.old) }
+    ensures { GivesRow (λ x. x) result (found_in opened words.old) }
 {
     let draft = next_draft(opened, words)?;
     let name = next_name(words)?;
@@ -138,7 +138,7 @@ fn is_word(text: &[u8], word: &[u8]) -> bool
 
 // What a line of this first word says.
 fn row_of(alloc: Global, opened: usize, word: &[u8], words: &mut Words<'_>) -> Result<Row, RowFault>
-    ensures { Gives (λ x. x) result (row_of opened word.now words.old) }
+    ensures { GivesRow (λ x. x) result (row_of opened word.now words.old) }
 {
     if is_word(word, b"open") {
         open_of(words)
@@ -165,7 +165,7 @@ fn row_of(alloc: Global, opened: usize, word: &[u8], words: &mut Words<'_>) -> R
 /// What a line says, where so many drafts were opened above it.
 #[tactic(auto, unfolding(crate::specs::Rows::row_in))]
 pub(crate) fn read_row(alloc: Global, opened: usize, line: &[u8]) -> Result<Row, RowFault>
-    ensures { Gives (λ x. x) result (row_in opened (words line.now)) }
+    ensures { GivesRow (λ x. x) result (row_in opened (words line.now)) }
 {
     let mut words = Words::of(line);
     let word = next(&mut words)?;

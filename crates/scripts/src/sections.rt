@@ -1,8 +1,8 @@
 //! Sections in a line, as `LOCK+LOCK@AT:LEN`, and names, as `NAME+NAME`.
 ghost use Rattle.std.specs.Prelude.{◌≡◌, ◌==◌, ◌≤◌, ◌++◌, ◌∷◌, [], length, take, option_map, OnOk, IfErr};
 ghost use Rattle.std.specs.List.{slice_split};
-ghost use Rattle.scripts.specs.Gives.{Gives, GivesFirst};
-ghost use Rattle.scripts.specs.Rows.{names_in, names_or_none, section_in, sections_in};
+ghost use Rattle.scripts.specs.Gives.{GivesRow, GivesFirst};
+ghost use Rattle.scripts.specs.Rows.{word_names, names_or_none, section_in, sections_in};
 
 use crate::fields::round;
 use crate::line::RowFault;
@@ -15,7 +15,7 @@ const KEPT: usize = 9;
 
 // The names between the signs `+` of a text.
 fn names_of(alloc: Global, text: &[u8]) -> Result<Vec<Name>, RowFault>
-    ensures { Gives (λ x. x.items) result (names_in (slice_split (λ b. b == 43) text.now)) }
+    ensures { GivesRow (λ x. x.items) result (word_names (slice_split (λ b. b == 43) text.now)) }
 {
     let mut names = Vec::new(alloc);
     let mut rest = text;
@@ -35,7 +35,7 @@ fn names_of(alloc: Global, text: &[u8]) -> Result<Vec<Name>, RowFault>
 
 /// The names of a value, and none of no value.
 pub(crate) fn names_or_none(alloc: Global, value: Option<&[u8]>) -> Result<Vec<Name>, RowFault>
-    ensures { Gives (λ x. x.items) result (names_or_none (option_map (λ v. v.now) value.entry)) }
+    ensures { GivesRow (λ x. x.items) result (names_or_none (option_map (λ v. v.now) value.entry)) }
 {
     match value {
         Some(text) => names_of(alloc, text),
@@ -46,7 +46,7 @@ pub(crate) fn names_or_none(alloc: Global, value: Option<&[u8]>) -> Result<Vec<N
 // The section that a word is.
 #[tactic(auto, unfolding(crate::specs::Rows::section_in))]
 fn section_of(alloc: Global, word: &[u8]) -> Result<Section, RowFault>
-    ensures { Gives (λ x. x) result (section_in word.now) }
+    ensures { GivesRow (λ x. x) result (section_in word.now) }
 {
     let Some((locks, span)) = round(word, b'@') else {
         return Err(RowFault::Bad);

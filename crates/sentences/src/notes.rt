@@ -12,7 +12,7 @@ const SLOTS: usize = 2048;
 
 // What is known of a lock.
 #[derive(Clone, Copy)]
-struct Known {
+struct KnownLock {
     lock: Name,
     // The index of the first task that uses it.
     user: usize,
@@ -22,8 +22,8 @@ struct Known {
 
 // The locks that are known, each in the first slot that was free from its home on.
 #[derive(Drop)]
-struct Table {
-    slots: [Option<Known>; SLOTS],
+struct KnownLocks {
+    slots: [Option<KnownLock>; SLOTS],
 }
 
 // The slot from which on a lock is looked for: its home, by the hash FNV-1a of its bytes.
@@ -37,10 +37,10 @@ fn home(lock: &Name) -> usize
     hash as usize % SLOTS
 }
 
-impl Table {
+impl KnownLocks {
     // With no lock.
-    fn new() -> Table {
-        Table {
+    fn new() -> KnownLocks {
+        KnownLocks {
             slots: [None; SLOTS],
         }
     }
@@ -68,7 +68,7 @@ impl Table {
         match &mut self.slots[slot] {
             Some(known) => known.is_owed = known.is_owed && known.user == user,
             free => {
-                *free = Some(Known {
+                *free = Some(KnownLock {
                     lock: *lock,
                     user,
                     is_owed: true,
@@ -103,8 +103,8 @@ impl Table {
 }
 
 // The locks of some sheets.
-fn table_of(sheets: &[Sheet]) -> Table {
-    let mut table = Table::new();
+fn table_of(sheets: &[Sheet]) -> KnownLocks {
+    let mut table = KnownLocks::new();
     for (user, sheet) in sheets.iter().enumerate() {
         table.record_all(sheet.sections(), user);
     }
@@ -127,7 +127,7 @@ fn put_note<W: Write + Drop>(
 
 // The notes that are owed on the locks of a section of a task.
 fn put_section<W: Write + Drop>(
-    table: &mut Table,
+    table: &mut KnownLocks,
     user: &Name,
     section: &Section,
     held: &mut Held,
@@ -143,7 +143,7 @@ fn put_section<W: Write + Drop>(
 
 // The notes that are owed on the locks of a task.
 fn put_task<W: Write + Drop>(
-    table: &mut Table,
+    table: &mut KnownLocks,
     sheet: &Sheet,
     held: &mut Held,
     out: &mut Watched<W>,

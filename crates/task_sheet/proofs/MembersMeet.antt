@@ -5,7 +5,7 @@ use Rattle.std.proofs.lemmas.Nat.Bits.{bit_at_and, bit_at-lt}
 use Rattle.std.proofs.lemmas.Nat.{and_le_l}
 use Rattle.std.proofs.lemmas.Bool.Decides.{nat_tests}
 use Rattle.task_sheet.specs.Indexes.{indexes_of, some_below, meet}
-use Rattle.task_sheet.specs.Members.{number_of, has_bit, places}
+use Rattle.task_sheet.specs.Members.{number_of_bits, has_bit, places}
 use Rattle.task_sheet.specs.MembersLaws.{contains-set_of, number_of-bits}
 
 pub some_below-congr : (w : ℕ) (p q : ℕ → Bool) → ((k : ℕ) → k < w → p k ≡ q k) → some_below w p ≡ some_below w q
@@ -23,10 +23,10 @@ pow_positive zero = omega arith
 pow_positive (suc k) = omega (arith, pow_positive k)
 
 -- a number is 0 where it has no bit
-some_bit : (f : ℕ → Bool) (w : ℕ) → some_below w f ≡ not (nat_eq (number_of f w) 0)
-unfolding number_of
+some_bit : (f : ℕ → Bool) (w : ℕ) → some_below w f ≡ not (nat_eq (number_of_bits f w) 0)
+unfolding number_of_bits
 some_bit f zero = refl
-some_bit f (suc w) = some_step (some_below w f) (f w) (2 ^ w) (number_of f w) (pow_positive w) (some_bit f w)
+some_bit f (suc w) = some_step (some_below w f) (f w) (2 ^ w) (number_of_bits f w) (pow_positive w) (some_bit f w)
 
 both_bits : (k x y z : ℕ) (p q : Bool) → k < 32 → x < 2 → y < 2 → z ≡ min x y → p ≡ (nat_lt k 32 && nat_eq x 1) → q ≡ (nat_lt k 32 && nat_eq y 1) → nat_eq z 1 ≡ (p && q)
 both_bits k x y z p q h lx ly e f g = grind (arith, nat_tests)

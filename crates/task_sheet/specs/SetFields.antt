@@ -9,5 +9,5 @@ abbrev pub sheets_of : Inside → List Task
 sheets_of a = a.sheets.items
 
 -- it is a task set
-abbrev pub IsKept : Inside → Type 0
-IsKept a = IsTaskSet (sheets_of a)
+abbrev pub IsSetKept : Inside → Type 0
+IsSetKept a = IsTaskSet (sheets_of a)

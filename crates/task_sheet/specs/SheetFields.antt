@@ -16,5 +16,5 @@ sheet_of a = record {
 }
 
 -- it is a valid sheet
-abbrev pub IsKept : Inside → Type 0
-IsKept a = IsValidSheet (sheet_of a)
+abbrev pub IsSheetKept : Inside → Type 0
+IsSheetKept a = IsValidSheet (sheet_of a)

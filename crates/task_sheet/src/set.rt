@@ -97,11 +97,11 @@ impl Model for TaskSet {
 
     ghost Value = { List Task };
 
-    ghost use Rattle.task_sheet.specs.SetFields.{sheets_of, IsKept};
+    ghost use Rattle.task_sheet.specs.SetFields.{sheets_of, IsSetKept};
 
     ghost view = { sheets_of };
 
-    ghost invariant = { IsKept };
+    ghost invariant = { IsSetKept };
 }
 
 // Some sheet has the name.

@@ -171,11 +171,11 @@ impl Model for Sheet {
 
     ghost Value = { Task };
 
-    ghost use Rattle.task_sheet.specs.SheetFields.{sheet_of, IsKept};
+    ghost use Rattle.task_sheet.specs.SheetFields.{sheet_of, IsSheetKept};
 
     ghost view = { sheet_of };
 
-    ghost invariant = { IsKept };
+    ghost invariant = { IsSheetKept };
 }
 
 // Sections that say the same.

@@ -2,7 +2,7 @@
 ghost use Rattle.std.specs.Prelude.{◌≡◌, ◌<◌, ◌≤◌, false, None, Some, IfOk, OnOk};
 ghost use Rattle.assignment.specs.Levels.{IsAsked};
 ghost use Rattle.candidate_workers.specs.Claims.{count_of, passes_at, late, begun, IsDone};
-ghost use Rattle.candidate_workers.specs.Seats.{seat_view, level_of, SitsAt, IsFindingAt};
+ghost use Rattle.candidate_workers.specs.Seats.{seat_view, table_level, SitsAt, IsFindingAt};
 
 use crate::sets::{climb_on, level_on, lowest_level};
 use assignment::{AnswerFault, Climb, Finding, Level};
@@ -59,7 +59,7 @@ fn draw(
     held: Option<u64>,
     want: u64,
 ) -> Result<(), Fail>
-    requires level { level_of claims.now ≡ level.now }
+    requires level { table_level claims.now ≡ level.now }
     requires seat { SitsAt claims.now seat.old × (seat.old.held ≡ held) }
     requires room { late (seat_view seat.old) < (seat_view seat.old).spare }
     ensures seat { OnOk result (SitsAt claims.now seat.new) }
@@ -88,7 +88,7 @@ fn lower_to(
     seat: &mut ClaimSeat,
     place: u64,
 ) -> Result<(), Fail>
-    requires level { level_of claims.now ≡ level.now }
+    requires level { table_level claims.now ≡ level.now }
     requires seat { SitsAt claims.now seat.old × (seat.old.held ≡ Some place) }
     ensures seat { OnOk result (SitsAt claims.now seat.new
         × (seat.new.held ≡ None) × IsDone (seat_view seat.new)
@@ -140,7 +140,7 @@ fn two_candidates(rt: &impl Abort, alloc: Global) -> Result<Level, Fail>
 
 // The table of a level, and its first seat.
 fn claims_of(alloc: Global, level: &Level) -> Result<(ClaimTable, ClaimSeat), Fail>
-    ensures { IfOk result (λ t. (level_of t.0 ≡ level.now)
+    ensures { IfOk result (λ t. (table_level t.0 ≡ level.now)
         × SitsAt t.0 t.1 × (seat_view t.1 ≡ begun level.now) × (t.1.held ≡ None)) }
 {
     Ok(again!(ClaimTable::new(alloc, level))?)

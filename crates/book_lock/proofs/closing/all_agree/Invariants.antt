@@ -1,8 +1,8 @@
 use Rattle.std.proofs.Common.{◌↔◌, drop, map}
-use Rattle.book_lock.specs.Passes.{HaveReceipts, places_of}
+use Rattle.book_lock.specs.Passes.{HaveReceipts, placed_entries}
 use Rattle.book_lock.proofs.closing.all_agree.Given as goal
 
 abbrev pub invariant-loop-pass : goal.invariant-loop-pass
 invariant-loop-pass g l =
-    let all = places_of l.team 1 (map (λ e. e.value) l.log) in
+    let all = placed_entries l.team 1 (map (λ e. e.value) l.log) in
     HaveReceipts l.team all (drop l.pass-index l.passes) ↔ HaveReceipts l.team all l.passes

@@ -1,5 +1,5 @@
 use Rattle.std.proofs.Common.{◌≡◌, sym, rules, false, true}
-use Rattle.certificate.specs.ReasonOf.{reason_of}
+use Rattle.certificate.specs.ReasonOf.{reason_seen}
 use Rattle.certificate.proofs.FailCases.{no_space, one_space, is_other, is_unnamed, no_reason, is_fail}
 use Rattle.certificate.proofs.words.fail_of.Goals as goal
 
@@ -20,4 +20,4 @@ returns-in-None c = no_reason c.args.version c.args.word.now c.args.line.now c.i
 
 pub returns-in-Some-2 : goal.returns-in-Some-2
 returns-in-Some-2 c =
-    rw c.in-Ok.ensures.same (is_fail c.args.version c.args.word.now c.args.line.now c.in-Some.first.now c.in-Some.rest.now c.in-Some-cut.name.now c.in-Some-cut.rest.now (reason_of c.in-Some-2.reason) c.in-Some.ensures.parts c.in-Some-cut.ensures.parts (sym c.if-ne.ensures) (search rules) (rw c.in-Some-2.is at c.in_ok-reason_of.ensures))
+    rw c.in-Ok.ensures.same (is_fail c.args.version c.args.word.now c.args.line.now c.in-Some.first.now c.in-Some.rest.now c.in-Some-cut.name.now c.in-Some-cut.rest.now (reason_seen c.in-Some-2.reason) c.in-Some.ensures.parts c.in-Some-cut.ensures.parts (sym c.if-ne.ensures) (search rules) (rw c.in-Some-2.is at c.in_ok-reason_of.ensures))

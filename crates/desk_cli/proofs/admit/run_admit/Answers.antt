@@ -1,8 +1,8 @@
 use Rattle.std.proofs.Common.{◌∙◌, List, Err, refl, sym, subst}
 use Rattle.task_sheet.specs.Sheet.{Task}
 use Rattle.task_sheet.specs.TaskSet.{IsTaskSet}
-use Rattle.desk_cli.specs.Admit.{lines_of}
-use Rattle.desk_cli.specs.declared.refusal.Refusal.TheVariants as refusal
+use Rattle.desk_cli.specs.Admit.{admit_lines}
+use Rattle.desk_cli.specs.declared.refusal.CommandRefusal.TheVariants as refusal
 use Rattle.desk_cli.proofs.CarriedOut.{carried_out, placing_ends, refused, shown, wanting}
 use Rattle.desk_cli.proofs.Placed.{says_by}
 use Rattle.desk_cli.proofs.admit.run_admit.Goals as goal
@@ -12,8 +12,8 @@ pub returns-in-Ok-placing_text : goal.returns-in-Ok-placing_text
 returns-in-Ok-placing_text g c =
     let kept : IsTaskSet c.in-Ok.tasks = subst (λ (U : List Task). IsTaskSet U) c.tasks.view_is c.tasks.invariant in
     carried_out c.in-Ok.ensures.read (
-      shown c.print.ensures (c.as_bytes.ensures.value ∙ c.in-Ok-placing_text.ensures) c.placing_status.ensures (placing_ends c.in-Ok.placing)
-      (λ wrote is. says_by lines_of c.args.preference _ _ _ c.in-Ok.tasks c.in-Ok.placing _ _ kept c.in-Ok.ensures.answer (λ v says. says.lines) wrote is)
+    shown c.print.ensures (c.as_bytes.ensures.value ∙ c.in-Ok-placing_text.ensures) c.placing_status.ensures (placing_ends c.in-Ok.placing)
+    (λ wrote is. says_by admit_lines c.args.preference _ _ _ c.in-Ok.tasks c.in-Ok.placing _ _ kept c.in-Ok.ensures.answer (λ v says. says.lines) wrote is)
     )
 
 -- want of memory for the lines is an answer of its own

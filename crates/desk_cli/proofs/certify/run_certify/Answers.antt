@@ -1,7 +1,7 @@
 use Rattle.std.proofs.Common.{Ok, Err, ap}
 use Rattle.certificate.specs.Body.{Cert}
 use Rattle.certificate.specs.Spelling.{spelling}
-use Rattle.desk_cli.specs.declared.refusal.Refusal.TheVariants as refusal
+use Rattle.desk_cli.specs.declared.refusal.CommandRefusal.TheVariants as refusal
 use Rattle.desk_cli.proofs.CarriedOut.{carried_out, refused, shown, verdict_ends, wanting}
 use Rattle.desk_cli.proofs.certify.run_certify.Goals as goal
 

@@ -1,5 +1,5 @@
 use Rattle.std.proofs.Common.{◌∙◌, Ok, Err}
-use Rattle.desk_cli.specs.declared.refusal.Refusal.TheVariants as refusal
+use Rattle.desk_cli.specs.declared.refusal.CommandRefusal.TheVariants as refusal
 use Rattle.desk_cli.proofs.CarriedOut.{carried_out, placing_ends, refused, shown, wanting}
 use Rattle.desk_cli.proofs.explain_lines.run_explain.Goals as goal
 
@@ -7,8 +7,8 @@ pub returns-in-Ok-explained_text : goal.returns-in-Ok-explained_text
 returns-in-Ok-explained_text g c =
     let found = c.in-Ok-explained_text.ensures in
     carried_out c.in-Ok.ensures.read (
-      shown c.print.ensures (c.as_bytes.ensures.value ∙ found.2) c.placing_status.ensures (placing_ends c.in-Ok.placing)
-      (λ wrote is. (Ok (record { set = c.in-Ok.tasks; placing = c.in-Ok.placing; explanation = found.0 }), (c.in-Ok.ensures.answer, found.1), wrote, is))
+    shown c.print.ensures (c.as_bytes.ensures.value ∙ found.2) c.placing_status.ensures (placing_ends c.in-Ok.placing)
+    (λ wrote is. (Ok (record { set = c.in-Ok.tasks; placing = c.in-Ok.placing; explanation = found.0 }), (c.in-Ok.ensures.answer, found.1), wrote, is))
     )
 
 -- want of memory for the lines is an answer of its own

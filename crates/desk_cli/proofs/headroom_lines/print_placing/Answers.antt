@@ -3,12 +3,12 @@ use Rattle.std.specs.Prelude.{⊤}
 use Rattle.std.specs.Io.KnownBytes.{Appends}
 use Rattle.task_sheet.specs.Sheet.{Task}
 use Rattle.task_sheet.specs.Orders.{IsPassingOrder}
-use Rattle.assignment.specs.Verdict.{set_of}
+use Rattle.assignment.specs.Verdict.{verdict_set}
 use Rattle.desk_cli.specs.Headroom.{ListsAll, ListsSome, first_line, verdict_order}
 use Rattle.desk_cli.specs.Refusals.{refusal_line}
 use Rattle.desk_cli.specs.declared.headroom_lines.ListFault.{ListFault}
 use Rattle.desk_cli.specs.declared.headroom_lines.ListFault.TheVariants as list
-use Rattle.desk_cli.specs.declared.refusal.Refusal.TheVariants as refusal
+use Rattle.desk_cli.specs.declared.refusal.CommandRefusal.TheVariants as refusal
 use Rattle.desk_cli.proofs.CarriedOut.{never_err, placing_ends, said_sound, wanting, wanting_after}
 use Rattle.desk_cli.proofs.Headrooms.{order_passes, order_same}
 use Rattle.desk_cli.proofs.Placed.{said_by}
@@ -35,7 +35,7 @@ returns-in-Ok-print_lines g c =
     let said = c.in-Ok-print_lines.ensures.all in
     let begun = g.W.Write.contents c.args.output.now.inner in
     let ended = g.W.Write.contents c.print_lines.new.output.inner in
-    let lists : ListsAll (set_of v) (verdict_order v) said.0 =
+    let lists : ListsAll (verdict_set v) (verdict_order v) said.0 =
     subst (λ (X : List Task). ListsAll X (verdict_order v) said.0) (sym says.set) (subst (λ o. ListsAll U o said.0) (c.in-Ok.ensures.order ∙ sym same) said.1) in
     let first = c.as_bytes.ensures.value ∙ c.in-Ok.ensures.first ∙ sym says.first in
     said_sound (c.in-Ok-print_lines.ensures.ok never_err) (λ is. placing_ends c.args.placing.now (sym c.placing_status.ensures ∙ is)) (
@@ -59,7 +59,7 @@ returns-in-Err-OutOfMemory g c =
     let between = g.W.Write.contents c.print_lines.new.output.inner in
     let ended = g.W.Write.contents c.refuse-in-Err-OutOfMemory.new.output.inner in
     let none = refusal_line refusal.OutOfMemory in
-    let lists : ListsSome (set_of v) (verdict_order v) said.0 =
+    let lists : ListsSome (verdict_set v) (verdict_order v) said.0 =
     subst (λ (X : List Task). ListsSome X (verdict_order v) said.0) (sym says.set) (subst (λ o. ListsSome U o said.0) (c.in-Ok.ensures.order ∙ sym same) said.1) in
     let first = c.as_bytes.ensures.value ∙ c.in-Ok.ensures.first ∙ sym says.first in
     let wrote : Appends begun between (first_line v ++ said.0) = subst (λ (text : List ℕ). Appends begun between (text ++ said.0)) first said.2 in

@@ -3,7 +3,7 @@ use Rattle.std.specs.Prelude.{⊤}
 use Rattle.plays.specs.declared.playing.PlayFault.{PlayFault}
 use Rattle.plays.specs.declared.playing.PlayFault.TheVariants as play
 use Rattle.desk_cli.specs.Refusals.{refusal_line}
-use Rattle.desk_cli.specs.declared.refusal.Refusal.TheVariants.{OutOfMemory}
+use Rattle.desk_cli.specs.declared.refusal.CommandRefusal.TheVariants.{OutOfMemory}
 use Rattle.desk_cli.proofs.CarriedOut.{broken, carried_out, done_ends, never_err, refused, said_sound, wanting_after}
 use Rattle.desk_cli.proofs.play.run_play.Goals as goal
 
@@ -21,8 +21,8 @@ pub returns-in-Err-OutOfMemory : goal.returns-in-Err-OutOfMemory
 returns-in-Err-OutOfMemory g c =
     let told = c.in-Err-OutOfMemory.ensures.some (ap (λ (f : PlayFault). Err f) c.in-Err-OutOfMemory.field-0-is) in
     carried_out c.in-Ok.ensures.read (
-      wanting_after told.0 (c.in-Err-OutOfMemory.ensures.ok (apart _ c.in-Err-OutOfMemory.field-0-is)) told.2 c.refuse-in-Err-OutOfMemory.ensures
-      (λ wrote is. (told.0 ++ refusal_line OutOfMemory, wrote, inr (c.in-Ok.lines.items, c.in-Ok.ensures.answer, inr (told.0, told.1, refl, is))))
+    wanting_after told.0 (c.in-Err-OutOfMemory.ensures.ok (apart _ c.in-Err-OutOfMemory.field-0-is)) told.2 c.refuse-in-Err-OutOfMemory.ensures
+    (λ wrote is. (told.0 ++ refusal_line OutOfMemory, wrote, inr (c.in-Ok.lines.items, c.in-Ok.ensures.answer, inr (told.0, told.1, refl, is))))
     )
 
 pub returns-in-Err-WriteFailed : goal.returns-in-Err-WriteFailed

@@ -1,7 +1,7 @@
 use Rattle.std.proofs.Common.{◌∙◌, List, Ok, Err, inl, refl, ap}
 use Rattle.ceiling_kernel.specs.declared.trace.Release.{Release}
 use Rattle.release_list.specs.Text.{list_lines}
-use Rattle.desk_cli.specs.declared.refusal.Refusal.TheVariants as refusal
+use Rattle.desk_cli.specs.declared.refusal.CommandRefusal.TheVariants as refusal
 use Rattle.desk_cli.proofs.CarriedOut.{carried_out, done_ends, refused, shown, wanting}
 use Rattle.desk_cli.proofs.releases.run_releases.Goals as goal
 

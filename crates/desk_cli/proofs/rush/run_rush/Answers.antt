@@ -2,7 +2,7 @@ use Rattle.std.proofs.Common.{List, inl, inr, refl, string_bytes, subst}
 use Rattle.scripts.specs.declared.line.Line.{Line}
 use Rattle.rushes.specs.Printed.{IsRushText}
 use Rattle.desk_cli.specs.Refusals.{refusal_line}
-use Rattle.desk_cli.specs.declared.refusal.Refusal.TheVariants.{Rush}
+use Rattle.desk_cli.specs.declared.refusal.CommandRefusal.TheVariants.{Rush}
 use Rattle.desk_cli.proofs.rush.run_rush.Goals as goal
 
 pub returns-in-Ok-rush_lines-clause-printed : goal.returns-in-Ok-rush_lines-clause-printed

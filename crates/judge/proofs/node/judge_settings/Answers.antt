@@ -3,9 +3,9 @@ use Rattle.std.proofs.lemmas.List.{get_or-map, length-map}
 use Rattle.task_sheet.specs.Sheet.{Task}
 use Rattle.task_sheet.specs.Orders.{IsOrder}
 use Rattle.ceiling_kernel.proofs.OrderLaws.{order_iff}
-use Rattle.judge.specs.Judgements.{tasks_of}
+use Rattle.judge.specs.Judgements.{order_judged}
 use Rattle.judge.specs.Node.{IsNodeOrder}
-use Rattle.judge.specs.declared.judging.Judged.{Judged}
+use Rattle.judge.specs.declared.judging.JudgedTask.{JudgedTask}
 use Rattle.judge.proofs.node.judge_settings.Goals as goal
 
 in_set : (U : List Task) (order : List ℕ) → IsOrder U order → All (λ i. i < length U) order
@@ -22,7 +22,7 @@ returns-clause-judged c =
 
 pub returns-clause-within : goal.returns-clause-within
 returns-clause-within c = λ k d lt.
-    let judged : List Judged = c.in_ok-judged.judged.items in
+    let judged : List JudgedTask = c.in_ok-judged.judged.items in
     let same = c.in_ok-judged.ensures.order ∙ c.deref.ensures.value in
     let each = subst (λ (order : List ℕ). IsOrder c.args.set.now order) (sym same) c.in_ok-order.ensures.by_numbers.each_once in
-    omega (arith, in_set c.args.set.now (tasks_of judged) each k 0 (omega (arith, lt, length-map judged (λ (j : Judged). j.task))), get_or-map (λ (j : Judged). j.task) judged k d 0 lt, c.in_ok-table.ensures.few)
+    omega (arith, in_set c.args.set.now (order_judged judged) each k 0 (omega (arith, lt, length-map judged (λ (j : JudgedTask). j.task))), get_or-map (λ (j : JudgedTask). j.task) judged k d 0 lt, c.in_ok-table.ensures.few)

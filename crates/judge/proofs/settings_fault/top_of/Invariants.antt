@@ -2,9 +2,9 @@ use Rattle.std.proofs.Common.{◌≡◌, cond}
 use Rattle.task_sheet.specs.Sheet.{task_at}
 use Rattle.task_sheet.specs.Indexes.{greatest_below}
 use Rattle.task_sheet.specs.Locks.{uses}
-use Rattle.judge.specs.Faults.{number_at}
+use Rattle.judge.specs.Faults.{thread_number}
 use Rattle.judge.proofs.settings_fault.top_of.Given as goal
 
 abbrev pub invariant-loop-task : goal.invariant-loop-task
 invariant-loop-task l =
-    l.top ≡ greatest_below l.task (λ k. cond (uses (task_at l.set k) l.fn.lock) (number_at l.set l.fn.threads k) 0)
+    l.top ≡ greatest_below l.task (λ k. cond (uses (task_at l.set k) l.fn.lock) (thread_number l.set l.fn.threads k) 0)

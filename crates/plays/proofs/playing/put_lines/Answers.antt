@@ -1,7 +1,7 @@
 use Rattle.std.proofs.Common.{◌≡◌, ◌∙◌, ℕ, List, [], ◌∷◌, ◌++◌, length, refl, sym, ap, subst, arith, append_assoc, string_bytes}
 use Rattle.std.specs.Io.KnownBytes.{Appends, append_known}
 use Rattle.std.proofs.KnownBytes.{Appends-trans}
-use Rattle.drafts.specs.Machine.{Desk}
+use Rattle.drafts.specs.Machine.{MachineState}
 use Rattle.drafts.specs.Books.{Book}
 use Rattle.desk_core.specs.World.{start}
 use Rattle.desk_core.proofs.StepLaws.{on_ok}
@@ -43,7 +43,7 @@ returns-in-Ok-put-clause-all g c =
     let after = append_known (g.W.Write.contents c.put-2.new.out.inner) c.put-2.new.self in
     let all : c.loop-line.yielded ≡ c.args.lines.items = none_left c.loop-line.yielded c.loop-line.line-iterator.rest.items c.args.lines.items c.loop-line.line-iterator.rest.len so.rest so.counted c.in-None.ensures.steps.0 in
     let here : c.state.result.now ≡ c.loop-line.core.book.desk = c.state.ensures.now ∙ ap (λ (b : Book). b.desk) c.book.ensures in
-    let book : IsBookText c.loop-line.core.book.desk text = subst (λ (d : Desk). IsBookText d text) here c.in-Ok-book_text.ensures in
+    let book : IsBookText c.loop-line.core.book.desk text = subst (λ (d : MachineState). IsBookText d text) here c.in-Ok-book_text.ensures in
     let played : ArePlayed start c.args.lines.items c.loop-line.core so.text = subst (λ (ls : List Line). ArePlayed start ls c.loop-line.core so.text) all so.played in
     let wrote : Appends between after text = subst (λ (bs : List ℕ). Appends between after bs) c.as_bytes-2.ensures.value c.in-Ok-put.ensures.sent in (
       so.text ++ text,

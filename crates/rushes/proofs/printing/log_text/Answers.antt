@@ -1,6 +1,6 @@
 use Rattle.std.proofs.Common.{◌≡◌, ◌≤◌, ◌∙◌, ◌+◌, ◌++◌, ℕ, List, drop, length, map, string_bytes, refl, sym, ap, subst, rules}
 use Rattle.std.proofs.lemmas.List.{append-nil, drop_all}
-use Rattle.drafts.specs.Machine.{Desk, Entry}
+use Rattle.drafts.specs.Machine.{MachineState, Entry}
 use Rattle.plays.specs.Plays.{IsBookText}
 use Rattle.rushes.specs.Hands.{AreOfTeams}
 use Rattle.rushes.specs.Printed.{log_lines}
@@ -18,7 +18,7 @@ all_seen f i log end so = so (subst (λ xs. AreOfTeams (map f xs)) (sym (drop_al
 pub returns-clause-text : goal.returns-clause-text
 returns-clause-text c =
     let book : IsBookText c.args.closing.now.state.value (string_bytes c.in_ok-book.book) =
-    subst (λ (d : Desk). IsBookText d (string_bytes c.in_ok-book.book)) c.deref-2.ensures c.in_ok-book.ensures in
+    subst (λ (d : MachineState). IsBookText d (string_bytes c.in_ok-book.book)) c.deref-2.ensures c.in_ok-book.ensures in
     let log = c.as_slice-log.result.now in
     let end : length log ≤ c.loop-i.i = search rules in
     let all = all_there (λ e. e.value) (string_bytes c.loop-i.text) c.loop-i.i log end c.loop-i.invariant.told in

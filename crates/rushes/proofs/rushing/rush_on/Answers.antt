@@ -3,7 +3,7 @@ use Rattle.std.proofs.lemmas.Bool.{false≢true}
 use Rattle.book_lock.specs.Closing.{IsUnclosed, IsMissing, IsReceipted}
 use Rattle.book_lock.specs.Passes.{Known, newcomers}
 use Rattle.book_lock.specs.declared.closing.CloseCause.{CloseCause}
-use Rattle.rushes.specs.Hands.{Hand, book_of}
+use Rattle.rushes.specs.Hands.{Hand, closed_book}
 use Rattle.rushes.specs.Printed.{all_note_lines}
 use Rattle.rushes.proofs.PartLaws.{AreAfter, all_after, all_run, all_there, parts_of}
 use Rattle.rushes.proofs.rushing.rush_on.Goals as goal
@@ -16,7 +16,7 @@ returns-in_ok-log-in-Ok-close g c =
     let teams = c.in_ok-teams.teams.items in
     let runs : AreAfter workers lines 1 8 teams = all_run workers lines (newcomers 1 8) teams (rw (new.2, c.in_ok-teams.ensures.teams) at c.in_ok-ends.ensures) in
     let closed = c.in-Ok-close.ensures.ok in
-    let book = book_of c.in-Ok-close.closing in (
+    let book = closed_book c.in-Ok-close.closing in (
       book,
       map (λ last. last.notes) teams,
       record {

@@ -2,7 +2,7 @@ use Rattle.std.proofs.Common.{◌≡◌, ◌<◌, ◌∙◌, ℕ, ◌&&◌, nat_
 use Rattle.std.proofs.lemmas.List.{map_push}
 use Rattle.drafts.specs.Machine.{Entry}
 use Rattle.book_lock.specs.declared.pass.Receipt.{Receipt}
-use Rattle.book_lock.specs.Passes.{version_in}
+use Rattle.book_lock.specs.Passes.{admitted_version}
 use Rattle.book_lock.specs.PassFields.{receipt_of, IsLatest}
 use Rattle.book_lock.proofs.Receiving.{IsLatest-push}
 use Rattle.book_lock.proofs.locked.Locked.settle_held.Goals as goal
@@ -17,5 +17,5 @@ invariant_of-pass-in-Ok-settle_held g c =
     let amount : c.add.new.share.amount ≡ length c.push_reserved.new.self.items = search rules in
     let all : map receipt_of c.push_reserved.new.self.items ≡ before ++ r ∷ [] =
     ap (map receipt_of) c.push_reserved.ensures.items ∙ map_push receipt_of c.reserve.new.self.items receipt ∙ ap (λ (xs : List Receipt). map receipt_of xs ++ r ∷ []) c.reserve.ensures.items in
-    let later : (version : ℕ) → nat_le c.later-pass-inside.result version ≡ (nat_le c.pass.inside.latest version && nat_le (version_in e.decision) version) = search rules in
+    let later : (version : ℕ) → nat_le c.later-pass-inside.result version ≡ (nat_le c.pass.inside.latest version && nat_le (admitted_version e.decision) version) = search rules in
     (parts, amount, subst (λ (rs : List (ℕ × Entry)). IsLatest c.later-pass-inside.result rs) (sym all) (IsLatest-push c.pass.inside.latest c.later-pass-inside.result before r c.pass.invariant.2 later))

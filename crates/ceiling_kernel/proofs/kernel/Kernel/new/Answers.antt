@@ -2,7 +2,7 @@ use Rattle.std.proofs.Common.{◌≡◌, subst, sym, arith, length}
 use Rattle.task_sheet.specs.Indexes.{below}
 use Rattle.task_sheet.specs.Orders.{IsOrderOf}
 use Rattle.ceiling_kernel.specs.Tick.{node_in}
-use Rattle.ceiling_kernel.specs.NodeTasks.{HasTasks}
+use Rattle.ceiling_kernel.specs.NodeTasks.{KeepsTasks}
 use Rattle.ceiling_kernel.proofs.OrderLaws.{order_iff, order_length}
 use Rattle.ceiling_kernel.proofs.kernel.Kernel.new.Goals as goal
 
@@ -24,6 +24,6 @@ invariant_of-result c =
     let is' : IsOrderOf (below (length c.args.set.now)) c.args.order.now = subst (λ n. IsOrderOf (below n) c.args.order.now) c.len.ensures.count is in
     record {
       node = record { tasks = c.tasks_of.ensures.set; order = subst (λ xs. IsOrderOf (below (length c.args.set.now)) xs) (sym order) is' };
-      tasks = subst (λ xs. HasTasks (node_in c.args.set.now xs) c.in_ok-tasks.tasks.items) (sym order) c.in_ok-tasks.ensures.tasks;
+      tasks = subst (λ xs. KeepsTasks (node_in c.args.set.now xs) c.in_ok-tasks.tasks.items) (sym order) c.in_ok-tasks.ensures.tasks;
       locks = c.count.ensures.locks c.args.set.now c.in_ok-table.ensures;
     }

@@ -1,7 +1,7 @@
 use Rattle.std.proofs.Common.{◌≡◌, ◌+◌, ◌<◌, ◌≤◌, ◌++◌, ◌∷◌, [], ℕ, refl, sym, ap, ◌∙◌, subst, arith, add-one, Some, None, set, get_or, length, slice_index_or}
 use Rattle.std.proofs.lemmas.List.{get_or_default}
 use Rattle.ceiling_kernel.specs.declared.run.Pending.{Pending}
-use Rattle.ceiling_kernel.specs.Tick.{level_at}
+use Rattle.ceiling_kernel.specs.Tick.{level_in_order}
 use Rattle.ceiling_kernel.specs.Releases.{jobs_of, release_at, no_release, task_number}
 use Rattle.ceiling_kernel.specs.Turns.{time_in_turn, job_in_turn, has_come}
 use Rattle.ceiling_kernel.specs.NodeTasks.{IsTaskOf}
@@ -40,8 +40,8 @@ returns-clause-ok c =
     let count : length c.tasks.result.now ≡ length node.tasks = c.tasks.ensures.count in
     let known : task_number node.tasks (release_at rs (job_in_turn turns s.next)) < length node.tasks = c.requires.runnable.known (job_in_turn turns s.next) (in_list node rs turns c.requires.runnable s.next c.requires.next) in
     let task : IsTaskOf node (get_or c.args.agenda.now.tasks.now (job_in_turn turns s.next) 0) c.index-tasks-task.result = c.tasks.ensures.each (get_or c.args.agenda.now.tasks.now (job_in_turn turns s.next) 0) c.index-tasks-task.result (omega arith) c.index-tasks-task.is in
-    let level : (get_or c.tasks.result.now (get_or c.args.agenda.now.tasks.now (job_in_turn turns s.next) 0) c.index-tasks-task.result).level ≡ level_at node (task_number node.tasks (release_at rs (job_in_turn turns s.next))) =
-    ap (λ x. x.level) (sym c.index-tasks-task.is) ∙ (task.level ∙ ap (level_at node) i_is) in
+    let level : (get_or c.tasks.result.now (get_or c.args.agenda.now.tasks.now (job_in_turn turns s.next) 0) c.index-tasks-task.result).level ≡ level_in_order node (task_number node.tasks (release_at rs (job_in_turn turns s.next))) =
+    ap (λ x. x.level) (sym c.index-tasks-task.is) ∙ (task.level ∙ ap (level_in_order node) i_is) in
     let p : Pending = record {
       job = job_in_turn turns s.next;
       task = get_or c.args.agenda.now.tasks.now (job_in_turn turns s.next) 0;
@@ -80,8 +80,8 @@ enqueue-requires c =
     let known : task_number node.tasks (release_at rs (job_in_turn turns s.next)) < length node.tasks = c.requires.runnable.known (job_in_turn turns s.next) (in_list node rs turns c.requires.runnable s.next c.requires.next) in
     let count : length c.tasks.result.now ≡ length node.tasks = c.tasks.ensures.count in
     let task : IsTaskOf node (get_or c.args.agenda.now.tasks.now (job_in_turn turns s.next) 0) c.index-tasks-task.result = c.tasks.ensures.each (get_or c.args.agenda.now.tasks.now (job_in_turn turns s.next) 0) c.index-tasks-task.result (omega arith) c.index-tasks-task.is in
-    let level : (get_or c.tasks.result.now (get_or c.args.agenda.now.tasks.now (job_in_turn turns s.next) 0) c.index-tasks-task.result).level ≡ level_at node (get_or c.args.agenda.now.tasks.now (job_in_turn turns s.next) 0) = ap (λ x. x.level) (sym c.index-tasks-task.is) ∙ task.level in
-    let within : level_at node (get_or c.args.agenda.now.tasks.now (job_in_turn turns s.next) 0) ≤ length node.tasks = level_within node c.requires.runnable.of_node (get_or c.args.agenda.now.tasks.now (job_in_turn turns s.next) 0) in
+    let level : (get_or c.tasks.result.now (get_or c.args.agenda.now.tasks.now (job_in_turn turns s.next) 0) c.index-tasks-task.result).level ≡ level_in_order node (get_or c.args.agenda.now.tasks.now (job_in_turn turns s.next) 0) = ap (λ x. x.level) (sym c.index-tasks-task.is) ∙ task.level in
+    let within : level_in_order node (get_or c.args.agenda.now.tasks.now (job_in_turn turns s.next) 0) ≤ length node.tasks = level_within node c.requires.runnable.of_node (get_or c.args.agenda.now.tasks.now (job_in_turn turns s.next) 0) in
     omega (arith, level, within, c.requires.running.list_count)
 
 pub offset_bounds-tasks-task : goal.offset_bounds-tasks-task

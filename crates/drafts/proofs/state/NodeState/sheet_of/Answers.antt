@@ -1,6 +1,6 @@
 use Rattle.std.proofs.Common.{◌∙◌, sym, ap, List, Option, option_map, position, slice_get}
 use Rattle.task_sheet.specs.Sheet.{Task, same_bytes}
-use Rattle.drafts.specs.Machine.{Desk}
+use Rattle.drafts.specs.Machine.{MachineState}
 use Rattle.drafts.specs.declared.roster.Owned.{Owned}
 use Rattle.drafts.specs.Applied.{held}
 use Rattle.drafts.specs.Changes.{sheet_held}
@@ -13,7 +13,7 @@ returns-in_err-index c =
     let U : List Task = a.assignment.value.set in
     let place = ap (λ (ss : List Task). position (λ s. same_bytes s.name c.args.name) ss) (sym (c.set-set.ensures.same ∙ ap (λ x. x.set) c.deref.ensures)) ∙ sym c.find.ensures ∙ c.in_err-index.was in
     let none = held-none c.args.name U a.teams.items c.self.invariant place in
-    ap (λ r. option_map (λ s. s.now) r) c.from_residual.ensures ∙ ap (λ (o : Option Owned). sheet_held o) (sym none) ∙ ap (λ (d : Desk). sheet_held (held c.args.name d.tasks)) c.self.view_is
+    ap (λ r. option_map (λ s. s.now) r) c.from_residual.ensures ∙ ap (λ (o : Option Owned). sheet_held o) (sym none) ∙ ap (λ (d : MachineState). sheet_held (held c.args.name d.tasks)) c.self.view_is
 
 pub returns : goal.returns
 returns c =
@@ -21,4 +21,4 @@ returns c =
     let U : List Task = a.assignment.value.set in
     let is = c.set-set.ensures.same ∙ ap (λ x. x.set) c.deref.ensures in
     let place = ap (λ (ss : List Task). position (λ s. same_bytes s.name c.args.name) ss) (sym is) ∙ sym c.find.ensures ∙ c.in_ok-index.was in
-    c.get.ensures ∙ ap (λ (ss : List Task). slice_get ss c.in_ok-index.index) is ∙ sheet-some c.args.name U a.teams.items c.in_ok-index.index c.self.invariant place ∙ ap (λ (d : Desk). sheet_held (held c.args.name d.tasks)) c.self.view_is
+    c.get.ensures ∙ ap (λ (ss : List Task). slice_get ss c.in_ok-index.index) is ∙ sheet-some c.args.name U a.teams.items c.in_ok-index.index c.self.invariant place ∙ ap (λ (d : MachineState). sheet_held (held c.args.name d.tasks)) c.self.view_is

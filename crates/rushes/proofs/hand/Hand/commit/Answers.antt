@@ -1,7 +1,7 @@
 use Rattle.std.proofs.Common.{◌≡◌, ◌<◌, ◌∙◌, length, List, get_or, set, Option, None, sym, ap, subst, arith}
 use Rattle.drafts.specs.Changes.{Draft}
-use Rattle.rushes.specs.Hands.{Hand, draft_at, IsCommitted}
-use Rattle.rushes.specs.HandFields.{IsOwn}
+use Rattle.rushes.specs.Hands.{Hand, draft_at, IsTeamCommit}
+use Rattle.rushes.specs.HandFields.{IsOfTeam}
 use Rattle.rushes.proofs.HandLaws.{AllOwn-gone, AllOwn-read, committed_team, committed_as, draft_there, other_cause}
 use Rattle.rushes.proofs.hand.Hand.commit.Goals as goal
 
@@ -29,7 +29,7 @@ returns-in_default-commit g c =
     let h : Hand = record { drafts = a.drafts.items; own = a.own.items; pass = a.pass; notes = a.notes.items } in
     let lt : c.in-Some.i < length a.drafts.items = omega (arith, c.in-Some.ensures.1, ap length c.deref.ensures.value) in
     let at : draft_at a.drafts.items c.args.number ≡ get_or a.drafts.items c.in-Some.i None = subst (λ (xs : List (Option Draft)). draft_at xs c.args.number ≡ get_or xs c.in-Some.i None) c.deref.ensures.value c.in-Some.ensures.2 in
-    subst (λ (x : Hand). IsCommitted c.args.workers x c.args.number (let k : Hand = record { drafts = set a.drafts.items c.in-Some.i c.take.new.self; own = a.own.items; pass = c.commit.new.pass; notes = a.notes.items } in k) (draft_at x.drafts c.args.number)) c.self.view_is
+    subst (λ (x : Hand). IsTeamCommit c.args.workers x c.args.number (let k : Hand = record { drafts = set a.drafts.items c.in-Some.i c.take.new.self; own = a.own.items; pass = c.commit.new.pass; notes = a.notes.items } in k) (draft_at x.drafts c.args.number)) c.self.view_is
     (committed_as c.args.workers h c.args.number c.in-Some.i c.in-Some-take.draft c.take.new.self c.commit.new.pass c.in_default-commit.field-0
     c.in-Some.ensures.0
     (draft_there a.drafts.items c.args.number c.in-Some.i c.index_mut.result.now c.take.result c.in-Some-take.draft lt at c.index_mut.ensures.value c.take.ensures.taken c.in-Some-take.is)
@@ -41,5 +41,5 @@ unreachable-requires-in-OtherTeam g c =
     let a = c.self.inside in
     let lt : c.in-Some.i < length a.drafts.items = omega (arith, c.in-Some.ensures.1, ap length c.deref.ensures.value) in
     let own = AllOwn-read a.pass.team a.drafts.items c.in-Some.i c.index_mut.result.now c.self.invariant lt c.index_mut.ensures.value in
-    let team : c.in-Some-take.draft.team ≡ a.pass.team = subst (λ (o : Option Draft). IsOwn a.pass.team o) (sym c.take.ensures.taken ∙ c.in-Some-take.is) own in
+    let team : c.in-Some-take.draft.team ≡ a.pass.team = subst (λ (o : Option Draft). IsOfTeam a.pass.team o) (sym c.take.ensures.taken ∙ c.in-Some-take.is) own in
     other_cause c.args.workers c.in-Some-take.draft a.pass c.in-Err.fault.cause team c.requires c.in-Err.ensures.0 c.in-OtherTeam.is
