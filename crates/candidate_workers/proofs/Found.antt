@@ -27,7 +27,7 @@ use Rattle.candidate_workers.proofs.AskedLaws.{candidate_member}
 abbrev pub IsLeft : LevelState → List ℕ → List ℕ → Type 0
 IsLeft l all rest = (k : ℕ) → 0 < times k all → IsFalse (contains l.missing k) ⊎ (0 < times k rest)
 
-abbrev pub StillFound : LevelState → LevelState → Type 0
+abbrev StillFound : LevelState → LevelState → Type 0
 StillFound old new = (k : ℕ) → IsFalse (contains old.missing k) → IsFalse (contains new.missing k)
 
 pub left_at_first : (l : LevelState) (all : List ℕ) → IsLeft l all all

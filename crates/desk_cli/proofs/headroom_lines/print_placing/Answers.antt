@@ -1,5 +1,5 @@
 use Rattle.std.proofs.Common.{◌≡◌, ◌∙◌, ◌++◌, ℕ, List, IfSome, Ok, Err, inl, inr, refl, sym, ap, subst, append_assoc}
-use Rattle.std.specs.Prelude.{⊤}
+use Rattle.std.specs.Prelude.{⊤, Result}
 use Rattle.std.specs.Io.KnownBytes.{Appends}
 use Rattle.task_sheet.specs.Sheet.{Task}
 use Rattle.task_sheet.specs.Orders.{IsPassingOrder}
@@ -15,8 +15,8 @@ use Rattle.desk_cli.proofs.Placed.{said_by}
 use Rattle.desk_cli.proofs.headroom_lines.print_placing.Goals as goal
 
 -- want of memory is no failed write
-apart : (f : ListFault) → f ≡ list.OutOfMemory → Err {T = ⊤} f ≡ Err list.WriteFailed → ⊥
-apart f is same = cc
+apart : (f : ListFault) (r : Result ⊤ ListFault) → r ≡ Err f → f ≡ list.OutOfMemory → r ≡ Err list.WriteFailed → ⊥
+apart f r is memory same = cc
 
 pub returns-in_default : goal.returns-in_default
 returns-in_default g c = wanting c.refuse.ensures (λ wrote is. (Err refusal.OutOfMemory, refusal_line refusal.OutOfMemory, tt, (refl, is), wrote))
@@ -63,7 +63,7 @@ returns-in-Err-OutOfMemory g c =
     subst (λ (X : List Task). ListsSome X (verdict_order v) said.0) (sym says.set) (subst (λ o. ListsSome U o said.0) (c.in-Ok.ensures.order ∙ sym same) said.1) in
     let first = c.as_bytes.ensures.value ∙ c.in-Ok.ensures.first ∙ sym says.first in
     let wrote : Appends begun between (first_line v ++ said.0) = subst (λ (text : List ℕ). Appends begun between (text ++ said.0)) first said.2 in
-    wanting_after (first_line v ++ said.0) (printed.ok (λ is. apart _ c.in-Err-OutOfMemory.field-0-is (sym c.in-Err-OutOfMemory.is ∙ is))) wrote c.refuse-in-Err-OutOfMemory.ensures (λ all is. (
+    wanting_after (first_line v ++ said.0) (printed.ok (apart _ _ c.in-Err-OutOfMemory.is c.in-Err-OutOfMemory.field-0-is)) wrote c.refuse-in-Err-OutOfMemory.ensures (λ all is. (
       Ok v,
       first_line v ++ (said.0 ++ none),
       (says.set, says.verdict),

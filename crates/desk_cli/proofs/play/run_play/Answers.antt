@@ -1,5 +1,5 @@
 use Rattle.std.proofs.Common.{◌≡◌, ◌++◌, Err, inl, inr, refl, ap}
-use Rattle.std.specs.Prelude.{⊤}
+use Rattle.std.specs.Prelude.{⊤, Result}
 use Rattle.plays.specs.declared.playing.PlayFault.{PlayFault}
 use Rattle.plays.specs.declared.playing.PlayFault.TheVariants as play
 use Rattle.desk_cli.specs.Refusals.{refusal_line}
@@ -8,8 +8,8 @@ use Rattle.desk_cli.proofs.CarriedOut.{broken, carried_out, done_ends, never_err
 use Rattle.desk_cli.proofs.play.run_play.Goals as goal
 
 -- want of memory is no failed write
-apart : (f : PlayFault) → f ≡ play.OutOfMemory → Err {T = ⊤} f ≡ Err play.WriteFailed → ⊥
-apart f is same = cc
+apart : (f : PlayFault) (r : Result ⊤ PlayFault) → r ≡ Err f → f ≡ play.OutOfMemory → r ≡ Err play.WriteFailed → ⊥
+apart f r is memory same = cc
 
 pub returns-in-Ok-play_lines : goal.returns-in-Ok-play_lines
 returns-in-Ok-play_lines g c =
@@ -21,7 +21,7 @@ pub returns-in-Err-OutOfMemory : goal.returns-in-Err-OutOfMemory
 returns-in-Err-OutOfMemory g c =
     let told = c.in-Err-OutOfMemory.ensures.some (ap (λ (f : PlayFault). Err f) c.in-Err-OutOfMemory.field-0-is) in
     carried_out c.in-Ok.ensures.read (
-    wanting_after told.0 (c.in-Err-OutOfMemory.ensures.ok (apart _ c.in-Err-OutOfMemory.field-0-is)) told.2 c.refuse-in-Err-OutOfMemory.ensures
+    wanting_after told.0 (c.in-Err-OutOfMemory.ensures.ok (apart _ _ refl c.in-Err-OutOfMemory.field-0-is)) told.2 c.refuse-in-Err-OutOfMemory.ensures
     (λ wrote is. (told.0 ++ refusal_line OutOfMemory, wrote, inr (c.in-Ok.lines.items, c.in-Ok.ensures.answer, inr (told.0, told.1, refl, is))))
     )
 
