@@ -10,14 +10,36 @@ use task_sheet::{Name, Section, Sheet, TaskSet};
 // So a lock of a set always finds its slot.
 const SLOTS: usize = 2048;
 
-// What is known of a lock.
+// What is known of a lock: its first use, by the indexes of task, section and lock. They are small, so that a table
+// takes little of the stack.
 #[derive(Clone, Copy)]
 struct KnownLock {
-    lock: Name,
-    // The index of the first task that uses it.
-    user: usize,
+    task: u8,
+    section: u8,
+    lock: u8,
     // Whether a note on it is owed: no other task uses it, and none was written.
     is_owed: bool,
+}
+
+// An index of a task, a section or a lock, each of which is below 32.
+fn small(index: usize) -> u8 {
+    u8::try_from(index).unwrap_or(u8::MAX)
+}
+
+impl KnownLock {
+    // Whether it is the lock of that name.
+    fn is_named(self, sheets: &[Sheet], name: &Name) -> bool {
+        let Some(sheet) = sheets.get(usize::from(self.task)) else {
+            return false;
+        };
+        let Some(section) = sheet.sections().get(usize::from(self.section)) else {
+            return false;
+        };
+        match section.locks.get(usize::from(self.lock)) {
+            Some(lock) => lock == name,
+            None => false,
+        }
+    }
 }
 
 // The locks that are known, each in the first slot that was free from its home on.
@@ -46,40 +68,50 @@ impl KnownLocks {
     }
 
     // The slot of a lock, or the free one that is to be its own; none where others have all slots.
-    fn slot_of(&self, lock: &Name) -> Option<usize>
+    fn slot_of(&self, sheets: &[Sheet], lock: &Name) -> Option<usize>
         ensures { IfSome result (λ slot. slot < SLOTS) }
     {
         let home = home(lock);
         for step in 0..SLOTS {
             let slot = (home + step) % SLOTS;
-            match &self.slots[slot] {
-                Some(known) if known.lock != *lock => {}
+            match self.slots[slot] {
+                Some(known) if !known.is_named(sheets, lock) => {}
                 _ => return Some(slot),
             }
         }
         None
     }
 
-    // The task at an index uses a lock.
-    fn record(&mut self, lock: &Name, user: usize) {
-        let Some(slot) = self.slot_of(lock) else {
+    // A task uses the lock at an index of one of its sections.
+    fn record(&mut self, sheets: &[Sheet], task: u8, section: u8, lock: u8, name: &Name) {
+        let Some(slot) = self.slot_of(sheets, name) else {
             return;
         };
         match &mut self.slots[slot] {
-            Some(known) => known.is_owed = known.is_owed && known.user == user,
+            Some(known) => known.is_owed = known.is_owed && known.task == task,
             free => {
                 *free = Some(KnownLock {
-                    lock: *lock,
-                    user,
+                    task,
+                    section,
+                    lock,
                     is_owed: true,
                 })
             }
         }
     }
 
+    // The task at an index has the sections.
+    fn record_all(&mut self, sheets: &[Sheet], task: u8, sections: &[Section]) {
+        for (i, section) in sections.iter().enumerate() {
+            for (k, lock) in section.locks.iter().enumerate() {
+                self.record(sheets, task, small(i), small(k), lock);
+            }
+        }
+    }
+
     // Whether a note on a lock is owed; from then on it is not.
-    fn take_note(&mut self, lock: &Name) -> bool {
-        let Some(slot) = self.slot_of(lock) else {
+    fn take_note(&mut self, sheets: &[Sheet], lock: &Name) -> bool {
+        let Some(slot) = self.slot_of(sheets, lock) else {
             return false;
         };
         match &mut self.slots[slot] {
@@ -91,24 +123,15 @@ impl KnownLocks {
             None => false,
         }
     }
-
-    // The task at an index has the sections.
-    fn record_all(&mut self, sections: &[Section], user: usize) {
-        for section in sections {
-            for lock in &section.locks {
-                self.record(lock, user);
-            }
-        }
-    }
 }
 
 // The locks of some sheets.
-fn table_of(sheets: &[Sheet]) -> KnownLocks {
-    let mut table = KnownLocks::new();
-    for (user, sheet) in sheets.iter().enumerate() {
-        table.record_all(sheet.sections(), user);
+fn known_locks(sheets: &[Sheet]) -> KnownLocks {
+    let mut known = KnownLocks::new();
+    for (task, sheet) in sheets.iter().enumerate() {
+        known.record_all(sheets, small(task), sheet.sections());
     }
-    table
+    known
 }
 
 // The note on a lock that one task alone uses.
@@ -127,14 +150,15 @@ fn put_note<W: Write + Drop>(
 
 // The notes that are owed on the locks of a section of a task.
 fn put_section<W: Write + Drop>(
-    table: &mut KnownLocks,
+    known: &mut KnownLocks,
+    sheets: &[Sheet],
     user: &Name,
     section: &Section,
     held: &mut Held,
     out: &mut Watched<W>,
 ) -> Result<(), WriteFailed> {
     for lock in &section.locks {
-        if table.take_note(lock) {
+        if known.take_note(sheets, lock) {
             put_note(lock, user, held, out)?;
         }
     }
@@ -143,14 +167,15 @@ fn put_section<W: Write + Drop>(
 
 // The notes that are owed on the locks of a task.
 fn put_task<W: Write + Drop>(
-    table: &mut KnownLocks,
+    known: &mut KnownLocks,
+    sheets: &[Sheet],
     sheet: &Sheet,
     held: &mut Held,
     out: &mut Watched<W>,
 ) -> Result<(), WriteFailed> {
     let user = sheet.name();
     for section in sheet.sections() {
-        put_section(table, &user, section, held, out)?;
+        put_section(known, sheets, &user, section, held, out)?;
     }
     Ok(())
 }
@@ -159,9 +184,9 @@ fn put_task<W: Write + Drop>(
 pub fn put_notes<W: Write + Drop>(set: &TaskSet, out: &mut Watched<W>) -> Result<(), WriteFailed> {
     let mut held = Held::new();
     let sheets = set.sheets();
-    let mut table = table_of(sheets);
+    let mut known = known_locks(sheets);
     for sheet in sheets {
-        put_task(&mut table, sheet, &mut held, out)?;
+        put_task(&mut known, sheets, sheet, &mut held, out)?;
     }
     held.send(out)
 }
