@@ -30,13 +30,23 @@ impl Model for LockUsers {
     ghost view = { λ t. t.users.entries };
 }
 
+// How often the sections name a lock.
+fn uses_in(sections: &[Section]) -> usize {
+    sections.iter().fold(0, |uses: usize, section| uses.saturating_add(section.locks.len()))
+}
+
+// How often the sections of the sheets name a lock.
+fn uses_of(sheets: &[Sheet]) -> usize {
+    sheets.iter().fold(0, |uses: usize, sheet| uses.saturating_add(uses_in(sheet.sections())))
+}
+
 impl LockUsers {
     /// The users of a set's locks. The error is want of memory.
     pub(crate) fn new(alloc: Global, set: &TaskSet) -> Result<LockUsers, AllocError>
         ensures { IfOk result (λ table. AreUsersOf set.now table) }
     {
         let mut table = LockUsers {
-            users: IndexMap::new(alloc),
+            users: IndexMap::with_capacity(alloc, uses_of(set.sheets()))?,
         };
         for (index, sheet) in set.sheets().iter().enumerate() {
             table.note_task(index, sheet)?;

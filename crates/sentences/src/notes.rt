@@ -6,19 +6,21 @@ use std::io::Write;
 use streams::{Held, Watched, WriteFailed};
 use task_sheet::{Name, Section, Sheet, TaskSet};
 
-// How many slots a table has: twice as many as a set has uses of locks at most, by 32 tasks of 8 sections of 4 locks.
-// So a lock of a set always finds its slot.
+// How often the sections of a set name a lock at most: 32 tasks of 8 sections of 4 locks.
+const USES: usize = 1024;
+
+// How many slots a table has: twice as many, so that a lock of a set always finds its slot.
 const SLOTS: usize = 2048;
 
-// What is known of a lock: its first use, by the indexes of task, section and lock. They are small, so that a table
-// takes little of the stack.
+// A lock by its first use, by the indexes of task, section and lock. They are small, so that a table takes little of the
+// stack.
 #[derive(Clone, Copy)]
 struct KnownLock {
     task: u8,
     section: u8,
     lock: u8,
-    // Whether a note on it is owed: no other task uses it, and none was written.
-    is_owed: bool,
+    // Whether another task uses it, too.
+    is_shared: bool,
 }
 
 // An index of a task, a section or a lock, each of which is below 32.
@@ -27,25 +29,30 @@ fn small(index: usize) -> u8 {
 }
 
 impl KnownLock {
+    // The name of its first user, and its own.
+    fn names(self, sheets: &[Sheet]) -> Option<(Name, Name)> {
+        let sheet = sheets.get(usize::from(self.task))?;
+        let section = sheet.sections().get(usize::from(self.section))?;
+        let lock = section.locks.get(usize::from(self.lock))?;
+        Some((sheet.name(), *lock))
+    }
+
     // Whether it is the lock of that name.
     fn is_named(self, sheets: &[Sheet], name: &Name) -> bool {
-        let Some(sheet) = sheets.get(usize::from(self.task)) else {
-            return false;
-        };
-        let Some(section) = sheet.sections().get(usize::from(self.section)) else {
-            return false;
-        };
-        match section.locks.get(usize::from(self.lock)) {
-            Some(lock) => lock == name,
+        match self.names(sheets) {
+            Some((_, lock)) => lock == *name,
             None => false,
         }
     }
 }
 
-// The locks that are known, each in the first slot that was free from its home on.
+// The locks that are known, in the order of first sight. Each has the first slot that was free from its home on, where
+// its number from 1 stands; a free one has 0.
 #[derive(Drop)]
 struct KnownLocks {
-    slots: [Option<KnownLock>; SLOTS],
+    slots: [u16; SLOTS],
+    locks: [KnownLock; USES],
+    count: usize,
 }
 
 // The slot from which on a lock is looked for: its home, by the hash FNV-1a of its bytes.
@@ -62,9 +69,23 @@ fn home(lock: &Name) -> usize
 impl KnownLocks {
     // With no lock.
     fn new() -> KnownLocks {
+        let none = KnownLock {
+            task: 0,
+            section: 0,
+            lock: 0,
+            is_shared: false,
+        };
         KnownLocks {
-            slots: [None; SLOTS],
+            slots: [0; SLOTS],
+            locks: [none; USES],
+            count: 0,
         }
+    }
+
+    // The known lock of a number; none of 0.
+    fn numbered(&self, number: u16) -> Option<KnownLock> {
+        let place = usize::from(number).checked_sub(1)?;
+        self.locks.get(place).copied()
     }
 
     // The slot of a lock, or the free one that is to be its own; none where others have all slots.
@@ -74,7 +95,7 @@ impl KnownLocks {
         let home = home(lock);
         for step in 0..SLOTS {
             let slot = (home + step) % SLOTS;
-            match self.slots[slot] {
+            match self.numbered(self.slots[slot]) {
                 Some(known) if !known.is_named(sheets, lock) => {}
                 _ => return Some(slot),
             }
@@ -82,45 +103,48 @@ impl KnownLocks {
         None
     }
 
-    // A task uses the lock at an index of one of its sections.
-    fn record(&mut self, sheets: &[Sheet], task: u8, section: u8, lock: u8, name: &Name) {
+    // Adds a lock, whose slot is free.
+    fn add(&mut self, slot: usize, lock: KnownLock)
+        requires { slot < SLOTS }
+    {
+        if self.count < USES {
+            self.locks[self.count] = lock;
+            self.count += 1;
+            self.slots[slot] = u16::try_from(self.count).unwrap_or(0);
+        }
+    }
+
+    // A task uses the lock of a number.
+    fn note_user(&mut self, number: u16, task: u8) {
+        let place = usize::from(number).saturating_sub(1);
+        if place < USES && self.locks[place].task != task {
+            self.locks[place].is_shared = true;
+        }
+    }
+
+    // A task uses a lock, which is known by this use where it isn't known yet.
+    fn note_use(&mut self, sheets: &[Sheet], lock: KnownLock, name: &Name) {
         let Some(slot) = self.slot_of(sheets, name) else {
             return;
         };
-        match &mut self.slots[slot] {
-            Some(known) => known.is_owed = known.is_owed && known.task == task,
-            free => {
-                *free = Some(KnownLock {
-                    task,
-                    section,
-                    lock,
-                    is_owed: true,
-                })
-            }
+        match self.slots[slot] {
+            0 => self.add(slot, lock),
+            number => self.note_user(number, lock.task),
         }
     }
 
     // The task at an index has the sections.
-    fn record_all(&mut self, sheets: &[Sheet], task: u8, sections: &[Section]) {
+    fn note_task(&mut self, sheets: &[Sheet], task: u8, sections: &[Section]) {
         for (i, section) in sections.iter().enumerate() {
-            for (k, lock) in section.locks.iter().enumerate() {
-                self.record(sheets, task, small(i), small(k), lock);
+            for (k, name) in section.locks.iter().enumerate() {
+                let lock = KnownLock {
+                    task,
+                    section: small(i),
+                    lock: small(k),
+                    is_shared: false,
+                };
+                self.note_use(sheets, lock, name);
             }
-        }
-    }
-
-    // Whether a note on a lock is owed; from then on it is not.
-    fn take_note(&mut self, sheets: &[Sheet], lock: &Name) -> bool {
-        let Some(slot) = self.slot_of(sheets, lock) else {
-            return false;
-        };
-        match &mut self.slots[slot] {
-            Some(known) => {
-                let is_owed = known.is_owed;
-                known.is_owed = false;
-                is_owed
-            }
-            None => false,
         }
     }
 }
@@ -129,15 +153,15 @@ impl KnownLocks {
 fn known_locks(sheets: &[Sheet]) -> KnownLocks {
     let mut known = KnownLocks::new();
     for (task, sheet) in sheets.iter().enumerate() {
-        known.record_all(sheets, small(task), sheet.sections());
+        known.note_task(sheets, small(task), sheet.sections());
     }
     known
 }
 
 // The note on a lock that one task alone uses.
 fn put_note<W: Write + Drop>(
-    lock: &Name,
     user: &Name,
+    lock: &Name,
     held: &mut Held,
     out: &mut Watched<W>,
 ) -> Result<(), WriteFailed> {
@@ -148,45 +172,17 @@ fn put_note<W: Write + Drop>(
     held.put(b"\n", out)
 }
 
-// The notes that are owed on the locks of a section of a task.
-fn put_section<W: Write + Drop>(
-    known: &mut KnownLocks,
-    sheets: &[Sheet],
-    user: &Name,
-    section: &Section,
-    held: &mut Held,
-    out: &mut Watched<W>,
-) -> Result<(), WriteFailed> {
-    for lock in &section.locks {
-        if known.take_note(sheets, lock) {
-            put_note(lock, user, held, out)?;
-        }
-    }
-    Ok(())
-}
-
-// The notes that are owed on the locks of a task.
-fn put_task<W: Write + Drop>(
-    known: &mut KnownLocks,
-    sheets: &[Sheet],
-    sheet: &Sheet,
-    held: &mut Held,
-    out: &mut Watched<W>,
-) -> Result<(), WriteFailed> {
-    let user = sheet.name();
-    for section in sheet.sections() {
-        put_section(known, sheets, &user, section, held, out)?;
-    }
-    Ok(())
-}
-
 /// Writes a note for each lock that one task alone uses, in the order of first sight. It takes no memory.
 pub fn put_notes<W: Write + Drop>(set: &TaskSet, out: &mut Watched<W>) -> Result<(), WriteFailed> {
     let mut held = Held::new();
     let sheets = set.sheets();
-    let mut known = known_locks(sheets);
-    for sheet in sheets {
-        put_task(&mut known, sheets, sheet, &mut held, out)?;
+    let known = known_locks(sheets);
+    for lock in known.locks.iter().take(known.count) {
+        if !lock.is_shared
+            && let Some((user, name)) = lock.names(sheets)
+        {
+            put_note(&user, &name, &mut held, out)?;
+        }
     }
     held.send(out)
 }

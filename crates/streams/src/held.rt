@@ -9,9 +9,9 @@ use std::io::Write;
 use std::marker::Model;
 
 // How many bytes are held back at most.
-const ROOM: usize = 65536;
+const ROOM: usize = 16_384;
 
-/// Up to 65,536 bytes that wait to be written. They lie in the value itself, and take no memory.
+/// Up to 16,384 bytes that wait to be written. They lie in the value itself, and take no memory.
 #[derive(Drop)]
 pub struct Held {
     bytes: [u8; ROOM],

@@ -14,6 +14,9 @@ const INPUT_LIMIT: usize = 16_777_216;
 // The most reads that it takes, interrupted ones among them.
 const TURN_LIMIT: usize = 33_554_432;
 
+// The most bytes that one read takes.
+const CHUNK: usize = 16_384;
+
 /// Why an input was not read.
 #[derive(Clone, Copy, Debug, PartialEq, Eq)]
 pub enum InputFault {
@@ -42,7 +45,7 @@ pub fn read_input<R: Read + Drop>(
     ensures turns { IsWithinTurns reader.old reader.new }
 {
     let mut bytes = Vec::new(alloc);
-    let mut chunk = [0; 65536];
+    let mut chunk = [0; CHUNK];
     for _ in 0..TURN_LIMIT {
         match reader.read(&mut chunk) {
             Ok(0) => return Ok(bytes),

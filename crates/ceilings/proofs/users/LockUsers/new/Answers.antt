@@ -6,7 +6,7 @@ use Rattle.ceilings.proofs.WholeTable.{IsTableOfFirst, none_noted, one_noted, al
 use Rattle.ceilings.proofs.users.LockUsers.new.Goals as goal
 
 pub loop-index-init : goal.loop-index-init
-loop-index-init c = rw (c.new.ensures.empty) (none_noted c.sheets-sheet-items.result.now)
+loop-index-init c = rw (c.in_ok-with_capacity.ensures.empty) (none_noted c.sheets-sheet-items.result.now)
 
 pub loop-index-preserved : goal.loop-index-preserved
 loop-index-preserved c =
