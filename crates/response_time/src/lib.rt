@@ -68,6 +68,21 @@ pub fn demand(set: &TaskSet, table: &LockTable, task: usize, above: Members, tim
     Workload::new(set, table, task, above, time, time).advance(time)
 }
 
+// What a task and those above it execute once, in microseconds. Each window has at least this demand.
+fn least_demand(set: &TaskSet, task: usize, above: Members) -> u64
+    requires { task < length set.now }
+    ensures { (time : ℕ) → 1 ≤ time → result ≤ demand_of set.now task (indexes_of above) time }
+{
+    let sheets = set.sheets();
+    let mut least = sheets[task].cost();
+    for (index, sheet) in sheets.iter().enumerate() {
+        if above.has(index) {
+            least += sheet.cost();
+        }
+    }
+    least
+}
+
 /// The response of a task with these above it, in microseconds from the arrival; none where it does not pass
 /// (Audsley et al. 1993). It is that of `respond`, with no chain: the iteration starts at a window below which none
 /// covers the demand, in place of 1.
@@ -86,6 +101,9 @@ pub fn response_in_time(
     ensures none { IfNone result (¬ Passes set.now task (indexes_of above)) }
 {
     let limit = limit_of(set, task);
+    if least_demand(set, task, above) > limit {
+        return None;
+    }
     let mut work = Workload::new(set, table, task, above, 1, limit);
     let mut window = work.first_window(limit);
     while window <= limit {
