@@ -9,6 +9,8 @@ use Rattle.ceilings.specs.IsTableOf.{locks_of}
 use Rattle.judge.specs.Rows.{mutexes_of, rows_in, threads_of}
 use Rattle.judge.specs.declared.fault.SettingsFault.{SettingsFault}
 use Rattle.judge.specs.declared.fault.SettingsFault.TheVariants as fault
+use Rattle.judge.specs.declared.settings_fault.SettingField.{SettingField}
+use Rattle.judge.specs.declared.settings_fault.SettingField.TheVariants.{Name, Number}
 use Rattle.judge.specs.declared.rows.SettingRow.{SettingRow}
 use Rattle.judge.specs.declared.rows.Setting.{Setting}
 
@@ -60,6 +62,11 @@ same_setting_name r s = same_bytes r.name s.name
 -- the two have one number
 abbrev pub same_number : Setting → Setting → Bool
 same_number r s = r.number == s.number
+
+-- the two share a field
+abbrev pub share : SettingField → Setting → Setting → Bool
+share Name = same_setting_name
+share Number = same_number
 
 -- the name of the first task by rank that has no thread
 abbrev pub threadless : List Task → List Setting → Option (List ℕ)

@@ -1,8 +1,8 @@
 //! The first reason why threads and mutexes are no settings of a set.
-ghost use Rattle.std.specs.Prelude.{◌≡◌, ◌==◌, []};
+ghost use Rattle.std.specs.Prelude.{◌≡◌, []};
 ghost use Rattle.std.specs.List.{list_any};
 ghost use Rattle.ceilings.specs.IsTableOf.{IsTableOf, locks_of};
-ghost use Rattle.judge.specs.Faults.{is_no_lock, is_no_task, is_set, line_again, line_fault, line_where, mutexless, name_fault, setting_number, same_setting_name, same_number, setting_fault, threadless, top_number, wrong_lock};
+ghost use Rattle.judge.specs.Faults.{is_no_lock, is_no_task, is_set, line_again, line_fault, line_where, mutexless, name_fault, setting_number, setting_fault, share, threadless, top_number, wrong_lock};
 
 use crate::fault::SettingsFault;
 use crate::rows::Setting;
@@ -58,23 +58,14 @@ fn is_no_lock(set: &TaskSet, table: &LockTable, mutex: &Setting) -> bool
     table.index_of(mutex.name).is_none()
 }
 
-// Some setting has this number.
-fn has_number(settings: &[Setting], number: u64) -> bool
-    ensures { result ≡ list_any (λ s. s.number == number) settings.now }
-{
-    settings.iter().any(|setting| setting.number == number)
-}
-
 // The line of the first thread that has the name of no task.
 fn unknown_task(set: &TaskSet, threads: &[Setting]) -> Option<u64>
     ensures { result ≡ line_where (is_no_task set.now) threads.now }
 {
-    for thread in threads {
-        if is_no_task(set, thread) {
-            return Some(thread.line);
-        }
-    }
-    None
+    threads
+        .iter()
+        .find(|thread| is_no_task(set, thread))
+        .map(|thread| thread.line)
 }
 
 // The line of the first mutex that has the name of no lock.
@@ -82,32 +73,42 @@ fn unknown_lock(set: &TaskSet, table: &LockTable, mutexes: &[Setting]) -> Option
     requires { IsTableOf set.now table.now }
     ensures { result ≡ line_where (is_no_lock set.now) mutexes.now }
 {
-    for mutex in mutexes {
-        if is_no_lock(set, table, mutex) {
-            return Some(mutex.line);
-        }
-    }
-    None
+    mutexes
+        .iter()
+        .find(|mutex| is_no_lock(set, table, mutex))
+        .map(|mutex| mutex.line)
 }
 
-// The line of the first setting that has the name of one before it.
-fn name_again(settings: &[Setting]) -> Option<u64>
-    ensures { result ≡ line_again same_setting_name [] settings.now }
-{
-    for (place, setting) in settings.iter().enumerate() {
-        if is_set(&settings[..place], setting.name) {
-            return Some(setting.line);
-        }
-    }
-    None
+// What no two settings may share.
+#[derive(Clone, Copy, Debug, PartialEq, Eq)]
+pub(crate) enum SettingField {
+    Name,
+    Number,
 }
 
-// The line of the first setting that has the number of one before it.
-fn number_again(settings: &[Setting]) -> Option<u64>
-    ensures { result ≡ line_again same_number [] settings.now }
+// Two settings share this.
+fn share(field: SettingField, r: &Setting, s: &Setting) -> bool
+    ensures { result ≡ share field r.now s.now }
+{
+    match field {
+        SettingField::Name => r.name == s.name,
+        SettingField::Number => r.number == s.number,
+    }
+}
+
+// Some of the settings shares this with another one.
+fn some_shares(settings: &[Setting], field: SettingField, other: &Setting) -> bool
+    ensures { result ≡ list_any (λ before. share field before other.now) settings.now }
+{
+    settings.iter().any(|before| share(field, before, other))
+}
+
+// The line of the first setting that shares this with one before it.
+fn first_again(settings: &[Setting], field: SettingField) -> Option<u64>
+    ensures { result ≡ line_again (share field) [] settings.now }
 {
     for (place, setting) in settings.iter().enumerate() {
-        if has_number(&settings[..place], setting.number) {
+        if some_shares(&settings[..place], field, setting) {
             return Some(setting.line);
         }
     }
@@ -118,12 +119,10 @@ fn number_again(settings: &[Setting]) -> Option<u64>
 fn threadless(set: &TaskSet, threads: &[Setting]) -> Option<Name>
     ensures { result ≡ threadless set.now threads.now }
 {
-    for sheet in set.sheets() {
-        if !is_set(threads, sheet.name()) {
-            return Some(sheet.name());
-        }
-    }
-    None
+    set.sheets()
+        .iter()
+        .find(|sheet| !is_set(threads, sheet.name()))
+        .map(|sheet| sheet.name())
 }
 
 // Where there are mutexes, the first lock, in the order of first sight, that has none.
@@ -182,13 +181,13 @@ fn line_fault(
     if let Some(line) = unknown_lock(set, table, mutexes) {
         return Some(SettingsFault::UnknownLock { line });
     }
-    if let Some(line) = name_again(threads) {
+    if let Some(line) = first_again(threads, SettingField::Name) {
         return Some(SettingsFault::SameTask { line });
     }
-    if let Some(line) = name_again(mutexes) {
+    if let Some(line) = first_again(mutexes, SettingField::Name) {
         return Some(SettingsFault::SameLock { line });
     }
-    match number_again(threads) {
+    match first_again(threads, SettingField::Number) {
         Some(line) => Some(SettingsFault::SameNumber { line }),
         None => None,
     }
