@@ -1,9 +1,9 @@
 -- Puts one after the other.
 use Rattle.std.proofs.Common.{◌≡◌, ℕ, ◌+◌, ◌<◌, List, length, get_or, [], ◌++◌, sym, ap, ◌∙◌, subst, Option, refl, append-nil, add-one}
-use Rattle.std.specs.Prelude.{⊤, Bool, Some, None, Result, Ok, Err, OnOk}
-use Rattle.std.specs.Io.KnownBytes.{Appends, append_known}
+use Rattle.std.specs.Prelude.{⊤, Some, None, Result, Ok, Err, OnOk}
+use Rattle.std.specs.Io.KnownBytes.{Appends}
 use Rattle.std.proofs.lemmas.List.{get_or_read}
-use Rattle.std.proofs.KnownBytes.{Appends-trans}
+use Rattle.streams.proofs.Writes.{writes_both}
 use Rattle.picture.specs.Rows.{each}
 use Rattle.picture.specs.Puts.{Puts}
 use Rattle.picture.specs.declared.page.Page.{Page}
@@ -19,29 +19,18 @@ sends_nothing : (bytes : Option (List ℕ)) (held : List ℕ) → Sends bytes he
 sends_nothing None held = tt
 sends_nothing (Some x) held = sym (append-nil (x ++ held))
 
-sends_both : (r : Result ⊤ WriteFailed) (a b c : Option (List ℕ)) (xs ys : List ℕ)
-    → Appends a b xs → OnOk r (Appends b c ys) → OnOk r (Appends a c (xs ++ ys))
-sends_both (Ok x) a b c xs ys one two = Appends-trans a b c xs ys one two
-sends_both (Err x) a b c xs ys one two = tt
-
-keeps_flag : (r : Result ⊤ WriteFailed) (a b c : Bool) → b ≡ a → OnOk r (c ≡ b) → OnOk r (c ≡ a)
-keeps_flag (Ok x) a b c one two = two ∙ one
-keeps_flag (Err x) a b c one two = tt
-
 -- two texts, the last of which may have failed
 pub puts_both : {W : Type 0} {contents : W → Option (List ℕ)} {a b c : Page W} {u : ⊤} {r : Result ⊤ WriteFailed} {xs ys : List ℕ}
     → Puts contents a b (Ok u) xs → Puts contents b c r ys → Puts contents a c r (xs ++ ys)
-puts_both {contents = contents} {a = a} {b = b} {c = c} {r = r} {xs = xs} {ys = ys} one two = record {
-  sent = sends_both r (append_known (contents a.out.now.inner) a.held) (append_known (contents b.out.now.inner) b.held) (append_known (contents c.out.now.inner) c.held) xs ys one.sent two.sent;
-  ok = keeps_flag r a.out.now.has_failed b.out.now.has_failed c.out.now.has_failed one.ok two.ok;
-  failed = two.failed;
-  same = two.same ∙ one.same;
-}
+puts_both one two = record { writes = writes_both one.writes two.writes; same = two.same ∙ one.same }
 
 -- nothing was put yet
 pub puts_none : {W : Type 0} (contents : W → Option (List ℕ)) (a : Page W) (text : ℕ → List ℕ) → Puts contents a a (Ok tt) (each 0 text)
 unfolding each
-puts_none contents a text = record { sent = sends_nothing (contents a.out.now.inner) a.held; ok = refl; failed = tt; same = refl }
+puts_none contents a text = record {
+  writes = record { sent = sends_nothing (contents a.out.now.inner) a.held; ok = refl; failed = tt };
+  same = refl;
+}
 
 -- one text more
 pub puts_one_more : {W : Type 0} {contents : W → Option (List ℕ)} {a b c : Page W} {u v : ⊤} (text : ℕ → List ℕ) (n : ℕ)

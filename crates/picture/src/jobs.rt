@@ -86,21 +86,6 @@ impl<W: Write + Drop> Page<'_, W> {
         self.put_limit_words(row)
     }
 
-    // A job in a row.
-    fn put_job_in(
-        &mut self,
-        frame: Frame,
-        k: usize,
-        row: &TaskRow,
-        job: &JobRecord,
-    ) -> Result<(), WriteFailed>
-        requires { k ≤ 32 }
-        ensures { Puts W.contents self.old self.new result (job_text frame job.now k row.now) }
-    {
-        self.put_box(frame, k, row, job)?;
-        self.put_job_words(row, job)
-    }
-
     // A job in the row of its task.
     fn put_job(
         &mut self,
@@ -114,7 +99,11 @@ impl<W: Write + Drop> Page<'_, W> {
     {
         match find_row(rows, job.name) {
             None => Ok(()),
-            Some(k) => self.put_job_in(frame, k, &rows[k], job),
+            Some(k) => {
+                let row = &rows[k];
+                self.put_box(frame, k, row, job)?;
+                self.put_job_words(row, job)
+            }
         }
     }
 

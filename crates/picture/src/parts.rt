@@ -2,7 +2,7 @@
 ghost use Rattle.std.specs.Prelude.{◌≡◌, ◌+◌, ◌≤◌, ◌++◌, codes};
 ghost use Rattle.picture.specs.Puts.{Puts};
 ghost use Rattle.picture.specs.Sections.{fits};
-ghost use Rattle.picture.specs.Elements.{names_text, label_head, label_in, label_text, part_head, part_end, part_text, dark_text, darks_text};
+ghost use Rattle.picture.specs.Elements.{names_text, label_head, label_text, part_head, part_end, part_text, dark_text, darks_text};
 
 use crate::boxes::bar_of;
 use crate::frame::{Frame, top_of, x_after, x_of};
@@ -57,23 +57,6 @@ impl<W: Write + Drop> Page<'_, W> {
         write!(self, "<text class=\"k\" x=\"{middle}\" y=\"{y}\">")
     }
 
-    // The names of locks in the middle of a part.
-    fn put_label_in(
-        &mut self,
-        x: u64,
-        right: u64,
-        k: usize,
-        section: &Section,
-    ) -> Result<(), WriteFailed>
-        requires places { x + right ≤ 320000 }
-        requires row { k ≤ 32 }
-        ensures { Puts W.contents self.old self.new result (label_in x right k section.now.locks) }
-    {
-        self.put_label_head(x, right, k)?;
-        self.put_locks(section)?;
-        self.put("</text>\n")
-    }
-
     // The names of locks in the middle of a part, where there is room.
     fn put_label(
         &mut self,
@@ -87,11 +70,12 @@ impl<W: Write + Drop> Page<'_, W> {
         ensures { Puts W.contents self.old self.new result
             (label_text x right k section.now.locks) }
     {
-        if locks_fit(right.saturating_sub(x) / 68, section) {
-            self.put_label_in(x, right, k, section)
-        } else {
-            Ok(())
+        if !locks_fit(right.saturating_sub(x) / 68, section) {
+            return Ok(());
         }
+        self.put_label_head(x, right, k)?;
+        self.put_locks(section)?;
+        self.put("</text>\n")
     }
 
     // The box of a part, up to the names of its locks.
@@ -163,26 +147,6 @@ impl<W: Write + Drop> Page<'_, W> {
         }
     }
 
-    // The darker parts of a slice for some sections.
-    fn put_sections(
-        &mut self,
-        frame: Frame,
-        executed: u64,
-        slice: Slice,
-        k: usize,
-        row: &TaskRow,
-        sections: &[Section],
-    ) -> Result<(), WriteFailed>
-        requires { k ≤ 32 }
-        ensures { Puts W.contents self.old self.new result
-            (darks_text frame executed slice k row.now sections.now) }
-    {
-        for section in sections {
-            self.put_dark(frame, executed, slice, k, row, section)?;
-        }
-        Ok(())
-    }
-
     // The darker parts of a slice.
     pub(crate) fn put_darks(
         &mut self,
@@ -196,7 +160,9 @@ impl<W: Write + Drop> Page<'_, W> {
         ensures { Puts W.contents self.old self.new result
             (darks_text frame executed slice k row.now row.now.sheet.sections) }
     {
-        let sections = row.sheet.sections();
-        self.put_sections(frame, executed, slice, k, row, sections)
+        for section in row.sheet.sections() {
+            self.put_dark(frame, executed, slice, k, row, section)?;
+        }
+        Ok(())
     }
 }
