@@ -1,5 +1,7 @@
 -- How time and rows lie in the picture, in units of which ten are a pixel.
 use Rattle.std.specs.Prelude.{ℕ, ◌+◌, ◌*◌, ◌/◌, ◌%◌, ◌<◌, ◌≤◌, min, max, Bool, nat_le, ◌==◌, if◌then◌else◌, List, [], ◌∷◌, codes}
+use Rattle.ceiling_kernel.specs.declared.accept.TheConstants.{HORIZON}
+use Rattle.picture.specs.declared.frame.TheConstants.{LONGEST_PERIOD, NARROWEST, WIDEST, WIDEST_DECADE}
 use Rattle.picture.specs.declared.rows.TaskRow.{TaskRow}
 
 -- a span of time in microseconds, and its width
@@ -10,9 +12,9 @@ pub record Frame : Type 0 where
 -- there is some time, within the horizon, and the width is within its limits
 pub record IsFrame (f : Frame) : Type 0 where
   pub some : 0 < f.until
-  pub within : f.until ≤ 60000000
-  pub wide : 9500 ≤ f.span
-  pub narrow : f.span ≤ 159500
+  pub within : f.until ≤ HORIZON
+  pub wide : NARROWEST ≤ f.span
+  pub narrow : f.span ≤ WIDEST
 
 -- the shortest period, or one that was found before
 abbrev pub least_period : ℕ → List TaskRow → ℕ
@@ -22,11 +24,11 @@ least_period least (row ∷ rows) = least_period (min least row.sheet.period) ro
 -- the frame of a run up to a time: the shortest period is 24 pixels wide, but all are from 950 to 15,950
 abbrev pub frame_until : ℕ → ℕ → Frame
 frame_until least until =
-    record { until = until; span = min (max (240 * until / least) 9500) 159500 }
+    record { until = until; span = min (max (240 * until / least) NARROWEST) WIDEST }
 
 -- the frame of a run of these rows: at least a microsecond long, and within the horizon
 abbrev pub frame_of : List TaskRow → ℕ → Frame
-frame_of rows until = frame_until (max (least_period 10000000 rows) 1) (max (min until 60000000) 1)
+frame_of rows until = frame_until (max (least_period LONGEST_PERIOD rows) 1) (max (min until HORIZON) 1)
 
 -- where a time lies; later ones lie at the end
 abbrev pub x_of : Frame → ℕ → ℕ
@@ -58,7 +60,7 @@ decade_of f =
     else if is_wide f 5000 then 1000
     else if is_wide f 50000 then 10000
     else if is_wide f 500000 then 100000
-    else 1000000
+    else WIDEST_DECADE
 
 -- the first of a power of ten, two of it and five of it that is wide enough; five of it where the others aren't
 abbrev pub step_in : Frame → ℕ → ℕ

@@ -1,5 +1,6 @@
 //! Slices, as bars.
 ghost use Rattle.std.specs.Prelude.{◌≡◌, ◌+◌, ◌≤◌, ◌<◌, ℕ, length, slice_index};
+ghost use Rattle.task_sheet.specs.declared.set.TheConstants.{TASK_LIMIT};
 ghost use Rattle.picture.specs.Puts.{Puts};
 ghost use Rattle.picture.specs.Sections.{counted};
 ghost use Rattle.picture.specs.Elements.{bar_text, slice_text};
@@ -42,7 +43,7 @@ impl<W: Write + Drop> Page<'_, W> {
         k: usize,
         row: &TaskRow,
     ) -> Result<(), WriteFailed>
-        requires { k ≤ 32 }
+        requires { k ≤ TASK_LIMIT }
         ensures { Puts W.contents self.old self.new result (bar_text frame slice k row.now) }
     {
         let bar = bar_of(x_of(frame, slice.start), x_of(frame, slice.stop), k);
@@ -64,7 +65,7 @@ impl<W: Write + Drop> Page<'_, W> {
         k: usize,
         row: &TaskRow,
     ) -> Result<(), WriteFailed>
-        requires { k ≤ 32 }
+        requires { k ≤ TASK_LIMIT }
         ensures { Puts W.contents self.old self.new result
             (slice_text frame executed slice k row.now) }
     {
@@ -81,7 +82,7 @@ impl<W: Write + Drop> Page<'_, W> {
         executed: u64,
         slice: Slice,
     ) -> Result<(), WriteFailed>
-        requires { length rows.now ≤ 32 }
+        requires { length rows.now ≤ TASK_LIMIT }
         ensures { Puts W.contents self.old self.new result
             (slice_by frame rows.now jobs.now executed slice) }
     {
@@ -103,7 +104,7 @@ impl<W: Write + Drop> Page<'_, W> {
         slices: &[Slice],
         executed: &mut [u64],
     ) -> Result<(), WriteFailed>
-        requires few { length rows.now ≤ 32 }
+        requires few { length rows.now ≤ TASK_LIMIT }
         requires jobs { length executed.old ≡ length jobs.now }
         requires none { (j : ℕ) → slice_index executed.old j ≡ 0 }
         ensures { Puts W.contents self.old self.new result

@@ -1,5 +1,7 @@
 //! Boxes as high as a bar.
 ghost use Rattle.std.specs.Prelude.{◌≡◌, ◌+◌, ◌≤◌, Some, max};
+ghost use Rattle.picture.specs.declared.frame.TheConstants.{RIGHTMOST};
+ghost use Rattle.task_sheet.specs.declared.set.TheConstants.{TASK_LIMIT};
 ghost use Rattle.picture.specs.Frame.{top_of};
 
 use crate::frame::top_of;
@@ -28,8 +30,8 @@ impl fmt::Display for Bar {
 
 // The box from a place up to another, in row k; at least a hair wide.
 pub(crate) fn bar_of(x: u64, end: u64, k: usize) -> Bar
-    requires place { x ≤ 159660 }
-    requires row { k ≤ 32 }
+    requires place { x ≤ RIGHTMOST }
+    requires row { k ≤ TASK_LIMIT }
     ensures x { result.x ≡ x }
     ensures right { result.right ≡ max end (x + 10) }
     ensures y { result.y ≡ top_of k + 305 }

@@ -1,5 +1,6 @@
 //! The whole picture.
 ghost use Rattle.std.specs.Prelude.{◌≡◌, ◌+◌, ◌≤◌, ℕ, length, slice_index, OnOk, OnErr, Err, IfOk, true};
+ghost use Rattle.task_sheet.specs.declared.set.TheConstants.{TASK_LIMIT};
 ghost use Rattle.picture.specs.Puts.{Puts};
 ghost use Rattle.std.specs.Io.KnownBytes.{Appends};
 ghost use Rattle.picture.specs.Document.{framed, document};
@@ -49,7 +50,7 @@ fn put_document<W: Write + Drop>(
     trace: &Trace,
     executed: &mut [u64],
 ) -> Result<(), WriteFailed>
-    requires few { length rows.now ≤ 32 }
+    requires few { length rows.now ≤ TASK_LIMIT }
     requires jobs { length executed.old ≡ length trace.now.jobs.items }
     requires none { (j : ℕ) → slice_index executed.old j ≡ 0 }
     ensures { Puts W.contents page.old page.new result
@@ -72,7 +73,7 @@ fn put_all<W: Write + Drop>(
     executed: &mut [u64],
     output: &mut Watched<W>,
 ) -> Result<(), WriteFailed>
-    requires few { length rows.now ≤ 32 }
+    requires few { length rows.now ≤ TASK_LIMIT }
     requires jobs { length executed.old ≡ length trace.now.jobs.items }
     requires none { (j : ℕ) → slice_index executed.old j ≡ 0 }
     ensures sent { OnOk result (Appends (W.contents output.old.inner) (W.contents output.new.inner)
@@ -97,7 +98,7 @@ pub fn draw<W: Write + Drop>(
     trace: &Trace,
     output: &mut Watched<W>,
 ) -> Result<(), DrawFault>
-    requires { length rows.now ≤ 32 }
+    requires { length rows.now ≤ TASK_LIMIT }
     ensures drawn { OnOk result (Appends (W.contents output.old.inner) (W.contents output.new.inner)
         (document rows.now until releases.now trace.now)) }
     ensures ok { OnOk result (output.new.has_failed ≡ output.old.has_failed) }

@@ -1,9 +1,33 @@
 //! How time and rows lie in the picture.
 ghost use Rattle.std.specs.Prelude.{◌≡◌, ◌+◌, ◌*◌, ◌<◌, ◌≤◌};
+ghost use Rattle.picture.specs.declared.frame.TheConstants.{LONGEST_PERIOD, RIGHTMOST, LOWEST_TOP, WIDEST_STEP, WIDEST_DECADE};
+ghost use Rattle.task_sheet.specs.declared.set.TheConstants.{TASK_LIMIT};
 ghost use Rattle.picture.specs.Frame.{frame_of, least_period, x_of, frame_end, right_of, top_of, is_wide, decade_of, step_in, step_of, unit_of, unit_name};
 
 use crate::rows::TaskRow;
+use ceiling_kernel::HORIZON;
 use std::marker::Model;
+
+// The longest period that a sheet may have, in microseconds.
+const LONGEST_PERIOD: u64 = 10_000_000;
+
+// How narrow the span of time is at least.
+const NARROWEST: u64 = 9_500;
+
+// How wide it is at most.
+const WIDEST: u64 = 159_500;
+
+// No time lies further to the right.
+const RIGHTMOST: u64 = 160 + WIDEST;
+
+// No row begins further down.
+const LOWEST_TOP: u64 = 21_500;
+
+// The widest power of ten of the scale, in microseconds.
+const WIDEST_DECADE: u64 = 1_000_000;
+
+// The widest step of the scale, in microseconds.
+const WIDEST_STEP: u64 = 5 * WIDEST_DECADE;
 
 // A span of time in microseconds, and its width.
 #[derive(Clone, Copy)]
@@ -26,9 +50,9 @@ impl Model for Frame {
 
 // The shortest period of the rows.
 fn least_period(rows: &[TaskRow]) -> u64
-    ensures { result ≡ least_period 10000000 rows.now }
+    ensures { result ≡ least_period LONGEST_PERIOD rows.now }
 {
-    let mut least = 10_000_000;
+    let mut least = LONGEST_PERIOD;
     for row in rows {
         least = row.sheet.period().min(least);
     }
@@ -40,15 +64,15 @@ pub(crate) fn frame_of(rows: &[TaskRow], until: u64) -> Frame
     ensures { result ≡ frame_of rows.now until }
 {
     let least = least_period(rows).max(1);
-    let until = until.min(60_000_000).max(1);
-    let span = (240 * until / least).max(9_500).min(159_500);
+    let until = until.min(HORIZON).max(1);
+    let span = (240 * until / least).max(NARROWEST).min(WIDEST);
     Frame { until, span }
 }
 
 // Where a time lies.
 pub(crate) fn x_of(frame: Frame, time: u64) -> u64
     ensures value { result ≡ x_of frame time }
-    ensures within { result ≤ 159660 }
+    ensures within { result ≤ RIGHTMOST }
 {
     160 + time.min(frame.until) * frame.span / frame.until
 }
@@ -56,7 +80,7 @@ pub(crate) fn x_of(frame: Frame, time: u64) -> u64
 // Where the time lies that comes so long after another.
 pub(crate) fn x_after(frame: Frame, time: u64, len: u64) -> u64
     ensures value { result ≡ x_of frame (time + len) }
-    ensures within { result ≤ 159660 }
+    ensures within { result ≤ RIGHTMOST }
 {
     let time = time.min(frame.until);
     let rest = frame.until - time;
@@ -72,16 +96,16 @@ pub(crate) fn end_of(frame: Frame) -> u64
 
 // Where a row begins.
 pub(crate) fn top_of(k: usize) -> u64
-    requires { k ≤ 32 }
+    requires { k ≤ TASK_LIMIT }
     ensures value { result ≡ top_of k }
-    ensures within { result ≤ 21500 }
+    ensures within { result ≤ LOWEST_TOP }
 {
     1340 + 630 * k as u64
 }
 
 // Whether a step is wide enough.
 fn is_wide(frame: Frame, step: u64) -> bool
-    requires step { step ≤ 5000000 }
+    requires step { step ≤ WIDEST_STEP }
     ensures { result ≡ is_wide frame step }
 {
     step * frame.span >= 800 * frame.until
@@ -91,7 +115,7 @@ fn is_wide(frame: Frame, step: u64) -> bool
 fn decade_of(frame: Frame) -> u64
     ensures value { result ≡ decade_of frame }
     ensures some { 0 < result }
-    ensures within { result ≤ 1000000 }
+    ensures within { result ≤ WIDEST_DECADE }
 {
     if is_wide(frame, 5) {
         1
@@ -106,17 +130,17 @@ fn decade_of(frame: Frame) -> u64
     } else if is_wide(frame, 500_000) {
         100_000
     } else {
-        1_000_000
+        WIDEST_DECADE
     }
 }
 
 // The first of a power of ten, two of it and five of it that is wide enough.
 fn step_in(frame: Frame, power: u64) -> u64
     requires some { 0 < power }
-    requires within { power ≤ 1000000 }
+    requires within { power ≤ WIDEST_DECADE }
     ensures value { result ≡ step_in frame power }
     ensures some { 0 < result }
-    ensures within { result ≤ 5000000 }
+    ensures within { result ≤ WIDEST_STEP }
 {
     if is_wide(frame, power) {
         power
@@ -131,7 +155,7 @@ fn step_in(frame: Frame, power: u64) -> u64
 pub(crate) fn step_of(frame: Frame) -> u64
     ensures value { result ≡ step_of frame }
     ensures some { 0 < result }
-    ensures within { result ≤ 5000000 }
+    ensures within { result ≤ WIDEST_STEP }
 {
     step_in(frame, decade_of(frame))
 }

@@ -1,8 +1,10 @@
 //! What stands still.
 ghost use Rattle.std.specs.Prelude.{◌≤◌, ◌<◌, length};
+ghost use Rattle.picture.specs.declared.frame.TheConstants.{WIDEST_STEP};
+ghost use Rattle.task_sheet.specs.declared.set.TheConstants.{TASK_LIMIT};
 ghost use Rattle.picture.specs.Puts.{Puts};
 ghost use Rattle.picture.specs.Elements.{tick_text, line_text, name_text, again_text};
-ghost use Rattle.picture.specs.declared.ground.TheConstants.{STYLE};
+ghost use Rattle.picture.specs.declared.ground.TheConstants.{AGAIN_LIMIT, STYLE};
 ghost use Rattle.picture.specs.Document.{measures_text, title_text, document_head, ticks_text, lines_text, own_names, names_group, names_again, rows_text, ground_text};
 
 use crate::frame::{Frame, end_of, step_of, top_of, unit_name, unit_of, x_of};
@@ -10,6 +12,9 @@ use crate::page::Page;
 use crate::rows::TaskRow;
 use std::io::Write;
 use streams::WriteFailed;
+
+// How often the names stand again at most.
+const AGAIN_LIMIT: u64 = 60;
 
 // How the elements look, the white ground, and what the marks mean.
 const STYLE: &str =
@@ -47,7 +52,7 @@ impl<W: Write + Drop> Page<'_, W> {
         jobs: usize,
         until: u64,
     ) -> Result<(), WriteFailed>
-        requires { rows ≤ 32 }
+        requires { rows ≤ TASK_LIMIT }
         ensures { Puts W.contents self.old self.new result (document_head frame rows jobs until) }
     {
         self.put(
@@ -79,7 +84,7 @@ impl<W: Write + Drop> Page<'_, W> {
     // The scale.
     fn put_ticks(&mut self, frame: Frame, bottom: u64, step: u64) -> Result<(), WriteFailed>
         requires some { 0 < step }
-        requires within { step ≤ 5000000 }
+        requires within { step ≤ WIDEST_STEP }
         ensures { Puts W.contents self.old self.new result (ticks_text frame bottom step) }
     {
         let count = frame.until / step + 1;
@@ -91,7 +96,7 @@ impl<W: Write + Drop> Page<'_, W> {
 
     // The line of a row.
     fn put_line(&mut self, frame: Frame, k: usize) -> Result<(), WriteFailed>
-        requires { k ≤ 32 }
+        requires { k ≤ TASK_LIMIT }
         ensures { Puts W.contents self.old self.new result (line_text frame k) }
     {
         let y = top_of(k) + 490;
@@ -101,7 +106,7 @@ impl<W: Write + Drop> Page<'_, W> {
 
     // The lines of the rows.
     fn put_lines(&mut self, frame: Frame, rows: &[TaskRow]) -> Result<(), WriteFailed>
-        requires { length rows.now ≤ 32 }
+        requires { length rows.now ≤ TASK_LIMIT }
         ensures { Puts W.contents self.old self.new result (lines_text frame rows.now) }
     {
         for k in 0..rows.len() {
@@ -112,7 +117,7 @@ impl<W: Write + Drop> Page<'_, W> {
 
     // The name of a row.
     fn put_row_name(&mut self, k: usize, row: &TaskRow) -> Result<(), WriteFailed>
-        requires { k ≤ 32 }
+        requires { k ≤ TASK_LIMIT }
         ensures { Puts W.contents self.old self.new result (name_text k row.now) }
     {
         let y = top_of(k) + 140;
@@ -125,7 +130,7 @@ impl<W: Write + Drop> Page<'_, W> {
 
     // The names of the rows.
     fn put_own_names(&mut self, rows: &[TaskRow]) -> Result<(), WriteFailed>
-        requires { length rows.now ≤ 32 }
+        requires { length rows.now ≤ TASK_LIMIT }
         ensures { Puts W.contents self.old self.new result (own_names rows.now) }
     {
         for k in 0..rows.len() {
@@ -136,7 +141,7 @@ impl<W: Write + Drop> Page<'_, W> {
 
     // All names again, 300 pixels further.
     fn put_again(&mut self, i: u64) -> Result<(), WriteFailed>
-        requires { i ≤ 60 }
+        requires { i ≤ AGAIN_LIMIT }
         ensures { Puts W.contents self.old self.new result (again_text i) }
     {
         let x = 3000 * (i + 1);
@@ -156,7 +161,7 @@ impl<W: Write + Drop> Page<'_, W> {
 
     // The names of the rows, as a group.
     fn put_group(&mut self, rows: &[TaskRow]) -> Result<(), WriteFailed>
-        requires { length rows.now ≤ 32 }
+        requires { length rows.now ≤ TASK_LIMIT }
         ensures { Puts W.contents self.old self.new result (names_group rows.now) }
     {
         self.put("<g id=\"n\">\n")?;
@@ -166,7 +171,7 @@ impl<W: Write + Drop> Page<'_, W> {
 
     // The scale, the lines and the names of the rows, and the names again.
     fn put_rows(&mut self, frame: Frame, rows: &[TaskRow]) -> Result<(), WriteFailed>
-        requires { length rows.now ≤ 32 }
+        requires { length rows.now ≤ TASK_LIMIT }
         ensures { Puts W.contents self.old self.new result (rows_text frame rows.now) }
     {
         self.put_ticks(frame, top_of(rows.len()), step_of(frame))?;
@@ -190,7 +195,7 @@ impl<W: Write + Drop> Page<'_, W> {
         jobs: usize,
         until: u64,
     ) -> Result<(), WriteFailed>
-        requires { length rows.now ≤ 32 }
+        requires { length rows.now ≤ TASK_LIMIT }
         ensures { Puts W.contents self.old self.new result (ground_text frame rows.now jobs until) }
     {
         self.put_head(frame, rows.len(), jobs, until)?;

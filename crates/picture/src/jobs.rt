@@ -1,5 +1,6 @@
 //! Jobs, from their arrivals up to their bounds.
 ghost use Rattle.std.specs.Prelude.{◌+◌, ◌≤◌, length};
+ghost use Rattle.task_sheet.specs.declared.set.TheConstants.{TASK_LIMIT};
 ghost use Rattle.picture.specs.Puts.{Puts};
 ghost use Rattle.picture.specs.Rows.{on_row};
 ghost use Rattle.picture.specs.Elements.{job_box, arrival_words, done_words, limit_words, job_words, job_text};
@@ -22,7 +23,7 @@ impl<W: Write + Drop> Page<'_, W> {
         row: &TaskRow,
         job: &JobRecord,
     ) -> Result<(), WriteFailed>
-        requires { k ≤ 32 }
+        requires { k ≤ TASK_LIMIT }
         ensures { Puts W.contents self.old self.new result
             (job_box frame k row.now job.now job.now.finish) }
     {
@@ -93,7 +94,7 @@ impl<W: Write + Drop> Page<'_, W> {
         rows: &[TaskRow],
         job: &JobRecord,
     ) -> Result<(), WriteFailed>
-        requires { length rows.now ≤ 32 }
+        requires { length rows.now ≤ TASK_LIMIT }
         ensures { Puts W.contents self.old self.new result
             (on_row rows.now job.now.name (job_text frame job.now)) }
     {
@@ -114,7 +115,7 @@ impl<W: Write + Drop> Page<'_, W> {
         rows: &[TaskRow],
         jobs: &[JobRecord],
     ) -> Result<(), WriteFailed>
-        requires { length rows.now ≤ 32 }
+        requires { length rows.now ≤ TASK_LIMIT }
         ensures { Puts W.contents self.old self.new result (jobs_text frame rows.now jobs.now) }
     {
         for job in jobs {

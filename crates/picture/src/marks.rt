@@ -1,5 +1,6 @@
 //! The marks of releases.
 ghost use Rattle.std.specs.Prelude.{◌≡◌, ◌+◌, ◌≤◌, nat_le, length};
+ghost use Rattle.task_sheet.specs.declared.set.TheConstants.{TASK_LIMIT};
 ghost use Rattle.picture.specs.Puts.{Puts};
 ghost use Rattle.picture.specs.Rows.{on_row};
 ghost use Rattle.picture.specs.Elements.{arrival_text, ready_text, later_text, mark_text, mark_head};
@@ -81,7 +82,7 @@ impl<W: Write + Drop> Page<'_, W> {
         k: usize,
         row: &TaskRow,
     ) -> Result<(), WriteFailed>
-        requires { k ≤ 32 }
+        requires { k ≤ TASK_LIMIT }
         ensures { Puts W.contents self.old self.new result
             (mark_text frame mark release k row.now) }
     {
@@ -109,7 +110,7 @@ impl<W: Write + Drop> Page<'_, W> {
         mark: Mark,
         release: Release,
     ) -> Result<(), WriteFailed>
-        requires { length rows.now ≤ 32 }
+        requires { length rows.now ≤ TASK_LIMIT }
         ensures { Puts W.contents self.old self.new result
             (on_row rows.now release.name (mark_text frame mark release)) }
     {
@@ -139,7 +140,7 @@ impl<W: Write + Drop> Page<'_, W> {
         mark: Mark,
         releases: &[Release],
     ) -> Result<(), WriteFailed>
-        requires { length rows.now ≤ 32 }
+        requires { length rows.now ≤ TASK_LIMIT }
         ensures { Puts W.contents self.old self.new result
             (each_mark frame rows.now mark releases.now) }
     {
@@ -157,7 +158,7 @@ impl<W: Write + Drop> Page<'_, W> {
         mark: Mark,
         releases: &[Release],
     ) -> Result<(), WriteFailed>
-        requires { length rows.now ≤ 32 }
+        requires { length rows.now ≤ TASK_LIMIT }
         ensures { Puts W.contents self.old self.new result
             (marks_text frame rows.now mark releases.now) }
     {
@@ -173,7 +174,7 @@ impl<W: Write + Drop> Page<'_, W> {
         rows: &[TaskRow],
         releases: &[Release],
     ) -> Result<(), WriteFailed>
-        requires { length rows.now ≤ 32 }
+        requires { length rows.now ≤ TASK_LIMIT }
         ensures { Puts W.contents self.old self.new result (all_marks frame rows.now releases.now) }
     {
         self.put_marks(frame, rows, Mark::Ready, releases)?;

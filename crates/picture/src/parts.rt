@@ -1,5 +1,7 @@
 //! The parts of a slice in which its job holds locks.
-ghost use Rattle.std.specs.Prelude.{◌≡◌, ◌+◌, ◌≤◌, ◌++◌, codes};
+ghost use Rattle.std.specs.Prelude.{◌≡◌, ◌+◌, ◌*◌, ◌≤◌, ◌++◌, codes};
+ghost use Rattle.picture.specs.declared.frame.TheConstants.{RIGHTMOST};
+ghost use Rattle.task_sheet.specs.declared.set.TheConstants.{TASK_LIMIT};
 ghost use Rattle.picture.specs.Puts.{Puts};
 ghost use Rattle.picture.specs.Sections.{fits};
 ghost use Rattle.picture.specs.Elements.{names_text, label_head, label_text, part_head, part_end, part_text, dark_text, darks_text};
@@ -48,8 +50,8 @@ impl<W: Write + Drop> Page<'_, W> {
 
     // What stands before the names in the middle of a part.
     fn put_label_head(&mut self, x: u64, right: u64, k: usize) -> Result<(), WriteFailed>
-        requires places { x + right ≤ 320000 }
-        requires row { k ≤ 32 }
+        requires places { x + right ≤ 2 * RIGHTMOST }
+        requires row { k ≤ TASK_LIMIT }
         ensures { Puts W.contents self.old self.new result (label_head x right k) }
     {
         let middle = (x + right) / 2;
@@ -65,8 +67,8 @@ impl<W: Write + Drop> Page<'_, W> {
         k: usize,
         section: &Section,
     ) -> Result<(), WriteFailed>
-        requires places { x + right ≤ 320000 }
-        requires row { k ≤ 32 }
+        requires places { x + right ≤ 2 * RIGHTMOST }
+        requires row { k ≤ TASK_LIMIT }
         ensures { Puts W.contents self.old self.new result
             (label_text x right k section.now.locks) }
     {
@@ -87,7 +89,7 @@ impl<W: Write + Drop> Page<'_, W> {
         start: u64,
         stop: u64,
     ) -> Result<(), WriteFailed>
-        requires { k ≤ 32 }
+        requires { k ≤ TASK_LIMIT }
         ensures { Puts W.contents self.old self.new result (part_head frame k row.now start stop) }
     {
         let bar = bar_of(x_of(frame, start), x_of(frame, stop), k);
@@ -112,7 +114,7 @@ impl<W: Write + Drop> Page<'_, W> {
         start: u64,
         stop: u64,
     ) -> Result<(), WriteFailed>
-        requires { k ≤ 32 }
+        requires { k ≤ TASK_LIMIT }
         ensures { Puts W.contents self.old self.new result
             (part_text frame k row.now section.now.locks start stop) }
     {
@@ -132,7 +134,7 @@ impl<W: Write + Drop> Page<'_, W> {
         row: &TaskRow,
         section: &Section,
     ) -> Result<(), WriteFailed>
-        requires { k ≤ 32 }
+        requires { k ≤ TASK_LIMIT }
         ensures { Puts W.contents self.old self.new result
             (dark_text frame executed slice k row.now section.now) }
     {
@@ -156,7 +158,7 @@ impl<W: Write + Drop> Page<'_, W> {
         k: usize,
         row: &TaskRow,
     ) -> Result<(), WriteFailed>
-        requires { k ≤ 32 }
+        requires { k ≤ TASK_LIMIT }
         ensures { Puts W.contents self.old self.new result
             (darks_text frame executed slice k row.now row.now.sheet.sections) }
     {

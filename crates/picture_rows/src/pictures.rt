@@ -5,7 +5,7 @@ use picture::{DrawFault, TaskRow, draw};
 use std::alloc::Global;
 use std::test::Fail;
 use streams::Watched;
-use task_sheet::TaskSet;
+use task_sheet::{TASK_LIMIT, TaskSet};
 
 // Two tasks that share a lock.
 const SET: &str = "
@@ -147,7 +147,7 @@ fn picture_of(
 ) -> Result<String, Fail> {
     let mut text = Vec::with_capacity(alloc, 8192)?;
     let mut out = Watched::new(&mut text);
-    if rows.len() <= 32 {
+    if rows.len() <= TASK_LIMIT {
         again!(
             draw(alloc, rows, until, releases, trace, &mut out),
             DrawFault::OutOfMemory
