@@ -1,4 +1,5 @@
 pub mod CostLaws
+pub mod SearchLaws
 pub mod SetCostLaws
 pub mod RoomLaws
 pub mod OrderLaws

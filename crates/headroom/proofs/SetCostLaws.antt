@@ -39,31 +39,22 @@ IsByRank-costed U i cost V valid by_rank =
     let own : IsByRank sheets sheets = record { permutation = IsPermutation-refl sheets; ranked = ranked-costed U i cost valid.ranked } in
     by_rank_one sheets sheets V sheets (IsPermutation-refl sheets) by_rank own
 
+-- what doesn't rest on a task's cost is as before
+same-costed : {R : Type 0} (of : Task → R) (cost : ℕ) → ((y : Task) → of (with_cost y cost) ≡ of y) → (U : List Task) (i k : ℕ) → of (task_at (costed U i cost) k) ≡ of (task_at U k)
+same-costed of cost same [] i k = refl
+same-costed of cost same (y ∷ ys) zero zero = same y
+same-costed of cost same (y ∷ ys) zero (suc k) = refl
+same-costed of cost same (y ∷ ys) (suc i) zero = refl
+same-costed of cost same (y ∷ ys) (suc i) (suc k) = same-costed of cost same ys i k
+
 -- ---- locks
 pub sections-costed : (U : List Task) (i cost k : ℕ) → (task_at (costed U i cost) k).sections ≡ (task_at U k).sections
-sections-costed [] i cost k = refl
-sections-costed (y ∷ ys) zero cost zero = refl
-sections-costed (y ∷ ys) zero cost (suc k) = refl
-sections-costed (y ∷ ys) (suc i) cost zero = refl
-sections-costed (y ∷ ys) (suc i) cost (suc k) = sections-costed ys i cost k
+sections-costed U i cost k = same-costed (λ (t : Task). t.sections) cost (λ y. refl) U i k
 
 -- ---- tasks above which a task must stand
-name-costed : (U : List Task) (i cost k : ℕ) → (task_at (costed U i cost) k).name ≡ (task_at U k).name
-name-costed [] i cost k = refl
-name-costed (y ∷ ys) zero cost zero = refl
-name-costed (y ∷ ys) zero cost (suc k) = refl
-name-costed (y ∷ ys) (suc i) cost zero = refl
-name-costed (y ∷ ys) (suc i) cost (suc k) = name-costed ys i cost k
-
-outranks-costed : (U : List Task) (i cost k : ℕ) → (task_at (costed U i cost) k).outranks ≡ (task_at U k).outranks
-outranks-costed [] i cost k = refl
-outranks-costed (y ∷ ys) zero cost zero = refl
-outranks-costed (y ∷ ys) zero cost (suc k) = refl
-outranks-costed (y ∷ ys) (suc i) cost zero = refl
-outranks-costed (y ∷ ys) (suc i) cost (suc k) = outranks-costed ys i cost k
-
 pub must_outrank-costed : (U : List Task) (j cost i k : ℕ) → must_outrank (costed U j cost) i k ≡ must_outrank U i k
-must_outrank-costed U j cost i k = rw (name-costed U j cost k, outranks-costed U j cost i) refl
+must_outrank-costed U j cost i k =
+    rw (same-costed (λ (t : Task). t.name) cost (λ y. refl) U j k, same-costed (λ (t : Task). t.outranks) cost (λ y. refl) U j i) refl
 
 -- ---- the names of locks
 names-costed : (U : List Task) (i cost : ℕ) → names_in (costed U i cost) ≡ names_in U
