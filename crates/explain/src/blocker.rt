@@ -1,9 +1,9 @@
 //! The section that blocks a task longest.
-ghost use Rattle.std.specs.Prelude.{◌≡◌, ◌<◌, length, IfSome, IfNone};
+ghost use Rattle.std.specs.Prelude.{◌≡◌, ◌<◌, length, find, IfSome, IfNone};
 ghost use Rattle.task_sheet.specs.Sheet.{task_at};
 ghost use Rattle.task_sheet.specs.Indexes.{indexes_of};
 ghost use Rattle.ceilings.specs.IsTableOf.{IsTableOf};
-ghost use Rattle.explain.specs.Parts.{IsBlockerOf, reached_lock};
+ghost use Rattle.explain.specs.Parts.{IsBlockerOf, has_user, reached_lock};
 ghost use Rattle.explain.specs.Blockers.{HasNoneBefore, IsFirstOf};
 
 use blocking::blocking;
@@ -29,6 +29,27 @@ impl Model for Blocker {
     ghost view = { λ b. record { task = b.task; place = b.place; len = b.len; lock = b.lock } };
 }
 
+// Some member uses a lock.
+fn has_user(set: &TaskSet, table: &LockTable, lock: Name, members: Members) -> bool
+    requires { IsTableOf set.now table.now }
+    ensures { result ≡ has_user set.now (indexes_of members) lock }
+{
+    table.users(lock).meets(members)
+}
+
+// The first of some locks that some member uses.
+fn first_used(set: &TaskSet, table: &LockTable, locks: &[Name], members: Members) -> Option<Name>
+    requires { IsTableOf set.now table.now }
+    ensures { result ≡ find (has_user set.now (indexes_of members)) locks.now }
+{
+    for lock in locks {
+        if has_user(set, table, *lock, members) {
+            return Some(*lock);
+        }
+    }
+    None
+}
+
 // Of a section's locks the first as written that some member uses.
 fn reached_lock(
     set: &TaskSet,
@@ -39,12 +60,7 @@ fn reached_lock(
     requires { IsTableOf set.now table.now }
     ensures { result ≡ reached_lock set.now (indexes_of members) section.now }
 {
-    for lock in &section.locks {
-        if table.users(*lock).meets(members) {
-            return Some(*lock);
-        }
-    }
-    None
+    first_used(set, table, &section.locks, members)
 }
 
 // Of a task's sections that are this long the first that the members reach.
