@@ -240,6 +240,18 @@ module _ (U : List Task) (rs : List Release) (sorted : (i j : ℕ) → i ≤ j �
       ap (λ x. soon_after (slice_index_or last x None) time period) ei ∙ ap₂ (λ x y. soon_after (slice_index_or last (task_no k) None) x y) et ep in
       too_soon_is ∙ (sym a ∙ sym eb)
 
+  -- the same, where the sheet is read by a kept index
+  pub too_soon_read : (places : List ℕ) (sheets : List Task) (sheet : Task) (r : Release) (period : ℕ) (b : Bool) → places ≡ map (task_number U) rs → first_where (is_unknown U rs) (length rs) ≡ None
+      → sheets ≡ U → sheet ≡ get_or sheets (get_or places k 0) sheet → period ≡ sheet.period → b ≡ soon_after (slice_index_or last (get_or places k 0) None) (get_or rs k r).time period
+      → is_too_soon U (jobs_of U rs) k ≡ b
+  too_soon_read places sheets sheet r period b kept known same is ep eb =
+      let i : get_or places k 0 ≡ task_no k = place_is U rs places k kept lt in
+      let time : (get_or rs k r).time ≡ time_of k = ap (λ x. x.time) (get_or_default rs k r no_release lt) in
+      let read : sheet ≡ task_at U (task_no k) =
+      is ∙ (ap (λ (xs : List Task). get_or xs (get_or places k 0) sheet) same
+      ∙ (ap (λ z. get_or U z sheet) i ∙ get_or_default U (task_no k) sheet no_task (known_from U rs known k lt))) in
+      too_soon_at (get_or places k 0) (get_or rs k r).time period b i time (ep ∙ ap (λ (t : Task). t.period) read) eb
+
   pub last_next : (i time : ℕ) → i ≡ task_no k → time ≡ time_of k → task_no k < 32 → AreLast U rs (k + 1) (set last i (Some time))
   last_next i time ei et small = subst (λ x. AreLast U rs (k + 1) (set last x (Some time))) (sym ei) (subst (λ x. AreLast U rs (k + 1) (set last (task_no k) (Some x))) (sym et) (last_more small))
 

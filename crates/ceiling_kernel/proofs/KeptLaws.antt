@@ -281,6 +281,19 @@ module _ (node : Node) (jobs : List Job) (sound : IsSound node) (known : (j : �
             let ne : q.job ≢ p.job = λ same. other (sym m.own ∙ (ap task_no same ∙ mp.own)) in
             record { released = m.released; task = m.task; own = m.own; level = m.level; executed = m.executed ∙ sym (others_then q.job ne); active = m.active; unfinished = m.unfinished }
 
+        -- another job that isn't finished then is the pending one of its slot, whatever this slot has
+        other_complete : (v : Option Pending) (j : ℕ) → j ≢ p.job → come j ≡ true → done (t + k) j < cost_of j → (q : Pending) × (slot_of (set slots i v) (task_no j) ≡ Some q) × (q.job ≡ j)
+        other_complete v j ne lt left =
+            let s : done (t + k) j ≡ done t j = others_then j ne in
+            let was : (q : Pending) × (slot_of slots (task_no j) ≡ Some q) × (q.job ≡ j) = kept.complete j lt (omega arith) in
+            elim (cases_eq (task_no j) i) [
+              | inl same ↦
+                  let slot_j : slot_of slots i ≡ Some was.0 = subst (λ x. slot_of slots x ≡ Some was.0) same was.1 in
+                  let one : was.0 ≡ p = cc (slot, slot_j) in
+                  absurd (ne (sym was.2 ∙ ap (λ x. x.job) one))
+              | inr other ↦ (was.0, get_or-set_other slots i (task_no j) v None other ∙ was.1, was.2)
+            ]
+
         -- it isn't finished then
         pub kept_run : (p' : Pending) → p'.job ≡ p.job → p'.task ≡ p.task → p'.level ≡ p.level → p'.executed ≡ p.executed + k → p'.active ≡ active_at node i p'.executed → p.executed + k < (task_at node.tasks i).cost
             → Kept node jobs (t + k) come (set slots i (Some p'))
@@ -312,16 +325,7 @@ module _ (node : Node) (jobs : List Job) (sound : IsSound node) (known : (j : �
                 | inl same ↦
                     let here : task_no j ≡ i = ap task_no same ∙ m.own in
                     (p', subst (λ x. slot_of (set slots i (Some p')) x ≡ Some p') (sym here) (get_or-set_same slots i (Some p') None in_slots), job ∙ sym same)
-                | inr ne ↦
-                    let s : done (t + k) j ≡ done t j = others_then j ne in
-                    let was : (q : Pending) × (slot_of slots (task_no j) ≡ Some q) × (q.job ≡ j) = kept.complete j lt (omega arith) in
-                    elim (cases_eq (task_no j) i) [
-                      | inl same ↦
-                          let slot_j : slot_of slots i ≡ Some was.0 = subst (λ x. slot_of slots x ≡ Some was.0) same was.1 in
-                          let one : was.0 ≡ p = cc (slot, slot_j) in
-                          absurd (ne (sym was.2 ∙ ap (λ x. x.job) one))
-                      | inr other ↦ (was.0, get_or-set_other slots i (task_no j) (Some p') None other ∙ was.1, was.2)
-                    ]
+                | inr ne ↦ other_complete (Some p') j ne lt left
               ];
               no_overrun = kept.no_overrun;
             }
@@ -347,16 +351,7 @@ module _ (node : Node) (jobs : List Job) (sound : IsSound node) (known : (j : �
                     let o : done (t + k) p.job ≡ p.executed + k = own_then in
                     let c : cost_of p.job ≡ (task_at node.tasks i).cost = ap (λ x. (task_at node.tasks x).cost) m.own in
                     absurd (omega arith)
-                | inr ne ↦
-                    let s : done (t + k) j ≡ done t j = others_then j ne in
-                    let was : (q : Pending) × (slot_of slots (task_no j) ≡ Some q) × (q.job ≡ j) = kept.complete j lt (omega arith) in
-                    elim (cases_eq (task_no j) i) [
-                      | inl same ↦
-                          let slot_j : slot_of slots i ≡ Some was.0 = subst (λ x. slot_of slots x ≡ Some was.0) same was.1 in
-                          let one : was.0 ≡ p = cc (slot, slot_j) in
-                          absurd (ne (sym was.2 ∙ ap (λ x. x.job) one))
-                      | inr other ↦ (was.0, get_or-set_other slots i (task_no j) None None other ∙ was.1, was.2)
-                    ]
+                | inr ne ↦ other_complete None j ne lt left
               ];
               no_overrun = kept.no_overrun;
             }

@@ -87,6 +87,16 @@ fn first_too_soon(set: &TaskSet, releases: &[Release], places: &[usize]) -> Opti
     None
 }
 
+// The release is later than its task's jitter.
+fn is_too_late(set: &TaskSet, releases: &[Release], places: &[usize], k: usize) -> bool
+    requires known { first_where (is_unknown set.now releases.now) (length releases.now) ≡ None }
+    requires places { places.now ≡ map (task_number set.now) releases.now }
+    requires in_list { k < length releases.now }
+    ensures { result ≡ is_too_late set.now releases.now k }
+{
+    set.sheets()[places[k]].jitter() < releases[k].late
+}
+
 // The place, from 0, of the first release that is later than its task's jitter.
 fn first_too_late(set: &TaskSet, releases: &[Release], places: &[usize]) -> Option<usize>
     requires known { first_where (is_unknown set.now releases.now) (length releases.now) ≡ None }
@@ -94,9 +104,8 @@ fn first_too_late(set: &TaskSet, releases: &[Release], places: &[usize]) -> Opti
     ensures first { result ≡ first_where (is_too_late set.now releases.now) (length releases.now) }
     ensures in_list { IfSome result (λ k. k < length releases.now) }
 {
-    let sheets = set.sheets();
     for k in 0..releases.len() {
-        if sheets[places[k]].jitter() < releases[k].late {
+        if is_too_late(set, releases, places, k) {
             return Some(k);
         }
     }
