@@ -70,7 +70,10 @@ impl<W: Write + Drop> Page<'_, W> {
             (slice_text frame executed slice k row.now) }
     {
         self.put_bar(frame, slice, k, row)?;
-        self.put_darks(frame, executed, slice, k, row)
+        for section in row.sheet.sections() {
+            self.put_dark(frame, executed, slice, k, row, section)?;
+        }
+        Ok(())
     }
 
     // A slice in the row of the task of its job.

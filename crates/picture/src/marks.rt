@@ -4,7 +4,7 @@ ghost use Rattle.task_sheet.specs.declared.set.TheConstants.{TASK_LIMIT};
 ghost use Rattle.picture.specs.Puts.{Puts};
 ghost use Rattle.picture.specs.Rows.{on_row};
 ghost use Rattle.picture.specs.Elements.{arrival_text, ready_text, later_text, mark_text, mark_head};
-ghost use Rattle.picture.specs.Document.{marks_text, all_marks, each_mark};
+ghost use Rattle.picture.specs.Document.{marks_text, all_marks};
 
 use crate::frame::{Frame, top_of, x_after, x_of};
 use crate::page::Page;
@@ -132,24 +132,6 @@ impl<W: Write + Drop> Page<'_, W> {
         }
     }
 
-    // The marks of a kind.
-    fn put_each_mark(
-        &mut self,
-        frame: Frame,
-        rows: &[TaskRow],
-        mark: Mark,
-        releases: &[Release],
-    ) -> Result<(), WriteFailed>
-        requires { length rows.now ≤ TASK_LIMIT }
-        ensures { Puts W.contents self.old self.new result
-            (each_mark frame rows.now mark releases.now) }
-    {
-        for release in releases {
-            self.put_mark(frame, rows, mark, *release)?;
-        }
-        Ok(())
-    }
-
     // The marks of a kind, as one path.
     fn put_marks(
         &mut self,
@@ -163,7 +145,9 @@ impl<W: Write + Drop> Page<'_, W> {
             (marks_text frame rows.now mark releases.now) }
     {
         self.put_mark_head(mark)?;
-        self.put_each_mark(frame, rows, mark, releases)?;
+        for release in releases {
+            self.put_mark(frame, rows, mark, *release)?;
+        }
         self.put("\"/>\n")
     }
 

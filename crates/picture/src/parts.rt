@@ -4,7 +4,7 @@ ghost use Rattle.picture.specs.declared.frame.TheConstants.{RIGHTMOST};
 ghost use Rattle.task_sheet.specs.declared.set.TheConstants.{TASK_LIMIT};
 ghost use Rattle.picture.specs.Puts.{Puts};
 ghost use Rattle.picture.specs.Sections.{fits};
-ghost use Rattle.picture.specs.Elements.{names_text, label_head, label_text, part_head, part_end, part_text, dark_text, darks_text};
+ghost use Rattle.picture.specs.Elements.{names_text, label_head, label_text, part_head, part_end, part_text, dark_text};
 
 use crate::boxes::bar_of;
 use crate::frame::{Frame, top_of, x_after, x_of};
@@ -125,7 +125,7 @@ impl<W: Write + Drop> Page<'_, W> {
     }
 
     // The darker part of a slice for a section, if there is one.
-    fn put_dark(
+    pub(crate) fn put_dark(
         &mut self,
         frame: Frame,
         executed: u64,
@@ -147,24 +147,5 @@ impl<W: Write + Drop> Page<'_, W> {
         } else {
             Ok(())
         }
-    }
-
-    // The darker parts of a slice.
-    pub(crate) fn put_darks(
-        &mut self,
-        frame: Frame,
-        executed: u64,
-        slice: Slice,
-        k: usize,
-        row: &TaskRow,
-    ) -> Result<(), WriteFailed>
-        requires { k ≤ TASK_LIMIT }
-        ensures { Puts W.contents self.old self.new result
-            (darks_text frame executed slice k row.now row.now.sheet.sections) }
-    {
-        for section in row.sheet.sections() {
-            self.put_dark(frame, executed, slice, k, row, section)?;
-        }
-        Ok(())
     }
 }
