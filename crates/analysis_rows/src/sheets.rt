@@ -329,10 +329,7 @@ fn sets_by_rank(rt: HostRuntime) -> Result<(), Fail> {
 
 // Why bytes are no set, none where they are one.
 fn refusal_of(alloc: Global, bytes: &[u8]) -> Option<SetFault> {
-    match again!(read_set(alloc, bytes), SetFault::OutOfMemory) {
-        Ok(_) => None,
-        Err(fault) => Some(fault),
-    }
+    again!(read_set(alloc, bytes), SetFault::OutOfMemory).err()
 }
 
 #[test]

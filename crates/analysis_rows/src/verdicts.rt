@@ -79,7 +79,7 @@ fn verdict_at(alloc: Global, document: &str) -> Result<String, Fail> {
 }
 
 // A document and its verdict.
-const VERDICTS: [(&str, &str); 13] = [
+const VERDICTS: [(&str, &str); 20] = [
     ("", ""),
     (example_sets::FILLS_ITS_PERIOD, "x 1000;"),
     (example_sets::DEMAND_OF_THE_DEADLINE, "p 9000;q 5000;"),
@@ -111,19 +111,7 @@ const VERDICTS: [(&str, &str); 13] = [
         example_sets::BLOCKED_OUT_REPAIRED,
         "lo 14000 hi,1,12000;hi 4500;",
     ),
-];
-
-#[test]
-fn verdicts_of_the_examples(rt: HostRuntime) -> Result<(), Fail> {
-    for (document, want) in &VERDICTS {
-        let line = verdict_at(rt.alloc(), *document)?;
-        assert_eq!(rt; line.as_str(), *want, "at {document}");
-    }
-    Ok(())
-}
-
-// A document with tasks that must be outranked, and its verdict.
-const BOUND_VERDICTS: [(&str, &str); 7] = [
+    // Tasks that must stand above others.
     (
         example_sets::A_OVER_B,
         "c 20000 a over b b,1,11000,14000;b 6000 a over b;a 3000;",
@@ -154,8 +142,8 @@ const BOUND_VERDICTS: [(&str, &str); 7] = [
 ];
 
 #[test]
-fn verdicts_of_bound_tasks(rt: HostRuntime) -> Result<(), Fail> {
-    for (document, want) in &BOUND_VERDICTS {
+fn verdicts_of_the_examples(rt: HostRuntime) -> Result<(), Fail> {
+    for (document, want) in &VERDICTS {
         let line = verdict_at(rt.alloc(), *document)?;
         assert_eq!(rt; line.as_str(), *want, "at {document}");
     }

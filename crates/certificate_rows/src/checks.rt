@@ -36,155 +36,161 @@ fn checked(alloc: Global, document: &str, text: &str) -> Result<String, Fail> {
     Ok(line_of(alloc, check(&set, &certificate))?)
 }
 
-// A set, the lines of a certificate between its first and its last, and what the checker says of it.
-const OTHER_PEOPLES: [(&str, &str, &str); 15] = [
+// The lines of the best certificate of the three tasks between its first and its last.
+const BEST_OF_THREE: &str =
+    "best 3\nlevel 1 c 20000\nfails a 1 11000\nfails b 1 11000 14000\nlevel 2 a 6000\nlevel 3 b 3000\n";
+
+// A set, the version of a certificate and its lines between the first and the last, and what the checker says of it.
+const CHECKS: [(&str, u64, &str, &str); 29] = [
+    (example_sets::THREE_TASKS, 1, BEST_OF_THREE, "best"),
     (
         example_sets::THREE_TASKS,
-        "best 3\nlevel 1 c 20000\nfails a 1 11000\nfails b 1 11000 14000\nlevel 2 a 6000\nlevel 3 b 3000\n",
-        "best",
-    ),
-    (
-        example_sets::THREE_TASKS,
+        1,
         "best 3\nlevel 1 c 20000\nfails a 1 11000\nfails b 1 11000 14000\nlevel 2 b 6000\nlevel 3 a 3000\n",
         "MissingFail 2 a",
     ),
     (
         example_sets::THREE_TASKS,
+        1,
         "best 3\nlevel 1 c 19999\nfails a 1 11000\nfails b 1 11000 14000\nlevel 2 a 6000\nlevel 3 b 3000\n",
         "BadPass 1",
     ),
     (
         example_sets::THREE_TASKS,
+        1,
         "best 3\nlevel 1 c 9999999999\nfails a 1 11000\nfails b 1 11000 14000\nlevel 2 a 6000\nlevel 3 b 3000\n",
         "BadPass 1",
     ),
     (
         example_sets::THREE_TASKS,
+        1,
         "best 3\nlevel 1 c 20000\nfails a 1 11000\nfails b 1 11000 15000\nlevel 2 a 6000\nlevel 3 b 3000\n",
         "BadChain 1 b",
     ),
     (
         example_sets::THREE_TASKS,
+        1,
         "best 3\nlevel 1 c 20000\nfails a 1 9999999999\nfails b 1 11000 14000\nlevel 2 a 6000\nlevel 3 b 3000\n",
         "BadChain 1 a",
     ),
     (
         example_sets::THREE_TASKS,
+        1,
         "best 3\nlevel 1 d 20000\nfails a 1 11000\nfails b 1 11000 14000\nlevel 2 a 6000\nlevel 3 b 3000\n",
         "WrongTasks 0",
     ),
     (
         example_sets::THREE_TASKS,
+        1,
         "best 3\nlevel 1 c 20000\nfails b 1 11000 14000\nfails a 1 11000\nlevel 2 a 6000\nlevel 3 b 3000\n",
         "WrongTasks 1",
     ),
-    (example_sets::THREE_TASKS, "best 0\n", "WrongTasks 0"),
+    (example_sets::THREE_TASKS, 1, "best 0\n", "WrongTasks 0"),
     (
         example_sets::THREE_TASKS,
+        1,
         "best 3\nlevel 1 c 20000\nfails a 1 8000\nfails b 1 9000 14000\nlevel 2 a 6500\nlevel 3 b 3000\n",
         "best",
     ),
     (
         example_sets::BLOCKED_OUT,
+        1,
         "none 1\nmember hi 1 4500\n",
         "no order",
     ),
     (
         example_sets::BLOCKED_OUT,
+        1,
         "none 2\nmember hi 1 12000\nmember lo 1 12000 14000\n",
         "BadChain 0 lo",
     ),
-    (example_sets::BLOCKED_OUT, "none 0\n", "EmptySet"),
+    (example_sets::BLOCKED_OUT, 1, "none 0\n", "EmptySet"),
     (
         example_sets::THREE_TASKS_TOO_TIGHT,
+        1,
         "none 3\nmember c 1 11000 14000 17000 20000\nmember a 1 11000\nmember b 1 11000 14000\n",
         "no order",
     ),
-    ("", "best 0\n", "best"),
-];
-
-#[test]
-fn other_peoples_certificates(rt: HostRuntime) -> Result<(), Fail> {
-    for (document, body, want) in OTHER_PEOPLES {
-        let text = format!(in rt.alloc(); "desk-certificate 1\n{body}end\n")?;
-        let said = checked(rt.alloc(), document, text.as_str())?;
-        assert_eq!(rt; said.as_str(), want, "at {body}");
-    }
-    Ok(())
-}
-
-// A set, a certificate without its last line, and what the checker says of it.
-const BOUND: [(&str, &str, &str); 8] = [
+    ("", 1, "best 0\n", "best"),
+    // Tasks that must stand above others.
     (
         example_sets::A_OVER_B,
-        "desk-certificate 2\nbest 3\nlevel 1 c 20000\nfails a over b\nfails b 1 11000 14000\nlevel 2 b 6000\nfails a over b\nlevel 3 a 3000\n",
+        2,
+        "best 3\nlevel 1 c 20000\nfails a over b\nfails b 1 11000 14000\nlevel 2 b 6000\nfails a over b\nlevel 3 a 3000\n",
         "best",
     ),
     (
         example_sets::A_OVER_B,
-        "desk-certificate 2\nbest 3\nlevel 1 c 20000\nfails a 1 11000\nfails b 1 11000 14000\nlevel 2 b 6000\nfails a over b\nlevel 3 a 3000\n",
+        2,
+        "best 3\nlevel 1 c 20000\nfails a 1 11000\nfails b 1 11000 14000\nlevel 2 b 6000\nfails a over b\nlevel 3 a 3000\n",
         "best",
     ),
     (
         example_sets::A_OVER_B,
-        "desk-certificate 2\nbest 3\nlevel 1 c 20000\nfails a over b\nfails b 1 11000 14000\nlevel 2 a 6000\nlevel 3 b 3000\n",
+        2,
+        "best 3\nlevel 1 c 20000\nfails a over b\nfails b 1 11000 14000\nlevel 2 a 6000\nlevel 3 b 3000\n",
         "BadPass 2",
     ),
     (
         example_sets::A_OVER_B,
-        "desk-certificate 2\nbest 3\nlevel 1 c 20000\nfails a over c\nfails b 1 11000 14000\nlevel 2 b 6000\nfails a over b\nlevel 3 a 3000\n",
+        2,
+        "best 3\nlevel 1 c 20000\nfails a over c\nfails b 1 11000 14000\nlevel 2 b 6000\nfails a over b\nlevel 3 a 3000\n",
         "BadChain 1 a",
     ),
     (
         example_sets::A_OVER_B,
-        "desk-certificate 2\nbest 3\nlevel 1 c 20000\nfails a over z\nfails b 1 11000 14000\nlevel 2 b 6000\nfails a over b\nlevel 3 a 3000\n",
+        2,
+        "best 3\nlevel 1 c 20000\nfails a over z\nfails b 1 11000 14000\nlevel 2 b 6000\nfails a over b\nlevel 3 a 3000\n",
         "BadChain 1 a",
     ),
     (
         example_sets::A_OVER_B,
-        "desk-certificate 1\nbest 3\nlevel 1 c 20000\nfails a 1 11000\nfails b 1 11000 14000\nlevel 2 b 6000\nfails a 1 11000\nlevel 3 a 3000\n",
+        1,
+        "best 3\nlevel 1 c 20000\nfails a 1 11000\nfails b 1 11000 14000\nlevel 2 b 6000\nfails a 1 11000\nlevel 3 a 3000\n",
         "WrongVersion",
     ),
     (
         example_sets::A_OVER_B_OVER_A,
-        "desk-certificate 2\nnone 2\nmember a over b\nmember b over a\n",
+        2,
+        "none 2\nmember a over b\nmember b over a\n",
         "no order",
     ),
     (
         example_sets::A_OVER_B_OVER_A,
-        "desk-certificate 2\nnone 1\nmember a over b\n",
+        2,
+        "none 1\nmember a over b\n",
         "BadChain 0 a",
+    ),
+    // Versions of the best certificate of the three tasks.
+    (example_sets::A_OVER_Z, 1, BEST_OF_THREE, "best"),
+    (example_sets::THREE_TASKS, 2, BEST_OF_THREE, "best"),
+    (
+        example_sets::THREE_TASKS_LATE,
+        1,
+        BEST_OF_THREE,
+        "WrongVersion",
+    ),
+    (example_sets::THREE_TASKS_LATE, 2, BEST_OF_THREE, "best"),
+    (
+        example_sets::THREE_TASKS_TOO_LATE,
+        1,
+        BEST_OF_THREE,
+        "WrongVersion",
+    ),
+    (
+        example_sets::THREE_TASKS_TOO_LATE,
+        2,
+        BEST_OF_THREE,
+        "BadPass 1",
     ),
 ];
 
 #[test]
-fn certificates_of_bound_tasks(rt: HostRuntime) -> Result<(), Fail> {
-    for (document, head, want) in BOUND {
-        let text = format!(in rt.alloc(); "{head}end\n")?;
-        let said = checked(rt.alloc(), document, text.as_str())?;
-        assert_eq!(rt; said.as_str(), want, "at {head}");
-    }
-    Ok(())
-}
-
-// A set, the version of the best certificate of the three tasks, and what the checker says of it.
-const VERSIONS: [(&str, &str, &str); 7] = [
-    (example_sets::A_OVER_Z, "1", "best"),
-    (example_sets::THREE_TASKS, "1", "best"),
-    (example_sets::THREE_TASKS, "2", "best"),
-    (example_sets::THREE_TASKS_LATE, "1", "WrongVersion"),
-    (example_sets::THREE_TASKS_LATE, "2", "best"),
-    (example_sets::THREE_TASKS_TOO_LATE, "1", "WrongVersion"),
-    (example_sets::THREE_TASKS_TOO_LATE, "2", "BadPass 1"),
-];
-
-#[test]
-fn versions_of_certificates(rt: HostRuntime) -> Result<(), Fail> {
-    let (_, body, _) = OTHER_PEOPLES[0];
-    for (document, version, want) in VERSIONS {
+fn checks_of_certificates(rt: HostRuntime) -> Result<(), Fail> {
+    for (document, version, body, want) in CHECKS {
         let text = format!(in rt.alloc(); "desk-certificate {version}\n{body}end\n")?;
         let said = checked(rt.alloc(), document, text.as_str())?;
-        assert_eq!(rt; said.as_str(), want, "at {version}");
+        assert_eq!(rt; said.as_str(), want, "at {version}, {body}");
     }
     Ok(())
 }

@@ -6,7 +6,13 @@ use std::alloc::Global;
 use std::test::Fail;
 use streams::Watched;
 
-const THREE_TASKS: &str = "desk-certificate 1
+// The best certificate of the three tasks, of a version.
+macro_rules! best_of_three {
+    ($version:literal) => {
+        concat!(
+            "desk-certificate ",
+            $version,
+            "
 best 3
 level 1 c 20000
 fails a 1 11000
@@ -14,17 +20,14 @@ fails b 1 11000 14000
 level 2 a 6000
 level 3 b 3000
 end
-";
+"
+        )
+    };
+}
 
-const THREE_TASKS_LATE: &str = "desk-certificate 2
-best 3
-level 1 c 20000
-fails a 1 11000
-fails b 1 11000 14000
-level 2 a 6000
-level 3 b 3000
-end
-";
+const THREE_TASKS: &str = best_of_three!("1");
+
+const THREE_TASKS_LATE: &str = best_of_three!("2");
 
 const BLOCKED_OUT: &str = "desk-certificate 1
 none 1
@@ -136,10 +139,7 @@ fn own_certificates(rt: HostRuntime) -> Result<(), Fail> {
 
 // Why bytes are no certificate, none where they are one.
 fn fault_of(alloc: Global, bytes: &[u8]) -> Option<CertFault> {
-    match again!(read(alloc, bytes), CertFault::OutOfMemory) {
-        Ok(_) => None,
-        Err(fault) => Some(fault),
-    }
+    again!(read(alloc, bytes), CertFault::OutOfMemory).err()
 }
 
 #[test]
