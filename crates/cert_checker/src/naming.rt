@@ -43,10 +43,7 @@ pub fn tasks_of(set: &TaskSet, fails: &[CertFail]) -> Option<Members>
 {
     let mut seen = Members::empty();
     for fail in fails {
-        match see(set, seen, fail.name) {
-            Some(more) => seen = more,
-            None => return None,
-        }
+        seen = see(set, seen, fail.name)?;
     }
     Some(seen)
 }
@@ -60,10 +57,7 @@ fn order_of(set: &TaskSet, levels: &[CertLevel]) -> Option<Members>
 {
     let mut seen = Members::empty();
     for level in levels {
-        match see(set, seen, level.name) {
-            Some(more) => seen = more,
-            None => return None,
-        }
+        seen = see(set, seen, level.name)?;
     }
     Some(seen)
 }

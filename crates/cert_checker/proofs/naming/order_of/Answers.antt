@@ -15,9 +15,9 @@ loop-level-preserved c =
     let cs = c.args.levels.now in
     let i = c.loop-level.level-index in
     let here = levels-at U cs i c.level-item.result c.loop-level-test.true c.level-item.is in
-    let told = rw c.in-Some.is at c.see.ensures in
+    let told = rw c.in_ok-seen.was at c.see.ensures in
     let named = ap (λ x. x.name) c.level.view_is in
-    seen-step U (indexes_of c.loop-level.seen) (indexes_of c.in-Some.more) c.level-item.result.name c.level.inside.name (order_of (levels_of U (drop i cs))) (order_of (levels_of U (drop (i + 1) cs))) (order_of (levels_of U cs))
+    seen-step U (indexes_of c.loop-level.seen) (indexes_of c.in_ok-seen.seen) c.level-item.result.name c.level.inside.name (order_of (levels_of U (drop i cs))) (order_of (levels_of U (drop (i + 1) cs))) (order_of (levels_of U cs))
     named here told.0 told.1 c.loop-level.invariant
 
 pub returns : goal.returns

@@ -15,9 +15,9 @@ loop-fail-preserved c =
     let cs = c.args.fails.now in
     let i = c.loop-fail.fail-index in
     let here = fails-at U cs i c.fail-item.result c.loop-fail-test.true c.fail-item.is in
-    let told = rw c.in-Some.is at c.see.ensures in
+    let told = rw c.in_ok-seen.was at c.see.ensures in
     let named = ap (λ x. x.name) c.fail.view_is in
-    seen-step U (indexes_of c.loop-fail.seen) (indexes_of c.in-Some.more) c.fail-item.result.name c.fail.inside.name (tasks_of (failures_of U (drop i cs))) (tasks_of (failures_of U (drop (i + 1) cs))) (tasks_of (failures_of U cs))
+    seen-step U (indexes_of c.loop-fail.seen) (indexes_of c.in_ok-seen.seen) c.fail-item.result.name c.fail.inside.name (tasks_of (failures_of U (drop i cs))) (tasks_of (failures_of U (drop (i + 1) cs))) (tasks_of (failures_of U cs))
     named here told.0 told.1 c.loop-fail.invariant
 
 pub returns : goal.returns
