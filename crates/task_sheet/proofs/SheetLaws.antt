@@ -19,35 +19,17 @@ repeats_step xs i d b h same e =
 -- ---- a valid sheet has no fault
 
 section_valid : (place from cost : ℕ) (x : CriticalSection) → IsSection from cost x → section_fault place from cost x ≡ None
-section_valid place from cost x h =
-    let distinct = h.distinct in
-    let some = h.some in
-    let few = h.few in
-    let runs = h.runs in
-    let apart = h.apart in
-    let within = h.within in
-    grind (arith, nat_tests)
+section_valid place from cost x h = grind (arith, nat_tests, h.distinct, h.some, h.few, h.runs, h.apart, h.within)
 
 sections_valid : (place from cost : ℕ) (xs : List CriticalSection) → AreSections from cost xs → sections_fault place from cost xs ≡ None
 sections_valid place from cost [] h = refl
 sections_valid place from cost (x ∷ xs) h = rw (section_valid place from cost x h.0) (sections_valid (place + 1) (x.at + x.len) cost xs h.1)
 
 numbers_valid : (s : Task) → IsValidSheet s → numbers_fault s.weight s.period s.deadline s.cost ≡ None
-numbers_valid s h =
-    let weight = h.weight in
-    let period_from = h.period_from in
-    let period_to = h.period_to in
-    let deadline_from = h.deadline_from in
-    let deadline_to = h.deadline_to in
-    let cost_from = h.cost_from in
-    let cost_to = h.cost_to in
-    grind (arith, nat_tests)
+numbers_valid s h = grind (arith, nat_tests, h.weight, h.period_from, h.period_to, h.deadline_from, h.deadline_to, h.cost_from, h.cost_to)
 
 list_valid : (s : Task) → IsValidSheet s → list_fault s.cost s.sections ≡ None
-list_valid s h =
-    let few = h.few in
-    let none = sections_valid 1 0 s.cost s.sections h.sections in
-    grind (arith, nat_tests)
+list_valid s h = grind (arith, nat_tests, h.few, sections_valid 1 0 s.cost s.sections h.sections)
 
 pub sheet_valid : (s : Task) → IsValidSheet s → sheet_fault s ≡ None
 sheet_valid s h = rw (numbers_valid s h, list_valid s h)
@@ -56,11 +38,7 @@ pub never_valid : (s : Task) (c : SheetCause) → sheet_fault s ≡ Some c → I
 never_valid s c h valid = let none = sheet_valid s valid in cc
 
 outranks_valid : (own : List ℕ) (names : List (List ℕ)) → AreOutranked own names → outranks_fault own names ≡ None
-outranks_valid own names h =
-    let few = h.few in
-    let distinct = h.distinct in
-    let others = h.others in
-    grind (arith, nat_tests)
+outranks_valid own names h = grind (arith, nat_tests, h.few, h.distinct, h.others)
 
 pub never_outranked : (own : List ℕ) (names : List (List ℕ)) (c : OutranksCause) → outranks_fault own names ≡ Some c → AreOutranked own names → ⊥
 never_outranked own names c h valid = let none = outranks_valid own names valid in cc

@@ -33,21 +33,18 @@ same_cons e = (cc, cc)
 
 AllFailures-one : (U : List Task) (L : Indexes) (fails others : List FailureData) → tasks_of fails ≡ tasks_of others → AllFailures U L fails
     → AllFailures U L others → fails ≡ others
-AllFailures-one U L [] [] same h g = refl
-AllFailures-one U L [] (g ∷ gs) same h h' = cc
-AllFailures-one U L (f ∷ fs) [] same h h' = cc
+AllFailures-one U L [] [] same h h' = refl
 AllFailures-one U L (f ∷ fs) (g ∷ gs) same h h' =
     let heads = same_cons same in
     let reason = subst (λ i. IsFailure U L (record { task = i; reason = g.reason })) (sym heads.0) h'.0 in
     let first = same_failure f g heads.0 (IsReason-one U f.task (without_index L f.task) f.reason g.reason h.0 reason) in
     let rest = AllFailures-one U L fs gs heads.1 h.1 h'.1 in
     λ i. first i ∷ rest i
+AllFailures-one U L fails others same h h' = cc
 
 AllLevels-one : (U : List Task) (L : Indexes) (levels others : List LevelData) → order_of levels ≡ order_of others → AllLevels U L levels
     → AllLevels U L others → levels ≡ others
-AllLevels-one U L [] [] same h g = refl
-AllLevels-one U L [] (m ∷ ms) same h h' = cc
-AllLevels-one U L (l ∷ ls) [] same h h' = cc
+AllLevels-one U L [] [] same h h' = refl
 AllLevels-one U L (l ∷ ls) (m ∷ ms) same h h' =
     let heads = same_cons same in
     let response = subst (λ i. IsResponseOf U i (without_index L i) m.response) (sym heads.0) h'.0.response in
@@ -55,6 +52,7 @@ AllLevels-one U L (l ∷ ls) (m ∷ ms) same h h' =
     let first = same_level l m heads.0 (IsResponseOf-one U l.task (without_index L l.task) l.response m.response h.0.response response) fails in
     let rest = AllLevels-one U (without_index L l.task) ls ms heads.1 h.1 (subst (λ i. AllLevels U (without_index L i) ms) (sym heads.0) h'.1) in
     λ i. first i ∷ rest i
+AllLevels-one U L levels others same h h' = cc
 
 pub IsStuck-one : (U : List Task) (members others : List FailureData) → IsStuck U members → IsStuck U others → members ≡ others
 IsStuck-one U members others h h' =

@@ -23,9 +23,7 @@ loop-i-preserved c = elim c.match-as_table.branch [
         read = rw (bad, sections) (read_more c.args.task (tables_in (items_view c.args.items.now)) (c.loop-i.i + 1) (table_view w.in-Some.table.now) _ c.loop-i.read.sections.items c.loop-i.read.bad w.in_ok-section.section
             (rw rest at c.loop-i.invariant.read) none is);
       }
-  | in_default w ↦
-      let other : None ≡ as_table (view c.index-items-i.result) = search rules in
-      absurd (never_other c.args.items.now c.loop-i.i c.index-items-i.result c.loop-i-test.true c.index-items-i.is c.loop-i.invariant.tables other)
+  | in_default w ↦ absurd (never_other c.args.items.now c.loop-i.i c.index-items-i.result c.loop-i-test.true c.index-items-i.is c.loop-i.invariant.tables w.in_default.ensures)
 ]
 
 pub returns-in_err-section-clause-err : goal.returns-in_err-section-clause-err
