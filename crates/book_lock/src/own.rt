@@ -3,7 +3,7 @@
 ghost use Rattle.std.specs.Prelude.{◌≡◌, ◌≤◌, [], ◌∷◌, ◌++◌, length, if◌then◌else◌, IfOk};
 ghost use Rattle.std.specs.List.{insert};
 ghost use Rattle.std.specs.Ordering.{is_lt};
-ghost use Rattle.task_sheet.specs.TaskSet.{rank_cmp, others_of};
+ghost use Rattle.task_sheet.specs.TaskSet.{rank_cmp};
 ghost use Rattle.drafts.specs.Rulings.{ruling_of};
 ghost use Rattle.book_lock.specs.Passes.{own_after};
 ghost use Rattle.book_lock.specs.Own.{own_of, IsRanked, ranked_in, own_change, own_changes};
@@ -11,7 +11,7 @@ ghost use Rattle.book_lock.specs.Own.{own_of, IsRanked, ranked_in, own_change, o
 use drafts::{Change, Decision, Draft, NodeState, Team};
 use std::alloc::{AllocError, Global};
 use std::marker::Model;
-use task_sheet::{Name, Sheet};
+use task_sheet::{Name, Sheet, copy_others, copy_sheets};
 
 /// A team's own tasks, by rank.
 #[derive(Drop)]
@@ -52,17 +52,6 @@ fn place_of(own: &[Sheet], sheet: &Sheet) -> usize
     own.len()
 }
 
-// Sheets that say the same.
-fn copy_sheets(alloc: Global, sheets: &[Sheet]) -> Result<Vec<Sheet>, AllocError>
-    ensures { IfOk result (λ v. v.items ≡ sheets.now) }
-{
-    let mut copies = Vec::new(alloc);
-    for sheet in sheets {
-        copies.push(sheet.copy(alloc)?)?;
-    }
-    Ok(copies)
-}
-
 // Adds a sheet that says the same, where it is wanted.
 fn add_if(
     alloc: Global,
@@ -78,19 +67,6 @@ fn add_if(
         sheets.push(sheet.copy(alloc)?)?;
     }
     Ok(())
-}
-
-// Sheets that say the same as those that have another name.
-fn copy_others(alloc: Global, sheets: &[Sheet], name: Name) -> Result<Vec<Sheet>, AllocError>
-    ensures { IfOk result (λ v. v.items ≡ others_of sheets.now name) }
-{
-    let mut others = Vec::new(alloc);
-    for sheet in sheets {
-        if sheet.name() != name {
-            others.push(sheet.copy(alloc)?)?;
-        }
-    }
-    Ok(others)
 }
 
 // Puts a sheet in by its rank.

@@ -1,18 +1,15 @@
 -- The certificate of a verdict is accepted.
-use Rattle.std.proofs.Common.{◌≡◌, ℕ, zero, suc, ◌+◌, ◌<◌, ◌≤◌, Bool, true, false, cond, nat_lt, List, [], ◌∷◌, length, Some, None, refl, sym, ◌∙◌, ap, subst, arith}
+use Rattle.std.proofs.Common.{◌≡◌, ℕ, ◌+◌, ◌<◌, ◌≤◌, true, cond, nat_lt, List, [], ◌∷◌, length, Some, None, refl, sym, ◌∙◌, ap, subst, arith}
 use Rattle.std.specs.Prelude.{unwrap_or}
-use Rattle.std.specs.List.{AllByRecursion, position_or_len}
-use Rattle.std.specs.Cmp.Lexicographic.{nat_list_eq_equiv}
+use Rattle.std.specs.List.{AllByRecursion}
 use Rattle.std.proofs.lemmas.Bool.{lt-ltb, ltb-true}
-use Rattle.std.proofs.lemmas.List.Elements.{All-from_recursion}
-use Rattle.std.proofs.lemmas.List.Sums.{position_or_len_is}
-use Rattle.task_sheet.specs.Sheet.{Task, no_task, task_at, same_bytes}
-use Rattle.task_sheet.specs.TaskSet.{IsTaskSet, AreDistinct, same_name}
+use Rattle.task_sheet.specs.Sheet.{Task, task_at}
+use Rattle.task_sheet.specs.TaskSet.{IsTaskSet}
 use Rattle.task_sheet.specs.Indexes.{Indexes, IsPart, among, without_index}
 use Rattle.task_sheet.specs.Orders.{all_of, IsOrderOf}
 use Rattle.task_sheet.specs.Verdicts.{ReasonData, Chain, Over, FailureData, LevelData, VerdictData, Admitted, Infeasible, tasks_of, order_of, IsVerdictOf}
 use Rattle.task_sheet.specs.Ready.{time_of, AllReady, IsReadyOrder, IsReadySet}
-use Rattle.task_sheet.proofs.TaskLaws.{AllTasks-from_set}
+use Rattle.task_sheet.proofs.TaskLaws.{AllTasks-from_set, place_of_name}
 use Rattle.task_sheet.proofs.IndexLaws.{IsOrderOf-head, IsOrderOf-rest, without-part_of, order-below}
 use Rattle.task_sheet.proofs.VerdictLaws.{IsBestOrder-ready, IsStuck-ready}
 use Rattle.certificate.specs.CertificateOf.{reason_named, fails_named, levels_named, body_named, certificate_of, IsKnownReason, IsKnownFail}
@@ -26,13 +23,6 @@ use Rattle.cert_checker.specs.Answers.{kind_of, kind_of_verdict, IsAccepted}
 use Rattle.cert_checker.proofs.ReadyLaws.{none-from_ready}
 
 -- ---- the names of a set are those of its tasks
-distinct-names : (U : List Task) → AreDistinct same_name U → (j k : ℕ) → j < k → k < length U → same_bytes (task_at U j).name (task_at U k).name ≡ false
-distinct-names [] d j k lt within = absurd (omega arith)
-distinct-names (x ∷ xs) d zero zero lt within = absurd (omega arith)
-distinct-names (x ∷ xs) d zero (suc k) lt within = All-from_recursion (λ y. same_name x y ≡ false) xs d.0 k no_task (omega arith)
-distinct-names (x ∷ xs) d (suc j) zero lt within = absurd (omega arith)
-distinct-names (x ∷ xs) d (suc j) (suc k) lt within = distinct-names xs d.1 j k (omega arith) (omega arith)
-
 -- each version serves the sets that need it
 serves-own : (version : CertVersion) → may_serve version version ≡ true
 serves-own First = refl
@@ -45,8 +35,7 @@ response-own U l positive = omega (arith, positive)
 module _ (U : List Task) (set : IsTaskSet U) where
   pub task-own : (k : ℕ) → k < length U → task_by_name U (task_at U k).name ≡ k
   task-own k lt =
-      let p : Task → Bool = λ s. same_bytes s.name (task_at U k).name in
-      let at : position_or_len p U ≡ k = position_or_len_is p U k no_task (omega arith) (λ j below. distinct-names U set.distinct j k below lt) (λ _. nat_list_eq_equiv.refl (task_at U k).name) in
+      let at = place_of_name U set.distinct k lt in
       let found : nat_lt k (length U) ≡ true = lt-ltb k (length U) lt in
       ap (λ (m : ℕ). unwrap_or (cond (nat_lt m (length U)) (Some m) None) (length U)) at ∙ rw found refl
 

@@ -3,6 +3,7 @@ use Rattle.std.specs.Prelude.{ℕ, zero, suc, ◌+◌, Bool, false, ◌&&◌, �
 use Rattle.std.specs.List.{list_any}
 use Rattle.std.specs.FinSet as set
 use Rattle.std.specs.Ordering.{nat_cmp}
+use Rattle.task_sheet.specs.declared.set.TheConstants.{TASK_LIMIT}
 
 -- a set of indexes, by which indexes are in it
 abbrev pub Indexes : Type 0
@@ -61,6 +62,6 @@ abbrev pub some_below : ℕ → (ℕ → Bool) → Bool
 some_below zero p = false
 some_below (suc n) p = some_below n p || p n
 
--- the two have an index below 32 in common
+-- the two have an index in common that a task may have
 unfoldable pub meet : Indexes → Indexes → Bool
-meet G H = some_below 32 (λ k. G k && H k)
+meet G H = some_below TASK_LIMIT (λ k. G k && H k)

@@ -3,6 +3,7 @@ use Rattle.std.specs.Prelude.{◌≡◌, ℕ, ◌+◌, ◌<◌, ◌≤◌, Bool,
 use Rattle.std.specs.List.{list_any}
 use Rattle.std.specs.Cmp.Lexicographic.{pointwise}
 use Rattle.task_sheet.specs.Name.{IsName}
+use Rattle.task_sheet.specs.declared.sheet.TheConstants.{WEIGHT_LIMIT, PERIOD_FROM, PERIOD_TO, SECTION_LIMIT, LOCK_LIMIT, OUTRANKS_LIMIT}
 
 -- a critical section: the locks that it holds, where it begins, and how long it is
 pub record CriticalSection : Type 0 where
@@ -61,7 +62,7 @@ repeats (n ∷ ns) = list_any (λ m. same_bytes m n) ns || repeats ns
 pub record IsSection (from cost : ℕ) (x : CriticalSection) : Type 0 where
   pub named : All IsName x.locks
   pub some : 0 < length x.locks
-  pub few : length x.locks ≤ 4
+  pub few : length x.locks ≤ LOCK_LIMIT
   pub distinct : repeats x.locks ≡ false
   pub runs : 0 < x.len
   pub apart : from ≤ x.at
@@ -75,21 +76,21 @@ AreSections from cost (x ∷ xs) = IsSection from cost x × AreSections (x.at + 
 -- at most 8 distinct names of tasks above which a task must stand, none of them its own
 pub record AreOutranked (own : List ℕ) (names : List (List ℕ)) : Type 0 where
   pub named : All IsName names
-  pub few : length names ≤ 8
+  pub few : length names ≤ OUTRANKS_LIMIT
   pub distinct : repeats names ≡ false
   pub others : list_any (λ n. same_bytes n own) names ≡ false
 
 -- a valid sheet: its names are names, and its numbers and sections are within the limits
 pub record IsValidSheet (s : Task) : Type 0 where
   pub named : IsName s.name
-  pub weight : s.weight ≤ 1000
-  pub period_from : 1000 ≤ s.period
-  pub period_to : s.period ≤ 10000000
+  pub weight : s.weight ≤ WEIGHT_LIMIT
+  pub period_from : PERIOD_FROM ≤ s.period
+  pub period_to : s.period ≤ PERIOD_TO
   pub deadline_from : 0 < s.deadline
   pub deadline_to : s.deadline ≤ s.period
   pub cost_from : 0 < s.cost
   pub cost_to : s.cost ≤ s.period
-  pub few : length s.sections ≤ 8
+  pub few : length s.sections ≤ SECTION_LIMIT
   pub sections : AreSections 0 s.cost s.sections
   pub jitter : s.jitter < s.deadline
   pub outranked : AreOutranked s.name s.outranks

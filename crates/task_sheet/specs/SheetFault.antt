@@ -3,6 +3,7 @@ use Rattle.std.specs.Prelude.{ℕ, ◌+◌, ◌||◌, nat_lt, ◌==◌, List, []
 use Rattle.std.specs.Option.{option_or}
 use Rattle.std.specs.List.{list_any}
 use Rattle.task_sheet.specs.Sheet.{CriticalSection, Task, repeats, same_bytes}
+use Rattle.task_sheet.specs.declared.sheet.TheConstants.{WEIGHT_LIMIT, PERIOD_FROM, PERIOD_TO, SECTION_LIMIT, LOCK_LIMIT, OUTRANKS_LIMIT}
 use Rattle.task_sheet.specs.declared.sheet.SheetCause.{SheetCause}
 use Rattle.task_sheet.specs.declared.sheet.SheetCause.TheVariants as cause
 use Rattle.task_sheet.specs.declared.sheet.OutranksCause.{OutranksCause}
@@ -12,7 +13,7 @@ use Rattle.task_sheet.specs.declared.sheet.OutranksCause.TheVariants as outranks
 abbrev pub section_fault : (place from cost : ℕ) → CriticalSection → Option SheetCause
 section_fault place from cost x =
     if length x.locks == 0 then Some (cause.NoLocks place)
-    else if nat_lt 4 (length x.locks) then Some (cause.TooManyLocks place)
+    else if nat_lt LOCK_LIMIT (length x.locks) then Some (cause.TooManyLocks place)
     else if repeats x.locks then Some (cause.LockTwice place)
     else if x.len == 0 then Some (cause.LenZero place)
     else if nat_lt x.at from then Some (cause.Overlap place)
@@ -28,8 +29,8 @@ sections_fault place from cost (x ∷ xs) =
 -- the first fault of the numbers
 abbrev pub numbers_fault : (weight period deadline cost : ℕ) → Option SheetCause
 numbers_fault weight period deadline cost =
-    if nat_lt 1000 weight then Some cause.BadWeight
-    else if nat_lt period 1000 || nat_lt 10000000 period then Some cause.BadPeriod
+    if nat_lt WEIGHT_LIMIT weight then Some cause.BadWeight
+    else if nat_lt period PERIOD_FROM || nat_lt PERIOD_TO period then Some cause.BadPeriod
     else if deadline == 0 then Some cause.DeadlineZero
     else if nat_lt period deadline then Some cause.DeadlinePastPeriod
     else if cost == 0 then Some cause.CostZero
@@ -39,7 +40,7 @@ numbers_fault weight period deadline cost =
 -- the first fault of the list of sections
 abbrev pub list_fault : (cost : ℕ) → List CriticalSection → Option SheetCause
 list_fault cost xs =
-    if nat_lt 8 (length xs) then Some cause.TooManySections else sections_fault 1 0 cost xs
+    if nat_lt SECTION_LIMIT (length xs) then Some cause.TooManySections else sections_fault 1 0 cost xs
 
 -- the first reason why the values are no sheet
 abbrev pub sheet_fault : Task → Option SheetCause
@@ -49,7 +50,7 @@ sheet_fault s =
 -- the first reason why the task of a name can't be one that must stand above the tasks of these names
 abbrev pub outranks_fault : (own : List ℕ) → List (List ℕ) → Option OutranksCause
 outranks_fault own names =
-    if nat_lt 8 (length names) then Some outranks.TooManyOutranks
+    if nat_lt OUTRANKS_LIMIT (length names) then Some outranks.TooManyOutranks
     else if repeats names then Some outranks.OutranksTwice
     else if list_any (λ n. same_bytes n own) names then Some outranks.OutranksSelf
     else None

@@ -6,6 +6,7 @@ use Rattle.std.specs.Ordering.{nat_cmp, ordering_then}
 use Rattle.std.specs.Cmp.Lexicographic.{slice_cmp}
 use Rattle.std.specs.declared.cmp.Ordering.{Ordering}
 use Rattle.task_sheet.specs.Sheet.{Task, IsValidSheet, same_bytes}
+use Rattle.task_sheet.specs.declared.set.TheConstants.{TASK_LIMIT}
 
 -- by weight, then by the bytes of the name
 abbrev pub rank_cmp : Task → Task → Ordering
@@ -25,7 +26,7 @@ pub record IsTaskSet (xs : List Task) : Type 0 where
   pub valid : All IsValidSheet xs
   pub ranked : IsStrictlySortedBy rank_cmp xs
   pub distinct : AreDistinct same_name xs
-  pub few : length xs ≤ 32
+  pub few : length xs ≤ TASK_LIMIT
 
 -- the same sheets, by rank; there is one such list
 pub record IsByRank (xs ys : List Task) : Type 0 where

@@ -3,6 +3,7 @@
 ghost use Rattle.std.specs.Prelude.{◌≡◌, ◌≤◌, ◌<◌, ◌+◌, ◌↔◌, ◌⊎◌, ℕ, List, length, Some, None, IsTrue, IsFalse};
 ghost use Rattle.std.specs.Int.{div_ceil};
 ghost use Rattle.task_sheet.specs.Sheet.{Task, CriticalSection, AllTasks, task_at};
+ghost use Rattle.task_sheet.specs.declared.sheet.TheConstants.{PERIOD_TO};
 ghost use Rattle.std.specs.List.Sorted.{IsPermutation};
 ghost use Rattle.task_sheet.specs.TaskSet.{IsTaskSet, IsByRank};
 ghost use Rattle.task_sheet.specs.Indexes.{Indexes, IsPart, with_index, either_of, listed_below};
@@ -59,7 +60,7 @@ pub fn exchange()
 /// Within the longest period, the demand of a valid set is under 1000 seconds.
 pub fn demand_fits()
     ensures { (U : List Task) (i : ℕ) (H : Indexes) (t : ℕ) → IsTaskSet U → i < length U
-        → t ≤ 10000000
+        → t ≤ PERIOD_TO
         → demand_of U i H t < 1000000000 }
 {}
 

@@ -2,6 +2,7 @@
 ghost use Rattle.std.specs.Prelude.{◌≡◌, ◌≢◌, ◌==◌, ◌↔◌, ℕ, ◌+◌, ◌<◌, ◌≤◌, List, [], ◌∷◌, ◌++◌, length, vec_len, true, false, Some, None, Err, IsTrue, IsNone, IsSome, IfOk, IfErr, IfSome, IfNone, All, option_map, slice_get, position};
 ghost use Rattle.task_sheet.specs.Sheet.{Task, IsValidSheet, same_bytes};
 ghost use Rattle.task_sheet.specs.TaskSet.{IsTaskSet, IsByRank, AreDistinct, first_repeat, has_name, others_of, same_name};
+ghost use Rattle.task_sheet.specs.declared.set.TheConstants.{TASK_LIMIT};
 ghost use Rattle.task_sheet.specs.SheetsFault.{sheets_fault, with_fault};
 
 use crate::name::Name;
@@ -125,8 +126,8 @@ fn first_repeat(alloc: Global, sheets: &[Sheet]) -> Result<Option<usize>, AllocE
     Ok(None)
 }
 
-// Sheets that say the same.
-fn copy_sheets(alloc: Global, sheets: &[Sheet]) -> Result<Vec<Sheet>, AllocError>
+/// Sheets that say the same.
+pub fn copy_sheets(alloc: Global, sheets: &[Sheet]) -> Result<Vec<Sheet>, AllocError>
     ensures { IfOk result (λ v. v.items ≡ sheets.now) }
 {
     let mut copies = Vec::new(alloc);
@@ -136,8 +137,8 @@ fn copy_sheets(alloc: Global, sheets: &[Sheet]) -> Result<Vec<Sheet>, AllocError
     Ok(copies)
 }
 
-// Sheets that say the same as those that have another name.
-fn copy_others(alloc: Global, sheets: &[Sheet], name: Name) -> Result<Vec<Sheet>, AllocError>
+/// Sheets that say the same as those that have another name.
+pub fn copy_others(alloc: Global, sheets: &[Sheet], name: Name) -> Result<Vec<Sheet>, AllocError>
     ensures { IfOk result (λ v. v.items ≡ others_of sheets.now name) }
 {
     let mut others = Vec::new(alloc);
@@ -153,7 +154,7 @@ fn copy_others(alloc: Global, sheets: &[Sheet], name: Name) -> Result<Vec<Sheet>
 fn by_rank(mut sheets: Vec<Sheet>) -> TaskSet
     requires valid { All IsValidSheet sheets.items }
     requires distinct { AreDistinct same_name sheets.items }
-    requires few { length sheets.items ≤ 32 }
+    requires few { length sheets.items ≤ TASK_LIMIT }
     ensures { IsByRank sheets.items result }
 {
     sheets.sort_unstable_by_key(|sheet| (sheet.weight(), sheet.name()));
@@ -181,7 +182,7 @@ impl TaskSet {
     /// How many tasks the set has.
     pub fn len(&self) -> usize
         ensures count { result ≡ length self.now }
-        ensures limit { result ≤ 32 }
+        ensures limit { result ≤ TASK_LIMIT }
     {
         self.sheets.len()
     }

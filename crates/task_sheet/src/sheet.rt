@@ -4,6 +4,7 @@ ghost use Rattle.std.specs.Bool.{OnFalse};
 ghost use Rattle.task_sheet.specs.Name.{IsName};
 ghost use Rattle.task_sheet.specs.Sheet.{CriticalSection, Task, IsSection, AreSections, AreOutranked, IsValidSheet, task_of, with_jitter, outranking, weighing, repeats, same_section, same_sheet};
 ghost use Rattle.task_sheet.specs.Demand.{limit_of};
+ghost use Rattle.task_sheet.specs.declared.sheet.TheConstants.{WEIGHT_LIMIT, SECTION_LIMIT};
 ghost use Rattle.task_sheet.specs.SheetFault.{section_fault, list_fault, numbers_fault, sheet_fault, outranks_fault};
 
 use crate::name::Name;
@@ -231,7 +232,7 @@ fn section_fault(section: &Section, place: usize, from: u64, cost: u64) -> Optio
 // The first fault of the list of sections.
 fn list_fault(sections: &[Section], cost: u64) -> Option<SheetCause>
     ensures fault { result ≡ list_fault cost sections.now }
-    ensures few { IfNone result (length sections.now ≤ 8) }
+    ensures few { IfNone result (length sections.now ≤ SECTION_LIMIT) }
     ensures valid { IfNone result (AreSections 0 cost sections.now) }
 {
     if sections.len() > SECTION_LIMIT {
@@ -365,7 +366,7 @@ impl Sheet {
 
     /// The same sheet with this weight.
     pub fn weighing(mut self, weight: u64) -> Sheet
-        requires limit { weight ≤ 1000 }
+        requires limit { weight ≤ WEIGHT_LIMIT }
         ensures { result ≡ weighing self weight }
     {
         self.weight = weight;
@@ -383,7 +384,7 @@ impl Sheet {
     /// The weight, from 0 to 1,000: of the tasks that may stand at a level, one of less weight is wanted there.
     pub fn weight(&self) -> u64
         ensures same { result ≡ self.now.weight }
-        ensures limit { result ≤ 1000 }
+        ensures limit { result ≤ WEIGHT_LIMIT }
     {
         self.weight
     }
