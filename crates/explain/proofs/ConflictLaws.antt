@@ -9,8 +9,9 @@ use Rattle.task_sheet.specs.Orders.{all_of, Stands}
 use Rattle.task_sheet.specs.Levels.{NoneStands, IsObstruction}
 use Rattle.task_sheet.proofs.IndexLaws.{same_parts, without-member, without-parts, without-part, without-part_of, count_below, without-fewer}
 use Rattle.task_sheet.proofs.Below.{find_below}
+use Rattle.task_sheet.proofs.Deciding.{NoneBelow, find_chosen}
 use Rattle.task_sheet.proofs.MembersIndexes.{member_of-len}
-use Rattle.task_sheet.proofs.PassingLaws.{Stands-part, decide_stands}
+use Rattle.task_sheet.proofs.PassingLaws.{Stands-part}
 use Rattle.explain.specs.Conflict.{HoldsObstruction, IsGreatestWithin, IsLeastConflict, IsGoneThrough, IsLeftOf}
 
 -- what is left of L holds each obstruction within L
@@ -127,24 +128,8 @@ left-one U S (suc n) C D c d =
 
 -- ---- there is some
 find_standing : (U : List Task) (L : Indexes) (n : ℕ) → ((i : ℕ) × (i < n) × (L i ≡ true) × Stands U i (without_index L i)) ⊎ ((j : ℕ) → j < n → L j ≡ true → ¬ Stands U j (without_index L j))
-find_standing U L zero = inr (λ j lt. absurd (omega arith))
-find_standing U L (suc n) =
-    elim (find_standing U L n) [
-      | inl found ↦ inl (found.0, omega (arith, found.1), found.2, found.3)
-      | inr none ↦ elim (cases_Bool (L n)) [
-        | inl member ↦ elim (decide_stands U n (without_index L n)) [
-          | inl stands ↦ inl (n, omega arith, member, stands)
-          | inr fails ↦ inr (λ j lt is stands. elim (cases_eq j n) [
-            | inl e ↦ fails (subst (λ i. Stands U i (without_index L i)) e stands)
-            | inr ne ↦ none j (omega arith) is stands
-          ])
-        ]
-        | inr out ↦ inr (λ j lt is stands. elim (cases_eq j n) [
-          | inl e ↦ both_ways (L n) out (rw e at is)
-          | inr ne ↦ none j (omega arith) is stands
-        ])
-      ]
-    ]
+unfolding NoneBelow
+find_standing U L n = elim (find_chosen U L n) [ inl chosen ↦ inl (chosen.0, chosen.1, chosen.2.member, chosen.2.stands) | inr none ↦ inr none ]
 
 abbrev HasGreatest : List Task → Indexes → Type 0
 HasGreatest U L = ((M : Indexes) × IsGreatestWithin U L M) ⊎ ¬ HoldsObstruction U L

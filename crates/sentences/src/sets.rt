@@ -4,12 +4,14 @@ use crate::causes::{push_cause, push_jitter};
 use crate::shown::{push_bytes, push_shown};
 use crate::texts::line_at;
 use crate::tree::{
-    ROOT_KEYS, SECTION_KEYS, TASK_KEYS, bad_name_in, items_at, place_of_name, push_place,
-    repeated_in, table_of, text_at, unknown_key,
+    bad_name_in, items_at, place_of_name, push_place, repeated_in, table_of, text_at, unknown_key,
 };
 use crate::values::{no_span, numbers_in, span_at};
 use std::alloc::{AllocError, Global};
-use task_sheet::{Key, NAME_LIMIT, OutranksCause, SetFault, SheetCause, TASK_LIMIT};
+use task_sheet::{
+    Key, NAME_LIMIT, OutranksCause, ROOT_KEYS, SECTION_KEYS, SetFault, SheetCause, TASK_KEYS,
+    TASK_LIMIT,
+};
 use toml::{Table, Value};
 
 /// What a person is told of a set's fault, from the document's bytes; none where memory is wanting.

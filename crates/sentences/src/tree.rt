@@ -5,21 +5,6 @@ use std::alloc::AllocError;
 use task_sheet::{Key, Name};
 use toml::{Table, Value};
 
-pub(crate) const ROOT_KEYS: [Key; 1] = [Key::Task];
-
-pub(crate) const TASK_KEYS: [Key; 8] = [
-    Key::Name,
-    Key::Weight,
-    Key::Period,
-    Key::Deadline,
-    Key::Cost,
-    Key::Section,
-    Key::Jitter,
-    Key::Outranks,
-];
-
-pub(crate) const SECTION_KEYS: [Key; 3] = [Key::Locks, Key::At, Key::Len];
-
 /// The items of the array at a key.
 pub(crate) fn items_at<'a>(key: Key, table: &'a Table) -> Option<&'a [Value]> {
     match table.get(key.word())?.as_array() {

@@ -14,10 +14,11 @@ use Rattle.task_sheet.proofs.ObstructionLaws.{IsObstruction-fails}
 use Rattle.task_sheet.proofs.VerdictLaws.{AllFailures-push, IsVerdictOf-admitted, IsVerdictOf-infeasible}
 
 -- none of L below n may stand below the others of L
-NoneBelow : List Task → Indexes → ℕ → Type 0
+unfoldable pub NoneBelow : List Task → Indexes → ℕ → Type 0
 NoneBelow U L n = (j : ℕ) → j < n → L j ≡ true → ¬ Stands U j (without_index L j)
 
-find_chosen : (U : List Task) (L : Indexes) (n : ℕ) → ((i : ℕ) × (i < n) × IsChosen U L i) ⊎ NoneBelow U L n
+-- the task of least rank of L that may stand below the others of L, or none below n
+pub find_chosen : (U : List Task) (L : Indexes) (n : ℕ) → ((i : ℕ) × (i < n) × IsChosen U L i) ⊎ NoneBelow U L n
 unfolding NoneBelow
 find_chosen U L zero = inr (λ j lt. absurd (omega arith))
 find_chosen U L (suc n) =

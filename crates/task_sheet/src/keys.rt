@@ -56,9 +56,11 @@ impl Key {
     }
 }
 
-pub(crate) const ROOT_KEYS: [Key; 1] = [Key::Task];
+/// The keys of the root.
+pub const ROOT_KEYS: [Key; 1] = [Key::Task];
 
-pub(crate) const TASK_KEYS: [Key; 8] = [
+/// The keys of a task.
+pub const TASK_KEYS: [Key; 8] = [
     Key::Name,
     Key::Weight,
     Key::Period,
@@ -71,7 +73,8 @@ pub(crate) const TASK_KEYS: [Key; 8] = [
 
 pub(crate) const NEEDED_KEYS: [Key; 4] = [Key::Name, Key::Period, Key::Deadline, Key::Cost];
 
-pub(crate) const SECTION_KEYS: [Key; 3] = [Key::Locks, Key::At, Key::Len];
+/// The keys of a section.
+pub const SECTION_KEYS: [Key; 3] = [Key::Locks, Key::At, Key::Len];
 
 // The text is the word of one of the keys.
 fn is_word_of(keys: &[Key], text: &str) -> bool
