@@ -1,6 +1,7 @@
 //! What shows that a task fails, or may stand.
 ghost use Rattle.std.specs.Prelude.{◌≡◌, ◌<◌, ◌≤◌, ◌+◌, ◌&&◌, ℕ, nat_le, length};
 ghost use Rattle.task_sheet.specs.Sheet.{task_at};
+ghost use Rattle.task_sheet.specs.declared.sheet.TheConstants.{PERIOD_TO};
 ghost use Rattle.task_sheet.specs.Indexes.{indexes_of, without_index};
 ghost use Rattle.task_sheet.specs.Demand.{demand_of, limit_of};
 ghost use Rattle.cert_checker.specs.Naming.{task_by_name};
@@ -20,7 +21,7 @@ use task_sheet::{Members, Name, TaskSet};
 // Whether the number may stand behind the last one.
 fn may_follow(set: &TaskSet, above: Members, base: u64, limit: u64, last: u64, number: u64) -> bool
     requires base { base ≤ 20000000 }
-    requires limit { limit ≤ 10000000 }
+    requires limit { limit ≤ PERIOD_TO }
     ensures { result ≡ may_follow (demand_from set.now (indexes_of above) base) limit last number }
 {
     last <= limit && last < number && number <= demand_from(set, above, base, last)
@@ -36,7 +37,7 @@ fn goes_past(
     numbers: &[u64],
 ) -> bool
     requires base { base ≤ 20000000 }
-    requires limit { limit ≤ 10000000 }
+    requires limit { limit ≤ PERIOD_TO }
     ensures { result
         ≡ goes_past (demand_from set.now (indexes_of above) base) limit first numbers.now }
 {

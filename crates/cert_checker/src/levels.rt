@@ -3,6 +3,7 @@ ghost use Rattle.std.specs.Prelude.{◌≡◌, ◌<◌, ◌≤◌, ◌&&◌, ◌
 ghost use Rattle.task_sheet.specs.Sheet.{task_at};
 ghost use Rattle.task_sheet.specs.Indexes.{indexes_of, without_index, among};
 ghost use Rattle.task_sheet.specs.Orders.{all_of};
+ghost use Rattle.task_sheet.specs.declared.set.TheConstants.{TASK_LIMIT};
 ghost use Rattle.task_sheet.specs.Verdicts.{tasks_of};
 ghost use Rattle.certificate.specs.Body.{CertLevelData};
 ghost use Rattle.cert_checker.specs.Naming.{task_by_name, failures_of};
@@ -31,7 +32,7 @@ pub enum LevelCheck {
 
 // Whether the task is left, below the chosen one, and no less than the first that may come.
 fn is_lesser(left: Members, from: usize, chosen: usize, task: usize) -> bool
-    requires { chosen ≤ 32 }
+    requires { chosen ≤ TASK_LIMIT }
     ensures { result ≡ (nat_le from task && nat_lt task chosen && indexes_of left task) }
 {
     from <= task && task < chosen && left.has(task)
@@ -39,7 +40,7 @@ fn is_lesser(left: Members, from: usize, chosen: usize, task: usize) -> bool
 
 // Whether the failures are of tasks that are left and lie below the chosen one, by rank.
 fn are_lesser(set: &TaskSet, left: Members, chosen: usize, fails: &[CertFail]) -> bool
-    requires { chosen ≤ 32 }
+    requires { chosen ≤ TASK_LIMIT }
     ensures { result
         ≡ are_lesser (indexes_of left) 0 chosen (tasks_of (failures_of set.now fails.now)) }
 {
@@ -68,7 +69,7 @@ fn has_failure(set: &TaskSet, fails: &[CertFail], task: usize) -> bool
 
 // The least task that is left, lies below the chosen one and has no failure.
 fn first_unnamed(set: &TaskSet, left: Members, chosen: usize, fails: &[CertFail]) -> Option<usize>
-    requires { chosen ≤ 32 }
+    requires { chosen ≤ TASK_LIMIT }
     ensures is { result
         ≡ first_unnamed (indexes_of left) (tasks_of (failures_of set.now fails.now)) chosen }
     ensures below { IfSome result (λ k. k < chosen) }

@@ -2,6 +2,7 @@
 ghost use Rattle.std.specs.Prelude.{◌≡◌, ◌<◌, ◌≤◌, ◌&&◌, not, nat_lt, true, false, length};
 ghost use Rattle.std.specs.Prelude.{MatchOption};
 ghost use Rattle.task_sheet.specs.Indexes.{indexes_of, no_index, with_index, among};
+ghost use Rattle.task_sheet.specs.declared.set.TheConstants.{TASK_LIMIT};
 ghost use Rattle.task_sheet.specs.Verdicts.{tasks_of, order_of};
 ghost use Rattle.cert_checker.specs.Naming.{task_by_name, failures_of, levels_of};
 ghost use Rattle.cert_checker.specs.Faults.{are_new, has_all};
@@ -12,7 +13,7 @@ use task_sheet::{Members, Name, TaskSet};
 /// The index of the task with a name; a name that no task has gets the number of the tasks.
 pub fn task_by_name(set: &TaskSet, name: Name) -> usize
     ensures is { result ≡ task_by_name set.now name }
-    ensures few { length set.now ≤ 32 }
+    ensures few { length set.now ≤ TASK_LIMIT }
 {
     set.find(name).unwrap_or(set.len())
 }

@@ -1,6 +1,7 @@
 //! The work requested of a task and of those above it in a window, in microseconds.
 ghost use Rattle.std.specs.Prelude.{◌≡◌, ◌+◌, ◌*◌, ◌<◌, ◌≤◌, ℕ, length};
 ghost use Rattle.task_sheet.specs.Sheet.{IsValidSheet, task_at};
+ghost use Rattle.task_sheet.specs.declared.sheet.TheConstants.{PERIOD_TO};
 ghost use Rattle.task_sheet.specs.TaskSet.{IsTaskSet};
 ghost use Rattle.task_sheet.specs.Indexes.{indexes_of};
 ghost use Rattle.task_sheet.specs.Locks.{names_lock, uses, shares_lock, reaches};
@@ -20,7 +21,7 @@ pub fn limit_of(sheet: &Sheet) -> u64
 // How many jobs of a task are released within a window.
 fn releases_within(sheet: &Sheet, time: u64) -> u64
     requires sheet { IsValidSheet sheet.now }
-    requires time { time ≤ 10000000 }
+    requires time { time ≤ PERIOD_TO }
     ensures { result ≡ releases_within sheet.now time }
 {
     (time + sheet.jitter()).div_ceil(sheet.period())
@@ -101,7 +102,7 @@ pub fn base_demand(set: &TaskSet, task: usize, above: Members) -> u64
 
 // What the jobs released above within a window cost (Audsley et al. 1993).
 fn interference_within(set: &TaskSet, above: Members, time: u64) -> u64
-    requires { time ≤ 10000000 }
+    requires { time ≤ PERIOD_TO }
     ensures is { result ≡ interference_within set.now (indexes_of above) time }
     ensures fits { result ≤ 960000000 }
 {
@@ -117,7 +118,7 @@ fn interference_within(set: &TaskSet, above: Members, time: u64) -> u64
 /// What must be executed in a window: the base demand, and the jobs released above within it.
 pub fn demand_from(set: &TaskSet, above: Members, once: u64, time: u64) -> u64
     requires once { once ≤ 20000000 }
-    requires time { time ≤ 10000000 }
+    requires time { time ≤ PERIOD_TO }
     ensures { result ≡ demand_from set.now (indexes_of above) once time }
 {
     once + interference_within(set, above, time)

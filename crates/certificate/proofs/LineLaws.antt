@@ -13,7 +13,7 @@ use Rattle.certificate.specs.Body.{Fail}
 use Rattle.certificate.specs.Spelling.{fail_line}
 use Rattle.lines.specs.Lines.{parts}
 use Rattle.lines.specs.Words.{words, number_in}
-use Rattle.certificate.specs.Lines.{◌>>=◌, At, line_from, wanted, count_in, few, at_most_32, end_at, is_at_end}
+use Rattle.certificate.specs.Lines.{◌>>=◌, At, line_from, wanted, count_in, few, at_most_limit, end_at, is_at_end}
 use Rattle.certificate.specs.declared.fault.CertFault.{CertFault}
 use Rattle.certificate.specs.declared.fault.CertFault.TheVariants.{BadLine, Trailing}
 use Rattle.lines.proofs.NumberLaws.{number_takes, number_again}
@@ -56,7 +56,7 @@ pub line_again : (l rest : List ℕ) (n : ℕ) → All (λ x. (x == 10) ≡ fals
 line_again l rest n plain = rw (slice_split_at (λ b. b == 10) l 10 rest plain refl) (line_is l (parts rest) n (parts_some rest))
 
 -- ---- the line with the count
-few_takes : (o : Option ℕ) (n : ℕ) → at_most_32 o ≡ Some n → (o ≡ Some n) × (n ≤ 32)
+few_takes : (o : Option ℕ) (n : ℕ) → at_most_limit o ≡ Some n → (o ≡ Some n) × (n ≤ 32)
 few_takes None n e = absurd cc
 few_takes (Some m) n e =
     let g = cond_some (nat_le m 32) m n e in

@@ -2,6 +2,7 @@
 use Rattle.std.specs.Prelude.{ℕ, ◌^◌, ◌<◌, ◌≤◌, List, length}
 use Rattle.std.specs.List.{AllByRecursion}
 use Rattle.task_sheet.specs.Name.{IsName}
+use Rattle.task_sheet.specs.declared.set.TheConstants.{TASK_LIMIT}
 use Rattle.certificate.specs.declared.version.CertVersion.{CertVersion}
 use Rattle.certificate.specs.declared.version.CertVersion.TheVariants.{First, Second}
 
@@ -54,10 +55,10 @@ pub record IsLevelText (v : CertVersion) (l : CertLevelData) : Type 0 where
   pub short : IsShort l.time
   pub fails : AllByRecursion (IsFailText v) l.fails
 
--- the body can be written: at most 32 lines of a kind, names that are names, numbers of at most ten digits
+-- the body can be written: at most `TASK_LIMIT` lines of a kind, names that are names, numbers of at most ten digits
 abbrev pub IsBodyText : CertVersion → Body → Type 0
-IsBodyText v (Best levels) = (length levels ≤ 32) × AllByRecursion (IsLevelText v) levels
-IsBodyText v (NoOrder members) = (length members ≤ 32) × AllByRecursion (IsFailText v) members
+IsBodyText v (Best levels) = (length levels ≤ TASK_LIMIT) × AllByRecursion (IsLevelText v) levels
+IsBodyText v (NoOrder members) = (length members ≤ TASK_LIMIT) × AllByRecursion (IsFailText v) members
 
 -- the certificate can be written
 abbrev pub HasSpelling : Cert → Type 0

@@ -2,6 +2,7 @@
 use Rattle.std.specs.Prelude.{◌≡◌, ℕ, zero, suc, ◌+◌, List, [], ◌∷◌, length, Bool, ◌&&◌, ◌==◌, nat_le, bytes_eq, Option, Some, None, Result, Ok, Err, if◌then◌else◌, codes}
 use Rattle.std.specs.List.{join_with_byte}
 use Rattle.task_sheet.specs.Name.{is_name}
+use Rattle.task_sheet.specs.declared.set.TheConstants.{TASK_LIMIT}
 use Rattle.certificate.specs.Body.{Fail, CertLevelData, Body, Best, NoOrder, Cert}
 use Rattle.certificate.specs.Spelling.{head_text}
 use Rattle.certificate.specs.declared.version.CertVersion.{CertVersion}
@@ -80,16 +81,16 @@ end_at a = do
   if bytes_eq x.0 (codes "end") then (if is_at_end x.1.parts then Ok tt else Err Trailing)
       else Err (BadLine a.line)
 
--- the number, if it is at most 32
-abbrev pub at_most_32 : Option ℕ → Option ℕ
-at_most_32 None = None
-at_most_32 (Some n) = if nat_le n 32 then Some n else None
+-- the number, if a set may have that many tasks
+abbrev pub at_most_limit : Option ℕ → Option ℕ
+at_most_limit None = None
+at_most_limit (Some n) = if nat_le n TASK_LIMIT then Some n else None
 
--- a number up to 32
+-- a number of tasks that a set may have
 abbrev pub few : List ℕ → Option ℕ
-few text = at_most_32 (number_in text)
+few text = at_most_limit (number_in text)
 
--- the number of a line of this word and one number up to 32
+-- the number of a line of this word and one such number
 abbrev pub count_in : List ℕ → List (List ℕ) → Option ℕ
 count_in word [] = None
 count_in word (w ∷ []) = None

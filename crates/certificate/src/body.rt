@@ -1,5 +1,6 @@
 //! A whole certificate.
 ghost use Rattle.std.specs.Prelude.{◌≡◌, ◌≤◌, ℕ, Option, Ok};
+ghost use Rattle.task_sheet.specs.declared.set.TheConstants.{TASK_LIMIT};
 ghost use Rattle.certificate.specs.Body.{Body, Cert};
 ghost use Rattle.certificate.specs.BodyOf.{body_of};
 ghost use Rattle.certificate.specs.Lines.{Gives, at_place, best_of, members_read, body_case, body_at, version_in, certificate_in};
@@ -29,7 +30,7 @@ fn best_of<'a>(
     count: u64,
     at: TextPlace<'a>,
 ) -> Result<CertBody, CertFault>
-    requires { count ≤ 32 }
+    requires { count ≤ TASK_LIMIT }
     ensures { Gives body_of result (best_of version count (at_place at.entry)) }
 {
     let (levels, after) = levels(alloc, version, count, at)?;

@@ -1,5 +1,6 @@
 //! Reading levels.
 ghost use Rattle.std.specs.Prelude.{◌≡◌, ◌+◌, ◌<◌, ◌≤◌, ◌^◌, ℕ, Ok, IfOk, length};
+ghost use Rattle.task_sheet.specs.declared.set.TheConstants.{TASK_LIMIT};
 ghost use Rattle.certificate.specs.Body.{Fail, CertLevelData, Body};
 ghost use Rattle.lines.specs.Words.{words};
 ghost use Rattle.certificate.specs.Lines.{Gives, at_place, level_in, level_head, fails_from, level_read, levels_at};
@@ -88,7 +89,7 @@ pub fn levels<'a>(
     count: u64,
     at: TextPlace<'a>,
 ) -> Result<(Vec<CertLevel>, TextPlace<'a>), CertFault>
-    requires { count ≤ 32 }
+    requires { count ≤ TASK_LIMIT }
     ensures { Gives (λ x. (x.0.items, at_place x.1)) result
         (levels_at version count 1 (at_place at.entry)) }
 {

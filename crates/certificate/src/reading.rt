@@ -1,5 +1,6 @@
 //! Reading line after line.
 ghost use Rattle.std.specs.Prelude.{◌≡◌, ◌<◌, ◌≤◌, IfOk, IfSome, length, bytes_eq};
+ghost use Rattle.task_sheet.specs.declared.set.TheConstants.{TASK_LIMIT};
 ghost use Rattle.certificate.specs.Body.{Fail};
 ghost use Rattle.lines.specs.Words.{words};
 ghost use Rattle.certificate.specs.Lines.{Gives, at_place, line_at, member_at, members_at, end_at, count_in, few};
@@ -10,6 +11,7 @@ use crate::version::CertVersion;
 use crate::words::fail_of;
 use lines::{TextPlace, complete_line, cut, number_of};
 use std::alloc::Global;
+use task_sheet::TASK_LIMIT;
 
 /// The next complete line, and the place behind it; `Truncated` where there is none.
 pub fn next_line<'a>(at: TextPlace<'a>) -> Result<(&'a [u8], TextPlace<'a>), CertFault>
@@ -77,21 +79,21 @@ pub fn is_word(text: &[u8], word: &[u8]) -> bool
     text == word
 }
 
-// The number that a word is, where it is at most 32.
+// The number that a word is, where a set may have that many tasks.
 fn few(text: &[u8]) -> Option<u64>
     ensures is { result ≡ few text.now }
-    ensures small { IfSome result (λ n. n ≤ 32) }
+    ensures small { IfSome result (λ n. n ≤ TASK_LIMIT) }
 {
     match number_of(text) {
-        Some(number) if number <= 32 => Some(number),
+        Some(number) if number <= TASK_LIMIT as u64 => Some(number),
         _ => None,
     }
 }
 
-/// The number, at most 32, of a line of this word and one number.
+/// The number, at most `TASK_LIMIT`, of a line of this word and one number.
 pub fn count_of(word: &[u8], line: &[u8]) -> Option<u64>
     ensures is { result ≡ count_in word.now (words line.now) }
-    ensures small { IfSome result (λ n. n ≤ 32) }
+    ensures small { IfSome result (λ n. n ≤ TASK_LIMIT) }
 {
     let (first, rest) = cut(line, b' ')?;
     match cut(rest, b' ') {

@@ -12,23 +12,23 @@ use std::alloc::{AllocError, Global};
 use std::marker::Model;
 use thiserror::Error;
 
-// The greatest weight.
-const WEIGHT_LIMIT: u64 = 1000;
+/// The greatest weight.
+pub const WEIGHT_LIMIT: u64 = 1000;
 
-// The shortest period, in microseconds.
-const PERIOD_FROM: u64 = 1000;
+/// The shortest period, in microseconds.
+pub const PERIOD_FROM: u64 = 1000;
 
-// The longest period, in microseconds.
-const PERIOD_TO: u64 = 10_000_000;
+/// The longest period, in microseconds.
+pub const PERIOD_TO: u64 = 10_000_000;
 
-// The most sections of a task.
-const SECTION_LIMIT: usize = 8;
+/// The most sections of a task.
+pub const SECTION_LIMIT: usize = 8;
 
-// The most locks of a section.
-const LOCK_LIMIT: usize = 4;
+/// The most locks of a section.
+pub const LOCK_LIMIT: usize = 4;
 
-// The most tasks above which a task must stand.
-const OUTRANKS_LIMIT: usize = 8;
+/// The most tasks above which a task must stand.
+pub const OUTRANKS_LIMIT: usize = 8;
 
 /// Why values are no sheet. A section is named by its place, from 1.
 #[derive(Clone, Copy, Debug, PartialEq, Eq, Error)]
