@@ -1,69 +1,38 @@
 //! What the commands print, and the statuses that they end with.
-use desk_cli::{Nobody, Status, run_admit, run_certify, run_check, run_simulate};
+use command_line::{OfOne, OfTwo};
+use desk_cli::{Nobody, Status};
+use dispatch::{run_one, run_two};
 use example_sets::{BLOCKED_OUT_REPAIRED, THREE_TASKS};
 use preferences::Preference;
 use std::alloc::Global;
 use std::test::Fail;
 use streams::Watched;
 
-/// What `admit` prints of a text, and its status.
-pub fn admitted(alloc: Global, text: &[u8]) -> Result<(String, Status), Fail> {
+// What a command prints of a text, and its status.
+fn printed_of_one(alloc: Global, command: OfOne, text: &[u8]) -> Result<(String, Status), Fail> {
     let mut printed = Vec::new(alloc);
     let mut reader = Watched::new(text);
     let mut writer = Watched::new(&mut printed);
-    let status = run_admit(
-        alloc,
-        Preference::Weights,
-        &mut reader,
-        &mut writer,
-        &mut Nobody,
-    );
+    let by = Preference::Weights;
+    let status = run_one(alloc, command, by, &mut reader, &mut writer, &mut Nobody);
     Ok((String::from_utf8(printed)?, status))
 }
 
-/// What `certify` prints of a text, and its status.
-pub fn certified(alloc: Global, text: &[u8]) -> Result<(String, Status), Fail> {
+// What a command prints of two texts, and its status.
+fn printed_of_two<'a>(
+    alloc: Global,
+    command: OfTwo,
+    set: &'a [u8],
+    other: &'a [u8],
+) -> Result<(String, Status), Fail> {
     let mut printed = Vec::new(alloc);
-    let mut reader = Watched::new(text);
     let mut writer = Watched::new(&mut printed);
-    let status = run_certify(
+    let status = run_two(
         alloc,
+        command,
         Preference::Weights,
-        &mut reader,
-        &mut writer,
-        &mut Nobody,
-    );
-    Ok((String::from_utf8(printed)?, status))
-}
-
-/// What `check` prints of two texts, and its status.
-pub fn checked(alloc: Global, set: &[u8], cert: &[u8]) -> Result<(String, Status), Fail> {
-    let mut printed = Vec::new(alloc);
-    let mut set = Watched::new(set);
-    let mut cert = Watched::new(cert);
-    let mut writer = Watched::new(&mut printed);
-    let status = run_check(
-        alloc,
-        Preference::Weights,
-        &mut set,
-        &mut cert,
-        &mut writer,
-        &mut Nobody,
-    );
-    Ok((String::from_utf8(printed)?, status))
-}
-
-/// What `simulate` prints of two texts, and its status.
-pub fn simulated(alloc: Global, set: &[u8], list: &[u8]) -> Result<(String, Status), Fail> {
-    let mut printed = Vec::new(alloc);
-    let mut set = Watched::new(set);
-    let mut list = Watched::new(list);
-    let mut writer = Watched::new(&mut printed);
-    let status = run_simulate(
-        alloc,
-        Preference::Weights,
-        &mut set,
-        &mut list,
+        &mut Watched::new(set),
+        &mut Watched::new(other),
         &mut writer,
         &mut Nobody,
     );
@@ -72,7 +41,7 @@ pub fn simulated(alloc: Global, set: &[u8], list: &[u8]) -> Result<(String, Stat
 
 #[test]
 fn admit_prints_the_order(rt: HostRuntime) -> Result<(), Fail> {
-    let (printed, status) = admitted(rt.alloc(), THREE_TASKS.as_bytes())?;
+    let (printed, status) = printed_of_one(rt.alloc(), OfOne::Admit, THREE_TASKS.as_bytes())?;
     assert_eq!(rt;
         printed.as_str(),
         "admitted 3\n1 c 20000\n2 a 6000\n3 b 3000\n"
@@ -83,9 +52,10 @@ fn admit_prints_the_order(rt: HostRuntime) -> Result<(), Fail> {
 
 #[test]
 fn check_takes_what_certify_prints(rt: HostRuntime) -> Result<(), Fail> {
-    let (certificate, status) = certified(rt.alloc(), THREE_TASKS.as_bytes())?;
+    let (certificate, status) = printed_of_one(rt.alloc(), OfOne::Certify, THREE_TASKS.as_bytes())?;
     assert_eq!(rt; status, Status::Done);
-    let (printed, status) = checked(rt.alloc(), THREE_TASKS.as_bytes(), certificate.as_bytes())?;
+    let set = THREE_TASKS.as_bytes();
+    let (printed, status) = printed_of_two(rt.alloc(), OfTwo::Check, set, certificate.as_bytes())?;
     assert_eq!(rt; printed.as_str(), "best\n");
     assert_eq!(rt; status, Status::Done);
     Ok(())
@@ -94,7 +64,8 @@ fn check_takes_what_certify_prints(rt: HostRuntime) -> Result<(), Fail> {
 #[test]
 fn simulate_prints_the_trace(rt: HostRuntime) -> Result<(), Fail> {
     let list = b"until 20000\n0 lo\n1001 hi\n";
-    let (printed, status) = simulated(rt.alloc(), BLOCKED_OUT_REPAIRED.as_bytes(), list)?;
+    let set = BLOCKED_OUT_REPAIRED.as_bytes();
+    let (printed, status) = printed_of_two(rt.alloc(), OfTwo::Simulate, set, list)?;
     let trace = "0 3500 lo\n3500 5500 hi\n5500 12000 lo\njob lo 0 12000\njob hi 1001 5500\n";
     assert_eq!(rt; printed.as_str(), trace);
     assert_eq!(rt; status, Status::Done);

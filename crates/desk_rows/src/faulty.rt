@@ -52,6 +52,17 @@ impl Write for FaultyWriter {
     }
 }
 
+// The status of `admit` where a reader has the set and a writer takes what is printed.
+fn admit<R: Read + Drop, W: Write + Drop>(alloc: Global, set: R, output: W) -> Status {
+    run_admit(
+        alloc,
+        Preference::Weights,
+        &mut Watched::new(set),
+        &mut Watched::new(output),
+        &mut Nobody,
+    )
+}
+
 // What `admit` prints of the three tasks where the reads from `from` on, as many as `errors`, fail so, and its status.
 fn admitted_with(
     alloc: Global,
@@ -60,21 +71,14 @@ fn admitted_with(
     kind: ErrorKind,
 ) -> Result<(String, Status), Fail> {
     let mut printed = Vec::new(alloc);
-    let mut reader = Watched::new(FaultyReader {
+    let reader = FaultyReader {
         text: THREE_TASKS.as_bytes(),
         reads: 0,
         from,
         errors,
         kind,
-    });
-    let mut writer = Watched::new(&mut printed);
-    let status = run_admit(
-        alloc,
-        Preference::Weights,
-        &mut reader,
-        &mut writer,
-        &mut Nobody,
-    );
+    };
+    let status = admit(alloc, reader, &mut printed);
     Ok((String::from_utf8(printed)?, status))
 }
 
@@ -100,23 +104,10 @@ fn an_interrupted_read_is_tried_again(rt: HostRuntime) -> Result<(), Fail> {
     Ok(())
 }
 
-// The status of `admit` on the three tasks where the writer fails after so many writes.
-fn status_after(alloc: Global, writes: usize) -> Status {
-    let mut reader = Watched::new(THREE_TASKS.as_bytes());
-    let mut writer = Watched::new(FaultyWriter { writes });
-    run_admit(
-        alloc,
-        Preference::Weights,
-        &mut reader,
-        &mut writer,
-        &mut Nobody,
-    )
-}
-
 #[test]
 fn a_failed_write_is_answered(rt: HostRuntime) {
     for writes in 0..4 {
-        let status = status_after(rt.alloc(), writes);
+        let status = admit(rt.alloc(), THREE_TASKS.as_bytes(), FaultyWriter { writes });
         assert_eq!(rt; status, Status::InputOrOutputFailed, "at {writes}");
     }
 }

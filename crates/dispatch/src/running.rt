@@ -145,8 +145,8 @@ fn ran_both<S: Read + Drop>(status: Status, first: Watched<S>, second: Watched<S
     }
 }
 
-// Runs a command on its input.
-fn run_one<S: Read + Drop, W: Write + Drop, P: Audience>(
+/// Runs a command on its input; what it prints and its status are those of the command.
+pub fn run_one<S: Read + Drop, W: Write + Drop, P: Audience>(
     alloc: Global,
     command: OfOne,
     preference: Preference,
@@ -174,8 +174,8 @@ fn run_one<S: Read + Drop, W: Write + Drop, P: Audience>(
     }
 }
 
-// Runs a command on a task set and a second input.
-fn run_two<S: Read + Drop, W: Write + Drop, P: Audience>(
+/// Runs a command on a task set and a second input; what it prints and its status are those of the command.
+pub fn run_two<S: Read + Drop, W: Write + Drop, P: Audience>(
     alloc: Global,
     command: OfTwo,
     preference: Preference,
