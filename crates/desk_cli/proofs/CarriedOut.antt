@@ -1,10 +1,9 @@
 -- What became of a command, from what became of its inputs and of what it printed.
-use Rattle.std.proofs.Common.{◌≡◌, ◌∙◌, ◌++◌, ℕ, List, Bool, true, false, Option, Result, Ok, Err, inl, inr, refl, sym, ap, subst}
-use Rattle.std.specs.Prelude.{◌⊎◌, if◌then◌else◌}
+use Rattle.std.proofs.Common.{◌≡◌, ◌∙◌, ◌++◌, ℕ, List, Bool, true, false, Option, Ok, Err, inl, inr, refl, sym, ap, subst}
+use Rattle.std.specs.Prelude.{if◌then◌else◌}
 use Rattle.std.proofs.KnownBytes.{Appends-trans}
 use Rattle.std.proofs.lemmas.Bool.{true≢false}
 use Rattle.std.specs.Io.KnownBytes.{Appends}
-use Rattle.streams.specs.Inputs.{IsDisturbed}
 use Rattle.streams.specs.Watching.{WatchedData}
 use Rattle.task_sheet.specs.declared.read.SetFault.TheVariants as set_fault
 use Rattle.certificate.specs.declared.fault.CertFault.TheVariants as certificate_fault

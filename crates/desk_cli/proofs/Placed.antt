@@ -18,7 +18,7 @@ use Rattle.assignment.specs.declared.verdict.Verdict.{Verdict}
 use Rattle.assignment.specs.declared.verdict.Verdict.TheVariants.{Admitted, Infeasible}
 use Rattle.assignment.proofs.VerdictPlacings.{some_verdict_says}
 use Rattle.settings.specs.Settings.{settings_lines}
-use Rattle.desk_cli.specs.Admit.{Admits, Places, Says, admit_lines, placing_status, verdict_status}
+use Rattle.desk_cli.specs.Admit.{Places, Says, admit_lines, placing_status, verdict_status}
 use Rattle.desk_cli.specs.Headroom.{first_line, placing_first}
 use Rattle.desk_cli.specs.Lines.{admitted_lines, infeasible_line, placing_lines}
 use Rattle.desk_cli.specs.Sets.{HasSet}

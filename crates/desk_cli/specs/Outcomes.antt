@@ -1,8 +1,8 @@
 -- What became of a command: of its inputs, of what it printed, and of its status.
-use Rattle.std.specs.Prelude.{◌≡◌, ◌⊎◌, ℕ, ◌<◌, true, false, List, length, Option, Some, Result, Err}
+use Rattle.std.specs.Prelude.{◌≡◌, ◌⊎◌, ℕ, true, false, List, Option, Some, Result, Err}
 use Rattle.std.specs.Io.KnownBytes.{Appends}
 use Rattle.streams.specs.Watching.{WatchedData}
-use Rattle.streams.specs.Inputs.{IsDisturbed, IsWithinTurns}
+use Rattle.streams.specs.Inputs.{IsDisturbed, IsTooLong, IsWithinTurns}
 use Rattle.streams.specs.declared.input.InputFault.TheVariants.{ReadFailed}
 use Rattle.desk_cli.specs.declared.refusal.CommandRefusal.{CommandRefusal}
 use Rattle.desk_cli.specs.declared.refusal.CommandRefusal.TheVariants.{Input}
@@ -30,7 +30,7 @@ pub record AreRead {T E R S : Type 0} (error : E) (has : R → Option (List ℕ)
   pub answered : first.has_failed ≡ false → second.has_failed ≡ false
       → (first'.has_failed ≡ true) ⊎ (second'.has_failed ≡ true) → answer ≡ Err error
   pub turns : IsWithinTurns first first' × IsWithinTurns second second'
-  pub first_too_long : (all : List ℕ) → has first.inner ≡ Some all → 16777216 < length all
+  pub first_too_long : (all : List ℕ) → has first.inner ≡ Some all → IsTooLong (Some all)
       → second' ≡ second
   pub first_failed : first.has_failed ≡ false → first'.has_failed ≡ true → second' ≡ second
 
@@ -84,6 +84,6 @@ pub record IsCarriedOutOnBoth {R S W : Type 0}
       → s ≡ InputOrOutputFailed
   pub unwritten : output.has_failed ≡ false → output'.has_failed ≡ true → s ≡ InputOrOutputFailed
   pub turns : IsWithinTurns first first' × IsWithinTurns second second'
-  pub first_too_long : (all : List ℕ) → has first.inner ≡ Some all → 16777216 < length all
+  pub first_too_long : (all : List ℕ) → has first.inner ≡ Some all → IsTooLong (Some all)
       → second' ≡ second
   pub first_failed : first.has_failed ≡ false → first'.has_failed ≡ true → second' ≡ second

@@ -12,7 +12,7 @@ use crate::status::Status;
 use assignment::{Placing, Verdict, assign, place_all};
 use ceilings::LockTable;
 use preferences::Preference;
-use std::alloc::Global;
+use std::alloc::{AllocError, Global};
 use std::io::{Read, Write};
 use std::sync::Arc;
 use streams::Watched;
@@ -29,7 +29,8 @@ pub(crate) fn decide<R: Read + Drop, P: Audience>(
     ensures read { IsRead failed_read set.old set.new result }
 {
     let tasks = read_one(alloc, preference, set, people)?;
-    let verdict = assign(alloc, Arc::new(alloc, tasks)?)?;
+    let shared = Arc::new(alloc, tasks).map_err(AllocError::from)?;
+    let verdict = assign(alloc, shared)?;
     people.read(verdict.set());
     Ok(verdict)
 }

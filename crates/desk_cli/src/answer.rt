@@ -1,5 +1,5 @@
 //! The lines of a verdict.
-ghost use Rattle.std.specs.Prelude.{◌≡◌, ◌++◌, ◌<◌, ◌≤◌, length, true, false, OnOk, IfOk, string_bytes};
+ghost use Rattle.std.specs.Prelude.{◌≡◌, ◌++◌, ◌<◌, length, true, false, OnOk, IfOk, string_bytes};
 ghost use Rattle.task_sheet.specs.Indexes.{indexes_of, listed_below};
 ghost use Rattle.desk_cli.specs.Printed.{IsPrinted};
 ghost use Rattle.desk_cli.specs.Lines.{admitted_lines, infeasible_line, level_line, placing_lines};

@@ -20,8 +20,8 @@ use task_sheet::TaskSet;
 fn check_text(alloc: Global, tasks: &TaskSet, text: &[u8]) -> Result<Checked, CommandRefusal>
     ensures { ChecksText tasks.now text.now result }
 {
-    let certificate = read(alloc, text)?;
-    let checked = check(tasks, &certificate)?;
+    let certificate = read(alloc, text).map_err(CommandRefusal::Certificate)?;
+    let checked = check(tasks, &certificate).map_err(CommandRefusal::Check)?;
     Ok(checked)
 }
 

@@ -1,6 +1,7 @@
 //! `desk draw`.
 ghost use Rattle.std.specs.Prelude.{◌≡◌, ◌<◌, ◌≤◌, length, IfOk, All};
 ghost use Rattle.task_sheet.specs.Orders.{IsOrder};
+ghost use Rattle.task_sheet.specs.declared.set.TheConstants.{TASK_LIMIT};
 ghost use Rattle.assignment.specs.Placings.{tasks_of_places};
 ghost use Rattle.desk_cli.specs.Printed.{IsPrinted};
 ghost use Rattle.desk_cli.specs.Simulate.{simulation_status};
@@ -50,7 +51,7 @@ fn rows_of(alloc: Global, sheets: &[Sheet], places: &[Place]) -> Result<Vec<Task
 fn rows_in(alloc: Global, set: &TaskSet, places: &[Place]) -> Result<Vec<TaskRow>, AllocError>
     requires { IsOrder set.now (tasks_of_places places.now) }
     ensures rows { IfOk result (λ rows. rows.items ≡ rows_of set.now places.now) }
-    ensures few { IfOk result (λ rows. length rows.items ≤ 32) }
+    ensures few { IfOk result (λ rows. length rows.items ≤ TASK_LIMIT) }
 {
     rows_of(alloc, set.sheets(), places)
 }

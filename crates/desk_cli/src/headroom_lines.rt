@@ -61,8 +61,8 @@ fn order_of(alloc: Global, placing: &Placing) -> Result<Option<Vec<usize>>, Allo
     }
 }
 
-// The tasks of places.
-fn tasks_of(alloc: Global, places: &[Place]) -> Result<Vec<usize>, AllocError>
+// The tasks of places, the lowest level first.
+pub(crate) fn tasks_of(alloc: Global, places: &[Place]) -> Result<Vec<usize>, AllocError>
     ensures { IfOk result (λ order. order.items ≡ tasks_of_places places.now) }
 {
     let mut order = Vec::with_capacity(alloc, places.len())?;

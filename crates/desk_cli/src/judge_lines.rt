@@ -1,5 +1,6 @@
 //! `desk judge`.
 ghost use Rattle.std.specs.Prelude.{◌≡◌, ◌<◌, All, IfOk};
+ghost use Rattle.task_sheet.specs.declared.set.TheConstants.{TASK_LIMIT};
 ghost use Rattle.desk_cli.specs.Judge.{Judges, JudgesText, SaysJudged, judged_status};
 ghost use Rattle.desk_cli.specs.Outcomes.{AreRead, IsCarriedOutOnBoth, failed_read};
 
@@ -22,10 +23,9 @@ fn judge_text(
     text: &[u8],
 ) -> Result<Vec<JudgedTask>, CommandRefusal>
     ensures answer { JudgesText tasks.now text.now result }
-    ensures within { IfOk result (λ judged. All (λ j. j.task < 32) judged.items) }
+    ensures within { IfOk result (λ judged. All (λ j. j.task < TASK_LIMIT) judged.items) }
 {
-    let judged = judge_settings(alloc, tasks, text)?;
-    Ok(judged)
+    judge_settings(alloc, tasks, text).map_err(CommandRefusal::Settings)
 }
 
 // The set, and what becomes of its tasks in the order that the settings give, once both are read.
@@ -38,7 +38,7 @@ fn judged_of<R: Read + Drop, S: Read + Drop, P: Audience>(
 ) -> Result<(TaskSet, Vec<JudgedTask>), CommandRefusal>
     ensures answer { Judges preference (R.remaining set.old.inner)
         (S.remaining settings.old.inner) result }
-    ensures within { IfOk result (λ judged. All (λ j. j.task < 32) judged.1.items) }
+    ensures within { IfOk result (λ judged. All (λ j. j.task < TASK_LIMIT) judged.1.items) }
     ensures read { AreRead failed_read R.remaining set.old set.new settings.old settings.new
         result }
 {

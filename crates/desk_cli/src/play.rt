@@ -22,7 +22,7 @@ pub(crate) fn lines_of<R: Read + Drop, P: Audience>(
     ensures answer { Scripts (R.remaining script.old.inner) result }
     ensures read { IsRead failed_read script.old script.new result }
 {
-    let bytes = read_told(alloc, Which::First, script, people)?;
+    let bytes = read_told(alloc, Which::First, script, people).map_err(CommandRefusal::Input)?;
     match read_script(alloc, &bytes) {
         Ok(lines) => Ok(lines),
         Err(fault) => {

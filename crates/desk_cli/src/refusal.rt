@@ -1,7 +1,7 @@
 //! Why a command was refused, and the line that says so.
 ghost use Rattle.std.specs.Prelude.{◌≡◌, Some};
 ghost use Rattle.std.specs.Fmt.{DisplaysOnOk};
-ghost use Rattle.desk_cli.specs.declared.refusal.CommandRefusal.TheVariants.{Certificate, Check, Input, OutOfMemory, Run, Rush, Script, Set, Settings, Text};
+ghost use Rattle.desk_cli.specs.declared.refusal.CommandRefusal.TheVariants.{OutOfMemory};
 ghost use Rattle.desk_cli.specs.Refusals.{cause_words, certificate_words, check_words, fault_words, lone_cause_words, outranks_words, refusal_line, run_words, rush_words, script_words, settings_words, status_of, text_words, words_of};
 
 use crate::release_text::TextFault;
@@ -12,7 +12,7 @@ use certificate::CertFault;
 use judge::SettingsFault;
 use rushes::RushFault;
 use scripts::ScriptFault;
-use std::alloc::{AllocError, AllocFailed};
+use std::alloc::AllocError;
 use std::fmt;
 use streams::InputFault;
 use task_sheet::{OutranksCause, SetFault, SheetCause};
@@ -42,90 +42,10 @@ pub enum CommandRefusal {
     OutOfMemory,
 }
 
-impl From<InputFault> for CommandRefusal {
-    ghost from_gives = { λ fault refusal. refusal ≡ Input fault };
-
-    fn from(fault: InputFault) -> CommandRefusal {
-        CommandRefusal::Input(fault)
-    }
-}
-
-impl From<SetFault> for CommandRefusal {
-    ghost from_gives = { λ fault refusal. refusal ≡ Set fault };
-
-    fn from(fault: SetFault) -> CommandRefusal {
-        CommandRefusal::Set(fault)
-    }
-}
-
-impl From<CertFault> for CommandRefusal {
-    ghost from_gives = { λ fault refusal. refusal ≡ Certificate fault };
-
-    fn from(fault: CertFault) -> CommandRefusal {
-        CommandRefusal::Certificate(fault)
-    }
-}
-
-impl From<CheckFault> for CommandRefusal {
-    ghost from_gives = { λ fault refusal. refusal ≡ Check fault };
-
-    fn from(fault: CheckFault) -> CommandRefusal {
-        CommandRefusal::Check(fault)
-    }
-}
-
-impl From<TextFault> for CommandRefusal {
-    ghost from_gives = { λ fault refusal. refusal ≡ Text fault };
-
-    fn from(fault: TextFault) -> CommandRefusal {
-        CommandRefusal::Text(fault)
-    }
-}
-
-impl From<RunFault> for CommandRefusal {
-    ghost from_gives = { λ fault refusal. refusal ≡ Run fault };
-
-    fn from(fault: RunFault) -> CommandRefusal {
-        CommandRefusal::Run(fault)
-    }
-}
-
-impl From<SettingsFault> for CommandRefusal {
-    ghost from_gives = { λ fault refusal. refusal ≡ Settings fault };
-
-    fn from(fault: SettingsFault) -> CommandRefusal {
-        CommandRefusal::Settings(fault)
-    }
-}
-
-impl From<ScriptFault> for CommandRefusal {
-    ghost from_gives = { λ fault refusal. refusal ≡ Script fault };
-
-    fn from(fault: ScriptFault) -> CommandRefusal {
-        CommandRefusal::Script(fault)
-    }
-}
-
-impl From<RushFault> for CommandRefusal {
-    ghost from_gives = { λ fault refusal. refusal ≡ Rush fault };
-
-    fn from(fault: RushFault) -> CommandRefusal {
-        CommandRefusal::Rush(fault)
-    }
-}
-
 impl From<AllocError> for CommandRefusal {
     ghost from_gives = { λ _ refusal. refusal ≡ OutOfMemory };
 
     fn from(_e: AllocError) -> CommandRefusal {
-        CommandRefusal::OutOfMemory
-    }
-}
-
-impl<T: Drop> From<AllocFailed<T>> for CommandRefusal {
-    ghost from_gives = { λ _ refusal. refusal ≡ OutOfMemory };
-
-    fn from(_e: AllocFailed<T>) -> CommandRefusal {
         CommandRefusal::OutOfMemory
     }
 }

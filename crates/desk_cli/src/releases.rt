@@ -19,8 +19,7 @@ use task_sheet::TaskSet;
 fn list_of(alloc: Global, tasks: &TaskSet, until: u64) -> Result<Vec<Release>, CommandRefusal>
     ensures { ListsOf until tasks.now result }
 {
-    let releases = densest(alloc, tasks, until)?;
-    Ok(releases)
+    densest(alloc, tasks, until).map_err(CommandRefusal::Run)
 }
 
 // The densest list of the set that the reader has, or why there is none.

@@ -59,9 +59,8 @@ pub(crate) fn read_one<R: Read + Drop, P: Audience>(
         (λ r. HasNoSet (R.remaining set.old.inner) r) }
     ensures read { IsRead failed_read set.old set.new result }
 {
-    let bytes = read_told(alloc, Which::First, set, people)?;
-    let tasks = set_told(alloc, preference, &bytes, people)?;
-    Ok(tasks)
+    let bytes = read_told(alloc, Which::First, set, people).map_err(CommandRefusal::Input)?;
+    set_told(alloc, preference, &bytes, people).map_err(CommandRefusal::Set)
 }
 
 // The set that the first reader has, by a preference, and what the second has; or why there are not both, which the
@@ -81,9 +80,9 @@ pub(crate) fn read_two<R: Read + Drop, S: Read + Drop, P: Audience>(
     ensures read { AreRead failed_read R.remaining set.old set.new other.old other.new
         result }
 {
-    let bytes = read_told(alloc, Which::First, set, people)?;
-    let text = read_told(alloc, Which::Second, other, people)?;
-    let tasks = set_told(alloc, preference, &bytes, people)?;
+    let bytes = read_told(alloc, Which::First, set, people).map_err(CommandRefusal::Input)?;
+    let text = read_told(alloc, Which::Second, other, people).map_err(CommandRefusal::Input)?;
+    let tasks = set_told(alloc, preference, &bytes, people).map_err(CommandRefusal::Set)?;
     Ok((tasks, text))
 }
 

@@ -1,5 +1,4 @@
 //! `desk simulate`.
-ghost use Rattle.std.specs.Prelude.{◌≡◌, IfOk};
 ghost use Rattle.task_sheet.specs.Orders.{IsBest};
 ghost use Rattle.assignment.specs.Placings.{tasks_of_places};
 ghost use Rattle.desk_cli.specs.Printed.{IsPrinted};
@@ -8,6 +7,7 @@ ghost use Rattle.desk_cli.specs.Outcomes.{AreRead, IsCarriedOutOnBoth, IsSaidOn,
 
 use crate::answer::print_stuck;
 use crate::audience::{Audience, Which};
+use crate::headroom_lines::tasks_of;
 use crate::output::{print, refuse};
 use crate::refusal::CommandRefusal;
 use crate::release_text::read_releases;
@@ -18,7 +18,7 @@ use assignment::{Place, Placing, place_all};
 use ceiling_kernel::{Kernel, KernelFault, Release, Trace};
 use ceilings::LockTable;
 use preferences::Preference;
-use std::alloc::{AllocError, Global};
+use std::alloc::Global;
 use std::io::{Read, Write};
 use streams::Watched;
 use task_sheet::{Members, TaskSet};
@@ -43,17 +43,6 @@ pub enum Simulated {
     Ran(Run),
 }
 
-// The indexes of the tasks, the lowest level first.
-fn order_of(alloc: Global, places: &[Place]) -> Result<Vec<usize>, AllocError>
-    ensures { IfOk result (λ order. order.items ≡ tasks_of_places places.now) }
-{
-    let mut order = Vec::with_capacity(alloc, places.len())?;
-    for place in places {
-        order.push(place.task)?;
-    }
-    Ok(order)
-}
-
 // Runs the tasks at the levels of their best order.
 fn run_best(
     alloc: Global,
@@ -65,21 +54,26 @@ fn run_best(
     requires { IsBest set.now (tasks_of_places places.now) }
     ensures { RunsOrder set.now (tasks_of_places places.now) releases.now until result }
 {
-    let order = order_of(alloc, places)?;
+    let order = tasks_of(alloc, places)?;
     let kernel = match Kernel::new(alloc, set, &order) {
         Ok(kernel) => kernel,
         Err(KernelFault::OutOfMemory) => return Err(CommandRefusal::OutOfMemory),
         Err(KernelFault::WrongOrder) => unreachable!(),
     };
-    let trace = kernel.run(alloc, releases, until)?;
-    Ok(trace)
+    match kernel.run(alloc, releases, until) {
+        Ok(trace) => Ok(trace),
+        Err(fault) => Err(CommandRefusal::Run(fault)),
+    }
 }
 
 // What a set and a release list's text come to.
 fn simulate_text(alloc: Global, tasks: &TaskSet, text: &[u8]) -> Result<Simulated, CommandRefusal>
     ensures { SimulatesText tasks.now text.now result }
 {
-    let (until, releases) = read_releases(alloc, text)?;
+    let (until, releases) = match read_releases(alloc, text) {
+        Ok(list) => list,
+        Err(fault) => return Err(CommandRefusal::Text(fault)),
+    };
     let table = LockTable::new(alloc, tasks)?;
     match place_all(alloc, tasks, &table)? {
         Placing::Stuck(members) => Ok(Simulated::Infeasible(members)),

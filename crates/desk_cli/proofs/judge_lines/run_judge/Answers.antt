@@ -1,4 +1,4 @@
-use Rattle.std.proofs.Common.{◌≡◌, ◌∙◌, List, Ok, Err, inl, refl, ap}
+use Rattle.std.proofs.Common.{◌≡◌, ◌∙◌, List, Ok, Err, inl, ap}
 use Rattle.judge.specs.declared.judging.JudgedTask.{JudgedTask}
 use Rattle.judge.specs.Lines.{judged_lines}
 use Rattle.desk_cli.specs.Judge.{judged_status}

@@ -1,4 +1,4 @@
-use Rattle.std.proofs.Common.{◌∙◌, List, Err, refl, sym, subst}
+use Rattle.std.proofs.Common.{◌∙◌, List, Err, subst}
 use Rattle.task_sheet.specs.Sheet.{Task}
 use Rattle.task_sheet.specs.TaskSet.{IsTaskSet}
 use Rattle.desk_cli.specs.Settings.{settings_of}

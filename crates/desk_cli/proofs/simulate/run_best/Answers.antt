@@ -4,8 +4,8 @@ use Rattle.ceiling_kernel.specs.Tick.{node_in}
 use Rattle.assignment.specs.Placings.{tasks_of_places}
 use Rattle.desk_cli.proofs.simulate.run_best.Goals as goal
 
-pub returns : goal.returns
-returns c =
+pub returns-in-Ok-run : goal.returns-in-Ok-run
+returns-in-Ok-run c =
     let node : c.in-Ok.kernel ≡ node_in c.args.set.now (tasks_of_places c.args.places.now) =
     c.in-Ok.ensures.ok.0 ∙ ap (λ (order : List ℕ). node_in c.args.set.now order) (c.deref.ensures.value ∙ c.in_ok-order.ensures) in
-    subst (λ n. Runs n c.args.releases.now c.args.until (Ok c.in_ok-trace.trace)) node c.in_ok-trace.ensures.trace
+    subst (λ n. Runs n c.args.releases.now c.args.until (Ok c.in-Ok-run.trace)) node c.in-Ok-run.ensures.trace
