@@ -1,3 +1,4 @@
+mod Added
 pub mod Matches
 pub mod Help
 pub mod Walks

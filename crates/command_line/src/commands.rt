@@ -1,6 +1,6 @@
 //! The commands as `clap` takes them.
 ghost use Rattle.std.specs.Prelude.{◌≡◌, IfOk, false};
-ghost use Rattle.clap.specs.Words.{app_of, new_app, rule_of, with_rule, with_subcommand};
+ghost use Rattle.clap.specs.Words.{app_of, rule_of, with_rule, with_subcommand};
 ghost use Rattle.clap.specs.declared.builder.command.Command.TheViews.{out-Command as fields_of};
 ghost use Rattle.command_line.specs.App.{app_of_number, app_of_one, app_of_two, bare_app, desk_app, input_app, input_rule, number_rule, preference_rule, run_commands, set_commands, with_commands};
 ghost use Rattle.command_line.specs.Commands.{least_of, most_of, number_name};
@@ -171,59 +171,17 @@ fn with_command<'a>(above: Command<'a>, command: Command<'a>) -> Result<Command<
     Ok(both)
 }
 
-fn with_one<'a>(
-    alloc: Global,
-    above: Command<'a>,
-    command: OfOne,
-) -> Result<Command<'a>, AllocError>
-    requires { (fields_of above).has_globals ≡ false }
-    ensures app { IfOk result (λ c. app_of c ≡ with_subcommand (app_of above.entry)
-        (app_of_one command).top) }
-    ensures local { IfOk result (λ c. (fields_of c).has_globals ≡ false) }
-{
-    let command = command_of_one(alloc, command)?;
-    with_command(above, command)
-}
-
-fn with_two<'a>(
-    alloc: Global,
-    above: Command<'a>,
-    command: OfTwo,
-) -> Result<Command<'a>, AllocError>
-    requires { (fields_of above).has_globals ≡ false }
-    ensures app { IfOk result (λ c. app_of c ≡ with_subcommand (app_of above.entry)
-        (app_of_two command).top) }
-    ensures local { IfOk result (λ c. (fields_of c).has_globals ≡ false) }
-{
-    let command = command_of_two(alloc, command)?;
-    with_command(above, command)
-}
-
-fn with_number<'a>(
-    alloc: Global,
-    above: Command<'a>,
-    command: OfNumber,
-) -> Result<Command<'a>, AllocError>
-    requires { (fields_of above).has_globals ≡ false }
-    ensures app { IfOk result (λ c. app_of c ≡ with_subcommand (app_of above.entry)
-        (app_of_number command).top) }
-    ensures local { IfOk result (λ c. (fields_of c).has_globals ≡ false) }
-{
-    let command = command_of_number(alloc, command)?;
-    with_command(above, command)
-}
-
 // The commands that answer on a task set.
 fn with_set_commands<'a>(alloc: Global, bare: Command<'a>) -> Result<Command<'a>, AllocError>
     requires { (fields_of bare).has_globals ≡ false }
     ensures app { IfOk result (λ c. app_of c ≡ with_commands (app_of bare.entry) set_commands) }
     ensures local { IfOk result (λ c. (fields_of c).has_globals ≡ false) }
 {
-    let first = with_one(alloc, bare, OfOne::Admit)?;
-    let second = with_one(alloc, first, OfOne::Explain)?;
-    let third = with_one(alloc, second, OfOne::Headroom)?;
-    let fourth = with_one(alloc, third, OfOne::Settings)?;
-    with_two(alloc, fourth, OfTwo::Judge)
+    let first = with_command(bare, command_of_one(alloc, OfOne::Admit)?)?;
+    let second = with_command(first, command_of_one(alloc, OfOne::Explain)?)?;
+    let third = with_command(second, command_of_one(alloc, OfOne::Headroom)?)?;
+    let fourth = with_command(third, command_of_one(alloc, OfOne::Settings)?)?;
+    with_command(fourth, command_of_two(alloc, OfTwo::Judge)?)
 }
 
 // Those for certificates and runs.
@@ -232,11 +190,11 @@ fn with_run_commands<'a>(alloc: Global, above: Command<'a>) -> Result<Command<'a
     ensures app { IfOk result (λ c. app_of c ≡ with_commands (app_of above.entry) run_commands) }
     ensures local { IfOk result (λ c. (fields_of c).has_globals ≡ false) }
 {
-    let first = with_one(alloc, above, OfOne::Certify)?;
-    let second = with_two(alloc, first, OfTwo::Check)?;
-    let third = with_number(alloc, second, OfNumber::Releases)?;
-    let fourth = with_two(alloc, third, OfTwo::Simulate)?;
-    with_two(alloc, fourth, OfTwo::Draw)
+    let first = with_command(above, command_of_one(alloc, OfOne::Certify)?)?;
+    let second = with_command(first, command_of_two(alloc, OfTwo::Check)?)?;
+    let third = with_command(second, command_of_number(alloc, OfNumber::Releases)?)?;
+    let fourth = with_command(third, command_of_two(alloc, OfTwo::Simulate)?)?;
+    with_command(fourth, command_of_two(alloc, OfTwo::Draw)?)
 }
 
 // The program with all its commands.
@@ -247,6 +205,6 @@ pub(crate) fn desk_command<'a>(alloc: Global) -> Result<Command<'a>, AllocError>
     let bare = bare_command(alloc)?;
     let sets = with_set_commands(alloc, bare)?;
     let runs = with_run_commands(alloc, sets)?;
-    let plays = with_one(alloc, runs, OfOne::Play)?;
-    with_number(alloc, plays, OfNumber::Rush)
+    let plays = with_command(runs, command_of_one(alloc, OfOne::Play)?)?;
+    with_command(plays, command_of_number(alloc, OfNumber::Rush)?)
 }

@@ -1,6 +1,6 @@
 //! The words of a command line.
 ghost use Rattle.std.specs.Prelude.{◌≡◌, ◌≢◌, map, Ok, Some, None, Err, IfOk, IfErr, IfSome, true, false, codes};
-ghost use Rattle.clap.specs.Words.{FailsBy, fault_of, first_of, first_value, found_of, rows_of, subcommand_of, subcommand_rows_of};
+ghost use Rattle.clap.specs.Words.{FailsBy, fault_of, first_of, found_of, rows_of, subcommand_of, subcommand_rows_of};
 ghost use Rattle.command_line.specs.App.{desk_app};
 ghost use Rattle.command_line.specs.Commands.{number_name, word_of_number, word_of_one, word_of_two};
 ghost use Rattle.command_line.specs.Calls.{Calls, Counts, HasNumber, IsCall, IsCommand, AreTakenWords, IsWordsFault, Names, Prefers, PrefersOther, TakesNumber, is_twice};
