@@ -167,44 +167,81 @@ fn one_name_two_teams(rt: HostRuntime) -> Result<(), Fail> {
     Ok(())
 }
 
-// A book whose version 1 is one put of team 1.
-fn book_with(alloc: Global, name: &str) -> Result<Book, Fail> {
+// A book whose version 1 is one put of a team.
+fn book_with(alloc: Global, number: u64, name: &str, cost: u64) -> Result<Book, Fail> {
     let mut text = String::new(alloc);
     let mut book = new_book(alloc)?;
-    let draft = open_with(alloc, &book, 1, name, 1000)?;
+    let draft = open_with(alloc, &book, number, name, cost)?;
     commit(alloc, &mut book, draft, &mut text)?;
     Ok(book)
 }
 
-// A proposal that puts c on a book with b.
-fn stranger(alloc: Global) -> Result<Proposal, Fail> {
-    let other = book_with(alloc, "b")?;
-    proposed(alloc, open_with(alloc, &other, 1, "c", 1000)?)
+// A proposal of team 1 on a book, which puts one task.
+fn proposal_on(alloc: Global, book: &Book, name: &str, cost: u64) -> Result<Proposal, Fail> {
+    proposed(alloc, open_with(alloc, book, 1, name, cost)?)
 }
 
-// That proposal settled in another book: what is answered, and how many changes come back.
-fn push_stranger(alloc: Global, text: &mut String, book: &mut Book) -> Result<(), Fail> {
-    let back = settle(alloc, book, stranger(alloc)?, text)?;
+// A proposal settled in a book: what is answered, and how many changes come back.
+fn push_settled(
+    alloc: Global,
+    text: &mut String,
+    book: &mut Book,
+    proposal: Proposal,
+) -> Result<(), Fail> {
+    let back = settle(alloc, book, proposal, text)?;
     let changes = back.map_or(0, |draft| draft.len());
     write!(text, "{changes} back; ")?;
     Ok(())
 }
 
-// That, and what the other book is then.
-fn from_another(alloc: Global, mut book: Book) -> Result<String, Fail> {
+// That, and what the book is then.
+fn settled_in(alloc: Global, mut book: Book, proposal: Proposal) -> Result<String, Fail> {
     let mut text = String::new(alloc);
-    push_stranger(alloc, &mut text, &mut book)?;
+    push_settled(alloc, &mut text, &mut book, proposal)?;
     push_book(&mut text, &book)?;
     Ok(text)
+}
+
+// A proposal that puts c on a book with b, settled in another book.
+fn from_another(alloc: Global, book: Book) -> Result<String, Fail> {
+    let other = book_with(alloc, 1, "b", 1000)?;
+    settled_in(alloc, book, proposal_on(alloc, &other, "c", 1000)?)
 }
 
 #[test]
 fn a_proposal_from_another_book(rt: HostRuntime) -> Result<(), Fail> {
     let alloc = rt.alloc();
-    let found = from_another(alloc, book_with(alloc, "a")?)?;
+    let found = from_another(alloc, book_with(alloc, 1, "a", 1000)?)?;
     assert_eq!(rt; found.as_str(), "stranger; 1 back; version 1 of 1 a 1000");
     let found = from_another(alloc, new_book(alloc)?)?;
     assert_eq!(rt; found.as_str(), "stranger; 1 back; version 0 of 0");
+    Ok(())
+}
+
+// A proposal that puts a task of cost 3000 on a book where team 1 holds a with this cost, settled in another book of the
+// same version, where this team holds a with cost 1000.
+fn from_a_like_book(alloc: Global, holder: u64, cost: u64, name: &str) -> Result<String, Fail> {
+    let other = book_with(alloc, 1, "a", cost)?;
+    let proposal = proposal_on(alloc, &other, name, 3000)?;
+    settled_in(alloc, book_with(alloc, holder, "a", 1000)?, proposal)
+}
+
+// The other book has the same tasks; another task, which the proposal replaces; the same sheet, of another team.
+#[test]
+fn a_proposal_from_a_like_book(rt: HostRuntime) -> Result<(), Fail> {
+    for (holder, cost, name, want) in [
+        (
+            1,
+            1000,
+            "c",
+            "2 admitted 2; 0 back; version 2 of 2 a 4000 c 3000",
+        ),
+        (1, 2000, "a", "2 admitted 2; 0 back; version 2 of 2 a 3000"),
+        (2, 1000, "a", "stranger; 1 back; version 1 of 1 a 1000"),
+    ] {
+        let found = from_a_like_book(rt.alloc(), holder, cost, name)?;
+        assert_eq!(rt; found.as_str(), want);
+    }
     Ok(())
 }
 
