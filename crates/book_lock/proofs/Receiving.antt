@@ -1,10 +1,12 @@
 -- One receipt more.
 use Rattle.std.proofs.Math.Bool.{and_assoc, and-true}
-use Rattle.std.proofs.Common.{◌≡◌, ◌∙◌, ℕ, Bool, ◌&&◌, nat_le, List, [], ◌∷◌, ◌++◌, sym, ap}
+use Rattle.std.proofs.Common.{◌≡◌, ◌∙◌, ℕ, Bool, ◌&&◌, nat_le, List, [], ◌∷◌, ◌++◌, map, sym, ap, subst}
+use Rattle.std.proofs.lemmas.List.{map_push}
 use Rattle.book_lock.specs.Own.{own_changes}
 use Rattle.drafts.specs.Machine.{Entry}
+use Rattle.book_lock.specs.declared.pass.Receipt.{Receipt}
 use Rattle.book_lock.specs.Passes.{Known, own_after, receiving, is_up_to, admitted_version}
-use Rattle.book_lock.specs.PassFields.{IsLatest}
+use Rattle.book_lock.specs.PassFields.{receipt_of, IsLatest}
 
 pub received : (old new : Known) (place : ℕ) (l : Entry) → new.team ≡ old.team → new.parts ≡ old.parts → new.tasks ≡ own_after l.decision (own_changes l.changes old.tasks) old.tasks → new.receipts ≡ old.receipts ++ (place, l) ∷ [] → new ≡ receiving old place l
 received old new place l team parts tasks receipts = λ i. let k : Known = record { team = team i; parts = parts i; tasks = tasks i; receipts = receipts i } in k
@@ -18,3 +20,10 @@ is_up_to-push version (x ∷ rs) r = ap (λ (b : Bool). nat_le (admitted_version
 pub IsLatest-push : (latest next : ℕ) (rs : List (ℕ × Entry)) (r : ℕ × Entry) → IsLatest latest rs → ((version : ℕ) → nat_le next version ≡ (nat_le latest version && nat_le (admitted_version r.1.decision) version)) → IsLatest next (rs ++ r ∷ [])
 IsLatest-push latest next rs r before is version =
     is_up_to-push version rs r ∙ ap (λ (b : Bool). b && nat_le (admitted_version r.1.decision) version) (before version) ∙ sym (is version)
+
+-- so it is of the receipts, with room for one more, to which one is pushed
+pub IsLatest-received : (latest next : ℕ) (before roomy after : List Receipt) (r : Receipt) → roomy ≡ before → after ≡ roomy ++ r ∷ [] → IsLatest latest (map receipt_of before) → ((version : ℕ) → nat_le next version ≡ (nat_le latest version && nat_le (admitted_version (receipt_of r).1.decision) version)) → IsLatest next (map receipt_of after)
+IsLatest-received latest next before roomy after r same pushed was is =
+    let all : map receipt_of after ≡ map receipt_of before ++ receipt_of r ∷ [] =
+    ap (map receipt_of) pushed ∙ map_push receipt_of roomy r ∙ ap (λ (xs : List Receipt). map receipt_of xs ++ receipt_of r ∷ []) same in
+    subst (λ (rs : List (ℕ × Entry)). IsLatest next rs) (sym all) (IsLatest-push latest next (map receipt_of before) (receipt_of r) was is)

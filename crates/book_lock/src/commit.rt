@@ -8,7 +8,7 @@ use crate::answer::{DeskFault, Settlement};
 use crate::asking::examine;
 use crate::desk::Desk;
 use crate::pass::Pass;
-use candidate_workers::Gate;
+use candidate_workers::{Gate, WORKER_LIMIT};
 use drafts::{Draft, NodeState};
 use std::alloc::Global;
 use std::sync::ledger::Ledger;
@@ -21,7 +21,7 @@ use task_sheet::Name;
 pub enum CommitCause {
     /// The draft isn't the pass's team's.
     OtherTeam,
-    /// There are no workers, or more than 8.
+    /// There are no workers, or more than `WORKER_LIMIT`.
     BadWorkers,
     /// The system refused a thread.
     ThreadRefused,
@@ -157,7 +157,7 @@ impl<L: Ledger> Desk<L> {
             let cause = CommitCause::OtherTeam;
             return Err(CommitFault { cause, draft });
         }
-        if workers == 0 || workers > 8 {
+        if workers == 0 || workers > WORKER_LIMIT {
             let cause = CommitCause::BadWorkers;
             return Err(CommitFault { cause, draft });
         }

@@ -1,5 +1,5 @@
 -- How a finding moves a climb.
-use Rattle.std.proofs.Common.{◌≡◌, ℕ, suc, ◌<◌, inl, inr, true, false, List, [], ◌∷◌, ◌++◌, length, MatchBool, None, length-append, refl, sym, ◌∙◌, ap, subst, arith, IsTrue}
+use Rattle.std.proofs.Common.{◌≡◌, ℕ, suc, ◌<◌, inl, inr, true, false, Bool, List, [], ◌∷◌, ◌++◌, length, MatchBool, None, length-append, refl, sym, ◌∙◌, ap, subst, arith, IsTrue}
 use Rattle.std.specs.Ordering.{nat_cmp}
 use Rattle.std.specs.FinSet as members
 use Rattle.std.proofs.lemmas.Bool.{cases_Bool, cases_eq, cases_lt, both_ways}
@@ -83,16 +83,20 @@ module _ (U : List Task) (c : ClimbState) (l : LevelState) (found : List Asked) 
         let same : members.len (members.insert q.above q.task) ≡ members.len c.left = ap (λ (m : members.FinSet nat_cmp). members.len m) whole in
         AreWide-push (members.len c.left) found (asked_of q) so.wide (omega arith)
 
-    pub progress-taken : ¬ IsDecided (with_finding l q.task) → IsProgress U c (with_finding l q.task) (found ++ asked_of q ∷ [])
-    progress-taken still = record {
+    -- the climb with its present level as it is then, stuck or not
+    progress-here : (stuck : Bool) → MatchBool stuck (NoneStands U (indexes_of c.left) × IsDecided (with_finding l q.task)) ((i : ℕ) → IsTrue (members.contains c.left i) → ¬ IsDecided (with_finding l q.task)) → IsProgress U (let x : ClimbState = record { set = c.set; levels = c.levels; left = c.left; stuck = stuck } in x) (with_finding l q.task) (found ++ asked_of q ∷ [])
+    progress-here stuck here = record {
       same = so.same;
       part = so.part;
       left = so.left;
       level = progress-more;
       before = λ j lt. Decides-push U found j (asked_of q) (so.before j lt);
       wide = wider;
-      here = subst (λ b. MatchBool b (NoneStands U (indexes_of c.left) × IsDecided (with_finding l q.task)) ((i : ℕ) → IsTrue (members.contains c.left i) → ¬ IsDecided (with_finding l q.task))) (sym going.goes_on) (λ i member. still);
+      here = here;
     }
+
+    pub progress-taken : ¬ IsDecided (with_finding l q.task) → IsProgress U c (with_finding l q.task) (found ++ asked_of q ∷ [])
+    progress-taken still = progress-here c.stuck (subst (λ b. MatchBool b (NoneStands U (indexes_of c.left) × IsDecided (with_finding l q.task)) ((i : ℕ) → IsTrue (members.contains c.left i) → ¬ IsDecided (with_finding l q.task))) (sym going.goes_on) (λ i member. still))
 
     module _ (c' : ClimbState) (decided : IsDecided (with_finding l q.task)) where
       decides-here : Decides U (found ++ asked_of q ∷ []) (length c.levels)
@@ -100,15 +104,8 @@ module _ (U : List Task) (c : ClimbState) (l : LevelState) (found : List Asked) 
 
       pub progress-ended : IsEnded c c' → IsProgress U c' (with_finding l q.task) (found ++ asked_of q ∷ [])
       progress-ended ended =
-          subst (λ (x : ClimbState). IsProgress U x (with_finding l q.task) (found ++ asked_of q ∷ [])) (sym ended.after) (record {
-            same = so.same;
-            part = so.part;
-            left = so.left;
-            level = progress-more;
-            before = λ j lt. Decides-push U found j (asked_of q) (so.before j lt);
-            wide = wider;
-            here = (subst (λ V. NoneStands V (indexes_of c.left)) so.same ended.none, decided);
-          })
+          subst (λ (x : ClimbState). IsProgress U x (with_finding l q.task) (found ++ asked_of q ∷ [])) (sym ended.after)
+          (progress-here true (subst (λ V. NoneStands V (indexes_of c.left)) so.same ended.none, decided))
 
       -- the next level has no finding yet
       pub progress-placed : IsPlaced c c' → IsProgress U c' (present_of c' None) (found ++ asked_of q ∷ [])

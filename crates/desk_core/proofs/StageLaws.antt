@@ -15,12 +15,13 @@ use Rattle.drafts.specs.declared.change.Refusal.{Refusal}
 use Rattle.desk_core.specs.declared.asked.Asked.{Asked}
 use Rattle.desk_core.specs.declared.events.Standing.{Standing}
 use Rattle.desk_core.specs.declared.events.Standing.TheVariants as standing
+use Rattle.desk_core.specs.declared.stage.Stage.{Stage}
 use Rattle.desk_core.specs.declared.stage.Stage.TheVariants.{Tested}
 use Rattle.drafts.specs.Applied.{set_of}
 use Rattle.desk_core.specs.Trials.{TrialData, names_of}
 use Rattle.desk_core.specs.Findings.{IsTested}
 use Rattle.desk_core.specs.World.{IsTestedOn, IsShown}
-use Rattle.desk_core.specs.Stages.{IsStage, IsTrialOn}
+use Rattle.desk_core.specs.Stages.{found_of, IsStage, IsTrialOn}
 use Rattle.desk_core.specs.Standings.{IsNaming, IsStandingOn, IsQuestionOn}
 use Rattle.drafts.specs.Changes.{HasTasks}
 use Rattle.desk_core.proofs.FindingLaws.{fresh-undecided}
@@ -47,6 +48,12 @@ trying-tested (Ok tasks) trial found so same = (
 pub tested-tested : (outcome : Result (List Owned) Refusal) (set : Arc (List Task) Global) (members : FinSet nat_cmp) (found : Vec Asked Global) → IsStage outcome (Tested set members found) → IsTestedOn outcome found.items
 tested-tested (Err refusal) set members found so = absurd so
 tested-tested (Ok tasks) set members found so = so.1
+
+-- the same of a stage that is complete, by the findings that were brought
+pub tested-stage : (outcome : Result (List Owned) Refusal) (stage : Stage) (set : Arc (List Task) Global) (members : FinSet nat_cmp) (found : Vec Asked Global) (brought : List Asked) → stage ≡ Tested set members found → IsStage outcome stage → found_of stage ≡ brought → IsTestedOn outcome brought
+tested-stage outcome stage set members found brought is so same =
+    let tested = tested-tested outcome set members found (subst (λ (s : Stage). IsStage outcome s) is so) in
+    subst (λ (xs : List Asked). IsTestedOn outcome xs) (sym (ap (λ (s : Stage). found_of s) is) ∙ same) tested
 
 pub trying-rest : (outcome : Result (List Owned) Refusal) (trial : TrialData) (set : Arc (List Task) Global) (members : FinSet nat_cmp) (found : Vec Asked Global) → IsTrialOn outcome trial → set.value ≡ trial.set → IsTested trial.set trial.found → IsShown trial.set (names_of trial.set members) → found.items ≡ trial.found
     → IsStage outcome (Tested set members found)

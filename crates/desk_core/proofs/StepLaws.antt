@@ -1,11 +1,14 @@
 -- What becomes of a trial when a finding comes.
-use Rattle.std.proofs.Common.{◌≡◌, inl, inr, true, Result, Ok, Err, is_err, OnOk, OnErr, false, List, [], ◌∷◌, ◌++◌, Option, None, Some, refl, sym, ap, subst}
+use Rattle.std.proofs.Common.{◌≡◌, inl, inr, true, Result, Ok, Err, is_err, OnOk, OnErr, false, List, [], ◌∷◌, ◌++◌, Option, None, Some, refl, sym, ◌∙◌, ap, subst}
 use Rattle.std.proofs.lemmas.Bool.{both_ways}
 use Rattle.task_sheet.specs.Sheet.{Task}
 use Rattle.assignment.specs.Questions.{QuestionData}
 use Rattle.assignment.specs.Levels.{LevelState, with_finding}
 use Rattle.assignment.specs.Climbs.{ClimbState, IsUnfinished}
+use Rattle.std.specs.Global.{Vec}
 use Rattle.desk_core.specs.declared.asked.Asked.{Asked}
+use Rattle.desk_core.specs.declared.trial.Trial.TheInside.{Inside}
+use Rattle.desk_core.specs.TrialFields.{IsTrialKept}
 use Rattle.desk_core.specs.declared.told.Told.{Told}
 use Rattle.desk_core.specs.declared.told.Told.TheVariants.{Stranger, Twice, Taken, LevelDone, Tested}
 use Rattle.desk_core.specs.Findings.{asked_of, IsTold, found_after}
@@ -55,3 +58,34 @@ on_err P (Err e) is so = so
 
 pub level_here : (c : ClimbState) (old new got : Option LevelState) (level : LevelState) → new ≡ Some (present_of c old) → got ≡ new → got ≡ Some level → level ≡ present_of c old
 level_here c old new got level started taken is = cc
+
+-- ---- what is kept of a trial
+module _ (a : Inside) (trial : IsTrialKept a) where
+  -- with room for one finding more, and its level started or not
+  pub trial-roomy : (level : Option LevelState) (found : Vec Asked) → found.items ≡ a.found.items → present_of a.climb level ≡ present_of a.climb a.level → IsTrialKept (let x : Inside = record { set = a.set; table = a.table; climb = a.climb; level = level; found = found } in x)
+  trial-roomy level found same present = record {
+    tabled = trial.tabled;
+    present = trial.present;
+    progress = subst (λ (xs : List Asked). IsProgress a.set.value a.climb trial.present xs) (sym same) trial.progress;
+    kept = λ goes_on. trial.kept goes_on ∙ sym present;
+  }
+
+  -- after a finding that came to the present level
+  module _ (going : IsUnfinished a.climb) (l : LevelState) (here : l ≡ present_of a.climb a.level) (q : QuestionData) (climb : ClimbState) (level : Option LevelState) (told : Told) (taken : IsTakenAt a.climb l q climb level told) where
+    step : IsTold a.set.value a.found.items q told × IsHeld a.set.value climb level (found_after a.found.items (asked_of q) told)
+    step = told-step a.set.value a.climb l a.found.items (subst (λ (x : LevelState). IsProgress a.set.value a.climb x a.found.items) (trial.kept going.goes_on ∙ sym here) trial.progress) q going climb level told taken
+
+    pub trial-told : IsTold a.set.value a.found.items q told
+    trial-told = step.0
+
+    pub trial-taken : (found : Vec Asked) → found.items ≡ found_after a.found.items (asked_of q) told → IsTrialKept (let x : Inside = record { set = a.set; table = a.table; climb = climb; level = level; found = found } in x)
+    trial-taken found noted = record {
+      tabled = trial.tabled;
+      present = step.1.present;
+      progress = subst (λ (xs : List Asked). IsProgress a.set.value climb step.1.present xs) (sym noted) step.1.progress;
+      kept = step.1.kept;
+    }
+
+-- the findings, once one is noted where there was room
+pub noted_in : (q : QuestionData) (told : Told) (asked : Asked) (old roomy new : List Asked) → new ≡ found_after roomy asked told → roomy ≡ old → asked ≡ asked_of q → new ≡ found_after old (asked_of q) told
+noted_in q told asked old roomy new is kept same = is ∙ ap (λ (xs : List Asked). found_after xs asked told) kept ∙ ap (λ (x : Asked). found_after old x told) same

@@ -1,9 +1,10 @@
 //! The test of a set by findings that come in any order.
 
 ghost use Rattle.std.specs.Prelude.{◌≡◌, ◌↔◌, ◌<◌, ◌≤◌, ◌+◌, [], ◌∷◌, ◌++◌, List, length, map, None, Some, ℕ, IsTrue, IsFalse, MatchOption, IfOk, IfErr, OnOk, OnErr, vec_len, vec_capacity};
-ghost use Rattle.std.specs.FinSet.{contains};
+ghost use Rattle.std.specs.FinSet.{contains, remove};
 ghost use Rattle.desk_core.specs.Asking.{IsAsking, IsQuestionNamed};
 ghost use Rattle.task_sheet.specs.Indexes.{indexes_of, listed_below, IsPart};
+ghost use Rattle.task_sheet.specs.declared.set.TheConstants.{TASK_LIMIT};
 ghost use Rattle.task_sheet.specs.Sheet.{task_at};
 ghost use Rattle.task_sheet.specs.Orders.{all_of};
 ghost use Rattle.task_sheet.specs.Verdicts.{LevelData};
@@ -163,7 +164,7 @@ fn missing_of(climb: &Climb, level: &Option<Level>) -> Members
 
 // The least member below a number.
 fn least(members: Members, count: usize) -> Option<usize>
-    requires { count ≤ 32 }
+    requires { count ≤ TASK_LIMIT }
     ensures { MatchOption result ((j : ℕ) → j < count → IsFalse (contains members j))
         (λ i. (i < count) × IsTrue (contains members i)
         × ((j : ℕ) → j < i → IsFalse (contains members j))) }
@@ -191,6 +192,19 @@ fn find_least(alloc: Global, table: &LockTable, level: &Level) -> Result<Finding
         },
         None => unreachable!(),
     }
+}
+
+// The question on a candidate of the present level.
+fn question_on(set: &Arc<TaskSet>, climb: &Climb, task: usize) -> Result<Question, AllocError>
+    requires same { climb.now.set ≡ set.now.value }
+    requires task { task < length set.now.value }
+    requires limit { task < TASK_LIMIT }
+    ensures { IfOk result (λ question. question
+        ≡ record { set = set.now.value; above = remove climb.now.left task; task = task }) }
+{
+    let left = climb.left();
+    let own = set.clone()?;
+    Ok(Question::new(own, left.without(task), task))
 }
 
 // The names of tasks, by rank, into a list with room for them.
@@ -244,12 +258,11 @@ impl Trial {
         if !self.climb.is_unfinished() {
             return Ok(None);
         }
-        let left = self.climb.left();
         let missing = missing_of(&self.climb, &self.level);
         match least(missing, self.set.len()) {
             Some(task) => {
-                let set = self.set.clone()?;
-                Ok(Some(Question::new(set, left.without(task), task)))
+                let question = question_on(&self.set, &self.climb, task)?;
+                Ok(Some(question))
             }
             None => unreachable!(),
         }
@@ -268,12 +281,11 @@ impl Trial {
         let Some(task) = self.set.find(name) else {
             return Ok(None);
         };
-        let left = self.climb.left();
-        if !left.has(task) {
+        if !self.climb.left().has(task) {
             return Ok(None);
         }
-        let set = self.set.clone()?;
-        Ok(Some(Question::new(set, left.without(task), task)))
+        let question = question_on(&self.set, &self.climb, task)?;
+        Ok(Some(question))
     }
 
     /// The answer to a question, by the table of the trial where the question is on its set. The fault is want of

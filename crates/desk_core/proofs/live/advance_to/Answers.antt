@@ -5,9 +5,8 @@ use Rattle.desk_core.specs.declared.stage.Stage.{Stage}
 use Rattle.desk_core.specs.Advances.{IsAdvancedOn}
 use Rattle.desk_core.specs.Stages.{found_of, IsStage}
 use Rattle.desk_core.specs.Trials.{TrialData}
-use Rattle.desk_core.specs.World.{IsTestedOn}
 use Rattle.desk_core.proofs.AdvanceLaws.{tested-silent}
-use Rattle.desk_core.proofs.StageLaws.{tested-tested}
+use Rattle.desk_core.proofs.StageLaws.{tested-stage}
 use Rattle.desk_core.proofs.live.advance_to.Goals as goal
 
 pub returns-in-Trying-clause-ok : goal.returns-in-Trying-clause-ok
@@ -21,6 +20,5 @@ returns-in-Trying-clause-ok c =
 pub returns-in-Tested-clause-ok : goal.returns-in-Tested-clause-ok
 returns-in-Tested-clause-ok c =
     let outcome = on_base c.args.draft.now in
-    let so = subst (λ (s : Stage). IsStage outcome s) c.in-Tested.is c.begin.ensures.kept in
-    let same = sym (ap (λ (s : Stage). found_of s) c.in-Tested.is) ∙ c.begin.ensures.found in
-    (tested-silent outcome (found_of c.args.stage.now) (subst (λ (xs : List Asked). IsTestedOn outcome xs) same (tested-tested outcome c.in-Tested.set c.in-Tested.members c.in-Tested.found so)), c.begin.ensures.found)
+    let tested = tested-stage outcome c.begin.new.stage c.in-Tested.set c.in-Tested.members c.in-Tested.found _ c.in-Tested.is c.begin.ensures.kept c.begin.ensures.found in
+    (tested-silent outcome (found_of c.args.stage.now) tested, c.begin.ensures.found)

@@ -1,8 +1,7 @@
-use Rattle.std.proofs.Common.{◌≡◌, ◌∙◌, ℕ, sym, ap, subst, refl, length, List, Option}
+use Rattle.std.proofs.Common.{◌∙◌, ℕ, sym, ap, subst, refl, length, Option}
 use Rattle.assignment.specs.Levels.{LevelState}
 use Rattle.assignment.specs.Climbs.{IsUnfinished}
 use Rattle.std.proofs.lemmas.Bool.{both_ways}
-use Rattle.desk_core.specs.declared.asked.Asked.{Asked}
 use Rattle.desk_core.specs.Advances.{IsLeast}
 use Rattle.desk_core.specs.Asking.{IsNextAsked}
 use Rattle.desk_core.specs.Trials.{TrialData}
@@ -10,7 +9,7 @@ use Rattle.desk_core.specs.Findings.{asked_of, IsTested, IsTold, found_after}
 use Rattle.desk_core.specs.Progress.{present_of, IsProgress}
 use Rattle.desk_core.proofs.AskingLaws.{least-next}
 use Rattle.desk_core.proofs.ToldLaws.{tested-iff}
-use Rattle.desk_core.proofs.StepLaws.{told-step, level_here}
+use Rattle.desk_core.proofs.StepLaws.{level_here, noted_in, trial-roomy, trial-told, trial-taken}
 use Rattle.desk_core.proofs.trial.Trial.advance.Goals as goal
 
 pub returns-then-not-is_unfinished-clause-ok : goal.returns-then-not-is_unfinished-clause-ok
@@ -22,43 +21,21 @@ returns-then-not-is_unfinished-clause-ok c =
 pub invariant_of-self : goal.invariant_of-self
 invariant_of-self c =
     let a = c.self.inside in
-    let inv = c.self.invariant in
-    record {
-      tabled = inv.tabled;
-      present = inv.present;
-      progress = subst (λ (xs : List Asked). IsProgress a.set.value a.climb inv.present xs) (sym c.make_room.ensures.kept) inv.progress;
-      kept = λ goes_on. inv.kept goes_on ∙ ap (λ (o : Option LevelState). present_of a.climb o) (sym c.in_err-make_room.ensures.err);
-    }
+    trial-roomy a c.self.invariant c.make_room.new.level c.make_room.new.found c.make_room.ensures.kept (ap (λ (o : Option LevelState). present_of a.climb o) c.in_err-make_room.ensures.err)
 
 pub invariant_of-self-in_err-finding : goal.invariant_of-self-in_err-finding
 invariant_of-self-in_err-finding c =
     let a = c.self.inside in
-    let inv = c.self.invariant in
-    record {
-      tabled = inv.tabled;
-      present = inv.present;
-      progress = subst (λ (xs : List Asked). IsProgress a.set.value a.climb inv.present xs) (sym c.make_room.ensures.kept) inv.progress;
-      kept = λ goes_on. inv.kept goes_on ∙ ap (λ (o : Option LevelState). present_of a.climb o) (sym c.in_ok-make_room.ensures.ok);
-    }
+    trial-roomy a c.self.invariant c.make_room.new.level c.make_room.new.found c.make_room.ensures.kept (ap (λ (o : Option LevelState). present_of a.climb o) c.in_ok-make_room.ensures.ok)
 
 pub invariant_of-self-2 : goal.invariant_of-self-2
 invariant_of-self-2 c =
     let a = c.self.inside in
-    let inv = c.self.invariant in
     let q = c.in_ok-finding.finding.question in
     let going = c.is_unfinished.ensures.0 c.if-not-is_unfinished.false in
     let here = level_here a.climb a.level c.make_room.new.level c.take.result c.in-Some-take.level c.in_ok-make_room.ensures.ok c.take.ensures.value c.in-Some-take.is in
-    let so = subst (λ (l : LevelState). IsProgress a.set.value a.climb l a.found.items) (inv.kept going.goes_on ∙ sym here) inv.progress in
-    let told = c.accept_at-told.result.0 in
-    let held = (told-step a.set.value a.climb c.in-Some-take.level a.found.items so q going c.accept_at-told.new.climb c.accept_at-told.result.1 told c.accept_at-told.ensures).1 in
-    let noted : c.note.new.found.items ≡ found_after a.found.items (asked_of q) told =
-    c.note.ensures ∙ ap (λ (xs : List Asked). found_after xs c.asked_by-asked.result told) c.make_room.ensures.kept ∙ ap (λ (x : Asked). found_after a.found.items x told) c.asked_by-asked.ensures in
-    record {
-      tabled = inv.tabled;
-      present = held.present;
-      progress = subst (λ (xs : List Asked). IsProgress a.set.value c.accept_at-told.new.climb held.present xs) (sym noted) held.progress;
-      kept = held.kept;
-    }
+    let noted = noted_in q c.accept_at-told.result.0 c.asked_by-asked.result a.found.items c.make_room.new.found.items c.note.new.found.items c.note.ensures c.make_room.ensures.kept c.asked_by-asked.ensures in
+    trial-taken a c.self.invariant going c.in-Some-take.level here q c.accept_at-told.new.climb c.accept_at-told.result.1 c.accept_at-told.result.0 c.accept_at-told.ensures c.note.new.found noted
 
 pub returns-clause-ok : goal.returns-clause-ok
 returns-clause-ok c =
@@ -73,9 +50,8 @@ returns-clause-ok c =
     let so = subst (λ (l : LevelState). IsProgress a.set.value a.climb l a.found.items) (inv.kept going.goes_on ∙ sym here) inv.progress in
     let least = subst (λ (l : LevelState). IsLeast l q) (first ∙ sym here) c.in_ok-finding.ensures in
     let told = c.accept_at-told.result.0 in
-    let answer = (told-step a.set.value a.climb c.in-Some-take.level a.found.items so q going c.accept_at-told.new.climb c.accept_at-told.result.1 told c.accept_at-told.ensures).0 in
-    let noted : c.note.new.found.items ≡ found_after a.found.items (asked_of q) told =
-    c.note.ensures ∙ ap (λ (xs : List Asked). found_after xs c.asked_by-asked.result told) c.make_room.ensures.kept ∙ ap (λ (x : Asked). found_after a.found.items x told) c.asked_by-asked.ensures in (
+    let answer = trial-told a inv going c.in-Some-take.level here q c.accept_at-told.new.climb c.accept_at-told.result.1 told c.accept_at-told.ensures in
+    let noted = noted_in q told c.asked_by-asked.result a.found.items c.make_room.new.found.items c.note.new.found.items c.note.ensures c.make_room.ensures.kept c.asked_by-asked.ensures in (
       f,
       record {
         asked = subst (λ (x : TrialData). (k : ℕ) × IsNextAsked x.set x.found q k) c.self.view_is (length a.climb.levels, least-next a.set.value a.climb c.in-Some-take.level a.found.items so going q least);

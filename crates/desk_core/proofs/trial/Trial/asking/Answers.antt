@@ -2,12 +2,9 @@ use Rattle.std.proofs.Common.{◌≡◌, ◌∙◌, ◌<◌, ℕ, sym, ap, subst
 use Rattle.std.specs.FinSet.{contains, remove}
 use Rattle.std.proofs.lemmas.Bool.{both_ways}
 use Rattle.task_sheet.specs.Sheet.{Task}
-use Rattle.task_sheet.specs.Indexes.{indexes_of, IsPart}
-use Rattle.task_sheet.specs.Orders.{all_of}
 use Rattle.assignment.specs.Questions.{QuestionData}
 use Rattle.assignment.specs.Levels.{LevelState}
 use Rattle.assignment.specs.Climbs.{IsUnfinished}
-use Rattle.assignment.proofs.AskLaws.{remove-part, remove-apart}
 use Rattle.desk_core.specs.Trials.{TrialData}
 use Rattle.desk_core.specs.Findings.{IsTested}
 use Rattle.desk_core.specs.Asking.{IsNextAsked}
@@ -21,28 +18,18 @@ returns-then-not-is_unfinished c =
     let ended = λ (going : IsUnfinished a.climb). both_ways c.is_unfinished.result c.if-not-is_unfinished.true (c.is_unfinished.ensures.1 going) in
     subst (λ (x : TrialData). IsTested x.set x.found) c.self.view_is ((tested-iff a.set.value a.climb c.self.invariant.present a.found.items c.self.invariant.progress).0 ended)
 
-pub new-requires-clause-above : goal.new-requires-clause-above
-new-requires-clause-above c =
-    let a = c.self.inside in
-    let removed = c.without.ensures ∙ ap (λ m. remove m c.in-Some.task) c.left-left.ensures.same in
-    let same = c.self.invariant.progress.same ∙ sym c.in_ok-set-in-Some.ensures.cases in
-    rw removed (subst (λ (U : List Task). IsPart (indexes_of (remove a.climb.left c.in-Some.task)) (all_of U)) same (remove-part a.climb.set a.climb.left c.in-Some.task c.left-left.ensures.part))
-
-pub new-requires-clause-apart : goal.new-requires-clause-apart
-new-requires-clause-apart c = rw c.without.ensures (remove-apart c.left-left.result c.in-Some.task)
-
 pub returns : goal.returns
 returns c =
     let a = c.self.inside in
     let inv = c.self.invariant in
     let U : List Task = a.set.value in
-    let q : QuestionData = c.new.result in
+    let q : QuestionData = c.in_ok-question-in-Some.question in
+    let is = c.in_ok-question-in-Some.ensures in
     let going = c.is_unfinished.ensures.0 c.if-not-is_unfinished.false in
     let here : c.missing_of-missing.result ≡ inv.present.missing = c.missing_of-missing.ensures ∙ ap (λ (l : LevelState). l.missing) (sym (inv.kept going.goes_on)) in
-    let task : q.task ≡ c.in-Some.task = ap (λ (x : QuestionData). x.task) c.new.ensures in
-    let of_set : q.set ≡ U = ap (λ (x : QuestionData). x.set) c.new.ensures ∙ c.in_ok-set-in-Some.ensures.cases in
-    let above : q.above ≡ remove a.climb.left q.task =
-    ap (λ (x : QuestionData). x.above) c.new.ensures ∙ c.without.ensures ∙ ap (λ m. remove m c.in-Some.task) c.left-left.ensures.same ∙ ap (λ t. remove a.climb.left t) (sym task) in
+    let task : q.task ≡ c.in-Some.task = ap (λ (x : QuestionData). x.task) is in
+    let of_set : q.set ≡ U = ap (λ (x : QuestionData). x.set) is in
+    let above : q.above ≡ remove a.climb.left q.task = ap (λ (x : QuestionData). x.above) is ∙ ap (λ t. remove a.climb.left t) (sym task) in
     let missing : IsTrue (contains inv.present.missing q.task) = subst (λ t. IsTrue (contains inv.present.missing t)) (sym task) (subst (λ m. IsTrue (contains m c.in-Some.task)) here c.in-Some.ensures.1) in
     let least : (j : ℕ) → j < q.task → IsFalse (contains inv.present.missing j) =
     subst (λ t. (j : ℕ) → j < t → IsFalse (contains inv.present.missing j)) (sym task) (subst (λ m. (j : ℕ) → j < c.in-Some.task → IsFalse (contains m j)) here c.in-Some.ensures.2) in

@@ -3,11 +3,8 @@ use Rattle.std.specs.FinSet.{contains, remove}
 use Rattle.std.proofs.lemmas.Bool.{both_ways}
 use Rattle.task_sheet.specs.Sheet.{Task, same_bytes}
 use Rattle.task_sheet.specs.TaskSet.{IsTaskSet}
-use Rattle.task_sheet.specs.Indexes.{indexes_of, IsPart}
-use Rattle.task_sheet.specs.Orders.{all_of}
 use Rattle.assignment.specs.Questions.{QuestionData}
 use Rattle.assignment.specs.Climbs.{IsUnfinished}
-use Rattle.assignment.proofs.AskLaws.{remove-part, remove-apart}
 use Rattle.desk_core.specs.Trials.{TrialData}
 use Rattle.desk_core.specs.Asking.{IsAskedBy}
 use Rattle.desk_core.proofs.ToldLaws.{tested-iff}
@@ -37,28 +34,18 @@ returns-then-not-has c = λ q asked.
     let set = subst (λ (U : List Task). IsTaskSet U) c.deref.ensures c.sheets.ensures.kept in
     let same : q.task ≡ c.in-Some.task = asked-named a.set.value a.found.items c.args.name q here c.in-Some.task set.distinct some in
     let member : IsTrue (contains a.climb.left c.in-Some.task) = subst (λ t. IsTrue (contains a.climb.left t)) same (asked-left a.set.value a.found.items c.args.name q here a.climb c.self.invariant.present c.self.invariant.progress going) in
-    both_ways c.has.result c.if-not-has.true (c.has.ensures ∙ ap (λ m. contains m c.in-Some.task) c.left-left.ensures.same ∙ member)
-
-pub new-requires-clause-above : goal.new-requires-clause-above
-new-requires-clause-above c =
-    let a = c.self.inside in
-    let removed = c.without.ensures ∙ ap (λ m. remove m c.in-Some.task) c.left-left.ensures.same in
-    let same = c.self.invariant.progress.same ∙ sym c.in_ok-set.ensures.cases in
-    rw removed (subst (λ (U : List Task). IsPart (indexes_of (remove a.climb.left c.in-Some.task)) (all_of U)) same (remove-part a.climb.set a.climb.left c.in-Some.task c.left-left.ensures.part))
-
-pub new-requires-clause-apart : goal.new-requires-clause-apart
-new-requires-clause-apart c = rw c.without.ensures (remove-apart c.left-left.result c.in-Some.task)
+    both_ways c.has.result c.if-not-has.true (c.has.ensures ∙ ap (λ m. contains m c.in-Some.task) c.left.ensures.same ∙ member)
 
 pub returns : goal.returns
 returns c =
     let a = c.self.inside in
-    let q : QuestionData = c.new.result in
+    let q : QuestionData = c.in_ok-question.question in
+    let is = c.in_ok-question.ensures in
     let going = c.is_unfinished.ensures.0 c.if-not-is_unfinished.false in
     let some : Some c.in-Some.task ≡ position (λ s. same_bytes s.name c.args.name) a.set.value = c.in-Some.ensures ∙ ap (λ (U : List Task). position (λ s. same_bytes s.name c.args.name) U) c.deref-2.ensures in
-    let task : q.task ≡ c.in-Some.task = ap (λ (x : QuestionData). x.task) c.new.ensures in
-    let of_set : q.set ≡ a.set.value = ap (λ (x : QuestionData). x.set) c.new.ensures ∙ c.in_ok-set.ensures.cases in
-    let above : q.above ≡ remove a.climb.left q.task =
-    ap (λ (x : QuestionData). x.above) c.new.ensures ∙ c.without.ensures ∙ ap (λ m. remove m c.in-Some.task) c.left-left.ensures.same ∙ ap (λ t. remove a.climb.left t) (sym task) in
-    let member : IsTrue (contains a.climb.left c.in-Some.task) = ap (λ m. contains m c.in-Some.task) (sym c.left-left.ensures.same) ∙ sym c.has.ensures ∙ c.if-not-has.false in
+    let task : q.task ≡ c.in-Some.task = ap (λ (x : QuestionData). x.task) is in
+    let of_set : q.set ≡ a.set.value = ap (λ (x : QuestionData). x.set) is in
+    let above : q.above ≡ remove a.climb.left q.task = ap (λ (x : QuestionData). x.above) is ∙ ap (λ t. remove a.climb.left t) (sym task) in
+    let member : IsTrue (contains a.climb.left c.in-Some.task) = ap (λ m. contains m c.in-Some.task) (sym c.left.ensures.same) ∙ sym c.has.ensures ∙ c.if-not-has.false in
     subst (λ (x : TrialData). IsAskedBy x.set x.found c.args.name q) c.self.view_is
     (asking-named a.set.value a.climb c.self.invariant.present a.found.items c.args.name q c.in-Some.task c.self.invariant.progress going some task of_set above member)
