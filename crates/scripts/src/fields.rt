@@ -81,10 +81,7 @@ pub(crate) fn number_or_zero(value: Option<&[u8]>) -> Result<u64, RowFault>
     let Some(text) = value else {
         return Ok(0);
     };
-    match number_of(text) {
-        Some(number) => Ok(number),
-        None => Err(RowFault::Bad),
-    }
+    number_of(text).ok_or(RowFault::Bad)
 }
 
 /// The next word as a number.
@@ -92,10 +89,7 @@ pub(crate) fn number_or_zero(value: Option<&[u8]>) -> Result<u64, RowFault>
 pub(crate) fn next_number(words: &mut Words<'_>) -> Result<u64, RowFault>
     ensures { GivesRow (λ x. (x, words.new)) result (next_number words.old) }
 {
-    match number_of(next(words)?) {
-        Some(number) => Ok(number),
-        None => Err(RowFault::Bad),
-    }
+    number_of(next(words)?).ok_or(RowFault::Bad)
 }
 
 /// The next word as a draft, where so many were opened.
@@ -103,10 +97,7 @@ pub(crate) fn next_number(words: &mut Words<'_>) -> Result<u64, RowFault>
 pub(crate) fn next_draft(opened: usize, words: &mut Words<'_>) -> Result<usize, RowFault>
     ensures { GivesRow (λ x. (x, words.new)) result (next_draft opened words.old) }
 {
-    match draft_of(opened, next(words)?) {
-        Some(draft) => Ok(draft),
-        None => Err(RowFault::Bad),
-    }
+    draft_of(opened, next(words)?).ok_or(RowFault::Bad)
 }
 
 /// The next word as a name.
@@ -114,10 +105,7 @@ pub(crate) fn next_draft(opened: usize, words: &mut Words<'_>) -> Result<usize, 
 pub(crate) fn next_name(words: &mut Words<'_>) -> Result<Name, RowFault>
     ensures { GivesRow (λ x. (x, words.new)) result (next_name words.old) }
 {
-    match name_of(next(words)?) {
-        Some(name) => Ok(name),
-        None => Err(RowFault::Bad),
-    }
+    name_of(next(words)?).ok_or(RowFault::Bad)
 }
 
 /// The one word that is left as a draft.
