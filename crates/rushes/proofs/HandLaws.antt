@@ -41,6 +41,10 @@ AllOwn-read team [] i slot all lt is = absurd (omega arith)
 AllOwn-read team (x ∷ slots) zero slot all lt is = subst (λ (o : Option Draft). IsOfTeam team o) (sym is) all.0
 AllOwn-read team (x ∷ slots) (suc i) slot all lt is = AllOwn-read team slots i slot all.1 (omega arith) is
 
+-- a slot of the list that an edit leaves the team's
+pub AllOwn-edited : (team : ℕ) (slots : List (Option Draft)) (i : ℕ) (old new : Option Draft) → AllOwn team slots → i < length slots → old ≡ get_or slots i old → ((t : ℕ) → IsOfTeam t old → IsOfTeam t new) → AllOwn team (set slots i new)
+AllOwn-edited team slots i old new all lt is own = AllOwn-set team slots i new all (own team (AllOwn-read team slots i old all lt is))
+
 -- ---- what a commit leaves of the pass
 received_team : (d : Draft) (old new : Known) (place : ℕ) → IsReceived d old place new → new.team ≡ old.team
 received_team d old new place so = ap (λ (p : Known). p.team) so.entered.3

@@ -1,5 +1,5 @@
 -- A team's lines leave the pass its team's.
-use Rattle.std.proofs.Common.{◌≡◌, ◌∙◌, ℕ, ◌==◌, List, [], ◌∷◌, Bool, true, false, Option, None, Some, refl, sym, ap}
+use Rattle.std.proofs.Common.{◌≡◌, ◌∙◌, ℕ, ◌==◌, List, [], ◌∷◌, Bool, true, false, Option, None, Some, refl, ap}
 use Rattle.std.specs.Prelude.{MatchBool, Result}
 use Rattle.drafts.specs.declared.change.Change.{Change}
 use Rattle.drafts.specs.declared.draft.EditRefusal.{EditRefusal}
@@ -10,7 +10,7 @@ use Rattle.rushes.specs.declared.note.Missed.{Missed}
 use Rattle.scripts.specs.declared.line.Line.{Line}
 use Rattle.scripts.specs.declared.line.Row.{Row}
 use Rattle.scripts.specs.declared.line.Row.TheVariants.{Open, Put, Remove, Found, Test, Commit, Abandon}
-use Rattle.rushes.specs.Hands.{Hand, new_hand, draft_at, with_draft, after_edit, IsTeamCommit, abandoned, IsRowDone, told, noting, IsLineDone, AreDone}
+use Rattle.rushes.specs.Hands.{Hand, draft_at, with_draft, after_edit, IsTeamCommit, abandoned, IsRowDone, told, noting, IsLineDone, AreDone}
 
 opened_team : (h k : Hand) (b : Bool) → MatchBool b ((d : Draft) × IsOpenedFor h.pass d × (k ≡ with_draft h true (Some d))) (k ≡ with_draft h false None) → k.pass.team ≡ h.pass.team
 opened_team h k true so = ap (λ (x : Hand). x.pass.team) so.2
