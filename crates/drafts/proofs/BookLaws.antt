@@ -1,5 +1,7 @@
 -- One entry more.
-use Rattle.std.proofs.Common.{◌≡◌, ℕ, ◌+◌, ◌^◌, ◌<◌, ◌≤◌, List, [], ◌∷◌, ◌++◌, length, Option, Result, Ok, Err, refl, sym, ◌∙◌, ap, subst, arith}
+use Rattle.std.proofs.Common.{◌≡◌, ℕ, ◌+◌, ◌^◌, ◌<◌, ◌≤◌, List, [], ◌∷◌, ◌++◌, length, map, Option, Result, Ok, Err, Global, refl, sym, ◌∙◌, ap, subst, arith}
+use Rattle.std.proofs.lemmas.List.{map_push, length-map}
+use Rattle.std.specs.declared.sync.Arc.{Arc}
 use Rattle.task_sheet.specs.TaskSet.{IsTaskSet}
 use Rattle.task_sheet.specs.Verdicts as verdict
 use Rattle.task_sheet.proofs.TaskLaws.{AllTasks-from_set}
@@ -11,6 +13,8 @@ use Rattle.drafts.specs.declared.judging.Judged.TheVariants as judged
 use Rattle.drafts.specs.Applied.{set_of, applied}
 use Rattle.drafts.specs.Machine.{MachineState, empty_desk, Ruling, Admitted, Refused, Infeasible, Entry, IsRuling, IsDecision, moved, after_entry, IsLegal, replay, one_if_admitted, admissions}
 use Rattle.drafts.specs.Books.{Book, logged, IsNextEntry}
+use Rattle.drafts.specs.BookFields.{book_of, IsBookKept}
+use Rattle.drafts.specs.declared.book.Book.TheInside.{Inside}
 use Rattle.drafts.specs.Changes.{Draft}
 use Rattle.drafts.specs.Outcomes.{IsJudged, IsSaid, IsNextState, IsEntryOf, after_next}
 
@@ -101,3 +105,42 @@ module _ (b : Book) (legal : IsLegal empty_desk b.log) (same : replay empty_desk
 
 pub version-counts : (b : Book) → IsLegal empty_desk b.log → replay empty_desk b.log ≡ b.desk → b.desk.version ≡ admissions b.log
 version-counts b legal same = let e = ap (λ (d : MachineState). d.version) same in omega (arith, replay-version empty_desk b.log legal)
+
+-- ---- a book by its fields
+pub version-fits : (a : Inside) → IsBookKept a → a.state.value.version + 1 < 2 ^ 64
+version-fits a kept =
+    let few : length (book_of a).log < 2 ^ 63 = omega (arith, length-map a.log.items (λ e. e.value), a.log.ok.0, a.log.ok.1, a.log.small) in
+    version_room a.state.value (book_of a).log kept.legal kept.same few
+
+-- an entry of what was judged at its version
+module _ (a : Inside) (kept : IsBookKept a) (b : Book) (view : book_of a ≡ b) (d : Draft) (j : Judged) (version : ℕ) (at : version ≡ a.state.value.version) (e : Entry) (is : IsEntryOf version d j e) where
+  entry : IsEntryOf a.state.value.version d j e
+  entry = subst (λ v. IsEntryOf v d j e) at is
+
+  pub enters-said : IsSaid b.desk.version j e.decision
+  enters-said = subst (λ (x : Book). IsSaid x.desk.version j e.decision) view entry.2
+
+  pub enters-log : (new : List (Arc Entry Global)) (pushed : Arc Entry Global) → new ≡ a.log.items ++ pushed ∷ [] → pushed.value ≡ e → map (λ x. x.value) new ≡ (logged (book_of a) e).log
+  enters-log new pushed is same =
+      ap (λ xs. map (λ x. x.value) xs) is ∙ map_push (λ x. x.value) a.log.items pushed ∙ ap (λ v. (book_of a).log ++ v ∷ []) same
+
+  module _ (right : IsJudged (applied d.team b.desk.tasks d.changes) j) where
+    holds : IsJudged (applied d.team a.state.value.tasks d.changes) j
+    holds = subst (λ (x : Book). IsJudged (applied d.team x.desk.tasks d.changes) j) (sym view) right
+
+    pub enters-next : (place : ℕ) → place ≡ length (book_of a).log + 1 → IsNextEntry b d place e
+    enters-next place last = subst (λ (x : Book). IsNextEntry x d place e) view (entered-next (book_of a) kept.legal kept.same d j holds e entry place last)
+
+    pub enters-desk : (next : Option MachineState) → IsNextState b.desk (applied d.team b.desk.tasks d.changes) j next → after_next a.state.value next ≡ (logged (book_of a) e).desk
+    enters-desk next to =
+        entered-desk (book_of a) kept.legal kept.same d j holds e entry next
+        (subst (λ (x : Book). IsNextState x.desk (applied d.team x.desk.tasks d.changes) j next) (sym view) to)
+
+    pub enters-legal : (log : List Entry) → log ≡ (logged (book_of a) e).log → IsLegal empty_desk log
+    enters-legal log same = subst (λ es. IsLegal empty_desk es) (sym same) (entered-kept (book_of a) kept.legal kept.same d j holds e entry).0
+
+    pub enters-replay : (log : List Entry) (desk : MachineState) → log ≡ (logged (book_of a) e).log → desk ≡ (logged (book_of a) e).desk → replay empty_desk log ≡ desk
+    enters-replay log desk same to = ap (λ es. replay empty_desk es) same ∙ (entered-kept (book_of a) kept.legal kept.same d j holds e entry).1 ∙ sym to
+
+    pub enters-book : (log : List Entry) (desk : MachineState) → log ≡ (logged (book_of a) e).log → desk ≡ (logged (book_of a) e).desk → (let x : Book = record { desk = desk; log = log } in x) ≡ logged b e
+    enters-book log desk same to = (λ i. let x : Book = record { desk = to i; log = same i } in x) ∙ ap (λ (x : Book). logged x e) view

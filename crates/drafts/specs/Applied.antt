@@ -4,6 +4,7 @@ use Rattle.std.specs.Option.{option_map_or}
 use Rattle.std.specs.Ordering.{is_lt}
 use Rattle.task_sheet.specs.Sheet.{Task, same_bytes}
 use Rattle.task_sheet.specs.TaskSet.{rank_cmp}
+use Rattle.task_sheet.specs.declared.set.TheConstants.{TASK_LIMIT}
 use Rattle.drafts.specs.declared.roster.Owned.{Owned}
 use Rattle.drafts.specs.declared.change.Change.{Change}
 use Rattle.drafts.specs.declared.change.Change.TheVariants.{Put, Remove}
@@ -73,9 +74,9 @@ teams_of tasks = map (λ o. o.team) tasks
 abbrev pub holder_after : ℕ → List Owned → List ℕ → ℕ
 holder_after team tasks name = option_map_or (λ o. o.team) (held name tasks) team
 
--- at most 32 tasks stand on the node
+-- no more tasks stand on the node than a set may have
 abbrev pub if_few : List Owned → Result (List Owned) Refusal
-if_few tasks = if nat_le (length tasks) 32 then Ok tasks else Err TooManyTasks
+if_few tasks = if nat_le (length tasks) TASK_LIMIT then Ok tasks else Err TooManyTasks
 
 -- what follows where nothing was refused
 abbrev pub then_on : Result (List Owned) Refusal → (List Owned → Result (List Owned) Refusal)

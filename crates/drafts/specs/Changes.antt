@@ -7,6 +7,7 @@ use Rattle.indexmap.specs.IndexMap.{insert_entry}
 use Rattle.drafts.specs.declared.roster.Owned.{Owned}
 use Rattle.drafts.specs.declared.change.Change.{Change}
 use Rattle.drafts.specs.declared.change.Change.TheVariants.{Put, Remove}
+use Rattle.drafts.specs.declared.draft.TheConstants.{CHANGE_LIMIT}
 use Rattle.drafts.specs.declared.draft.EditRefusal.{EditRefusal}
 use Rattle.drafts.specs.declared.draft.EditRefusal.TheVariants.{NotYours, NoSuchTask, DraftFull}
 use Rattle.drafts.specs.declared.change.Refusal.{Refusal}
@@ -78,9 +79,9 @@ recorded name change changes = insert_entry same_bytes changes name change
 abbrev pub dropped : List ℕ → List (List ℕ × Change) → List (List ℕ × Change)
 dropped name changes = remove_entry (same_bytes name) changes
 
--- 64 changes, none of them on the name
+-- as many changes as a draft may have, none of them on the name
 abbrev pub is_full : List ℕ → List (List ℕ × Change) → Bool
-is_full name changes = nat_le 64 (length changes) && not (is_some (change_on name changes))
+is_full name changes = nat_le CHANGE_LIMIT (length changes) && not (is_some (change_on name changes))
 
 -- the changes after a put, or why it is refused
 abbrev pub after_put : Draft → Task → Result (List (List ℕ × Change)) EditRefusal

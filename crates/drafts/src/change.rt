@@ -30,7 +30,7 @@ pub enum Refusal {
     NotYours { name: Name },
     /// No task has the name that is to be removed.
     NoSuchTask { name: Name },
-    /// More than 32 tasks.
+    /// More than `TASK_LIMIT` tasks.
     TooManyTasks,
 }
 

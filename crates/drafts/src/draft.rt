@@ -5,6 +5,7 @@ ghost use Rattle.std.specs.Cmp.Lexicographic.{pointwise};
 ghost use Rattle.indexmap.specs.IndexMap.{IsUnique};
 ghost use Rattle.drafts.specs.Changes.{IsNamed, HaveDistinctNames, AreNamed, HasTasks, has_put, is_full, is_put, recorded, view, after_put, after_remove, on_base};
 ghost use Rattle.drafts.specs.EditFaults.{IsEditFault};
+ghost use Rattle.drafts.specs.declared.draft.TheConstants.{CHANGE_LIMIT};
 ghost use Rattle.drafts.specs.Outcomes.{IsApplied};
 
 use crate::applying::{Applied, apply};
@@ -17,8 +18,8 @@ use std::marker::Model;
 use std::sync::Arc;
 use task_sheet::{Name, Sheet};
 
-// The most changes of a draft.
-const CHANGE_LIMIT: usize = 64;
+/// The most changes of a draft.
+pub const CHANGE_LIMIT: usize = 64;
 
 /// A team's changes to a state.
 #[derive(Drop)]
@@ -47,7 +48,7 @@ pub enum EditRefusal {
     NotYours,
     /// No task has the name that is to be removed.
     NoSuchTask,
-    /// There are 64 changes, none of them on the name.
+    /// There are `CHANGE_LIMIT` changes, none of them on the name.
     DraftFull,
 }
 
@@ -86,7 +87,7 @@ fn is_put(change: &Change) -> bool
 fn record(changes: &mut IndexMap<Name, Change>, name: Name, change: Change) -> Result<(), Change>
     ensures ok { OnOk result (changes.new.entries ≡ recorded name change changes.old.entries) }
     ensures few { is_full name changes.old.entries ≡ false
-        → length changes.old.entries ≤ 64 → length changes.new.entries ≤ 64 }
+        → length changes.old.entries ≤ CHANGE_LIMIT → length changes.new.entries ≤ CHANGE_LIMIT }
     ensures named { IsNamed name change → AreNamed changes.old.entries
         → AreNamed changes.new.entries }
     ensures err { OnErr result (changes.new.entries ≡ changes.old.entries) }
@@ -179,7 +180,7 @@ impl Draft {
         ensures team { result.0 ≡ self.team }
         ensures base { result.1.value ≡ self.base }
         ensures changes { result.2.entries ≡ self.changes }
-        ensures few { length result.2.entries ≤ 64 }
+        ensures few { length result.2.entries ≤ CHANGE_LIMIT }
         ensures named { AreNamed result.2.entries }
     {
         (self.team, self.base, self.changes)
@@ -191,7 +192,7 @@ impl Draft {
         base: Arc<NodeState>,
         changes: IndexMap<Name, Change>,
     ) -> Draft
-        requires few { length changes.entries ≤ 64 }
+        requires few { length changes.entries ≤ CHANGE_LIMIT }
         requires named { AreNamed changes.entries }
         ensures { result ≡ record { team = team; base = base.value; changes = changes.entries } }
     {
@@ -218,7 +219,7 @@ impl Draft {
     /// How many changes there are. No two are on one name, and a put is on its sheet's own.
     pub fn len(&self) -> usize
         ensures count { result ≡ length self.now.changes }
-        ensures limit { result ≤ 64 }
+        ensures limit { result ≤ CHANGE_LIMIT }
         ensures distinct { HaveDistinctNames self.now.changes }
         ensures named { AreNamed self.now.changes }
     {

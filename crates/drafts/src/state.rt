@@ -4,6 +4,7 @@ ghost use Rattle.std.specs.Prelude.{◌≡◌, ◌↔◌, ◌==◌, ◌&&◌, �
 ghost use Rattle.std.specs.FinSet.{contains};
 ghost use Rattle.task_sheet.specs.TaskSet.{IsTaskSet};
 ghost use Rattle.task_sheet.specs.Verdicts.{IsBestOrder};
+ghost use Rattle.task_sheet.specs.declared.set.TheConstants.{TASK_LIMIT};
 ghost use Rattle.drafts.specs.Applied.{owned_of, set_of, held, holder_after, is_foreign, is_there, is_team_at, teams_of};
 ghost use Rattle.drafts.specs.Rosters.{IsRoster};
 ghost use Rattle.drafts.specs.Changes.{sheet_held};
@@ -39,7 +40,7 @@ impl Model for NodeState {
 
 // The set with the index as a member where it is wanted.
 fn noted(members: Members, index: usize, wanted: bool) -> Members
-    requires { index < 32 }
+    requires { index < TASK_LIMIT }
     ensures { (i : ℕ) → contains result i ≡ ((i == index) && wanted || contains members i) }
 {
     if wanted { members.with(index) } else { members }
@@ -47,7 +48,7 @@ fn noted(members: Members, index: usize, wanted: bool) -> Members
 
 // Where a team stands in a list of teams.
 fn places_of(teams: &[Team], team: Team) -> Members
-    requires { length teams.now ≤ 32 }
+    requires { length teams.now ≤ TASK_LIMIT }
     ensures { (i : ℕ) → contains result i ≡ is_team_at team teams.now i }
 {
     let mut members = Members::empty();

@@ -1,9 +1,13 @@
 //! Teams.
 ghost use Rattle.std.specs.Prelude.{◌≡◌, ◌≤◌, IfSome, IfNone};
+ghost use Rattle.drafts.specs.declared.team.TheConstants.{TEAM_LIMIT};
 
 use std::marker::Model;
 
-/// A team of the node, from 1 to 8.
+/// The most teams of the node.
+pub const TEAM_LIMIT: u64 = 8;
+
+/// A team of the node, from 1 to `TEAM_LIMIT`.
 #[derive(Clone, Copy, PartialEq, Eq)]
 pub struct Team {
     number: u64,
@@ -27,23 +31,23 @@ impl Model for Team {
 }
 
 impl Team {
-    /// The team of a number; none outside 1 to 8.
+    /// The team of a number; none outside 1 to `TEAM_LIMIT`.
     pub fn new(number: u64) -> Option<Team>
-        ensures none { IfNone result (1 ≤ number → number ≤ 8 → ⊥) }
-        ensures some { IfSome result (λ team. (team ≡ number) × (1 ≤ number) × (number ≤ 8)) }
+        ensures none { IfNone result (1 ≤ number → number ≤ TEAM_LIMIT → ⊥) }
+        ensures some { IfSome result (λ team. (team ≡ number) × (1 ≤ number) × (number ≤ TEAM_LIMIT)) }
     {
-        if 1 <= number && number <= 8 {
+        if 1 <= number && number <= TEAM_LIMIT {
             Some(Team { number })
         } else {
             None
         }
     }
 
-    /// The number, from 1 to 8.
+    /// The number, from 1 to `TEAM_LIMIT`.
     pub fn number(self) -> u64
         ensures same { result ≡ self }
         ensures from { 1 ≤ result }
-        ensures to { result ≤ 8 }
+        ensures to { result ≤ TEAM_LIMIT }
     {
         self.number
     }
