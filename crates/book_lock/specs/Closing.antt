@@ -1,5 +1,6 @@
 -- What `new` refuses, and what `close` answers.
 use Rattle.std.specs.Prelude.{◌≡◌, ◌<◌, ◌≤◌, ◌⊎◌, ℕ, List, true, false}
+use Rattle.drafts.specs.declared.team.TheConstants.{TEAM_LIMIT}
 use Rattle.drafts.specs.Books.{Book, IsLegalBook}
 use Rattle.drafts.specs.Machine.{Entry}
 use Rattle.book_lock.specs.Passes.{Known, has_team, placed_entries, HaveReceipts}
@@ -9,9 +10,9 @@ use Rattle.book_lock.specs.declared.closing.CloseCause.{CloseCause}
 use Rattle.book_lock.specs.declared.closing.CloseCause.TheVariants.{MissingPass, ReceiptMismatch}
 use Rattle.std.specs.declared.sync.ledger.Blank.{Blank}
 
--- a desk has 1 to 8 teams
+-- a desk has teams, and no more than there may be
 abbrev pub IsBadTeams : ℕ → Type 0
-IsBadTeams teams = (teams ≡ 0) ⊎ (8 < teams)
+IsBadTeams teams = (teams ≡ 0) ⊎ (TEAM_LIMIT < teams)
 
 -- why there is no desk; the blank is handed back
 abbrev pub IsNoDesk : Blank → ℕ → NewFault → Type 0

@@ -2,6 +2,7 @@
 use Rattle.std.specs.Prelude.{◌≡◌, ℕ, ◌+◌, ◌-◌, ◌==◌, List, [], ◌∷◌, ◌++◌, length, Bool, true, false, ◌||◌, ◌&&◌, nat_le, zero, suc, if◌then◌else◌}
 use Rattle.task_sheet.specs.Sheet.{Task}
 use Rattle.book_lock.specs.Own.{own_changes}
+use Rattle.drafts.specs.declared.team.TheConstants.{TEAM_LIMIT}
 use Rattle.drafts.specs.Machine.{Ruling, Admitted, Refused, Infeasible, Entry}
 
 -- its team, its parts of the ledger of decisions, the team's tasks by rank, and each decision with its place
@@ -48,10 +49,10 @@ placed_entries team place (l ∷ ls) =
 abbrev pub newcomer : ℕ → ℕ → Known
 newcomer team parts = record { team = team; parts = parts; tasks = []; receipts = [] }
 
--- so many passes of the teams from there on: each has a part of the eight of the ledger, and team 1 those left over too
+-- so many passes of the teams from there on: each has a part of the ledger, which has one for each team that may be, and team 1 those left over too
 abbrev pub newcomers : ℕ → ℕ → List Known
 newcomers team zero = []
-newcomers team (suc n) = newcomer team (if team == 1 then 8 - n else 1) ∷ newcomers (team + 1) n
+newcomers team (suc n) = newcomer team (if team == 1 then TEAM_LIMIT - n else 1) ∷ newcomers (team + 1) n
 
 -- the parts of all passes together
 abbrev pub parts_of : List Known → ℕ

@@ -2,6 +2,7 @@
 
 ghost use Rattle.std.specs.Prelude.{◌≡◌, ◌≤◌, ◌<◌, ◌^◌, ◌↔◌, ℕ, [], length, map, IsTrue, IfOk, IfErr, MatchOption};
 ghost use Rattle.drafts.specs.Books.{Book};
+ghost use Rattle.drafts.specs.declared.team.TheConstants.{TEAM_LIMIT};
 ghost use Rattle.book_lock.specs.PassFields.{receipt_of};
 ghost use Rattle.book_lock.specs.Passes.{newcomers, has_team, placed_entries, parts_of, receipt_count};
 ghost use Rattle.book_lock.specs.Closing.{IsBadTeams, IsNoDesk, AllThere, IsMissing, IsReceipted, AllReceipted, IsMismatch, IsDeskClosed, IsUnclosed};
@@ -10,7 +11,7 @@ use crate::content::is_same_entry;
 use crate::desk::Desk;
 use crate::locked::Locked;
 use crate::pass::{Pass, Receipt};
-use drafts::{Book, Entry, NodeState, Team};
+use drafts::{Book, Entry, NodeState, TEAM_LIMIT, Team};
 use std::alloc::Global;
 use std::sync::ledger::{Blank, Ledger, Share};
 use std::sync::{Arc, Mutex};
@@ -18,7 +19,7 @@ use std::sync::{Arc, Mutex};
 /// Why there is no desk; the blank is handed back.
 #[derive(Drop)]
 pub enum NewFault {
-    /// There are no teams, or more than 8.
+    /// There are no teams, or more than `TEAM_LIMIT`.
     BadTeams { blank: Blank },
     OutOfMemory { blank: Blank },
 }
@@ -61,7 +62,7 @@ fn is_there<L: Ledger>(team: u64, passes: &[Pass<L>]) -> bool
 
 // The least team without a pass.
 fn missing<L: Ledger>(teams: u64, passes: &[Pass<L>]) -> Option<u64>
-    requires { teams ≤ 8 }
+    requires { teams ≤ TEAM_LIMIT }
     ensures { MatchOption result (AllThere teams passes.now) (IsMissing teams passes.now) }
 {
     for team in 1..teams + 1 {
@@ -112,7 +113,7 @@ fn all_agree<L: Ledger>(team: u64, passes: &[Pass<L>], log: &[Arc<Entry>]) -> bo
 
 // The least team whose receipts aren't its entries.
 fn mismatch<L: Ledger>(teams: u64, passes: &[Pass<L>], log: &[Arc<Entry>]) -> Option<u64>
-    requires few { teams ≤ 8 }
+    requires few { teams ≤ TEAM_LIMIT }
     requires short { length log.now < 2 ^ 63 }
     ensures { MatchOption result
         (AllReceipted teams passes.now (map (λ e. e.value) log.now))
@@ -142,13 +143,13 @@ fn united<L: Ledger>(passes: Vec<Pass<L>>) -> Option<Share<L>>
 impl<L: Ledger> Desk<L> {
     /// A desk for so many teams, and a pass for each; together these have all parts of the ledger. Refused: `BadTeams`.
     pub fn new(alloc: Global, blank: Blank, teams: u64) -> Result<(Desk<L>, Vec<Pass<L>>), NewFault>
-        requires { (blank.name ≡ L.name) × (blank.parts ≡ L.parts) × (L.parts ≡ 8) }
+        requires { (blank.name ≡ L.name) × (blank.parts ≡ L.parts) × (L.parts ≡ TEAM_LIMIT) }
         ensures ok { IfOk result (λ r. (¬ IsBadTeams teams) × (r.0 ≡ teams)
             × (r.1.items ≡ newcomers 1 teams)) }
         ensures whole { IfOk result (λ r. parts_of r.1.items ≡ L.parts) }
         ensures err { IfErr result (λ fault. IsNoDesk blank teams fault) }
     {
-        if teams == 0 || teams > 8 {
+        if teams == 0 || teams > TEAM_LIMIT {
             return Err(NewFault::BadTeams { blank });
         }
         let Ok(mut passes) = Vec::with_capacity(alloc, teams as usize) else {
@@ -158,7 +159,7 @@ impl<L: Ledger> Desk<L> {
             return Err(NewFault::OutOfMemory { blank });
         };
         let (decisions, mut rest) = blank.open::<L>();
-        let first = rest.split_off(9 - teams, 0);
+        let first = rest.split_off(TEAM_LIMIT + 1 - teams, 0);
         passes.push_reserved(Pass::new(alloc, team_of(1), first));
         for i in 1..teams {
             let share = rest.split_off(1, 0);
@@ -219,7 +220,7 @@ impl<L: Ledger> Desk<L> {
 
 // The team of a number.
 fn team_of(number: u64) -> Team
-    requires { (1 ≤ number) × (number ≤ 8) }
+    requires { (1 ≤ number) × (number ≤ TEAM_LIMIT) }
     ensures { result ≡ number }
 {
     match Team::new(number) {

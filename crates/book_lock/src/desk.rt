@@ -22,12 +22,13 @@ pub struct Desk<L: Ledger> {
 
 impl<L: Ledger> Model for Desk<L> {
     ghost use Rattle.std.specs.Prelude.{ℕ, ◌<◌, ◌≤◌};
+    ghost use Rattle.drafts.specs.declared.team.TheConstants.{TEAM_LIMIT};
 
     ghost Value = { ℕ };
 
     ghost view = { λ d. d.teams };
 
-    ghost invariant = { λ d. (0 < d.teams) × (d.teams ≤ 8) };
+    ghost invariant = { λ d. (0 < d.teams) × (d.teams ≤ TEAM_LIMIT) };
 }
 
 impl<L: Ledger> Desk<L> {

@@ -5,6 +5,7 @@ use Rattle.task_sheet.specs.Sheet.{CriticalSection, Task, task_of, with_jitter, 
 use Rattle.task_sheet.specs.SheetFault.{sheet_fault, outranks_fault}
 use Rattle.task_sheet.specs.declared.sheet.OutranksCause.{OutranksCause}
 use Rattle.task_sheet.specs.declared.sheet.SheetCause.{SheetCause}
+use Rattle.drafts.specs.declared.team.TheConstants.{TEAM_LIMIT}
 use Rattle.lines.specs.Words.{name_in, number_in}
 use Rattle.scripts.specs.declared.line.Row.{Row}
 use Rattle.scripts.specs.declared.line.Row.TheVariants.{Open, Put, Remove, Found, Test, Commit, Abandon}
@@ -58,7 +59,7 @@ draft_in opened word = up_to opened (number_in word)
 
 -- a team
 abbrev pub team_in : List ℕ → Option ℕ
-team_in word = up_to 8 (number_in word)
+team_in word = up_to TEAM_LIMIT (number_in word)
 
 -- the parts of a list of two
 abbrev pub pair_of : List (List ℕ) → Option (List ℕ × List ℕ)

@@ -4,6 +4,7 @@ ghost use Rattle.task_sheet.specs.Sheet.{CriticalSection, task_of};
 ghost use Rattle.task_sheet.specs.SheetFault.{sheet_fault};
 ghost use Rattle.scripts.specs.Gives.{GivesRow};
 ghost use Rattle.scripts.specs.Rows.{found_in, sheet_with_jitter, made_in, open_in, put_in, remove_in, row_in, row_of, sheet_in, valid};
+ghost use Rattle.scripts.specs.declared.sections.TheConstants.{KEPT};
 ghost use Rattle.lines.specs.Words.{words};
 
 use crate::fields::{
@@ -26,7 +27,7 @@ fn late(sheet: Sheet, jitter: u64) -> Result<Sheet, RowFault>
     }
 }
 
-// The sheet of these values and sections, of which the first 9 are given.
+// The sheet of these values and sections, of which the first `KEPT` are given.
 fn valid(
     name: Name,
     weight: u64,
@@ -35,7 +36,7 @@ fn valid(
     cost: u64,
     sections: Vec<Section>,
 ) -> Result<Sheet, RowFault>
-    ensures gives { (all : List CriticalSection) → sections.items ≡ take 9 all
+    ensures gives { (all : List CriticalSection) → sections.items ≡ take KEPT all
         → let task = task_of name weight period deadline cost all in
         GivesRow (λ x. x) result (valid (sheet_fault task) task) }
     ensures named { IfOk result (λ sheet. sheet.name ≡ name) }

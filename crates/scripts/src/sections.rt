@@ -61,7 +61,7 @@ fn section_of(alloc: Global, word: &[u8]) -> Result<Section, RowFault>
     Ok(Section { locks, at, len })
 }
 
-// Puts a section behind those that are kept, unless these are 9.
+// Puts a section behind those that are kept, unless these are `KEPT`.
 fn keep(sections: &mut Vec<Section>, section: Section) -> Result<(), RowFault>
     requires { length sections.old.items ≤ KEPT }
     ensures ok { OnOk result
@@ -74,7 +74,7 @@ fn keep(sections: &mut Vec<Section>, section: Section) -> Result<(), RowFault>
     Ok(())
 }
 
-/// Reads the words that are left as sections, and gives the first 9 of them.
+/// Reads the words that are left as sections, and gives the first `KEPT` of them.
 pub(crate) fn sections_of(alloc: Global, words: &mut Words<'_>) -> Result<Vec<Section>, RowFault>
     ensures { GivesFirst KEPT (λ x. x.items) result (sections_in words.old) }
 {
