@@ -5,6 +5,7 @@ use Rattle.drafts.specs.declared.draft.EditRefusal.{EditRefusal}
 use Rattle.drafts.specs.Books.{Book, IsLegalBook}
 use Rattle.drafts.specs.Machine.{Entry}
 use Rattle.drafts.specs.Changes.{Draft, after_put, after_remove}
+use Rattle.drafts.specs.declared.team.TheConstants.{TEAM_LIMIT}
 use Rattle.book_lock.specs.declared.closing.Closing.{Closing}
 use Rattle.book_lock.specs.Opening.{IsOpenedFor}
 use Rattle.book_lock.specs.Passes.{Known, newcomer, placed_entries}
@@ -190,15 +191,15 @@ AreParts workers lines log team (notes ∷ rest) =
 abbrev pub closed_book : Closing → Book
 closed_book c = record { desk = c.state.value; log = map (λ e. e.value) c.log.items }
 
--- each entry is of a team from 1 to 8
+-- each entry is of one of the teams that there may be
 abbrev pub AreOfTeams : List Entry → Type 0
 AreOfTeams [] = Unit {0}
-AreOfTeams (e ∷ log) = (1 ≤ e.team) × (e.team ≤ 8) × AreOfTeams log
+AreOfTeams (e ∷ log) = (1 ≤ e.team) × (e.team ≤ TEAM_LIMIT) × AreOfTeams log
 
 -- the log is legal, and the state its replay; each entry is of one of the teams; and each team's entries with their
 -- places, and the notes on its lines, are what its lines came to
 pub record IsRushed (workers : ℕ) (lines : List Line) (b : Book) (notes : List (List Note)) : Type 0 where
   pub legal : IsLegalBook b
   pub teams : AreOfTeams b.log
-  pub all : length notes ≡ 8
+  pub all : length notes ≡ TEAM_LIMIT
   pub parts : AreParts workers lines b.log 1 notes

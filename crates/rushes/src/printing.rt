@@ -1,5 +1,6 @@
 //! The lines of a log, and of what is told of lines that did nothing.
 ghost use Rattle.std.specs.Prelude.{◌≡◌, ◌≤◌, ◌++◌, codes, OnOk, IfOk, map, string_bytes};
+ghost use Rattle.drafts.specs.declared.team.TheConstants.{TEAM_LIMIT};
 ghost use Rattle.rushes.specs.Hands.{AreOfTeams, closed_book};
 ghost use Rattle.rushes.specs.Printed.{all_note_lines, edit_word, entry_line, IsBookLog, missed_words, note_line, note_lines};
 
@@ -21,7 +22,7 @@ fn push_entry(
 ) -> Result<(), AllocError>
     ensures ok { OnOk result (string_bytes text.new ≡ string_bytes text.old
         ++ entry_line place entry.now) }
-    ensures team { (1 ≤ entry.now.team) × (entry.now.team ≤ 8) }
+    ensures team { (1 ≤ entry.now.team) × (entry.now.team ≤ TEAM_LIMIT) }
 {
     let team = entry.team().number();
     let ruling = ruling_text(alloc, entry.decision())?;
@@ -31,7 +32,7 @@ fn push_entry(
 }
 
 /// The lines of a log, and then those of the state that it comes to. Each entry tells its team's number, which is one
-/// from 1 to 8.
+/// from 1 to `TEAM_LIMIT`.
 pub(crate) fn log_text(alloc: Global, closing: &Closing) -> Result<String, AllocError>
     ensures text { IfOk result (λ text. IsBookLog (closed_book closing.now) (string_bytes text)) }
     ensures teams { OnOk result (AreOfTeams (closed_book closing.now).log) }

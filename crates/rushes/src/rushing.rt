@@ -1,21 +1,20 @@
 //! The lines of all teams on one desk.
 ghost use Rattle.std.specs.Prelude.{◌≡◌, IfOk, string_bytes};
 ghost use Rattle.candidate_workers.specs.Faults.{IsBadCount};
+ghost use Rattle.drafts.specs.declared.team.TheConstants.{TEAM_LIMIT};
 ghost use Rattle.rushes.specs.Printed.{IsRushText};
 
 use crate::fault::RushFault;
 use crate::printing::{log_text, notes_text};
 use crate::teams::{passes_of, run_teams, teams_of};
 use book_lock::{CloseCause, Desk};
+use drafts::TEAM_LIMIT;
 use scripts::Line;
 use std::alloc::Global;
 use std::marker::Brand;
 use std::sync::Wait;
 use std::sync::ledger::{Blank, Ledger};
 use std::thread::Threads;
-
-// How many teams a desk has.
-const TEAMS: u64 = 8;
 
 /// What is printed of a rush.
 #[derive(Drop)]
@@ -34,12 +33,12 @@ fn rush_on<L: Ledger + Send + Sync, R: Threads + Wait + Sync>(
     lines: &[Line],
     workers: usize,
 ) -> Result<RushTexts, RushFault>
-    requires blank { (blank.name ≡ L.name) × (blank.parts ≡ L.parts) × (L.parts ≡ 8) }
+    requires blank { (blank.name ≡ L.name) × (blank.parts ≡ L.parts) × (L.parts ≡ TEAM_LIMIT) }
     requires workers { IsBadCount workers → ⊥ }
     ensures { IfOk result (λ texts. IsRushText workers lines.now (string_bytes texts.log)
         (string_bytes texts.notes)) }
 {
-    let Ok((desk, passes)) = Desk::<L>::new(alloc, blank, TEAMS) else {
+    let Ok((desk, passes)) = Desk::<L>::new(alloc, blank, TEAM_LIMIT) else {
         return Err(RushFault::OutOfMemory);
     };
     // For the teams and the passes that come back; made before any thread starts.
@@ -60,7 +59,7 @@ fn rush_on<L: Ledger + Send + Sync, R: Threads + Wait + Sync>(
     }
 }
 
-/// Runs the lines of a script on an empty desk of 8 teams, those of each team in their order on a thread of its own,
+/// Runs the lines of a script on an empty desk of `TEAM_LIMIT` teams, those of each team in their order on a thread of its own,
 /// with at most so many workers for each commit, and gives the lines of the log and of the book, and what is told of lines
 /// that did nothing: their edit was refused, or their draft had ended. Lines `found` and `test` do nothing on other
 /// drafts, and nothing is told of that. A fault is that of the least team that has one.
@@ -74,5 +73,5 @@ pub fn rush_lines<R: Threads + Wait + Sync>(
     ensures { IfOk result (λ texts. IsRushText workers lines.now (string_bytes texts.log)
         (string_bytes texts.notes)) }
 {
-    rush_on::<Brand, R>(rt, alloc, Blank::new(8), lines, workers)
+    rush_on::<Brand, R>(rt, alloc, Blank::new(TEAM_LIMIT), lines, workers)
 }
