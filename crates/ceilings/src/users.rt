@@ -32,12 +32,18 @@ impl Model for LockUsers {
 
 // How often the sections name a lock.
 fn uses_in(sections: &[Section]) -> usize {
-    sections.iter().fold(0, |uses: usize, section| uses.saturating_add(section.locks.len()))
+    sections.iter().fold(
+        0,
+        |uses: usize, section| uses.saturating_add(section.locks.len()),
+    )
 }
 
 // How often the sections of the sheets name a lock.
 fn uses_of(sheets: &[Sheet]) -> usize {
-    sheets.iter().fold(0, |uses: usize, sheet| uses.saturating_add(uses_in(sheet.sections())))
+    sheets.iter().fold(
+        0,
+        |uses: usize, sheet| uses.saturating_add(uses_in(sheet.sections())),
+    )
 }
 
 impl LockUsers {
