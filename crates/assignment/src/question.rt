@@ -1,10 +1,12 @@
 //! Questions whether a task may stand, and findings on them.
 ghost use Rattle.std.specs.Prelude.{◌≡◌, ◌↔◌, ◌<◌, length, IsTrue, IsFalse, IfOk, IfErr, IfSome, IfNone};
+ghost use Rattle.std.specs.Coded.{codes};
 ghost use Rattle.task_sheet.specs.Indexes.{indexes_of, IsPart};
 ghost use Rattle.task_sheet.specs.Orders.{all_of, is_bound, Stands};
 ghost use Rattle.task_sheet.specs.Verdicts.{IsLeastOver};
+ghost use Rattle.task_sheet.specs.contracts.members.Members as members;
 ghost use Rattle.ceilings.specs.IsTableOf.{IsTableOf};
-ghost use Rattle.assignment.specs.Questions.{IsQuestion, IsRight};
+ghost use Rattle.assignment.specs.Questions.{IsQuestion, IsRight, QuestionData, FindingData};
 
 use crate::outcome::{Outcome, Reason, is_bound, least_over, unbound_outcome};
 use ceilings::LockTable;
@@ -24,10 +26,6 @@ pub struct Question {
 }
 
 impl Model for Question {
-    ghost use Rattle.std.specs.Coded.{codes};
-    ghost use Rattle.task_sheet.specs.contracts.members.Members as members;
-    ghost use Rattle.assignment.specs.Questions.{QuestionData, IsQuestion};
-
     ghost Value = { QuestionData };
 
     ghost coded = { Prim.hlevel (codes, members.the_row.coded) };
@@ -48,10 +46,6 @@ pub struct Finding {
 }
 
 impl Model for Finding {
-    ghost use Rattle.std.specs.Coded.{codes};
-    ghost use Rattle.task_sheet.specs.contracts.members.Members as members;
-    ghost use Rattle.assignment.specs.Questions.{FindingData, IsRight};
-
     ghost Value = { FindingData };
 
     ghost coded = { Prim.hlevel (codes, members.the_row.coded) };

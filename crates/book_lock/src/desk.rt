@@ -1,6 +1,7 @@
 //! The desk.
 
-ghost use Rattle.std.specs.Prelude.{◌≡◌, ◌≤◌, IfErr, IfOk, map};
+ghost use Rattle.std.specs.Prelude.{◌≡◌, ◌≤◌, IfErr, IfOk, map, ℕ, ◌<◌};
+ghost use Rattle.drafts.specs.declared.team.TheConstants.{TEAM_LIMIT};
 ghost use Rattle.book_lock.specs.Settles.{AnswersProposal, HoldsSome};
 ghost use Rattle.book_lock.specs.Opening.{IsNotOpenedFor, IsOpenedFor};
 
@@ -21,9 +22,6 @@ pub struct Desk<L: Ledger> {
 }
 
 impl<L: Ledger> Model for Desk<L> {
-    ghost use Rattle.std.specs.Prelude.{ℕ, ◌<◌, ◌≤◌};
-    ghost use Rattle.drafts.specs.declared.team.TheConstants.{TEAM_LIMIT};
-
     ghost Value = { ℕ };
 
     ghost view = { λ d. d.teams };

@@ -1,7 +1,7 @@
 //! What lies under the lock, and the functions that are lent it.
 
 ghost use Rattle.std.specs.Prelude.{◌≡◌, ◌≤◌, [], length, map};
-ghost use Rattle.drafts.specs.Books.{empty_book, IsLegalBook};
+ghost use Rattle.drafts.specs.Books.{empty_book, IsLegalBook, Book};
 ghost use Rattle.book_lock.specs.Settles.{Settles, Holds};
 ghost use Rattle.book_lock.specs.Opening.{OpensDraft};
 
@@ -22,9 +22,6 @@ pub struct Locked<L: Ledger> {
 }
 
 impl<L: Ledger> Model for Locked<L> {
-    ghost use Rattle.std.specs.Prelude.{◌≡◌, length};
-    ghost use Rattle.drafts.specs.Books.{Book};
-
     ghost Value = { Book };
 
     ghost view = { λ l. l.book };

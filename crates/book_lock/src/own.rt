@@ -1,9 +1,10 @@
 //! A team's own tasks, and what its changes make of them.
 
-ghost use Rattle.std.specs.Prelude.{◌≡◌, ◌≤◌, [], ◌∷◌, ◌++◌, length, if◌then◌else◌, IfOk};
+ghost use Rattle.std.specs.Prelude.{◌≡◌, ◌≤◌, [], ◌∷◌, ◌++◌, length, if◌then◌else◌, IfOk, List};
 ghost use Rattle.std.specs.List.{insert};
 ghost use Rattle.std.specs.Ordering.{is_lt};
 ghost use Rattle.task_sheet.specs.TaskSet.{rank_cmp};
+ghost use Rattle.task_sheet.specs.Sheet.{Task};
 ghost use Rattle.drafts.specs.Rulings.{ruling_of};
 ghost use Rattle.book_lock.specs.Passes.{own_after};
 ghost use Rattle.book_lock.specs.Own.{own_of, IsRanked, ranked_in, own_change, own_changes};
@@ -20,10 +21,6 @@ pub(crate) struct OwnTasks {
 }
 
 impl Model for OwnTasks {
-    ghost use Rattle.std.specs.Prelude.{List};
-    ghost use Rattle.task_sheet.specs.Sheet.{Task};
-    ghost use Rattle.book_lock.specs.Own.{IsRanked};
-
     ghost Value = { List Task };
 
     ghost view = { λ o. o.sheets.items };

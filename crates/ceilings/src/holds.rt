@@ -2,12 +2,14 @@
 ghost use Rattle.std.specs.Prelude.{◌≡◌, ◌<◌, ◌≤◌, ℕ, List, length, max, IfOk, OnOk, if◌then◌else◌};
 ghost use Rattle.std.specs.Ordering.{nat_cmp};
 ghost use Rattle.std.specs.FinSet.{FinSet};
+ghost use Rattle.std.specs.Coded.{codes};
 ghost use Rattle.task_sheet.specs.Sheet.{Task};
 ghost use Rattle.task_sheet.specs.declared.set.TheConstants.{TASK_LIMIT};
 ghost use Rattle.task_sheet.specs.Indexes.{indexes_of};
 ghost use Rattle.task_sheet.specs.Locks.{reaches};
 ghost use Rattle.task_sheet.specs.Demand.{longest_reached};
-ghost use Rattle.ceilings.specs.Holds.{is_reached, longest_of, longest_from, longest_held, longest_outside};
+ghost use Rattle.task_sheet.specs.contracts.members.Members as members;
+ghost use Rattle.ceilings.specs.Holds.{is_reached, longest_of, longest_from, longest_held, longest_outside, HoldData, TaskHoldsData};
 ghost use Rattle.ceilings.specs.IsTableOf.{AreUsersOf};
 
 use crate::users::LockUsers;
@@ -23,10 +25,6 @@ pub(crate) struct Hold {
 }
 
 impl Model for Hold {
-    ghost use Rattle.std.specs.Coded.{codes};
-    ghost use Rattle.task_sheet.specs.contracts.members.Members as members;
-    ghost use Rattle.ceilings.specs.Holds.{HoldData};
-
     ghost Value = { HoldData };
 
     ghost coded = { Prim.hlevel (codes, members.the_row.coded) };
@@ -54,14 +52,6 @@ pub(crate) struct TaskHolds {
 }
 
 impl Model for TaskHolds {
-    ghost use Rattle.std.specs.Prelude.{◌<◌, ◌≤◌};
-    ghost use Rattle.std.specs.Ordering.{nat_cmp};
-    ghost use Rattle.std.specs.FinSet.{FinSet};
-    ghost use Rattle.std.specs.Coded.{codes};
-    ghost use Rattle.task_sheet.specs.contracts.members.Members as members;
-    ghost use Rattle.ceilings.specs.Holds.{TaskHoldsData, longest_of};
-    ghost use Rattle.task_sheet.specs.declared.set.TheConstants.{TASK_LIMIT};
-
     ghost Value = { TaskHoldsData };
 
     ghost coded = { Prim.hlevel (codes, members.the_row.coded) };

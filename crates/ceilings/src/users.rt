@@ -1,10 +1,12 @@
 //! The users of locks.
 ghost use Rattle.std.specs.Prelude.{◌≡◌, ◌<◌, ◌≤◌, ℕ, List, length, position, slice_get, All, IfOk, OnOk};
+ghost use Rattle.std.specs.FinSet as set;
+ghost use Rattle.std.specs.Coded.{coded×, coded_list, coded_ℕ};
 ghost use Rattle.task_sheet.specs.Sheet.{Task, same_bytes, task_at};
 ghost use Rattle.task_sheet.specs.declared.set.TheConstants.{TASK_LIMIT};
 ghost use Rattle.task_sheet.specs.Indexes.{indexes_of};
 ghost use Rattle.task_sheet.specs.Locks.{uses, reaches, ceiling_of};
-ghost use Rattle.ceilings.specs.Table.{locks_in, users_in, some_uses, with_user, with_section, with_user_of};
+ghost use Rattle.ceilings.specs.Table.{locks_in, users_in, some_uses, with_user, with_section, with_user_of, Table};
 ghost use Rattle.ceilings.specs.IsTableOf.{AreUsersOf, locks_of};
 
 use indexmap::IndexMap;
@@ -19,10 +21,6 @@ pub(crate) struct LockUsers {
 }
 
 impl Model for LockUsers {
-    ghost use Rattle.std.specs.Coded.{coded×, coded_list, coded_ℕ};
-    ghost use Rattle.std.specs.FinSet as set;
-    ghost use Rattle.ceilings.specs.Table.{Table};
-
     ghost Value = { Table };
 
     ghost coded = { coded_list (coded× (coded_list coded_ℕ) (set.code coded_ℕ)) };

@@ -16,7 +16,8 @@ use Rattle.certificate.specs.Spelling.{fail_line, fail_lines, level_spelling, le
 use Rattle.lines.specs.Lines.{parts}
 use Rattle.lines.specs.Words.{words, number_in}
 use Rattle.certificate.specs.Words.{fail_in}
-use Rattle.certificate.specs.Lines.{◌>>=◌, At, line_from, wanted, level_head, level_in, fails_case, fails_from, level_read, levels_at}
+use Rattle.lines.specs.Steps.{◌>>=◌}
+use Rattle.certificate.specs.Lines.{At, line_from, wanted, level_head, level_in, fails_case, fails_from, level_read, levels_at}
 use Rattle.lines.proofs.NumberLaws.{number_takes, number_again}
 use Rattle.certificate.proofs.WordLaws.{cond_given}
 use Rattle.lines.proofs.Parts.{parts_some}

@@ -13,7 +13,8 @@ use Rattle.certificate.specs.Body.{Fail}
 use Rattle.certificate.specs.Spelling.{fail_line}
 use Rattle.lines.specs.Lines.{parts}
 use Rattle.lines.specs.Words.{words, number_in}
-use Rattle.certificate.specs.Lines.{◌>>=◌, At, line_from, wanted, count_in, few, at_most_limit, end_at, is_at_end}
+use Rattle.lines.specs.Steps.{◌>>=◌}
+use Rattle.certificate.specs.Lines.{At, line_from, wanted, count_in, few, at_most_limit, end_at, is_at_end}
 use Rattle.certificate.specs.declared.fault.CertFault.{CertFault}
 use Rattle.certificate.specs.declared.fault.CertFault.TheVariants.{BadLine, Trailing}
 use Rattle.lines.proofs.NumberLaws.{number_takes, number_again}

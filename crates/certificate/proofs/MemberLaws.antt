@@ -11,7 +11,8 @@ use Rattle.certificate.specs.Spelling.{numbers_text, reason_text, fail_line, fai
 use Rattle.lines.specs.Lines.{parts}
 use Rattle.lines.specs.Words.{words}
 use Rattle.certificate.specs.Words.{fail_in}
-use Rattle.certificate.specs.Lines.{◌>>=◌, At, line_from, wanted, member_at, members_at}
+use Rattle.lines.specs.Steps.{◌>>=◌}
+use Rattle.certificate.specs.Lines.{At, line_from, wanted, member_at, members_at}
 use Rattle.certificate.proofs.FailLaws.{over_named, numbers_text-cons, fail_text, fail_takes, fail_again, decimal_lacks, name_lacks}
 use Rattle.certificate.proofs.LineLaws.{left, bind_ok, ok_is, wanted_ok, line_takes, line_end, line_again}
 use Rattle.certificate.specs.declared.version.CertVersion.{CertVersion}

@@ -9,7 +9,8 @@ use Rattle.lines.proofs.Parts.{parts_some}
 use Rattle.certificate.specs.Body.{Fail}
 use Rattle.std.proofs.lemmas.List.Splits.{join_with_byte-slice_split}
 use Rattle.lines.specs.Lines.{parts}
-use Rattle.certificate.specs.Lines.{◌>>=◌, At, Fails, Gives, at_place, line_at, line_from, is_at_end, count_in, member_at, members_at}
+use Rattle.lines.specs.Steps.{◌>>=◌}
+use Rattle.certificate.specs.Lines.{At, Fails, Gives, at_place, line_at, line_from, is_at_end, count_in, member_at, members_at}
 use Rattle.certificate.specs.declared.version.CertVersion.{CertVersion}
 
 -- what was read before, and what is still read

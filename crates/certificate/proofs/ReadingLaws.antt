@@ -15,7 +15,8 @@ use Rattle.certificate.specs.Spelling.{fail_lines, count_line, head_text, head_l
 use Rattle.lines.specs.Lines.{parts}
 use Rattle.lines.specs.Words.{words}
 use Rattle.certificate.specs.Words.{fail_in}
-use Rattle.certificate.specs.Lines.{◌>>=◌, At, line_from, certificate_in, count_in, end_at, members_at, levels_at, best_of, members_read, body_case, body_at, version_in, versioned, Gives}
+use Rattle.lines.specs.Steps.{◌>>=◌}
+use Rattle.certificate.specs.Lines.{At, line_from, certificate_in, count_in, end_at, members_at, levels_at, best_of, members_read, body_case, body_at, version_in, versioned, Gives}
 use Rattle.certificate.specs.declared.fault.CertFault.{CertFault}
 use Rattle.certificate.specs.declared.fault.CertFault.TheVariants.{Trailing}
 use Rattle.certificate.proofs.FailLaws.{decimal_lacks}

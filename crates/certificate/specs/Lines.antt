@@ -8,6 +8,7 @@ use Rattle.certificate.specs.Spelling.{head_text}
 use Rattle.certificate.specs.declared.version.CertVersion.{CertVersion}
 use Rattle.certificate.specs.declared.version.CertVersion.TheVariants.{First, Second}
 use Rattle.lines.specs.Lines.{parts}
+use Rattle.lines.specs.Steps.{◌>>=◌}
 use Rattle.lines.specs.Words.{words, number_in}
 use Rattle.lines.specs.declared.place.TextPlace.{TextPlace}
 use Rattle.certificate.specs.Words.{fail_in}
@@ -22,13 +23,6 @@ pub record At : Type 0 where
 -- what is left to read, and the number of the last line
 abbrev pub at_place : TextPlace → At
 at_place p = record { parts = parts p.rest.now; line = p.line }
-
-infixl 10 ◌>>=◌
--- goes on where there is no fault
-abbrev pub ◌>>=◌ : {A B : Type 0} → Result A CertFault → (A → Result B CertFault)
-    → Result B CertFault
-(Ok x) >>= f = f x
-(Err e) >>= f = Err e
 
 -- the reading has this fault; want of memory says nothing of it
 abbrev pub Fails : {Y : Type 0} → CertFault → Result Y CertFault → Type 0

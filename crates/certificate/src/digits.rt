@@ -1,5 +1,5 @@
 //! The decimal digits of a number.
-ghost use Rattle.std.specs.Prelude.{◌≡◌, ◌≤◌, length};
+ghost use Rattle.std.specs.Prelude.{◌≡◌, ◌≤◌, length, ℕ, List, drop};
 ghost use Rattle.std.specs.Fmt.{decimal};
 
 use std::marker::Model;
@@ -12,8 +12,6 @@ pub struct Digits {
 }
 
 impl Model for Digits {
-    ghost use Rattle.std.specs.Prelude.{ℕ, List, drop, ◌≤◌};
-
     ghost Value = { List ℕ };
 
     ghost view = { λ d. drop d.start d.bytes };

@@ -4,7 +4,7 @@ ghost use Rattle.task_sheet.specs.declared.set.TheConstants.{TASK_LIMIT};
 ghost use Rattle.task_sheet.specs.Indexes.{indexes_of, among};
 ghost use Rattle.ceilings.specs.IsTableOf.{IsTableOf};
 ghost use Rattle.assignment.specs.Placings.{tasks_of_places};
-ghost use Rattle.explain.specs.Accounts.{AreInTime, AreResponseAccounts, IsInTime, IsResponseAccount};
+ghost use Rattle.explain.specs.Accounts.{AreInTime, AreResponseAccounts, IsInTime, IsResponseAccount, AccountData};
 
 use crate::parts::{Parts, parts_of};
 use assignment::Place;
@@ -23,8 +23,6 @@ pub struct Account {
 }
 
 impl Model for Account {
-    ghost use Rattle.explain.specs.Accounts.{AccountData};
-
     ghost Value = { AccountData };
 
     ghost view = { λ a. record { task = a.task; time = a.time; deadline = a.deadline; parts = a.parts } };

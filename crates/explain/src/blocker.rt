@@ -3,7 +3,7 @@ ghost use Rattle.std.specs.Prelude.{◌≡◌, ◌<◌, length, find, IfSome, If
 ghost use Rattle.task_sheet.specs.Sheet.{task_at};
 ghost use Rattle.task_sheet.specs.Indexes.{indexes_of};
 ghost use Rattle.ceilings.specs.IsTableOf.{IsTableOf};
-ghost use Rattle.explain.specs.Parts.{IsBlockerOf, has_user, reached_lock};
+ghost use Rattle.explain.specs.Parts.{IsBlockerOf, has_user, reached_lock, BlockerData};
 ghost use Rattle.explain.specs.Blockers.{HasNoneBefore, IsFirstOf};
 
 use blocking::blocking;
@@ -22,8 +22,6 @@ pub struct Blocker {
 }
 
 impl Model for Blocker {
-    ghost use Rattle.explain.specs.Parts.{BlockerData};
-
     ghost Value = { BlockerData };
 
     ghost view = { λ b. record { task = b.task; place = b.place; len = b.len; lock = b.lock } };

@@ -2,7 +2,7 @@
 ghost use Rattle.std.specs.Prelude.{◌≡◌, ◌<◌, ◌≤◌, length, map, All, IfOk};
 ghost use Rattle.task_sheet.specs.Indexes.{indexes_of};
 ghost use Rattle.ceilings.specs.IsTableOf.{IsTableOf};
-ghost use Rattle.explain.specs.Parts.{above_at, IsPartsOf};
+ghost use Rattle.explain.specs.Parts.{above_at, IsPartsOf, AboveData, PartsData};
 
 use crate::blocker::{Blocker, first_blocker};
 use ceilings::LockTable;
@@ -19,8 +19,6 @@ pub struct Above {
 }
 
 impl Model for Above {
-    ghost use Rattle.explain.specs.Parts.{AboveData};
-
     ghost Value = { AboveData };
 
     ghost view = { λ a. record { task = a.task; jobs = a.jobs; time = a.time } };
@@ -39,8 +37,6 @@ pub struct Parts {
 }
 
 impl Model for Parts {
-    ghost use Rattle.explain.specs.Parts.{PartsData};
-
     ghost Value = { PartsData };
 
     ghost view = { λ p. record { cost = p.cost; jitter = p.jitter; blocker = p.blocker; above = p.above.items } };

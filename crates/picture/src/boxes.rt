@@ -3,6 +3,7 @@ ghost use Rattle.std.specs.Prelude.{◌≡◌, ◌+◌, ◌≤◌, Some, max};
 ghost use Rattle.picture.specs.declared.frame.TheConstants.{RIGHTMOST};
 ghost use Rattle.task_sheet.specs.declared.set.TheConstants.{TASK_LIMIT};
 ghost use Rattle.picture.specs.Frame.{top_of};
+ghost use Rattle.picture.specs.Elements.{bar_path};
 
 use crate::frame::top_of;
 use std::fmt;
@@ -16,8 +17,6 @@ pub(crate) struct Bar {
 }
 
 impl fmt::Display for Bar {
-    ghost use Rattle.picture.specs.Elements.{bar_path};
-
     ghost output = { λ b. Some (bar_path b.x b.right b.y) };
 
     fn fmt<W: fmt::Write>(&self, f: &mut fmt::Formatter<W>) -> fmt::Result {

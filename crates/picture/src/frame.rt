@@ -2,7 +2,7 @@
 ghost use Rattle.std.specs.Prelude.{◌≡◌, ◌+◌, ◌*◌, ◌<◌, ◌≤◌};
 ghost use Rattle.picture.specs.declared.frame.TheConstants.{LONGEST_PERIOD, RIGHTMOST, LOWEST_TOP, WIDEST_STEP, WIDEST_DECADE};
 ghost use Rattle.task_sheet.specs.declared.set.TheConstants.{TASK_LIMIT};
-ghost use Rattle.picture.specs.Frame.{frame_of, least_period, x_of, frame_end, right_of, top_of, is_wide, decade_of, step_in, step_of, unit_of, unit_name};
+ghost use Rattle.picture.specs.Frame.{frame_of, least_period, x_of, frame_end, right_of, top_of, is_wide, decade_of, step_in, step_of, unit_of, unit_name, Frame, IsFrame};
 
 use crate::rows::TaskRow;
 use ceiling_kernel::HORIZON;
@@ -37,8 +37,6 @@ pub(crate) struct Frame {
 }
 
 impl Model for Frame {
-    ghost use Rattle.picture.specs.Frame.{Frame, IsFrame};
-
     ghost Value = { Frame };
 
     ghost view = { λ f. record { until = f.until; span = f.span } };

@@ -1,5 +1,5 @@
 //! Lines.
-ghost use Rattle.std.specs.Prelude.{◌≡◌, ◌+◌, ◌++◌, ◌≤◌, [], length, true};
+ghost use Rattle.std.specs.Prelude.{◌≡◌, ◌+◌, ◌++◌, ◌≤◌, [], length, true, ℕ, List, take, Some};
 ghost use Rattle.picture.specs.declared.line.TheConstants.{ROOM};
 
 use std::io::{self, ErrorKind, Write};
@@ -15,9 +15,6 @@ pub(crate) struct PictureLine {
 }
 
 impl std::marker::Model for PictureLine {
-    ghost use Rattle.std.specs.Prelude.{ℕ, List, take, ◌≤◌};
-    ghost use Rattle.picture.specs.declared.line.TheConstants.{ROOM};
-
     ghost Value = { List ℕ };
 
     ghost view = { λ l. take l.len l.bytes };
@@ -59,8 +56,6 @@ impl PictureLine {
 }
 
 impl Write for PictureLine {
-    ghost use Rattle.std.specs.Prelude.{Some};
-
     ghost contents = { λ l. Some l };
 
     fn write(&mut self, buf: &[u8]) -> io::Result<usize> {

@@ -1,12 +1,12 @@
 //! The demand of one task below others, carried from a window to a longer one.
-ghost use Rattle.std.specs.Prelude.{◌≡◌, ◌+◌, ◌*◌, ◌<◌, ◌≤◌, [], ℕ, length, map, sum_by};
+ghost use Rattle.std.specs.Prelude.{◌≡◌, ◌+◌, ◌*◌, ◌<◌, ◌≤◌, [], ℕ, length, map, sum_by, take};
 ghost use Rattle.task_sheet.specs.Sheet.{IsValidSheet};
 ghost use Rattle.task_sheet.specs.declared.set.TheConstants.{TASK_LIMIT};
 ghost use Rattle.task_sheet.specs.Indexes.{indexes_of};
 ghost use Rattle.task_sheet.specs.Demand.{interference_of, demand_of};
 ghost use Rattle.ceilings.specs.IsTableOf.{IsTableOf};
 ghost use Rattle.response_time.specs.declared.workload.TheConstants.{WHOLE, WINDOW_LIMIT};
-ghost use Rattle.response_time.specs.Workload.{share_within, work_within, further_work, counted_to, IsCountedTo};
+ghost use Rattle.response_time.specs.Workload.{share_within, work_within, further_work, counted_to, IsCountedTo, ShareData, IsShare, WorkloadData, IsCarried};
 
 use blocking::blocking;
 use ceilings::LockTable;
@@ -24,8 +24,6 @@ struct Share {
 }
 
 impl Model for Share {
-    ghost use Rattle.response_time.specs.Workload.{ShareData, IsShare};
-
     ghost Value = { ShareData };
 
     ghost view = { λ s. record {
@@ -147,11 +145,6 @@ pub(crate) struct Workload {
 }
 
 impl Model for Workload {
-    ghost use Rattle.std.specs.Prelude.{◌+◌, ◌*◌, ◌≤◌, take};
-    ghost use Rattle.task_sheet.specs.declared.set.TheConstants.{TASK_LIMIT};
-    ghost use Rattle.response_time.specs.declared.workload.TheConstants.{WINDOW_LIMIT};
-    ghost use Rattle.response_time.specs.Workload.{WorkloadData, IsCarried};
-
     ghost Value = { WorkloadData };
 
     ghost view = { λ w. record {

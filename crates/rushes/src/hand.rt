@@ -2,7 +2,8 @@
 ghost use Rattle.std.specs.Prelude.{◌≡◌, ◌+◌, ◌<◌, [], length, None, Some, OnOk, IfOk, IsSome, MatchOption, slice_index_or};
 ghost use Rattle.candidate_workers.specs.Faults.{IsBadCount};
 ghost use Rattle.drafts.specs.Changes.{after_put, after_remove};
-ghost use Rattle.rushes.specs.Hands.{abandoned, after_edit, AreDone, draft_at, line_draft, new_hand, has_ended, IsTeamCommit, IsRowDone, IsLineDone, IsOpened, noting, own_at, refused, told, told_edit};
+ghost use Rattle.rushes.specs.Hands.{abandoned, after_edit, AreDone, draft_at, line_draft, new_hand, has_ended, IsTeamCommit, IsRowDone, IsLineDone, IsOpened, noting, own_at, refused, told, told_edit, Hand};
+ghost use Rattle.rushes.specs.HandFields.{AllOwn};
 
 use crate::fault::RushFault;
 use crate::note::{Missed, Note};
@@ -29,9 +30,6 @@ pub(crate) struct Hand<L: Ledger> {
 }
 
 impl<L: Ledger> Model for Hand<L> {
-    ghost use Rattle.rushes.specs.Hands.{Hand};
-    ghost use Rattle.rushes.specs.HandFields.{AllOwn};
-
     ghost Value = { Hand };
 
     ghost view = { λ h. record {

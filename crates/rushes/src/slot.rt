@@ -1,6 +1,6 @@
 //! Where a team keeps one of its drafts.
-ghost use Rattle.std.specs.Prelude.{◌≡◌, ◌↔◌, IfOk, OnOk, IsTrue, IsSome, ℕ, None, Some, option_map};
-ghost use Rattle.drafts.specs.Changes.{after_put, after_remove};
+ghost use Rattle.std.specs.Prelude.{◌≡◌, ◌↔◌, IfOk, OnOk, IsTrue, IsSome, ℕ, None, Some, option_map, Option};
+ghost use Rattle.drafts.specs.Changes.{after_put, after_remove, Draft};
 ghost use Rattle.rushes.specs.Hands.{edited, refused};
 ghost use Rattle.rushes.specs.HandFields.{IsOfTeam};
 
@@ -17,9 +17,6 @@ pub(crate) struct DraftSlot {
 }
 
 impl Model for DraftSlot {
-    ghost use Rattle.std.specs.Prelude.{Option, option_map};
-    ghost use Rattle.drafts.specs.Changes.{Draft};
-
     ghost Value = { Option Draft };
 
     ghost view = { λ s. option_map (λ b. b.value) s.draft };

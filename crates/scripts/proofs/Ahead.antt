@@ -3,7 +3,8 @@ use Rattle.std.proofs.Common.{◌≡◌, ℕ, List, [], ◌∷◌, ◌++◌, Res
 use Rattle.scripts.specs.declared.line.RowFault.{RowFault}
 use Rattle.scripts.specs.declared.line.RowFault.TheVariants.{Bad, Sheet, BadJitter, Outranks, OutOfMemory}
 use Rattle.scripts.specs.Gives.{FailsRow}
-use Rattle.scripts.specs.Rows.{◌>>=◌, each_in}
+use Rattle.lines.specs.Steps.{◌>>=◌}
+use Rattle.scripts.specs.Rows.{each_in}
 
 -- these, and then those that are read
 abbrev pub ahead : {A : Type 0} → List A → Result (List A) RowFault → Result (List A) RowFault

@@ -6,17 +6,12 @@ use Rattle.task_sheet.specs.SheetFault.{sheet_fault, outranks_fault}
 use Rattle.task_sheet.specs.declared.sheet.OutranksCause.{OutranksCause}
 use Rattle.task_sheet.specs.declared.sheet.SheetCause.{SheetCause}
 use Rattle.drafts.specs.declared.team.TheConstants.{TEAM_LIMIT}
+use Rattle.lines.specs.Steps.{◌>>=◌}
 use Rattle.lines.specs.Words.{name_in, number_in}
 use Rattle.scripts.specs.declared.line.Row.{Row}
 use Rattle.scripts.specs.declared.line.Row.TheVariants.{Open, Put, Remove, Found, Test, Commit, Abandon}
 use Rattle.scripts.specs.declared.line.RowFault.{RowFault}
 use Rattle.scripts.specs.declared.line.RowFault.TheVariants.{Bad, Sheet, BadJitter, Outranks}
-
-infixl 10 ◌>>=◌
--- goes on where there is no fault
-abbrev pub ◌>>=◌ : {A B : Type 0} → Result A RowFault → (A → Result B RowFault) → Result B RowFault
-(Ok x) >>= f = f x
-(Err e) >>= f = Err e
 
 -- what is wanted has to be there
 abbrev pub or_bad : {A : Type 0} → Option A → Result A RowFault

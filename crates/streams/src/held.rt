@@ -1,5 +1,5 @@
 //! Bytes that are held back, so that a writer gets many at once.
-ghost use Rattle.std.specs.Prelude.{◌≡◌, ◌++◌, ◌+◌, ◌<◌, ◌≤◌, [], length, IsErr, OnOk, OnErr, true};
+ghost use Rattle.std.specs.Prelude.{◌≡◌, ◌++◌, ◌+◌, ◌<◌, ◌≤◌, [], length, IsErr, OnOk, OnErr, true, ℕ, List, take};
 ghost use Rattle.std.specs.Io.KnownBytes.{Appends};
 ghost use Rattle.streams.specs.Sending.{Sends};
 ghost use Rattle.streams.specs.declared.held.TheConstants.{ROOM};
@@ -19,9 +19,6 @@ pub struct Held {
 }
 
 impl Model for Held {
-    ghost use Rattle.std.specs.Prelude.{ℕ, List, take, ◌≤◌};
-    ghost use Rattle.streams.specs.declared.held.TheConstants.{ROOM};
-
     ghost Value = { List ℕ };
 
     ghost view = { λ h. take h.len h.bytes };

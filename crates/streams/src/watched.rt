@@ -2,6 +2,7 @@
 ghost use Rattle.std.specs.Prelude.{◌≡◌, ◌≢◌, ◌+◌, ◌^◌, ◌<◌, ◌≤◌, true, false, Err, IsErr, OnOk, OnErr, IfSome};
 ghost use Rattle.std.specs.Io.{ReadsAtMost};
 ghost use Rattle.std.specs.Io.KnownBytes.{Appends, ReadConsumes};
+ghost use Rattle.streams.specs.Watching.{WatchedData};
 
 use crate::patient::Patient;
 use std::fmt::Display;
@@ -31,8 +32,6 @@ pub struct Watched<T: Drop> {
 }
 
 impl<T: Drop> Model for Watched<T> {
-    ghost use Rattle.streams.specs.Watching.{WatchedData};
-
     ghost Value = { WatchedData T };
 
     ghost view = { λ w. record {

@@ -1,4 +1,7 @@
 //! Gates of the examples.
+ghost use Rattle.std.specs.Prelude.{◌≡◌};
+ghost use Rattle.assignment.specs.Questions.{QuestionData};
+
 use assignment::Question;
 use candidate_workers::Gate;
 use example_sets::wait_until;
@@ -11,9 +14,6 @@ pub struct ShutOne {
 }
 
 impl Gate for ShutOne {
-    ghost use Rattle.std.specs.Prelude.{◌≡◌};
-    ghost use Rattle.assignment.specs.Questions.{QuestionData};
-
     ghost may_shut = { λ gate question. question.task ≡ gate.task };
 
     ghost always_shuts = { λ gate question. question.task ≡ gate.task };
