@@ -16,6 +16,6 @@ pub use climb::{Climb, ClimbFault, Unfinished};
 pub use feasibility::{is_feasible, standing};
 pub use level::{Closed, Level, NotAll, TakeFault};
 pub use outcome::{Outcome, Reason, least_over};
-pub use placing::{Place, Placing, place_all};
+pub use placing::{Place, Placing, place_all, tasks_of_places};
 pub use question::{AnswerFault, Finding, Question};
 pub use verdict::{Assignment, Failure, LevelRecord, Obstruction, Verdict};

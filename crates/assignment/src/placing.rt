@@ -6,7 +6,7 @@ ghost use Rattle.task_sheet.specs.Demand.{IsResponseOf};
 ghost use Rattle.task_sheet.specs.Orders.{all_of, Stands};
 ghost use Rattle.task_sheet.specs.Levels.{IsChosen, NoneStands};
 ghost use Rattle.ceilings.specs.IsTableOf.{IsTableOf};
-ghost use Rattle.assignment.specs.Placings.{IsPlacingOf};
+ghost use Rattle.assignment.specs.Placings.{IsPlacingOf, tasks_of_places};
 
 use crate::outcome::is_bound;
 use ceilings::LockTable;
@@ -39,6 +39,17 @@ pub enum Placing {
     Best(Vec<Place>),
     /// No order passes: the members of the greatest obstruction.
     Stuck(Members),
+}
+
+/// The tasks of places, in their order. The error is want of memory.
+pub fn tasks_of_places(alloc: Global, places: &[Place]) -> Result<Vec<usize>, AllocError>
+    ensures { IfOk result (λ order. order.items ≡ tasks_of_places places.now) }
+{
+    let mut order = Vec::with_capacity(alloc, places.len())?;
+    for place in places {
+        order.push(place.task)?;
+    }
+    Ok(order)
 }
 
 // The response of a task with these above it, where it may stand there.

@@ -4,6 +4,7 @@
 
 ghost use Rattle.std.specs.Prelude.{◌≡◌, ◌<◌, ◌≤◌, length};
 ghost use Rattle.task_sheet.specs.Indexes.{indexes_of};
+ghost use Rattle.task_sheet.specs.declared.sheet.TheConstants.{PERIOD_TO};
 ghost use Rattle.task_sheet.specs.Demand.{blocking_of};
 ghost use Rattle.ceilings.specs.IsTableOf.{IsTableOf};
 
@@ -17,7 +18,7 @@ pub fn blocking(set: &TaskSet, table: &LockTable, task: usize, above: Members) -
     requires table { IsTableOf set.now table.now }
     requires task { task < length set.now }
     ensures is { result ≡ blocking_of set.now task (indexes_of above) }
-    ensures short { result ≤ 10000000 }
+    ensures short { result ≤ PERIOD_TO }
 {
     // The set is valid: the proof has it from its sheets.
     let _ = set.sheets();

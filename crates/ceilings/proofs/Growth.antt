@@ -1,8 +1,7 @@
 -- What a table has after one user more, after a section's and after a task's.
-use Rattle.std.proofs.Common.{◌≡◌, ℕ, ◌+◌, ◌<◌, Bool, true, false, ◌||◌, ◌&&◌, cond, List, [], ◌∷◌, ◌++◌, length, take, get_or, refl, sym, ◌∙◌, ap, subst}
+use Rattle.std.proofs.Common.{◌≡◌, ℕ, ◌+◌, Bool, true, false, ◌||◌, ◌&&◌, cond, List, [], ◌∷◌, ◌++◌, refl, sym, ◌∙◌, ap, subst}
 use Rattle.std.proofs.lemmas.Bool.{false≢true}
-use Rattle.std.proofs.lemmas.List.{take_more}
-use Rattle.std.proofs.lemmas.List.Sums.{fold-append, fold_push}
+use Rattle.std.proofs.lemmas.List.Sums.{fold-append}
 use Rattle.std.specs.Cmp.{nat_cmp_total}
 use Rattle.std.specs.Cmp.Lexicographic.{nat_list_eq_equiv}
 use Rattle.std.specs.FinSet as set
@@ -137,8 +136,3 @@ sections_noted index (s ∷ sections) table =
 -- after a task's locks are noted, those that were not seen before stand behind the others
 pub task_noted : (index : ℕ) (t : Task) (table : Table) → locks_in (with_user_of index table t) ≡ fold with_name (locks_in table) (flat_map (λ s. s.locks) t.sections)
 task_noted index t table = sections_noted index t.sections table
-
--- one step of a loop over a list
-pub fold_more : {A B : Type 0} (f : B → A → B) (a b c : B) (xs : List A) (i : ℕ) (x : A) → i < length xs → x ≡ get_or xs i x → b ≡ fold f a (take i xs)
-    → c ≡ f b x → c ≡ fold f a (take (i + 1) xs)
-fold_more f a b c xs i x lt is h e = rw (take_more xs i x lt, ← is, fold_push f a (take i xs) x, ← h) e

@@ -1,5 +1,6 @@
 //! What the demand of a task and its jitter are made of.
 ghost use Rattle.std.specs.Prelude.{◌≡◌, ◌<◌, ◌≤◌, length, map, All, IfOk};
+ghost use Rattle.task_sheet.specs.declared.sheet.TheConstants.{PERIOD_TO};
 ghost use Rattle.task_sheet.specs.Indexes.{indexes_of};
 ghost use Rattle.ceilings.specs.IsTableOf.{IsTableOf};
 ghost use Rattle.explain.specs.Parts.{above_at, IsPartsOf, AboveData, PartsData};
@@ -45,7 +46,7 @@ impl Model for Parts {
 // The part of the task at an index, in a window.
 fn above_at(set: &TaskSet, task: usize, time: u64) -> Above
     requires task { task < length set.now }
-    requires time { time ≤ 10000000 }
+    requires time { time ≤ PERIOD_TO }
     ensures { result ≡ above_at set.now time task }
 {
     let sheet = &set.sheets()[task];
@@ -65,7 +66,7 @@ fn above_parts(
     time: u64,
 ) -> Result<Vec<Above>, AllocError>
     requires within { All (λ task. task < length set.now) order.now }
-    requires time { time ≤ 10000000 }
+    requires time { time ≤ PERIOD_TO }
     ensures { IfOk result (λ above. above.items ≡ map (above_at set.now time) order.now) }
 {
     let mut above = Vec::with_capacity(alloc, order.len())?;
@@ -89,7 +90,7 @@ pub fn parts_of(
     requires table { IsTableOf set.now table.now }
     requires task { task < length set.now }
     requires within { All (λ task. task < length set.now) order.now }
-    requires time { time ≤ 10000000 }
+    requires time { time ≤ PERIOD_TO }
     ensures { IfOk result (λ parts. IsPartsOf set.now task
         (indexes_of above) order.now time parts) }
 {

@@ -1,6 +1,7 @@
 //! Costs of one task with which a given order of the set passes.
-ghost use Rattle.std.specs.Prelude.{◌≡◌, ◌⊎◌, ◌+◌, ◌<◌, ◌≤◌, ℕ, length, IsTrue, IfOk, IfSome, IfNone};
+ghost use Rattle.std.specs.Prelude.{◌≡◌, ◌⊎◌, ◌+◌, ◌-◌, ◌<◌, ◌≤◌, ℕ, length, IsTrue, IfOk, IfSome, IfNone};
 ghost use Rattle.task_sheet.specs.Sheet.{task_at};
+ghost use Rattle.task_sheet.specs.TaskSet.{IsTaskSet};
 ghost use Rattle.task_sheet.specs.Indexes.{indexes_of};
 ghost use Rattle.task_sheet.specs.Demand.{IsResponseOf, Passes};
 ghost use Rattle.task_sheet.specs.Orders.{IsPassingOrder};
@@ -12,6 +13,16 @@ use ceilings::LockTable;
 use response_time::response_in_time;
 use std::alloc::{AllocError, Global};
 use task_sheet::{Members, TaskSet};
+
+// What a response of a task leaves of its deadline, in microseconds.
+fn left_of(set: &TaskSet, task: usize, response: u64) -> u64
+    requires task { task < length set.now }
+    requires within { response ≤ (task_at set.now task).deadline }
+    ensures is { result ≡ (task_at set.now task).deadline - response }
+    ensures kept { IsTaskSet set.now }
+{
+    set.sheets()[task].deadline() - response
+}
 
 // By how much the cost of a task may grow at most with one that has this response still passing: what is left of its
 // deadline, shared by the jobs of the task that the response has.
@@ -25,12 +36,11 @@ fn room_of(set: &TaskSet, task: usize, low: usize, above: Members, response: u64
         → ¬ Passes (costed set.now task ((task_at set.now task).cost + more)) low
         (indexes_of above) }
 {
-    let sheet = &set.sheets()[low];
-    let left = sheet.deadline() - response;
+    let left = left_of(set, low, response);
     if !above.has(task) {
         return left;
     }
-    let window = response - sheet.jitter();
+    let window = response - set.sheets()[low].jitter();
     let other = &set.sheets()[task];
     left / (window + other.jitter()).div_ceil(other.period())
 }

@@ -17,56 +17,9 @@ pub use crate::costs::{last_end, with_cost};
 use crate::costs::{costed, least_cost};
 pub use crate::in_order::headroom_in_order;
 use crate::some_order::some_order;
-use assignment::is_feasible;
 use ceilings::LockTable;
 use std::alloc::{AllocError, Global};
 use task_sheet::TaskSet;
-
-// Whether some order passes where the task has this cost.
-fn passes_at(
-    alloc: Global,
-    set: &TaskSet,
-    table: &LockTable,
-    task: usize,
-    cost: u64,
-) -> Result<bool, AllocError>
-    requires table { IsTableOf set.now table.now }
-    requires task { task < length set.now }
-    requires may { MayCost set.now task cost }
-    ensures { IfOk result (λ passes. IsTrue passes ↔ IsFeasible (costed set.now task cost)) }
-{
-    let other = costed(alloc, set, task, cost)?;
-    Ok(is_feasible(&other, table))
-}
-
-// The headroom of a task in a set that no order passes: less than its cost, if any.
-fn headroom_below(
-    alloc: Global,
-    set: &TaskSet,
-    table: &LockTable,
-    task: usize,
-) -> Result<Option<u64>, AllocError>
-    requires table { IsTableOf set.now table.now }
-    requires task { task < length set.now }
-    requires stuck { ¬ IsFeasible set.now }
-    ensures { IfOk result (λ answer. AnswersHeadroom set.now task answer) }
-{
-    let sheet = &set.sheets()[task];
-    let mut passing = least_cost(sheet);
-    if !passes_at(alloc, set, table, task, passing)? {
-        return Ok(None);
-    }
-    let mut failing = sheet.cost();
-    while failing - passing > 1 {
-        let cost = passing + (failing - passing) / 2;
-        if passes_at(alloc, set, table, task, cost)? {
-            passing = cost;
-        } else {
-            failing = cost;
-        }
-    }
-    Ok(Some(passing))
-}
 
 // The greatest cost with which some order passes that passes with this cost; none where no order does.
 fn further(
@@ -92,21 +45,21 @@ fn further(
     }
 }
 
-// The headroom of a task in a set that this order passes: its cost or more. Each order that is found is followed as far
-// as it passes.
+// The headroom of a task with this cost of which some order passes: that cost or more. Each order that is found is
+// followed as far as it passes.
 fn headroom_from(
     alloc: Global,
     set: &TaskSet,
     table: &LockTable,
-    order: &[usize],
     task: usize,
+    mut passing: u64,
 ) -> Result<u64, AllocError>
     requires table { IsTableOf set.now table.now }
     requires task { task < length set.now }
-    requires passing { IsPassingOrder set.now order.now }
+    requires may { MayCost set.now task passing }
+    requires feasible { IsFeasible (costed set.now task passing) }
     ensures { IfOk result (IsHeadroom set.now task) }
 {
-    let mut passing = headroom_in_order(alloc, set, table, order, task)?;
     let mut failing = set.sheets()[task].period() + 1;
     let mut step = 1;
     while failing - passing > 1 {
@@ -135,8 +88,13 @@ pub fn headroom(
     requires task { task < length set.now }
     ensures { IfOk result (λ answer. AnswersHeadroom set.now task answer) }
 {
-    match some_order(alloc, set, table)? {
-        Some(order) => Ok(Some(headroom_from(alloc, set, table, &order, task)?)),
-        None => headroom_below(alloc, set, table, task),
+    let sheet = &set.sheets()[task];
+    let found = match further(alloc, set, table, task, sheet.cost())? {
+        Some(cost) => Some(cost),
+        None => further(alloc, set, table, task, least_cost(sheet))?,
+    };
+    match found {
+        Some(passing) => Ok(Some(headroom_from(alloc, set, table, task, passing)?)),
+        None => Ok(None),
     }
 }

@@ -1,6 +1,7 @@
 //! The densest release list of a set.
 ghost use Rattle.std.specs.Prelude.{◌≡◌, ◌<◌, ◌≤◌, ℕ, ◌+◌, ◌++◌, ◌-◌, length, List, [], false, None, Option, MatchResult, IfOk, nat_lt};
 ghost use Rattle.task_sheet.specs.TaskSet.{IsTaskSet};
+ghost use Rattle.task_sheet.specs.declared.sheet.TheConstants.{PERIOD_TO};
 ghost use Rattle.ceiling_kernel.specs.declared.accept.TheConstants.{HORIZON, RELEASE_LIMIT};
 ghost use Rattle.ceiling_kernel.specs.Releases.{IsRefusal, refusal_of, refuse_if};
 ghost use Rattle.release_list.specs.Densest.{instant_of, first_arrival, arrives, late_at, release_of, is_listed, releases_at, densest_of, list_refusal};
@@ -70,7 +71,7 @@ fn release_of(sheet: &Sheet, instant: u64, time: u64) -> Release
 // When the task's next job after a time arrives.
 fn next_arrival(sheet: &Sheet, instant: u64, time: u64) -> u64
     requires period { 0 < sheet.now.period }
-    requires small { sheet.now.period ≤ 10000000 }
+    requires small { sheet.now.period ≤ PERIOD_TO }
     requires before { time ≤ HORIZON }
     ensures after { time < result }
     ensures none { (t : ℕ) → time < t → t < result → arrives instant t sheet.now ≡ false }

@@ -2,3 +2,4 @@ pub mod Shares
 pub mod LeastWindows
 pub mod FirstCovers
 pub mod Walks
+pub mod AboveLaws

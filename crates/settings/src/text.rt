@@ -8,7 +8,7 @@ ghost use Rattle.ceilings.specs.IsTableOf.{IsTableOf, locks_of};
 ghost use Rattle.assignment.specs.Placings.{tasks_of_places};
 ghost use Rattle.settings.specs.Settings.{mutex_line, mutex_lines, settings_lines, thread_line, thread_lines};
 
-use assignment::Place;
+use assignment::{Place, tasks_of_places};
 use ceilings::LockTable;
 use lines::push_name;
 use std::alloc::{AllocError, Global};
@@ -85,17 +85,6 @@ fn push_mutexes(text: &mut String, table: &LockTable, order: &[usize]) -> Result
     Ok(())
 }
 
-// The indexes of the tasks, the lowest level first.
-fn order_of(alloc: Global, places: &[Place]) -> Result<Vec<usize>, AllocError>
-    ensures { IfOk result (λ order. order.items ≡ tasks_of_places places.now) }
-{
-    let mut order = Vec::with_capacity(alloc, places.len())?;
-    for place in places {
-        order.push(place.task)?;
-    }
-    Ok(order)
-}
-
 /// The lines that say what a node is set to for an order of a set, its places the lowest first: the level of each
 /// task's thread, and the ceiling of each lock's mutex. The error is want of memory.
 pub fn settings_text(alloc: Global, set: &TaskSet, places: &[Place]) -> Result<String, AllocError>
@@ -103,7 +92,7 @@ pub fn settings_text(alloc: Global, set: &TaskSet, places: &[Place]) -> Result<S
     ensures { IfOk result (λ text. string_bytes text
         ≡ settings_lines set.now (tasks_of_places places.now)) }
 {
-    let order = order_of(alloc, places)?;
+    let order = tasks_of_places(alloc, places)?;
     let table = LockTable::new(alloc, set)?;
     let mut text = String::new(alloc);
     push_threads(&mut text, set, &order)?;

@@ -1,8 +1,7 @@
-use Rattle.std.proofs.Common.{◌≡◌, ◌≤◌, ◌+◌, ◌*◌, ℕ, length, if◌then◌else◌}
-use Rattle.task_sheet.specs.Sheet.{task_at}
-use Rattle.task_sheet.specs.Indexes.{indexes_of, sum_below}
-use Rattle.task_sheet.specs.Demand.{interference_of}
+use Rattle.std.proofs.Common.{◌≡◌, ◌≤◌, ◌+◌, ◌*◌, ℕ, length}
+use Rattle.task_sheet.specs.Indexes.{indexes_of}
 use Rattle.response_time.specs.Workload.{work_within}
+use Rattle.response_time.proofs.AboveLaws.{interference_first}
 use Rattle.response_time.proofs.workload.Workload.new.Given as goal
 
 -- what the tasks above so far execute is in it
@@ -14,5 +13,5 @@ invariant-loop-index l = record {
   sum :
       (time : ℕ) → l.first ≤ time → time ≤ l.limit →
       work_within time l.work
-      ≡ l.always + sum_below l.index (λ h. if indexes_of l.above h then interference_of (task_at l.sheets h) time else 0);
+      ≡ l.always + interference_first l.sheets (indexes_of l.above) time l.index;
 }

@@ -1,0 +1,29 @@
+-- What the tasks above execute within a window, of the set's first ones.
+use Rattle.std.proofs.Common.{◌≡◌, ℕ, ◌+◌, true, false, cond, List, length, refl, sym, arith}
+use Rattle.std.proofs.lemmas.Bool.{cond-true, cond-false}
+use Rattle.task_sheet.specs.Sheet.{Task, task_at}
+use Rattle.task_sheet.specs.Indexes.{Indexes, sum_below}
+use Rattle.task_sheet.specs.Demand.{interference_of, blocking_of, demand_of}
+use Rattle.task_sheet.proofs.Below.{sum_step}
+
+-- of the first n tasks of U those among H
+abbrev pub interference_first : List Task → Indexes → ℕ → ℕ → ℕ
+interference_first U H time n = sum_below n (λ h. cond (H h) (interference_of (task_at U h) time) 0)
+
+module _ (U : List Task) (H : Indexes) (time n : ℕ) where
+  abbrev term : ℕ → ℕ
+  term h = cond (H h) (interference_of (task_at U h) time) 0
+
+  -- one task more, which is above
+  pub first-with : H n ≡ true → interference_first U H time (n + 1) ≡ interference_first U H time n + interference_of (task_at U n) time
+  first-with above = sym (sum_step n term (sum_below n term) (interference_of (task_at U n) time) (sum_below n term + interference_of (task_at U n) time) refl (cond-true {A = ℕ} (H n) (interference_of (task_at U n) time) 0 above) refl)
+
+  -- one task more, which isn't
+  pub first-without : H n ≡ false → interference_first U H time (n + 1) ≡ interference_first U H time n
+  first-without out = sym (sum_step n term (sum_below n term) 0 (sum_below n term) refl (cond-false {A = ℕ} (H n) (interference_of (task_at U n) time) 0 out) (omega arith))
+
+-- all tasks
+pub first-all : (U V : List Task) (i : ℕ) (H : Indexes) (time n : ℕ) → V ≡ U → n ≡ length V
+    → (task_at U i).cost + blocking_of U i H + interference_first V H time n ≡ demand_of U i H time
+unfolding demand_of
+first-all U V i H time n same all = rw (all, same) refl
