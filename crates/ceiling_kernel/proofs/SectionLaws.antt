@@ -27,6 +27,14 @@ module _ (node : Node) (level : ℕ) where
   rest_of [] e = 0
   rest_of (s ∷ ss) e = if is_inside s e && nat_le level (top_ceiling node s.locks) then (s.at + s.len) - e else rest_of ss e
 
+  -- what holds where a job is inside of a section, and its ceiling reaches the level
+  of_reaching : (s : CriticalSection) (e : ℕ) → is_inside s e && nat_le level (top_ceiling node s.locks) ≡ true
+      → (is_inside s e ≡ true) × (nat_le level (top_ceiling node s.locks) ≡ true) × (s.at < e) × (e < s.at + s.len)
+  of_reaching s e reaching =
+      let p : (is_inside s e ≡ true) × (nat_le level (top_ceiling node s.locks) ≡ true) = and_parts (is_inside s e) (nat_le level (top_ceiling node s.locks)) reaching in
+      let b : (s.at < e) × (e < s.at + s.len) = inside_true s e p.0 in
+      (p.0, p.1, b.0, b.1)
+
   -- before the sections begin, none is left
   pub rest_before : (begin cost : ℕ) (ss : List CriticalSection) (e : ℕ) → AreApart begin ss cost → e ≤ begin → rest_of ss e ≡ 0
   rest_before begin cost [] e apart h = refl
@@ -39,8 +47,7 @@ module _ (node : Node) (level : ℕ) where
   rest_after begin cost (s ∷ ss) e apart h =
       elim (cases_Bool (is_inside s e && nat_le level (top_ceiling node s.locks))) [
         | inl reaching ↦
-            let p : (is_inside s e ≡ true) × (nat_le level (top_ceiling node s.locks) ≡ true) = and_parts (is_inside s e) (nat_le level (top_ceiling node s.locks)) reaching in
-            let b : (s.at < e) × (e < s.at + s.len) = inside_true s e p.0 in
+            let p = of_reaching s e reaching in
             let c : s.at + s.len ≤ cost = end_within (s.at + s.len) cost ss apart.2 in
             (omega arith, omega arith)
         | inr not_it ↦
@@ -59,8 +66,7 @@ module _ (node : Node) (level : ℕ) where
   rest_next_of begin cost (s ∷ ss) e apart h =
       elim (cases_Bool (is_inside s e && nat_le level (top_ceiling node s.locks))) [
         | inl reaching ↦
-            let p : (is_inside s e ≡ true) × (nat_le level (top_ceiling node s.locks) ≡ true) = and_parts (is_inside s e) (nat_le level (top_ceiling node s.locks)) reaching in
-            let b : (s.at < e) × (e < s.at + s.len) = inside_true s e p.0 in
+            let p = of_reaching s e reaching in
             elim (cases_lt (suc e) (s.at + s.len)) [
               | inl still ↦
                   let still_in : is_inside s (suc e) ≡ true = inside_from s (suc e) (omega arith) still in
@@ -85,8 +91,7 @@ module _ (node : Node) (level : ℕ) where
       let ih : rest_of ss e ≤ greatest_of (λ s. if reaches node.tasks X s then s.len else 0) ss = rest-le X all ss e in
       elim (cases_Bool (is_inside s e && nat_le level (top_ceiling node s.locks))) [
         | inl reaching ↦
-            let p : (is_inside s e ≡ true) × (nat_le level (top_ceiling node s.locks) ≡ true) = and_parts (is_inside s e) (nat_le level (top_ceiling node s.locks)) reaching in
-            let b : (s.at < e) × (e < s.at + s.len) = inside_true s e p.0 in
+            let p = of_reaching s e reaching in
             let r : reaches node.tasks X s ≡ true = all s (leb-true level (top_ceiling node s.locks) p.1) in
             rw (p.0, p.1, r) (omega arith)
         | inr not_it ↦ rw not_it (omega arith)
@@ -120,7 +125,7 @@ module _ (node : Node) (level : ℕ) where
   held_from_rest (s ∷ ss) e h =
       elim (cases_Bool (is_inside s e && nat_le level (top_ceiling node s.locks))) [
         | inl reaching ↦
-            let p : (is_inside s e ≡ true) × (nat_le level (top_ceiling node s.locks) ≡ true) = and_parts (is_inside s e) (nat_le level (top_ceiling node s.locks)) reaching in
+            let p = of_reaching s e reaching in
             let t : level ≤ top_ceiling node s.locks = leb-true level (top_ceiling node s.locks) p.1 in
             rw p.0 (omega arith)
         | inr not_it ↦

@@ -5,9 +5,9 @@ use Rattle.std.specs.Fmt.{decimal}
 use Rattle.std.proofs.lemmas.List.{take_more, append-nil, length-take-le}
 use Rattle.certificate.specs.Body.{CertLevelData}
 use Rattle.certificate.specs.Spelling.{fail_lines, level_spelling, level_spellings}
-use Rattle.streams.specs.Sending.{Writes}
-use Rattle.streams.specs.Watching.{WatchedData}
-use Rattle.streams.proofs.Writes.{writes_both}
+use Rattle.streams.specs.Puts.{Puts}
+use Rattle.streams.specs.declared.outlet.Outlet.{Outlet}
+use Rattle.streams.proofs.Puts.{puts_both}
 
 lines_append : (k : ℕ) (xs : List CertLevelData) (l : CertLevelData) → level_spellings k (xs ++ l ∷ []) ≡ level_spellings k xs ++ (level_spelling (length xs + k) l ++ fail_lines (codes "fails") l.fails)
 lines_append k [] l = rw zero-add (ap (λ (y : List ℕ). level_spelling k l ++ y) (append-nil (fail_lines (codes "fails") l.fails)))
@@ -30,11 +30,11 @@ lines_more ls i l lt e =
     ∙ ap (λ (n : ℕ). level_spellings 1 (take i ls) ++ (level_spelling (n + 1) l ++ fail_lines (codes "fails") l.fails)) len
 
 -- one more level
-pub level_sent : {W : Type 0} {contents : W → Option (List ℕ)} {a b c d : WatchedData W} {h i j k : List ℕ} (ls : List CertLevelData) (n : ℕ) (l : CertLevelData) → n < length ls → l ≡ get_or ls n l
-    → Writes contents a h b i (Ok tt) (level_spellings 1 (take n ls)) → Writes contents b i c j (Ok tt) (level_spelling (n + 1) l) → Writes contents c j d k (Ok tt) (fail_lines (codes "fails") l.fails)
-    → Writes contents a h d k (Ok tt) (level_spellings 1 (take (n + 1) ls))
-level_sent {contents = contents} {a = a} {d = d} {h = h} {k = k} ls n l lt e so_far line fails =
-    subst (Writes contents a h d k (Ok tt)) (sym (lines_more ls n l lt e)) (writes_both so_far (writes_both line fails))
+pub level_sent : {W : Type 0} {contents : W → Option (List ℕ)} {a b c d : Outlet W} (ls : List CertLevelData) (n : ℕ) (l : CertLevelData) → n < length ls → l ≡ get_or ls n l
+    → Puts contents a b (Ok tt) (level_spellings 1 (take n ls)) → Puts contents b c (Ok tt) (level_spelling (n + 1) l) → Puts contents c d (Ok tt) (fail_lines (codes "fails") l.fails)
+    → Puts contents a d (Ok tt) (level_spellings 1 (take (n + 1) ls))
+level_sent {contents = contents} {a = a} {d = d} ls n l lt e so_far line fails =
+    subst (Puts contents a d (Ok tt)) (sym (lines_more ls n l lt e)) (puts_both so_far (puts_both line fails))
 
 pieces : (word digits name time : List ℕ) → (word ++ digits) ++ (32 ∷ (name ++ 32 ∷ time ++ 10 ∷ [])) ≡ word ++ digits ++ 32 ∷ name ++ 32 ∷ time ++ 10 ∷ []
 pieces word digits name time = simp append_assoc

@@ -17,7 +17,7 @@ use assignment::Verdict;
 use std::alloc::{AllocError, Global};
 use std::io::Write;
 use std::marker::Model;
-use streams::{Held, Watched, WriteFailed};
+use streams::{Outlet, Watched, WriteFailed};
 
 /// Reasons for a verdict, which anybody can check against the set: `of` and `read` alone make them.
 #[derive(Drop)]
@@ -76,9 +76,9 @@ impl Certificate {
         ensures ok { OnOk result (out.new.has_failed ≡ out.old.has_failed) }
         ensures failed { OnErr result (out.new.has_failed ≡ true) }
     {
-        let mut held = Held::new();
-        put_certificate(self.version, &self.body, &mut held, out)?;
-        held.send(out)
+        let mut outlet = Outlet::new(out);
+        put_certificate(self.version, &self.body, &mut outlet)?;
+        outlet.send()
     }
 }
 

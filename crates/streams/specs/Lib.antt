@@ -1,3 +1,4 @@
 pub mod Watching
 pub mod Sending
 pub mod Inputs
+pub mod Puts

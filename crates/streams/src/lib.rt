@@ -3,9 +3,11 @@
 
 mod held;
 mod input;
+mod outlet;
 mod patient;
 mod watched;
 
 pub use held::Held;
 pub use input::{InputFault, read_both, read_input};
+pub use outlet::Outlet;
 pub use watched::{ReadFault, Watched, WriteFailed};

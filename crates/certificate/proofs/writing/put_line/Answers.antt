@@ -1,5 +1,5 @@
-use Rattle.streams.proofs.Writes.{writes_both}
+use Rattle.streams.proofs.Puts.{puts_both}
 use Rattle.certificate.proofs.writing.put_line.Goals as goal
 
 pub returns : goal.returns
-returns g c = writes_both (writes_both c.in_ok-put_text.ensures (writes_both c.in_ok-put_text-2.ensures c.in_ok-put_number.ensures)) c.put_text-3.ensures
+returns g c = puts_both (puts_both c.in_ok-put.ensures (puts_both c.in_ok-put-2.ensures c.in_ok-put_number.ensures)) c.put-3.ensures

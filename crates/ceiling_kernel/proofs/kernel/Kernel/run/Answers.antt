@@ -1,4 +1,4 @@
-use Rattle.std.proofs.Common.{◌≡◌, ◌≤◌, List, refl, sym, ap, ◌∙◌, subst, arith, reverse}
+use Rattle.std.proofs.Common.{◌≡◌, List, refl, sym, ap, ◌∙◌, subst, arith, reverse}
 use Rattle.std.proofs.lemmas.Result.{err_from_is_err_and}
 use Rattle.ceiling_kernel.specs.declared.trace.Slice.{Slice}
 use Rattle.ceiling_kernel.specs.declared.trace.JobRecord.{JobRecord}
@@ -9,6 +9,7 @@ use Rattle.ceiling_kernel.specs.Turns.{AreTurns, has_come}
 use Rattle.ceiling_kernel.specs.Runs.{records_from}
 use Rattle.ceiling_kernel.specs.States.{AreFinishes}
 use Rattle.ceiling_kernel.proofs.EndLaws.{ready_fits, runnable_from, no_overrun_then, each_granted, bounded_trace, stop_without}
+use Rattle.ceiling_kernel.proofs.kernel.Kernel.run.Goals.{In_ok-jobs}
 use Rattle.ceiling_kernel.proofs.kernel.Kernel.run.Goals as goal
 
 pub loop-simulation-init : goal.loop-simulation-init
@@ -34,6 +35,18 @@ turns_of-requires c =
     let accepted = rw c.set.ensures.tasks at c.in_ok-tasks.ensures in
     ready_fits c.args.self.now c.args.releases.now c.args.until c.ranges.until.fits accepted.0
 
+-- the run has come to its end, and the records are those of the tick rule
+module _ (c : goal.In_ok-jobs) where
+  ended : c.loop-simulation.simulation.now ≡ c.args.until
+  ended = omega (arith, c.loop-simulation-test.false, c.loop-simulation.invariant.bounded)
+
+  recorded : c.in_ok-jobs.jobs.items ≡ records_from c.args.self.now (jobs_of c.args.self.now.tasks c.args.releases.now) c.args.until 0 c.args.releases.now
+  recorded =
+      let node = c.args.self.now in
+      let rs = c.args.releases.now in
+      let finishes = subst (λ x. AreFinishes node rs c.loop-simulation.simulation.now x) (sym c.deref-3.ensures.value) c.loop-simulation.invariant.running.finishes in
+      c.in_ok-jobs.ensures node c.loop-simulation.simulation.now finishes ∙ ap (λ t. let r : List JobRecord = records_from node (jobs_of node.tasks rs) t 0 rs in r) ended
+
 pub returns-clause-trace : goal.returns-clause-trace
 returns-clause-trace c =
     let node = c.args.self.now in
@@ -41,14 +54,12 @@ returns-clause-trace c =
     let s = c.loop-simulation.simulation in
     let running = c.loop-simulation.invariant.running in
     let accepted = rw c.set.ensures.tasks at c.in_ok-tasks.ensures in
-    let past : c.args.until ≤ c.loop-simulation.simulation.now = c.loop-simulation-test.false in
-    let ended : c.loop-simulation.simulation.now ≡ c.args.until = omega (arith, past, c.loop-simulation.invariant.bounded) in
-    let finishes = subst (λ x. AreFinishes node rs s.now x) (sym c.deref-3.ensures.value) running.finishes in (
+    let ran = (goal.at.returns-clause-trace c).In_ok-jobs in (
       accepted.0,
-      no_overrun_then node rs c.args.until s.now (has_come c.deref-2.result.now s.next) s.slots.items accepted.0 running.kept past,
+      no_overrun_then node rs c.args.until s.now (has_come c.deref-2.result.now s.next) s.slots.items accepted.0 running.kept c.loop-simulation-test.false,
       record {
-        slices = c.in_ok-slices.ensures ∙ (ap (λ x. let r : List Slice = reverse x in r) running.slices ∙ ap (λ t. let r : List Slice = reverse (slices_before (picked node (jobs_of node.tasks rs)) t) in r) ended);
-        jobs = c.in_ok-jobs.ensures node s.now finishes ∙ ap (λ t. let r : List JobRecord = records_from node (jobs_of node.tasks rs) t 0 rs in r) ended;
+        slices = c.in_ok-slices.ensures ∙ (ap (λ x. let r : List Slice = reverse x in r) running.slices ∙ ap (λ t. let r : List Slice = reverse (slices_before (picked node (jobs_of node.tasks rs)) t) in r) (ended ran));
+        jobs = recorded ran;
       },
     )
 
@@ -63,16 +74,9 @@ returns-clause-granted c =
 
 pub returns-clause-bounds : goal.returns-clause-bounds
 returns-clause-bounds c =
-    let node = c.args.self.now in
-    let rs = c.args.releases.now in
-    let s = c.loop-simulation.simulation in
-    let running = c.loop-simulation.invariant.running in
     let accepted = rw c.set.ensures.tasks at c.in_ok-tasks.ensures in
-    let past : c.args.until ≤ c.loop-simulation.simulation.now = c.loop-simulation-test.false in
-    let ended : c.loop-simulation.simulation.now ≡ c.args.until = omega (arith, past, c.loop-simulation.invariant.bounded) in
-    let finishes = subst (λ x. AreFinishes node rs s.now x) (sym c.deref-3.ensures.value) running.finishes in
-    bounded_trace node rs c.args.until (record { slices = c.in_ok-slices.slices; jobs = c.in_ok-jobs.jobs }) c.set.ensures.node accepted.0
-    (c.in_ok-jobs.ensures node s.now finishes ∙ ap (λ t. let r : List JobRecord = records_from node (jobs_of node.tasks rs) t 0 rs in r) ended)
+    bounded_trace c.args.self.now c.args.releases.now c.args.until (record { slices = c.in_ok-slices.slices; jobs = c.in_ok-jobs.jobs }) c.set.ensures.node accepted.0
+    (recorded (goal.at.returns-clause-bounds c).In_ok-jobs)
 
 pub returns-in_err-step-clause-no_overrun : goal.returns-in_err-step-clause-no_overrun
 returns-in_err-step-clause-no_overrun c = λ order.

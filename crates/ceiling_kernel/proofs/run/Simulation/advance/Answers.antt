@@ -1,8 +1,10 @@
 use Rattle.std.proofs.Common.{◌≡◌, ◌≢◌, ◌+◌, ◌-◌, ◌<◌, ◌≤◌, refl, sym, ap, ◌∙◌, arith, All, List, length, vec_len, ℕ, subst, set, drop, Option, Some, None, slice_index_or}
 use Rattle.ceilings.specs.IsTableOf.{locks_of}
 use Rattle.ceiling_kernel.specs.declared.run.Pending.{Pending}
+use Rattle.ceiling_kernel.specs.declared.tasks.NodeSection.{NodeSection}
 use Rattle.ceiling_kernel.specs.Trace.{with_run}
 use Rattle.ceiling_kernel.specs.NodeTasks.{IsTaskOf}
+use Rattle.ceiling_kernel.specs.States.{best_slot, next_change}
 use Rattle.task_sheet.specs.Sheet.{task_at}
 use Rattle.ceiling_kernel.specs.Lists.{listed, list_at, Queues}
 use Rattle.ceiling_kernel.specs.Owners.{owner_of, with_owners, AreOwners}
@@ -10,6 +12,7 @@ use Rattle.ceiling_kernel.proofs.OwnerLaws.{with_owners-length, locks_within}
 use Rattle.ceiling_kernel.proofs.ListsLaws.{count_kept, count_moved, listed_length}
 use Rattle.ceiling_kernel.proofs.PriorityLaws.{active_within}
 use Rattle.ceiling_kernel.proofs.RunLaws.{list_is, finish_lists, finish_alone, run_lists, run_alone, few_tasks, idle_kept, idle_slices, idle_finishes, leave_owners, run_owners, job_in, task_in, task_in_slots, small, ahead, run_slices, run_kept, finish_kept, run_finishes, finish_finishes}
+use Rattle.ceiling_kernel.proofs.run.Simulation.advance.Goals.{After-index-tasks-picked}
 use Rattle.ceiling_kernel.proofs.run.Simulation.advance.Goals as goal
 
 pub returns-in_default : goal.returns-in_default
@@ -50,55 +53,55 @@ offset_bounds-tasks-picked c = omega (arith, in_tasks c, few_tasks c.args.kernel
 pub bounds-tasks-picked : goal.bounds-tasks-picked
 bounds-tasks-picked c = (let count : length c.tasks.result.now ≡ length c.args.kernel.now.tasks = c.tasks.ensures.count in omega (arith, in_tasks c))
 
+-- what is known of the job that is picked, and of its task
+module _ (c : goal.After-index-tasks-picked) where
+  best : best_slot c.args.self.now.slots.items None ≡ Some c.in-Some.picked
+  best = sym (rw c.deref.ensures.value at c.in-Some.ensures)
+
+  task : IsTaskOf c.args.kernel.now c.in-Some.picked.task c.index-tasks-picked.result
+  task =
+      let inside = task_in c.args.kernel.now c.args.agenda.now.releases.now c.args.agenda.now.turns.now c.requires.runnable c.args.self.now.now c.args.self.now.next c.args.self.now.slots.items c.requires.running.kept c.limit_of-limit.result c.limit_of-limit.ensures.after c.limit_of-limit.ensures.next c.in-Some.picked best in
+      let count : length c.tasks.result.now ≡ length c.args.kernel.now.tasks = c.tasks.ensures.count in
+      c.tasks.ensures.each c.in-Some.picked.task c.index-tasks-picked.result (omega arith) c.index-tasks-picked.is
+
+  runs : (c.in-Some.picked.executed < next_change c.index-tasks-picked.result.sections.items c.in-Some.picked.executed c.index-tasks-picked.result.cost)
+      × (next_change c.index-tasks-picked.result.sections.items c.in-Some.picked.executed c.index-tasks-picked.result.cost ≤ c.index-tasks-picked.result.cost)
+  runs = ahead c.args.kernel.now c.args.agenda.now.releases.now c.args.agenda.now.turns.now c.requires.runnable c.args.self.now.now c.args.self.now.next c.args.self.now.slots.items c.requires.running.kept c.limit_of-limit.result c.limit_of-limit.ensures.after c.limit_of-limit.ensures.next c.in-Some.picked best c.index-tasks-picked.result task
+
+  in_slots : c.in-Some.picked.task < length c.args.self.now.slots.items
+  in_slots = task_in_slots c.args.kernel.now c.args.agenda.now.releases.now c.args.agenda.now.turns.now c.requires.runnable c.args.self.now.now c.args.self.now.next c.args.self.now.slots.items c.requires.running.kept c.limit_of-limit.result c.limit_of-limit.ensures.after c.limit_of-limit.ensures.next c.in-Some.picked best
+
+  in_lists : c.in-Some.picked.active < vec_len c.args.self.now.lists
+  in_lists =
+      let within = list_is c.args.kernel.now c.args.agenda.now.releases.now c.args.agenda.now.turns.now c.requires.runnable c.args.self.now.now c.args.self.now.next c.args.self.now.slots.items c.requires.running.kept c.limit_of-limit.result c.limit_of-limit.ensures.after c.limit_of-limit.ensures.next c.in-Some.picked best (listed c.args.self.now.lists.items) c.requires.running.queues in
+      omega (arith, within, listed_length c.args.self.now.lists.items)
+
+  -- the locks of its sections lie within room for all locks
+  within : (room : ℕ) → length (locks_of c.args.kernel.now.tasks) ≤ room → {sections : List NodeSection} → sections ≡ c.index-tasks-picked.result.sections.items
+      → All (λ r. All (λ place. place < room) r.locks.items) sections
+  within room few same =
+      subst (λ x. All (λ r. All (λ place. place < room) r.locks.items) x) (sym same)
+      (locks_within c.args.kernel.now (task_at c.args.kernel.now.tasks c.in-Some.picked.task).sections c.index-tasks-picked.result.sections.items room task.sections few)
+
 pub stop_at-stop-requires-clause-ahead : goal.stop_at-stop-requires-clause-ahead
-stop_at-stop-requires-clause-ahead c =
-    let node = c.args.kernel.now in
-    let rs = c.args.agenda.now.releases.now in
-    let s = c.args.self.now in
-    let lim = c.limit_of-limit.ensures in
-    let best = rw c.deref.ensures.value at c.in-Some.ensures in
-    let inside = task_in node rs c.args.agenda.now.turns.now c.requires.runnable s.now s.next s.slots.items c.requires.running.kept c.limit_of-limit.result lim.after lim.next c.in-Some.picked (sym best) in
-    let count : length c.tasks.result.now ≡ length node.tasks = c.tasks.ensures.count in
-    let task : IsTaskOf node c.in-Some.picked.task c.index-tasks-picked.result = c.tasks.ensures.each c.in-Some.picked.task c.index-tasks-picked.result (omega arith) c.index-tasks-picked.is in
-    (ahead node rs c.args.agenda.now.turns.now c.requires.runnable s.now s.next s.slots.items c.requires.running.kept c.limit_of-limit.result lim.after lim.next c.in-Some.picked (sym best) c.index-tasks-picked.result task).0
+stop_at-stop-requires-clause-ahead c = (runs (goal.at.stop_at-stop-requires-clause-ahead c).After-index-tasks-picked).0
 
 pub overflow_add-executed : goal.overflow_add-executed
 overflow_add-executed c =
-    let node = c.args.kernel.now in
-    let rs = c.args.agenda.now.releases.now in
-    let s = c.args.self.now in
-    let lim = c.limit_of-limit.ensures in
-    let best = rw c.deref.ensures.value at c.in-Some.ensures in
-    let inside = task_in node rs c.args.agenda.now.turns.now c.requires.runnable s.now s.next s.slots.items c.requires.running.kept c.limit_of-limit.result lim.after lim.next c.in-Some.picked (sym best) in
-    let count : length c.tasks.result.now ≡ length node.tasks = c.tasks.ensures.count in
-    let task : IsTaskOf node c.in-Some.picked.task c.index-tasks-picked.result = c.tasks.ensures.each c.in-Some.picked.task c.index-tasks-picked.result (omega arith) c.index-tasks-picked.is in
-    let most = (ahead node rs c.args.agenda.now.turns.now c.requires.runnable s.now s.next s.slots.items c.requires.running.kept c.limit_of-limit.result lim.after lim.next c.in-Some.picked (sym best) c.index-tasks-picked.result task).1 in
-    let low = small node rs c.args.agenda.now.turns.now c.requires.runnable s.now s.next s.slots.items c.requires.running.kept c.limit_of-limit.result lim.after lim.next c.in-Some.picked (sym best) in
-    omega (arith, most, low, task.cost, c.stop_at-stop.ensures.within)
+    let known = (goal.at.overflow_add-executed c).After-index-tasks-picked in
+    let low = small c.args.kernel.now c.args.agenda.now.releases.now c.args.agenda.now.turns.now c.requires.runnable c.args.self.now.now c.args.self.now.next c.args.self.now.slots.items c.requires.running.kept c.limit_of-limit.result c.limit_of-limit.ensures.after c.limit_of-limit.ensures.next c.in-Some.picked (best known) in
+    omega (arith, (runs known).1, low, (task known).cost, c.stop_at-stop.ensures.within)
 
 pub index_mut-requires : goal.index_mut-requires
-index_mut-requires c =
-    let s = c.args.self.now in
-    let lim = c.limit_of-limit.ensures in
-    let best = rw c.deref.ensures.value at c.in-Some.ensures in
-    let inside = task_in_slots c.args.kernel.now c.args.agenda.now.releases.now c.args.agenda.now.turns.now c.requires.runnable s.now s.next s.slots.items c.requires.running.kept c.limit_of-limit.result lim.after lim.next c.in-Some.picked (sym best) in
-    omega (arith, s.slots.ok.0)
+index_mut-requires c = omega (arith, in_slots (goal.at.index_mut-requires c).After-index-tasks-picked, c.args.self.now.slots.ok.0)
 
 pub index_mut-requires-2 : goal.index_mut-requires-2
-index_mut-requires-2 c =
-    let s = c.args.self.now in
-    let lim = c.limit_of-limit.ensures in
-    let best = rw c.deref.ensures.value at c.in-Some.ensures in
-    let inside = task_in_slots c.args.kernel.now c.args.agenda.now.releases.now c.args.agenda.now.turns.now c.requires.runnable s.now s.next s.slots.items c.requires.running.kept c.limit_of-limit.result lim.after lim.next c.in-Some.picked (sym best) in
-    omega (arith, s.slots.ok.0)
+index_mut-requires-2 c = omega (arith, in_slots (goal.at.index_mut-requires-2 c).After-index-tasks-picked, c.args.self.now.slots.ok.0)
 
 pub index_mut-requires-then-executed-task : goal.index_mut-requires-then-executed-task
 index_mut-requires-then-executed-task c =
-    let s = c.args.self.now in
-    let lim = c.limit_of-limit.ensures in
-    let best = rw c.deref.ensures.value at c.in-Some.ensures in
-    let inside = job_in c.args.kernel.now c.args.agenda.now.releases.now c.args.agenda.now.turns.now c.requires.runnable s.now s.next s.slots.items c.requires.running.kept c.limit_of-limit.result lim.after lim.next c.in-Some.picked (sym best) in
-    omega (arith, s.finishes.ok.0, c.requires.running.finishes.count)
+    let inside = job_in c.args.kernel.now c.args.agenda.now.releases.now c.args.agenda.now.turns.now c.requires.runnable c.args.self.now.now c.args.self.now.next c.args.self.now.slots.items c.requires.running.kept c.limit_of-limit.result c.limit_of-limit.ensures.after c.limit_of-limit.ensures.next c.in-Some.picked (best (goal.at.index_mut-requires-then-executed-task c).After-index-tasks-picked) in
+    omega (arith, inside, c.args.self.now.finishes.ok.0, c.requires.running.finishes.count)
 
 pub returns-then-executed-task : goal.returns-then-executed-task
 returns-then-executed-task c =
@@ -108,28 +111,26 @@ returns-then-executed-task c =
     let p = c.in-Some.picked in
     let lim = c.limit_of-limit.ensures in
     let st = c.stop_at-stop.ensures in
-    let best = rw c.deref.ensures.value at c.in-Some.ensures in
-    let inside = task_in node rs c.args.agenda.now.turns.now c.requires.runnable s.now s.next s.slots.items c.requires.running.kept c.limit_of-limit.result lim.after lim.next p (sym best) in
-    let count : length c.tasks.result.now ≡ length node.tasks = c.tasks.ensures.count in
-    let task : IsTaskOf node c.in-Some.picked.task c.index-tasks-picked.result = c.tasks.ensures.each c.in-Some.picked.task c.index-tasks-picked.result (omega arith) c.index-tasks-picked.is in
+    let known = (goal.at.returns-then-executed-task c).After-index-tasks-picked in
+    let task = task known in
     let full : c.in-Some.picked.executed + (c.stop_at-stop.result - c.args.self.now.now) ≡ (task_at c.args.kernel.now.tasks c.in-Some.picked.task).cost = c.if-executed-task.true ∙ task.cost in
-    let slices = run_slices node rs c.args.agenda.now.turns.now c.requires.runnable s.now s.next s.slots.items c.requires.running.kept c.limit_of-limit.result lim.after lim.next p (sym best) c.index-tasks-picked.result task c.stop_at-stop.result st.after st.limit st.within in
+    let slices = run_slices node rs c.args.agenda.now.turns.now c.requires.runnable s.now s.next s.slots.items c.requires.running.kept c.limit_of-limit.result lim.after lim.next p (best known) c.index-tasks-picked.result task c.stop_at-stop.result st.after st.limit st.within in
     let gives : c.set_owners.new.owners.items ≡ with_owners s.owners.items c.index-tasks-picked.result.sections.items p.executed None =
     rw c.deref-3.ensures.value at c.set_owners.ensures in
     record {
       ok = record {
         running = record {
-          kept = finish_kept node rs c.args.agenda.now.turns.now c.requires.runnable s.now s.next s.slots.items c.requires.running.kept c.limit_of-limit.result lim.after lim.next p (sym best) c.index-tasks-picked.result task c.stop_at-stop.result st.after st.limit st.within full;
+          kept = finish_kept node rs c.args.agenda.now.turns.now c.requires.runnable s.now s.next s.slots.items c.requires.running.kept c.limit_of-limit.result lim.after lim.next p (best known) c.index-tasks-picked.result task c.stop_at-stop.result st.after st.limit st.within full;
           list_count = count_kept s.lists.items c.drop_first.new.lists.items p.active (drop 1 (list_at (listed s.lists.items) p.active)) c.drop_first.ensures ∙ c.requires.running.list_count;
           queues = subst (λ x. Queues (λ k. slice_index_or (set s.slots.items p.task None) k None) (list_at x)) (sym c.drop_first.ensures)
-              (finish_lists node rs c.args.agenda.now.turns.now c.requires.runnable s.now s.next s.slots.items c.requires.running.kept c.limit_of-limit.result lim.after lim.next p (sym best) (listed s.lists.items) c.requires.running.queues);
+              (finish_lists node rs c.args.agenda.now.turns.now c.requires.runnable s.now s.next s.slots.items c.requires.running.kept c.limit_of-limit.result lim.after lim.next p (best known) (listed s.lists.items) c.requires.running.queues);
           lock_count = ap (λ (xs : List (Option ℕ)). length xs) gives ∙ (with_owners-length s.owners.items c.index-tasks-picked.result.sections.items p.executed None ∙ c.requires.running.lock_count);
           owners = subst (λ x. AreOwners node.tasks (λ k. slice_index_or (set s.slots.items p.task None) k None) (owner_of node.tasks x)) (sym gives)
-              (leave_owners node rs c.args.agenda.now.turns.now c.requires.runnable s.now s.next s.slots.items c.requires.running.kept c.limit_of-limit.result lim.after lim.next p (sym best) c.index-tasks-picked.result task s.owners.items c.requires.running.lock_count c.requires.running.owners);
-          alone = finish_alone node rs c.args.agenda.now.turns.now c.requires.runnable s.now s.next s.slots.items c.requires.running.kept c.limit_of-limit.result lim.after lim.next p (sym best) (listed s.lists.items) c.requires.running.queues c.requires.running.alone;
+              (leave_owners node rs c.args.agenda.now.turns.now c.requires.runnable s.now s.next s.slots.items c.requires.running.kept c.limit_of-limit.result lim.after lim.next p (best known) c.index-tasks-picked.result task s.owners.items c.requires.running.lock_count c.requires.running.owners);
+          alone = finish_alone node rs c.args.agenda.now.turns.now c.requires.runnable s.now s.next s.slots.items c.requires.running.kept c.limit_of-limit.result lim.after lim.next p (best known) (listed s.lists.items) c.requires.running.queues c.requires.running.alone;
           slices = c.in_ok-add.ensures.run ∙ (ap (λ y. with_run y c.in-Some.picked.job c.args.self.now.now c.stop_at-stop.result) c.requires.running.slices ∙ sym slices);
           tidy = c.in_ok-add.ensures.tidy;
-          finishes = finish_finishes node rs c.args.agenda.now.turns.now c.requires.runnable s.now s.next s.slots.items c.requires.running.kept c.limit_of-limit.result lim.after lim.next p (sym best) c.index-tasks-picked.result task c.stop_at-stop.result st.after st.limit st.within full s.finishes.items c.requires.running.finishes;
+          finishes = finish_finishes node rs c.args.agenda.now.turns.now c.requires.runnable s.now s.next s.slots.items c.requires.running.kept c.limit_of-limit.result lim.after lim.next p (best known) c.index-tasks-picked.result task c.stop_at-stop.result st.after st.limit st.within full s.finishes.items c.requires.running.finishes;
         };
         bounded = omega (arith, st.limit, lim.until);
         less = omega (arith, st.limit, lim.until, st.after);
@@ -144,14 +145,12 @@ returns c =
     let p = c.in-Some.picked in
     let lim = c.limit_of-limit.ensures in
     let st = c.stop_at-stop.ensures in
-    let best = rw c.deref.ensures.value at c.in-Some.ensures in
-    let inside = task_in node rs c.args.agenda.now.turns.now c.requires.runnable s.now s.next s.slots.items c.requires.running.kept c.limit_of-limit.result lim.after lim.next p (sym best) in
-    let count : length c.tasks.result.now ≡ length node.tasks = c.tasks.ensures.count in
-    let task : IsTaskOf node c.in-Some.picked.task c.index-tasks-picked.result = c.tasks.ensures.each c.in-Some.picked.task c.index-tasks-picked.result (omega arith) c.index-tasks-picked.is in
-    let most = (ahead node rs c.args.agenda.now.turns.now c.requires.runnable s.now s.next s.slots.items c.requires.running.kept c.limit_of-limit.result lim.after lim.next p (sym best) c.index-tasks-picked.result task).1 in
+    let known = (goal.at.returns c).After-index-tasks-picked in
+    let task = task known in
+    let most = (runs known).1 in
     let differ : c.in-Some.picked.executed + (c.stop_at-stop.result - c.args.self.now.now) ≢ c.index-tasks-picked.result.cost = c.if-executed-task.false in
     let open_ : c.in-Some.picked.executed + (c.stop_at-stop.result - c.args.self.now.now) < (task_at c.args.kernel.now.tasks c.in-Some.picked.task).cost = omega (arith, most, task.cost, st.within) in
-    let slices = run_slices node rs c.args.agenda.now.turns.now c.requires.runnable s.now s.next s.slots.items c.requires.running.kept c.limit_of-limit.result lim.after lim.next p (sym best) c.index-tasks-picked.result task c.stop_at-stop.result st.after st.limit st.within in
+    let slices = run_slices node rs c.args.agenda.now.turns.now c.requires.runnable s.now s.next s.slots.items c.requires.running.kept c.limit_of-limit.result lim.after lim.next p (best known) c.index-tasks-picked.result task c.stop_at-stop.result st.after st.limit st.within in
     let next : Pending = record {
       job = c.in-Some.picked.job;
       task = c.in-Some.picked.task;
@@ -166,20 +165,20 @@ returns c =
     record {
       ok = record {
         running = record {
-          kept = run_kept node rs c.args.agenda.now.turns.now c.requires.runnable s.now s.next s.slots.items c.requires.running.kept c.limit_of-limit.result lim.after lim.next p (sym best) c.index-tasks-picked.result task c.stop_at-stop.result st.after st.limit st.within
+          kept = run_kept node rs c.args.agenda.now.turns.now c.requires.runnable s.now s.next s.slots.items c.requires.running.kept c.limit_of-limit.result lim.after lim.next p (best known) c.index-tasks-picked.result task c.stop_at-stop.result st.after st.limit st.within
               next refl refl refl refl (c.active-active.ensures node c.in-Some.picked.task task) open_;
           list_count = count_moved s.lists.items c.move_first.new.lists.items p.active next.active p.task c.in_ok-move_first.ensures ∙ c.requires.running.list_count;
           queues = subst (λ x. Queues (λ k. slice_index_or (set s.slots.items p.task (Some next)) k None) (list_at x)) (sym c.in_ok-move_first.ensures)
-              (run_lists node rs c.args.agenda.now.turns.now c.requires.runnable s.now s.next s.slots.items c.requires.running.kept c.limit_of-limit.result lim.after lim.next p (sym best) c.index-tasks-picked.result task c.stop_at-stop.result st.after st.limit st.within (listed s.lists.items) c.requires.running.queues c.requires.running.alone (listed_length s.lists.items ∙ c.requires.running.list_count)
+              (run_lists node rs c.args.agenda.now.turns.now c.requires.runnable s.now s.next s.slots.items c.requires.running.kept c.limit_of-limit.result lim.after lim.next p (best known) c.index-tasks-picked.result task c.stop_at-stop.result st.after st.limit st.within (listed s.lists.items) c.requires.running.queues c.requires.running.alone (listed_length s.lists.items ∙ c.requires.running.list_count)
               next refl (c.active-active.ensures node c.in-Some.picked.task task));
           lock_count = ap (λ (xs : List (Option ℕ)). length xs) takes ∙ (with_owners-length (with_owners s.owners.items c.index-tasks-picked.result.sections.items p.executed None) c.index-tasks-picked.result.sections.items next.executed (Some p.task)
               ∙ (with_owners-length s.owners.items c.index-tasks-picked.result.sections.items p.executed None ∙ c.requires.running.lock_count));
           owners = subst (λ x. AreOwners node.tasks (λ k. slice_index_or (set s.slots.items p.task (Some next)) k None) (owner_of node.tasks x)) (sym takes)
-              (run_owners node rs c.args.agenda.now.turns.now c.requires.runnable s.now s.next s.slots.items c.requires.running.kept c.limit_of-limit.result lim.after lim.next p (sym best) c.index-tasks-picked.result task c.stop_at-stop.result st.after st.limit st.within next refl s.owners.items c.requires.running.lock_count c.requires.running.owners);
-          alone = run_alone node rs c.args.agenda.now.turns.now c.requires.runnable s.now s.next s.slots.items c.requires.running.kept c.limit_of-limit.result lim.after lim.next p (sym best) c.index-tasks-picked.result task c.stop_at-stop.result st.after st.limit st.within (listed s.lists.items) c.requires.running.queues c.requires.running.alone next refl (c.active-active.ensures node c.in-Some.picked.task task);
+              (run_owners node rs c.args.agenda.now.turns.now c.requires.runnable s.now s.next s.slots.items c.requires.running.kept c.limit_of-limit.result lim.after lim.next p (best known) c.index-tasks-picked.result task c.stop_at-stop.result st.after st.limit st.within next refl s.owners.items c.requires.running.lock_count c.requires.running.owners);
+          alone = run_alone node rs c.args.agenda.now.turns.now c.requires.runnable s.now s.next s.slots.items c.requires.running.kept c.limit_of-limit.result lim.after lim.next p (best known) c.index-tasks-picked.result task c.stop_at-stop.result st.after st.limit st.within (listed s.lists.items) c.requires.running.queues c.requires.running.alone next refl (c.active-active.ensures node c.in-Some.picked.task task);
           slices = c.in_ok-add.ensures.run ∙ (ap (λ y. with_run y c.in-Some.picked.job c.args.self.now.now c.stop_at-stop.result) c.requires.running.slices ∙ sym slices);
           tidy = c.in_ok-add.ensures.tidy;
-          finishes = run_finishes node rs c.args.agenda.now.turns.now c.requires.runnable s.now s.next s.slots.items c.requires.running.kept c.limit_of-limit.result lim.after lim.next p (sym best) c.index-tasks-picked.result task c.stop_at-stop.result st.after st.limit st.within open_ s.finishes.items c.requires.running.finishes;
+          finishes = run_finishes node rs c.args.agenda.now.turns.now c.requires.runnable s.now s.next s.slots.items c.requires.running.kept c.limit_of-limit.result lim.after lim.next p (best known) c.index-tasks-picked.result task c.stop_at-stop.result st.after st.limit st.within open_ s.finishes.items c.requires.running.finishes;
         };
         bounded = omega (arith, st.limit, lim.until);
         less = omega (arith, st.limit, lim.until, st.after);
@@ -197,56 +196,24 @@ pick-requires-clause-queues c =
 
 pub set_owners-requires : goal.set_owners-requires
 set_owners-requires c =
-    let node = c.args.kernel.now in
     let s = c.args.self.now in
-    let lim = c.limit_of-limit.ensures in
-    let best = rw c.deref.ensures.value at c.in-Some.ensures in
-    let inside = task_in node c.args.agenda.now.releases.now c.args.agenda.now.turns.now c.requires.runnable s.now s.next s.slots.items c.requires.running.kept c.limit_of-limit.result lim.after lim.next c.in-Some.picked (sym best) in
-    let count : length c.tasks.result.now ≡ length node.tasks = c.tasks.ensures.count in
-    let task : IsTaskOf node c.in-Some.picked.task c.index-tasks-picked.result = c.tasks.ensures.each c.in-Some.picked.task c.index-tasks-picked.result (omega arith) c.index-tasks-picked.is in
-    let few : length (locks_of node.tasks) ≤ vec_len s.owners = omega (arith, s.owners.ok.0, c.requires.running.lock_count) in
-    subst (λ x. All (λ r. All (λ place. place < vec_len s.owners) r.locks.items) x) (sym c.deref-3.ensures.value)
-    (locks_within node (task_at node.tasks c.in-Some.picked.task).sections c.index-tasks-picked.result.sections.items (vec_len s.owners) task.sections few)
+    within (goal.at.set_owners-requires c).After-index-tasks-picked (vec_len s.owners) (omega (arith, s.owners.ok.0, c.requires.running.lock_count)) c.deref-3.ensures.value
 
 pub set_owners-requires-2 : goal.set_owners-requires-2
 set_owners-requires-2 c =
-    let node = c.args.kernel.now in
-    let s = c.args.self.now in
-    let lim = c.limit_of-limit.ensures in
-    let best = rw c.deref.ensures.value at c.in-Some.ensures in
-    let inside = task_in node c.args.agenda.now.releases.now c.args.agenda.now.turns.now c.requires.runnable s.now s.next s.slots.items c.requires.running.kept c.limit_of-limit.result lim.after lim.next c.in-Some.picked (sym best) in
-    let count : length c.tasks.result.now ≡ length node.tasks = c.tasks.ensures.count in
-    let task : IsTaskOf node c.in-Some.picked.task c.index-tasks-picked.result = c.tasks.ensures.each c.in-Some.picked.task c.index-tasks-picked.result (omega arith) c.index-tasks-picked.is in
     let gives = rw c.deref-3.ensures.value at c.set_owners.ensures in
-    let few : length (locks_of node.tasks) ≤ vec_len c.set_owners.new.owners =
-    omega (arith, c.set_owners.new.owners.ok.0, ap (λ (xs : List (Option ℕ)). length xs) gives, with_owners-length s.owners.items c.index-tasks-picked.result.sections.items c.in-Some.picked.executed None, c.requires.running.lock_count) in
-    subst (λ x. All (λ r. All (λ place. place < vec_len c.set_owners.new.owners) r.locks.items) x) (sym c.deref-4.ensures.value)
-    (locks_within node (task_at node.tasks c.in-Some.picked.task).sections c.index-tasks-picked.result.sections.items (vec_len c.set_owners.new.owners) task.sections few)
+    let few : length (locks_of c.args.kernel.now.tasks) ≤ vec_len c.set_owners.new.owners =
+    omega (arith, c.set_owners.new.owners.ok.0, ap (λ (xs : List (Option ℕ)). length xs) gives, with_owners-length c.args.self.now.owners.items c.index-tasks-picked.result.sections.items c.in-Some.picked.executed None, c.requires.running.lock_count) in
+    within (goal.at.set_owners-requires-2 c).After-index-tasks-picked (vec_len c.set_owners.new.owners) few c.deref-4.ensures.value
 
 pub drop_first-requires : goal.drop_first-requires
-drop_first-requires c =
-    let s = c.args.self.now in
-    let lim = c.limit_of-limit.ensures in
-    let best = rw c.deref.ensures.value at c.in-Some.ensures in
-    let within = list_is c.args.kernel.now c.args.agenda.now.releases.now c.args.agenda.now.turns.now c.requires.runnable s.now s.next s.slots.items c.requires.running.kept c.limit_of-limit.result lim.after lim.next c.in-Some.picked (sym best) (listed s.lists.items) c.requires.running.queues in
-    omega (arith, within, listed_length s.lists.items)
+drop_first-requires c = in_lists (goal.at.drop_first-requires c).After-index-tasks-picked
 
 pub move_first-requires-clause-old : goal.move_first-requires-clause-old
-move_first-requires-clause-old c =
-    let s = c.args.self.now in
-    let lim = c.limit_of-limit.ensures in
-    let best = rw c.deref.ensures.value at c.in-Some.ensures in
-    let within = list_is c.args.kernel.now c.args.agenda.now.releases.now c.args.agenda.now.turns.now c.requires.runnable s.now s.next s.slots.items c.requires.running.kept c.limit_of-limit.result lim.after lim.next c.in-Some.picked (sym best) (listed s.lists.items) c.requires.running.queues in
-    omega (arith, within, listed_length s.lists.items)
+move_first-requires-clause-old c = in_lists (goal.at.move_first-requires-clause-old c).After-index-tasks-picked
 
 pub move_first-requires-clause-new : goal.move_first-requires-clause-new
 move_first-requires-clause-new c =
     let node = c.args.kernel.now in
-    let s = c.args.self.now in
-    let lim = c.limit_of-limit.ensures in
-    let best = rw c.deref.ensures.value at c.in-Some.ensures in
-    let inside = task_in node c.args.agenda.now.releases.now c.args.agenda.now.turns.now c.requires.runnable s.now s.next s.slots.items c.requires.running.kept c.limit_of-limit.result lim.after lim.next c.in-Some.picked (sym best) in
-    let count : length c.tasks.result.now ≡ length node.tasks = c.tasks.ensures.count in
-    let task : IsTaskOf node c.in-Some.picked.task c.index-tasks-picked.result = c.tasks.ensures.each c.in-Some.picked.task c.index-tasks-picked.result (omega arith) c.index-tasks-picked.is in
     let executed : ℕ = c.in-Some.picked.executed + (c.stop_at-stop.result - c.args.self.now.now) in
-    omega (arith, c.active-active.ensures node c.in-Some.picked.task task, active_within node c.requires.runnable.of_node c.in-Some.picked.task executed, c.requires.running.list_count)
+    omega (arith, c.active-active.ensures node c.in-Some.picked.task (task (goal.at.move_first-requires-clause-new c).After-index-tasks-picked), active_within node c.requires.runnable.of_node c.in-Some.picked.task executed, c.requires.running.list_count)
