@@ -1,4 +1,3 @@
-mod Added
 pub mod Matches
 pub mod Help
 pub mod Walks

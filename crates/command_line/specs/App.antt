@@ -10,6 +10,8 @@ use Rattle.command_line.specs.declared.calls.OfTwo.{OfTwo}
 use Rattle.command_line.specs.declared.calls.OfTwo.TheVariants.{Check, Judge, Simulate, Draw}
 use Rattle.command_line.specs.declared.calls.OfNumber.{OfNumber}
 use Rattle.command_line.specs.declared.calls.OfNumber.TheVariants.{Releases, Rush}
+use Rattle.command_line.specs.declared.calls.Verb.{Verb}
+use Rattle.command_line.specs.declared.calls.Verb.TheVariants as verb
 
 -- an input that has to be named
 abbrev pub input_rule : Text → Rule
@@ -45,6 +47,11 @@ abbrev pub app_of_number : OfNumber → App
 app_of_number c =
     with_rule (input_app (word_of_number c) (input_of_number c))
     (number_rule (number_name c) (least_of c) (most_of c))
+
+abbrev pub app_of_verb : Verb → App
+app_of_verb (verb.One c) = app_of_one c
+app_of_verb (verb.Two c) = app_of_two c
+app_of_verb (verb.Number c) = app_of_number c
 
 -- the program has a version, the words are all arguments, and one of them names a command
 abbrev pub made_bare : App → App

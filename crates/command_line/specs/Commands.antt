@@ -8,6 +8,8 @@ use Rattle.command_line.specs.declared.calls.OfTwo.{OfTwo}
 use Rattle.command_line.specs.declared.calls.OfTwo.TheVariants.{Check, Judge, Simulate, Draw}
 use Rattle.command_line.specs.declared.calls.OfNumber.{OfNumber}
 use Rattle.command_line.specs.declared.calls.OfNumber.TheVariants.{Releases, Rush}
+use Rattle.command_line.specs.declared.calls.Verb.{Verb}
+use Rattle.command_line.specs.declared.calls.Verb.TheVariants as verb
 use Rattle.command_line.specs.declared.calls.TheConstants.{MOST_WORKERS, LATEST_END}
 
 -- a command of one input: its word
@@ -66,3 +68,15 @@ least_of Rush = 1
 abbrev pub most_of : OfNumber → ℕ
 most_of Releases = LATEST_END
 most_of Rush = MOST_WORKERS
+
+-- the word of a command, whatever it takes
+abbrev pub word_of : Verb → Text
+word_of (verb.One c) = word_of_one c
+word_of (verb.Two c) = word_of_two c
+word_of (verb.Number c) = word_of_number c
+
+-- the name of its first input
+abbrev pub first_input_of : Verb → Text
+first_input_of (verb.One c) = input_of c
+first_input_of (verb.Two c) = codes "SET"
+first_input_of (verb.Number c) = input_of_number c

@@ -2,16 +2,32 @@
 ghost use Rattle.std.specs.Prelude.{◌≡◌, IfOk, false};
 ghost use Rattle.clap.specs.Words.{app_of, rule_of, with_rule, with_subcommand};
 ghost use Rattle.clap.specs.declared.builder.command.Command.TheViews.{out-Command as fields_of};
-ghost use Rattle.command_line.specs.App.{app_of_number, app_of_one, app_of_two, bare_app, desk_app, input_app, input_rule, number_rule, preference_rule, run_commands, set_commands, with_commands};
-ghost use Rattle.command_line.specs.Commands.{least_of, most_of, number_name};
+ghost use Rattle.command_line.specs.App.{app_of_verb, bare_app, desk_app, input_app, input_rule, number_rule, preference_rule};
+ghost use Rattle.command_line.specs.Commands.{first_input_of, least_of, most_of, number_name, word_of};
 
-use crate::calls::{LATEST_END, MOST_WORKERS, OfNumber, OfOne, OfTwo};
+use crate::calls::{LATEST_END, MOST_WORKERS, OfNumber, OfOne, OfTwo, Verb};
 use clap::builder::ValueParser;
 use clap::{Arg, ArgAction, Command, value_parser};
 use std::alloc::{AllocError, Global};
 
 // The program's version.
 const VERSION: &str = "0.5.0";
+
+// The commands, as help lists them: those that answer on a task set, those for certificates and runs, those for scripts.
+const VERBS: [Verb; 12] = [
+    Verb::One(OfOne::Admit),
+    Verb::One(OfOne::Explain),
+    Verb::One(OfOne::Headroom),
+    Verb::One(OfOne::Settings),
+    Verb::Two(OfTwo::Judge),
+    Verb::One(OfOne::Certify),
+    Verb::Two(OfTwo::Check),
+    Verb::Number(OfNumber::Releases),
+    Verb::Two(OfTwo::Simulate),
+    Verb::Two(OfTwo::Draw),
+    Verb::One(OfOne::Play),
+    Verb::Number(OfNumber::Rush),
+];
 
 // What an input is.
 fn input_help<'a>(name: &str) -> &'a str {
@@ -70,18 +86,15 @@ fn number_arg<'a>(alloc: Global, command: OfNumber) -> Arg<'a>
         .value_parser(number_parser(command))
 }
 
-// A command with one input, and with `--prefer` where that is a task set.
-fn input_command<'a>(
-    alloc: Global,
-    word: &'a str,
-    about: &'a str,
-    example: &'a str,
-    input: &'a str,
-) -> Result<Command<'a>, AllocError>
-    ensures app { IfOk result (λ c. app_of c ≡ input_app word.entry.now input.entry.now) }
+// A command with its first input, and with `--prefer` where that is a task set.
+fn input_command<'a>(alloc: Global, verb: Verb) -> Result<Command<'a>, AllocError>
+    ensures app { IfOk result (λ c. app_of c ≡ input_app (word_of verb) (first_input_of verb)) }
     ensures local { IfOk result (λ c. (fields_of c).has_globals ≡ false) }
 {
-    let bare = Command::new(alloc, word).about(about).after_help(example);
+    let bare = Command::new(alloc, verb.word())
+        .about(verb.about())
+        .after_help(verb.example());
+    let input = verb.input();
     let command = with_arg(bare, input_arg(alloc, input))?;
     if input == "SET" {
         with_arg(command, preference_arg(alloc))
@@ -102,45 +115,17 @@ fn with_arg<'a>(command: Command<'a>, arg: Arg<'a>) -> Result<Command<'a>, Alloc
     Ok(both)
 }
 
-fn command_of_one<'a>(alloc: Global, command: OfOne) -> Result<Command<'a>, AllocError>
-    ensures app { IfOk result (λ c. app_of c ≡ app_of_one command) }
+// A command with all that it takes.
+fn command_of<'a>(alloc: Global, verb: Verb) -> Result<Command<'a>, AllocError>
+    ensures app { IfOk result (λ c. app_of c ≡ app_of_verb verb) }
     ensures local { IfOk result (λ c. (fields_of c).has_globals ≡ false) }
 {
-    input_command(
-        alloc,
-        command.word(),
-        command.about(),
-        command.example(),
-        command.input(),
-    )
-}
-
-fn command_of_two<'a>(alloc: Global, command: OfTwo) -> Result<Command<'a>, AllocError>
-    ensures app { IfOk result (λ c. app_of c ≡ app_of_two command) }
-    ensures local { IfOk result (λ c. (fields_of c).has_globals ≡ false) }
-{
-    let first = input_command(
-        alloc,
-        command.word(),
-        command.about(),
-        command.example(),
-        "SET",
-    )?;
-    with_arg(first, input_arg(alloc, command.second()))
-}
-
-fn command_of_number<'a>(alloc: Global, command: OfNumber) -> Result<Command<'a>, AllocError>
-    ensures app { IfOk result (λ c. app_of c ≡ app_of_number command) }
-    ensures local { IfOk result (λ c. (fields_of c).has_globals ≡ false) }
-{
-    let first = input_command(
-        alloc,
-        command.word(),
-        command.about(),
-        command.example(),
-        command.input(),
-    )?;
-    with_arg(first, number_arg(alloc, command))
+    let first = input_command(alloc, verb)?;
+    match verb {
+        Verb::One(_) => Ok(first),
+        Verb::Two(command) => with_arg(first, input_arg(alloc, command.second())),
+        Verb::Number(command) => with_arg(first, number_arg(alloc, command)),
+    }
 }
 
 // The program with no command yet.
@@ -171,40 +156,14 @@ fn with_command<'a>(above: Command<'a>, command: Command<'a>) -> Result<Command<
     Ok(both)
 }
 
-// The commands that answer on a task set.
-fn with_set_commands<'a>(alloc: Global, bare: Command<'a>) -> Result<Command<'a>, AllocError>
-    requires { (fields_of bare).has_globals ≡ false }
-    ensures app { IfOk result (λ c. app_of c ≡ with_commands (app_of bare.entry) set_commands) }
-    ensures local { IfOk result (λ c. (fields_of c).has_globals ≡ false) }
-{
-    let first = with_command(bare, command_of_one(alloc, OfOne::Admit)?)?;
-    let second = with_command(first, command_of_one(alloc, OfOne::Explain)?)?;
-    let third = with_command(second, command_of_one(alloc, OfOne::Headroom)?)?;
-    let fourth = with_command(third, command_of_one(alloc, OfOne::Settings)?)?;
-    with_command(fourth, command_of_two(alloc, OfTwo::Judge)?)
-}
-
-// Those for certificates and runs.
-fn with_run_commands<'a>(alloc: Global, above: Command<'a>) -> Result<Command<'a>, AllocError>
-    requires { (fields_of above).has_globals ≡ false }
-    ensures app { IfOk result (λ c. app_of c ≡ with_commands (app_of above.entry) run_commands) }
-    ensures local { IfOk result (λ c. (fields_of c).has_globals ≡ false) }
-{
-    let first = with_command(above, command_of_one(alloc, OfOne::Certify)?)?;
-    let second = with_command(first, command_of_two(alloc, OfTwo::Check)?)?;
-    let third = with_command(second, command_of_number(alloc, OfNumber::Releases)?)?;
-    let fourth = with_command(third, command_of_two(alloc, OfTwo::Simulate)?)?;
-    with_command(fourth, command_of_two(alloc, OfTwo::Draw)?)
-}
-
 // The program with all its commands.
 pub(crate) fn desk_command<'a>(alloc: Global) -> Result<Command<'a>, AllocError>
     ensures app { IfOk result (λ c. app_of c ≡ desk_app) }
     ensures local { IfOk result (λ c. (fields_of c).has_globals ≡ false) }
 {
-    let bare = bare_command(alloc)?;
-    let sets = with_set_commands(alloc, bare)?;
-    let runs = with_run_commands(alloc, sets)?;
-    let plays = with_command(runs, command_of_one(alloc, OfOne::Play)?)?;
-    with_command(plays, command_of_number(alloc, OfNumber::Rush)?)
+    let mut desk = bare_command(alloc)?;
+    for verb in VERBS {
+        desk = with_command(desk, command_of(alloc, verb)?)?;
+    }
+    Ok(desk)
 }

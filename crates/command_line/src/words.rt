@@ -2,10 +2,10 @@
 ghost use Rattle.std.specs.Prelude.{◌≡◌, ◌≢◌, map, Ok, Some, None, Err, IfOk, IfErr, IfSome, true, false, codes};
 ghost use Rattle.clap.specs.Words.{FailsBy, fault_of, first_of, found_of, rows_of, subcommand_of, subcommand_rows_of};
 ghost use Rattle.command_line.specs.App.{desk_app};
-ghost use Rattle.command_line.specs.Commands.{number_name, word_of_number, word_of_one, word_of_two};
+ghost use Rattle.command_line.specs.Commands.{number_name, word_of};
 ghost use Rattle.command_line.specs.Calls.{Calls, Counts, HasNumber, IsCall, IsCommand, AreTakenWords, IsWordsFault, Names, Prefers, PrefersOther, TakesNumber, is_twice};
 
-use crate::calls::{Call, Input, OfNumber, OfOne, OfTwo};
+use crate::calls::{Call, Input, OfNumber, OfOne, OfTwo, Verb};
 use crate::commands::desk_command;
 use clap::{ArgMatches, Error};
 use std::alloc::Global;
@@ -69,65 +69,25 @@ fn number_at(matches: &ArgMatches<'_>, command: OfNumber) -> usize
     }
 }
 
-// The command of one input that has the word.
-fn one_named(word: &str) -> Option<OfOne>
-    ensures some { IfSome result (λ c. word.now ≡ word_of_one c) }
-    ensures none { result ≡ None → (c : OfOne) → word.now ≢ word_of_one c }
+// The command that has the word.
+fn verb_named(word: &str) -> Option<Verb>
+    ensures some { IfSome result (λ verb. word.now ≡ word_of verb) }
+    ensures none { result ≡ None → (verb : Verb) → word.now ≢ word_of verb }
 {
     match word {
-        "admit" => Some(OfOne::Admit),
-        "certify" => Some(OfOne::Certify),
-        "headroom" => Some(OfOne::Headroom),
-        "settings" => Some(OfOne::Settings),
-        "explain" => Some(OfOne::Explain),
-        "play" => Some(OfOne::Play),
+        "admit" => Some(Verb::One(OfOne::Admit)),
+        "certify" => Some(Verb::One(OfOne::Certify)),
+        "headroom" => Some(Verb::One(OfOne::Headroom)),
+        "settings" => Some(Verb::One(OfOne::Settings)),
+        "explain" => Some(Verb::One(OfOne::Explain)),
+        "play" => Some(Verb::One(OfOne::Play)),
+        "check" => Some(Verb::Two(OfTwo::Check)),
+        "judge" => Some(Verb::Two(OfTwo::Judge)),
+        "simulate" => Some(Verb::Two(OfTwo::Simulate)),
+        "draw" => Some(Verb::Two(OfTwo::Draw)),
+        "releases" => Some(Verb::Number(OfNumber::Releases)),
+        "rush" => Some(Verb::Number(OfNumber::Rush)),
         _ => None,
-    }
-}
-
-// The command of two inputs that has the word.
-fn two_named(word: &str) -> Option<OfTwo>
-    ensures some { IfSome result (λ c. word.now ≡ word_of_two c) }
-    ensures none { result ≡ None → (c : OfTwo) → word.now ≢ word_of_two c }
-{
-    match word {
-        "check" => Some(OfTwo::Check),
-        "judge" => Some(OfTwo::Judge),
-        "simulate" => Some(OfTwo::Simulate),
-        "draw" => Some(OfTwo::Draw),
-        _ => None,
-    }
-}
-
-// The command of a number that has the word.
-fn number_named(word: &str) -> Option<OfNumber>
-    ensures some { IfSome result (λ c. word.now ≡ word_of_number c) }
-    ensures none { result ≡ None → (c : OfNumber) → word.now ≢ word_of_number c }
-{
-    match word {
-        "releases" => Some(OfNumber::Releases),
-        "rush" => Some(OfNumber::Rush),
-        _ => None,
-    }
-}
-
-// The call of a command that takes a number.
-fn number_call<'a>(name: &str, found: &ArgMatches<'a>, by_deadline: bool) -> Call<'a>
-    requires command { IsCommand (Some (name.now, rows_of (found_of found.now))) }
-    requires one { (c : OfOne) → name.now ≢ word_of_one c }
-    requires two { (c : OfTwo) → name.now ≢ word_of_two c }
-    requires preference { Prefers (rows_of (found_of found.now)) by_deadline }
-    ensures { IsCall (Some (name.now, rows_of (found_of found.now))) result }
-{
-    let command = match number_named(name) {
-        Some(command) => command,
-        None => unreachable!(),
-    };
-    Call::Number {
-        command,
-        input: input_at(found, command.input()),
-        number: number_at(found, command),
-        by_deadline,
     }
 }
 
@@ -137,22 +97,26 @@ fn call_named<'a>(name: &str, found: &ArgMatches<'a>, by_deadline: bool) -> Call
     requires preference { Prefers (rows_of (found_of found.now)) by_deadline }
     ensures { IsCall (Some (name.now, rows_of (found_of found.now))) result }
 {
-    if let Some(command) = one_named(name) {
-        return Call::One {
+    match verb_named(name) {
+        Some(Verb::One(command)) => Call::One {
             command,
             input: input_at(found, command.input()),
             by_deadline,
-        };
-    }
-    if let Some(command) = two_named(name) {
-        return Call::Two {
+        },
+        Some(Verb::Two(command)) => Call::Two {
             command,
             first: input_at(found, "SET"),
             second: input_at(found, command.second()),
             by_deadline,
-        };
+        },
+        Some(Verb::Number(command)) => Call::Number {
+            command,
+            input: input_at(found, command.input()),
+            number: number_at(found, command),
+            by_deadline,
+        },
+        None => unreachable!(),
     }
-    number_call(name, found, by_deadline)
 }
 
 // The call that the matches name. None where it prefers an order that isn't there.
