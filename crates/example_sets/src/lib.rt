@@ -29,6 +29,41 @@ task = [
     };
 }
 
+// hi, with this deadline, and lo, which share a lock.
+macro_rules! blocked_out {
+    ($deadline:literal) => {
+        concat!(
+            "
+task = [
+    { name = 'hi', period = 10000, deadline = ",
+            $deadline,
+            ", cost = 2000, section = [{ locks = ['m'], at = 0, len = 500 }] },
+    { name = 'lo', period = 50000, deadline = 50000, cost = 10000, section = [{ locks = ['m'], at = 1000, len = 2500 }] },
+]
+"
+        )
+    };
+}
+
+// Five tasks, of which each but the last must stand above the next; log has this deadline.
+macro_rules! own_order {
+    ($deadline:literal) => {
+        concat!(
+            "
+task = [
+    { name = 'brake', period = 5000, deadline = 5000, cost = 500, outranks = ['steer'] },
+    { name = 'steer', period = 10000, deadline = 10000, cost = 2000, outranks = ['camera'] },
+    { name = 'camera', period = 40000, deadline = 40000, cost = 10000, outranks = ['map'] },
+    { name = 'map', period = 100000, deadline = 100000, cost = 20000, outranks = ['log'] },
+    { name = 'log', period = 200000, deadline = ",
+            $deadline,
+            ", cost = 20000 },
+]
+"
+        )
+    };
+}
+
 /// One task whose cost is its period.
 pub const FILLS_ITS_PERIOD: &str = "
 task = [{ name = 'x', period = 1000, deadline = 1000, cost = 1000 }]
@@ -71,26 +106,10 @@ pub const A_OVER_B_OVER_A: &str = three_tasks!(", outranks = ['b']", ", outranks
 pub const A_OVER_Z: &str = three_tasks!(", outranks = ['z']", "", "");
 
 /// An order of one's own: each task must stand above the next, and log meets its bound exactly.
-pub const OWN_ORDER: &str = "
-task = [
-    { name = 'brake', period = 5000, deadline = 5000, cost = 500, outranks = ['steer'] },
-    { name = 'steer', period = 10000, deadline = 10000, cost = 2000, outranks = ['camera'] },
-    { name = 'camera', period = 40000, deadline = 40000, cost = 10000, outranks = ['map'] },
-    { name = 'map', period = 100000, deadline = 100000, cost = 20000, outranks = ['log'] },
-    { name = 'log', period = 200000, deadline = 100000, cost = 20000 },
-]
-";
+pub const OWN_ORDER: &str = own_order!("100000");
 
 /// The same, where log has a tick less: the order doesn't pass.
-pub const OWN_ORDER_TOO_TIGHT: &str = "
-task = [
-    { name = 'brake', period = 5000, deadline = 5000, cost = 500, outranks = ['steer'] },
-    { name = 'steer', period = 10000, deadline = 10000, cost = 2000, outranks = ['camera'] },
-    { name = 'camera', period = 40000, deadline = 40000, cost = 10000, outranks = ['map'] },
-    { name = 'map', period = 100000, deadline = 100000, cost = 20000, outranks = ['log'] },
-    { name = 'log', period = 200000, deadline = 99999, cost = 20000 },
-]
-";
+pub const OWN_ORDER_TOO_TIGHT: &str = own_order!("99999");
 
 /// Three tasks, of which c alone passes at the lowest level.
 pub const THREE_TASKS: &str = three_tasks!("", "", "");
@@ -129,20 +148,10 @@ task = [
 ";
 
 /// hi is blocked past its deadline.
-pub const BLOCKED_OUT: &str = "
-task = [
-    { name = 'hi', period = 10000, deadline = 4400, cost = 2000, section = [{ locks = ['m'], at = 0, len = 500 }] },
-    { name = 'lo', period = 50000, deadline = 50000, cost = 10000, section = [{ locks = ['m'], at = 1000, len = 2500 }] },
-]
-";
+pub const BLOCKED_OUT: &str = blocked_out!("4400");
 
 /// The same, with a deadline that holds the blocking.
-pub const BLOCKED_OUT_REPAIRED: &str = "
-task = [
-    { name = 'hi', period = 10000, deadline = 4500, cost = 2000, section = [{ locks = ['m'], at = 0, len = 500 }] },
-    { name = 'lo', period = 50000, deadline = 50000, cost = 10000, section = [{ locks = ['m'], at = 1000, len = 2500 }] },
-]
-";
+pub const BLOCKED_OUT_REPAIRED: &str = blocked_out!("4500");
 
 /// Two tasks that share a lock: above x, y blocks it no more.
 pub const EXCHANGE_WITH_EQUALITY: &str = "
@@ -177,6 +186,24 @@ pub fn set_of(alloc: Global, text: &str) -> Result<TaskSet, Fail> {
 pub fn shared_set(alloc: Global, text: &str) -> Result<Arc<TaskSet>, Fail> {
     let set = set_of(alloc, text)?;
     Ok(Arc::new(alloc, set)?)
+}
+
+/// Goes through a table of documents, each with what is to be found of it: the failure tells the first row of which
+/// something else is found.
+pub fn match_rows<F: Fn(Global, &str) -> Result<String, Fail>>(
+    alloc: Global,
+    rows: &[(&str, &str)],
+    find: F,
+) -> Result<(), Fail>
+    requires { F.IsAlwaysCallable find }
+{
+    for (document, want) in rows {
+        let found = find(alloc, *document)?;
+        if found.as_str() != *want {
+            return Err(Fail::new(format_args!("{found}, not {want}, at {document}")));
+        }
+    }
+    Ok(())
 }
 
 /// The name that a text is.

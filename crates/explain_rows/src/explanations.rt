@@ -1,7 +1,7 @@
 //! The lines that explain a placing.
 use assignment::place_all;
 use ceilings::LockTable;
-use example_sets::{again, set_of};
+use example_sets::{again, match_rows, set_of};
 use explain::{explain, explanation_text};
 use std::alloc::Global;
 use std::test::Fail;
@@ -112,21 +112,18 @@ fn lines_of(alloc: Global, document: &str) -> Result<String, Fail> {
 
 #[test]
 fn responses_are_explained(rt: HostRuntime) -> Result<(), Fail> {
-    for (document, want) in [
+    let rows = [
         ("", "load 0\n"),
         (FIRST_BLOCKER, FIRST_BLOCKER_LINES),
         (example_sets::SHARED_LOCK, SHARED_LOCK_LINES),
         (example_sets::THREE_TASKS_LATE, THREE_TASKS_LATE_LINES),
-    ] {
-        let lines = lines_of(rt.alloc(), document)?;
-        assert_eq!(rt; lines.as_str(), want);
-    }
-    Ok(())
+    ];
+    match_rows(rt.alloc(), &rows, lines_of)
 }
 
 #[test]
 fn conflicts_are_explained(rt: HostRuntime) -> Result<(), Fail> {
-    for (document, want) in [
+    let rows = [
         (FOUR_COLLIDE, FOUR_COLLIDE_LINES),
         (
             example_sets::THREE_TASKS_TOO_LATE,
@@ -145,9 +142,6 @@ fn conflicts_are_explained(rt: HostRuntime) -> Result<(), Fail> {
             example_sets::OBSTRUCTION_OF_ONE,
             "conflict x\nx 3000 of 2000\n  cost 3000\nload 310000\n",
         ),
-    ] {
-        let lines = lines_of(rt.alloc(), document)?;
-        assert_eq!(rt; lines.as_str(), want);
-    }
-    Ok(())
+    ];
+    match_rows(rt.alloc(), &rows, lines_of)
 }

@@ -1,5 +1,5 @@
 -- The tests of settings, one element after the other.
-use Rattle.std.proofs.Common.{◌≡◌, ◌∙◌, ℕ, ◌+◌, ◌<◌, max, add-one, Bool, true, false, cond, not, ◌==◌, List, [], ◌∷◌, length, get_or, take, drop, Some, refl, ap, arith, slice_get}
+use Rattle.std.proofs.Common.{◌≡◌, ℕ, ◌+◌, ◌<◌, max, add-one, Bool, true, false, cond, not, ◌==◌, List, [], ◌∷◌, length, get_or, take, drop, Some, refl, arith, slice_get}
 use Rattle.std.specs.List.{find, list_any}
 use Rattle.std.proofs.lemmas.List.{drop_more, take_more}
 use Rattle.std.proofs.lemmas.Option.{slice_get_within, get_or_from_slice_get}
@@ -9,23 +9,19 @@ use Rattle.judge.specs.Faults.{is_set, line_again, mutexless, setting_number, to
 use Rattle.judge.specs.declared.rows.Setting.{Setting}
 
 -- the first element from a place on that passes, by the element there
-find_step : {X : Type 0} (test : X → Bool) (xs : List X) (k : ℕ) (x : X) → drop k xs ≡ x ∷ drop (k + 1) xs → find test (drop k xs) ≡ cond (test x) (Some x) (find test (drop (k + 1) xs))
-find_step test xs k x cut = rw cut refl
+pub find_step : {X : Type 0} (test : X → Bool) (xs : List X) (k : ℕ) (x : X) (b : Bool) → slice_get xs k ≡ Some x → b ≡ test x → find test (drop k xs) ≡ cond b (Some x) (find test (drop (k + 1) xs))
+find_step test xs k x b at is = rw (drop_more xs k x (slice_get_within xs k x at), get_or_from_slice_get xs k x x at, is) refl
 
-module _ (locks : List (List ℕ)) (k : ℕ) (lock : List ℕ) (at : slice_get locks k ≡ Some lock) where
-  cut : drop k locks ≡ lock ∷ drop (k + 1) locks
-  cut = drop_more locks k lock (slice_get_within locks k lock at) ∙ ap (λ q. q ∷ drop (k + 1) locks) (get_or_from_slice_get locks k lock lock at)
+-- where there are mutexes, the first lock that has none
+pub mutexless_some : (locks : List (List ℕ)) (mutexes : List Setting) → 0 < length mutexes → find (λ lock. not (is_set mutexes lock)) locks ≡ mutexless locks mutexes
+mutexless_some locks [] some = absurd (omega arith)
+mutexless_some locks (m ∷ mutexes) some = refl
 
-  pub mutexless_step : (mutexes : List Setting) (b : Bool) → b ≡ is_set mutexes lock → 0 < length mutexes
-      → mutexless (drop k locks) mutexes ≡ cond (not b) (Some lock) (mutexless (drop (k + 1) locks) mutexes)
-  mutexless_step [] b is some = absurd (omega arith)
-  mutexless_step (m ∷ mutexes) b is some = find_step (λ q. not (is_set (m ∷ mutexes) q)) locks k lock cut ∙ rw is refl
-
-  pub wrong_step : (U : List Task) (threads mutexes : List Setting) (n top : ℕ) → n ≡ setting_number mutexes lock → top ≡ top_number U threads lock → 0 < length mutexes
-      → wrong_lock U (drop k locks) threads mutexes ≡ cond (not (n == top)) (Some lock) (wrong_lock U (drop (k + 1) locks) threads mutexes)
-  wrong_step U threads [] n top is is' some = absurd (omega arith)
-  wrong_step U threads (m ∷ mutexes) n top is is' some =
-      find_step (λ q. not (setting_number (m ∷ mutexes) q == top_number U threads q)) locks k lock cut ∙ rw (is, is') refl
+-- where there are mutexes, the first lock whose mutex is wrong
+pub wrong_some : (U : List Task) (locks : List (List ℕ)) (threads mutexes : List Setting) → 0 < length mutexes
+    → find (λ lock. not (setting_number mutexes lock == top_number U threads lock)) locks ≡ wrong_lock U locks threads mutexes
+wrong_some U locks threads [] some = absurd (omega arith)
+wrong_some U locks threads (m ∷ mutexes) some = refl
 
 -- the settings from a place on, with those before it
 pub again_step : (alike : Setting → Setting → Bool) (xs : List Setting) (k : ℕ) (x : Setting) (b : Bool) → k < length xs → x ≡ get_or xs k x → b ≡ list_any (λ before. alike before x) (take k xs)

@@ -6,7 +6,7 @@ ghost use Rattle.judge.specs.Node.{IsNodeOrder};
 
 use crate::fault::SettingsFault;
 use crate::order::order_by;
-use crate::rows::{mutexes_of, read_rows, threads_of};
+use crate::rows::{read_rows, sort_rows};
 use crate::settings_fault::setting_fault;
 use ceilings::LockTable;
 use std::alloc::Global;
@@ -26,11 +26,10 @@ pub fn read_settings(
         (λ fault. IsSettingsFault fault (settings_fault set.now text.now)) }
 {
     let rows = read_rows(alloc, text)?;
-    let threads = threads_of(alloc, &rows)?;
-    let mutexes = mutexes_of(alloc, &rows)?;
-    if let Some(fault) = setting_fault(set, table, &threads, &mutexes) {
+    let settings = sort_rows(alloc, &rows)?;
+    if let Some(fault) = setting_fault(set, table, &settings) {
         return Err(fault);
     }
-    let order = order_by(alloc, set, &threads)?;
+    let order = order_by(alloc, set, &settings.threads)?;
     Ok(order)
 }

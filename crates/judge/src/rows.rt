@@ -30,6 +30,13 @@ pub enum SettingRow {
     Mutex(Setting),
 }
 
+/// What a node is set to: its threads and its mutexes, each in the order of the lines.
+#[derive(Drop)]
+pub(crate) struct NodeSettings {
+    pub threads: Vec<Setting>,
+    pub mutexes: Vec<Setting>,
+}
+
 // The number from 1 to the limit that a word is.
 fn number_in_range(word: &[u8]) -> Option<u64>
     ensures { result ≡ number_in_range word.now }
@@ -90,28 +97,18 @@ pub(crate) fn read_rows(alloc: Global, text: &[u8]) -> Result<Vec<SettingRow>, S
     Ok(rows)
 }
 
-// What is set of threads.
-pub(crate) fn threads_of(alloc: Global, rows: &[SettingRow]) -> Result<Vec<Setting>, AllocError>
-    ensures { IfOk result (λ threads. threads.items ≡ threads_of rows.now) }
+// What rows set of threads and of mutexes.
+pub(crate) fn sort_rows(alloc: Global, rows: &[SettingRow]) -> Result<NodeSettings, AllocError>
+    ensures threads { IfOk result (λ settings. settings.threads.items ≡ threads_of rows.now) }
+    ensures mutexes { IfOk result (λ settings. settings.mutexes.items ≡ mutexes_of rows.now) }
 {
     let mut threads = Vec::new(alloc);
-    for row in rows {
-        if let SettingRow::Thread(setting) = row {
-            threads.push(*setting)?;
-        }
-    }
-    Ok(threads)
-}
-
-// What is set of mutexes.
-pub(crate) fn mutexes_of(alloc: Global, rows: &[SettingRow]) -> Result<Vec<Setting>, AllocError>
-    ensures { IfOk result (λ mutexes. mutexes.items ≡ mutexes_of rows.now) }
-{
     let mut mutexes = Vec::new(alloc);
     for row in rows {
-        if let SettingRow::Mutex(setting) = row {
-            mutexes.push(*setting)?;
+        match row {
+            SettingRow::Thread(setting) => threads.push(*setting)?,
+            SettingRow::Mutex(setting) => mutexes.push(*setting)?,
         }
     }
-    Ok(mutexes)
+    Ok(NodeSettings { threads, mutexes })
 }

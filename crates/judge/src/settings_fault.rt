@@ -1,11 +1,11 @@
 //! The first reason why threads and mutexes are no settings of a set.
-ghost use Rattle.std.specs.Prelude.{◌≡◌, []};
+ghost use Rattle.std.specs.Prelude.{◌≡◌, ℕ, Bool, not, ◌==◌, List, [], find};
 ghost use Rattle.std.specs.List.{list_any};
 ghost use Rattle.ceilings.specs.IsTableOf.{IsTableOf, locks_of};
 ghost use Rattle.judge.specs.Faults.{is_no_lock, is_no_task, is_set, line_again, line_fault, line_where, mutexless, name_fault, setting_number, setting_fault, share, threadless, top_number, wrong_lock};
 
 use crate::fault::SettingsFault;
-use crate::rows::Setting;
+use crate::rows::{NodeSettings, Setting};
 use ceilings::LockTable;
 use task_sheet::{Name, TaskSet};
 
@@ -125,6 +125,23 @@ fn threadless(set: &TaskSet, threads: &[Setting]) -> Option<Name>
         .map(|sheet| sheet.name())
 }
 
+// The first lock, in the order of first sight, that passes a test.
+fn first_lock<F: Fn(Name) -> bool>(set: &TaskSet, table: &LockTable, test: F) -> Option<Name>
+    requires table { IsTableOf set.now table.now }
+    requires test { F.IsAlwaysCallable test }
+    ensures { (passes : List ℕ → Bool)
+        → ((lock : List ℕ) (answer : Bool) → F.post test lock answer → answer ≡ passes lock)
+        → result ≡ find passes (locks_of set.now) }
+{
+    for place in 0..table.count() {
+        let lock = table.lock_at(place)?;
+        if test(lock) {
+            return Some(lock);
+        }
+    }
+    None
+}
+
 // Where there are mutexes, the first lock, in the order of first sight, that has none.
 fn mutexless(set: &TaskSet, table: &LockTable, mutexes: &[Setting]) -> Option<Name>
     requires { IsTableOf set.now table.now }
@@ -133,83 +150,66 @@ fn mutexless(set: &TaskSet, table: &LockTable, mutexes: &[Setting]) -> Option<Na
     if mutexes.is_empty() {
         return None;
     }
-    for place in 0..table.count() {
-        let lock = table.lock_at(place)?;
-        if !is_set(mutexes, lock) {
-            return Some(lock);
-        }
-    }
-    None
+    first_lock(set, table, |lock| !is_set(mutexes, lock))
+}
+
+// The mutex of a lock isn't at the number of the lock's highest user.
+fn is_wrong(set: &TaskSet, table: &LockTable, settings: &NodeSettings, lock: Name) -> bool
+    requires { IsTableOf set.now table.now }
+    ensures { result ≡ not (setting_number settings.now.mutexes.items lock
+        == top_number set.now settings.now.threads.items lock) }
+{
+    number_of(&settings.mutexes, lock) != top_of(set, table, &settings.threads, lock)
 }
 
 // Where there are mutexes, the first lock, in the order of first sight, whose mutex isn't at the number of its highest
 // user.
-fn wrong_lock(
-    set: &TaskSet,
-    table: &LockTable,
-    threads: &[Setting],
-    mutexes: &[Setting],
-) -> Option<Name>
+fn wrong_lock(set: &TaskSet, table: &LockTable, settings: &NodeSettings) -> Option<Name>
     requires { IsTableOf set.now table.now }
-    ensures { result ≡ wrong_lock set.now (locks_of set.now) threads.now mutexes.now }
+    ensures { result ≡ wrong_lock set.now (locks_of set.now)
+        settings.now.threads.items settings.now.mutexes.items }
 {
-    if mutexes.is_empty() {
+    if settings.mutexes.is_empty() {
         return None;
     }
-    for place in 0..table.count() {
-        let lock = table.lock_at(place)?;
-        if number_of(mutexes, lock) != top_of(set, table, threads, lock) {
-            return Some(lock);
-        }
-    }
-    None
+    first_lock(set, table, |lock| is_wrong(set, table, settings, lock))
 }
 
 // The first reason that the lines give.
-fn line_fault(
-    set: &TaskSet,
-    table: &LockTable,
-    threads: &[Setting],
-    mutexes: &[Setting],
-) -> Option<SettingsFault>
+fn line_fault(set: &TaskSet, table: &LockTable, settings: &NodeSettings) -> Option<SettingsFault>
     requires { IsTableOf set.now table.now }
-    ensures { result ≡ line_fault set.now threads.now mutexes.now }
+    ensures { result ≡ line_fault set.now settings.now.threads.items settings.now.mutexes.items }
 {
-    if let Some(line) = unknown_task(set, threads) {
+    if let Some(line) = unknown_task(set, &settings.threads) {
         return Some(SettingsFault::UnknownTask { line });
     }
-    if let Some(line) = unknown_lock(set, table, mutexes) {
+    if let Some(line) = unknown_lock(set, table, &settings.mutexes) {
         return Some(SettingsFault::UnknownLock { line });
     }
-    if let Some(line) = first_again(threads, SettingField::Name) {
+    if let Some(line) = first_again(&settings.threads, SettingField::Name) {
         return Some(SettingsFault::SameTask { line });
     }
-    if let Some(line) = first_again(mutexes, SettingField::Name) {
+    if let Some(line) = first_again(&settings.mutexes, SettingField::Name) {
         return Some(SettingsFault::SameLock { line });
     }
-    match first_again(threads, SettingField::Number) {
+    match first_again(&settings.threads, SettingField::Number) {
         Some(line) => Some(SettingsFault::SameNumber { line }),
         None => None,
     }
 }
 
 // The first reason that a task or a lock gives.
-fn name_fault(
-    set: &TaskSet,
-    table: &LockTable,
-    threads: &[Setting],
-    mutexes: &[Setting],
-) -> Option<SettingsFault>
+fn name_fault(set: &TaskSet, table: &LockTable, settings: &NodeSettings) -> Option<SettingsFault>
     requires { IsTableOf set.now table.now }
-    ensures { result ≡ name_fault set.now threads.now mutexes.now }
+    ensures { result ≡ name_fault set.now settings.now.threads.items settings.now.mutexes.items }
 {
-    if let Some(name) = threadless(set, threads) {
+    if let Some(name) = threadless(set, &settings.threads) {
         return Some(SettingsFault::MissingTask { name });
     }
-    if let Some(name) = mutexless(set, table, mutexes) {
+    if let Some(name) = mutexless(set, table, &settings.mutexes) {
         return Some(SettingsFault::MissingLock { name });
     }
-    match wrong_lock(set, table, threads, mutexes) {
+    match wrong_lock(set, table, settings) {
         Some(name) => Some(SettingsFault::WrongCeiling { name }),
         None => None,
     }
@@ -219,14 +219,14 @@ fn name_fault(
 pub(crate) fn setting_fault(
     set: &TaskSet,
     table: &LockTable,
-    threads: &[Setting],
-    mutexes: &[Setting],
+    settings: &NodeSettings,
 ) -> Option<SettingsFault>
     requires { IsTableOf set.now table.now }
-    ensures { result ≡ setting_fault set.now threads.now mutexes.now }
+    ensures { result ≡ setting_fault set.now
+        settings.now.threads.items settings.now.mutexes.items }
 {
-    match line_fault(set, table, threads, mutexes) {
+    match line_fault(set, table, settings) {
         Some(fault) => Some(fault),
-        None => name_fault(set, table, threads, mutexes),
+        None => name_fault(set, table, settings),
     }
 }
