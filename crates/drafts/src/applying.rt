@@ -9,6 +9,7 @@ ghost use Rattle.drafts.specs.Rosters.{IsRoster, IsMade};
 ghost use Rattle.drafts.specs.Outcomes.{IsApplied};
 
 use crate::change::{Change, Refusal};
+use crate::draft::Draft;
 use crate::roster::{Owned, is_foreign, is_there, place, split, take_out};
 use crate::state::NodeState;
 use crate::team::Team;
@@ -141,18 +142,13 @@ fn as_set(alloc: Global, tasks: Vec<Owned>) -> Result<Applied, AllocError>
     }
 }
 
-/// What a team's changes, in their order, come to on a state. The first that is refused decides, and after all the
+/// What a draft's changes, in their order, come to on a state. The first that is refused decides, and after all the
 /// number of tasks.
-pub fn apply(
-    alloc: Global,
-    team: Team,
-    state: &NodeState,
-    changes: &IndexMap<Name, Change>,
-) -> Result<Applied, AllocError>
-    ensures { IfOk result (IsApplied (applied team state.now.tasks changes.now.entries)) }
+pub fn apply(alloc: Global, draft: &Draft, state: &NodeState) -> Result<Applied, AllocError>
+    ensures { IfOk result (IsApplied (applied draft.now.team state.now.tasks draft.now.changes)) }
 {
     let mut tasks = state.roster(alloc)?;
-    match make_changes(alloc, team, &mut tasks, changes)? {
+    match make_changes(alloc, draft.team(), &mut tasks, draft.changes())? {
         Some(refusal) => Ok(Applied::Refused { refusal }),
         None => as_set(alloc, tasks),
     }

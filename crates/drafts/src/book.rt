@@ -218,7 +218,7 @@ impl Book {
         ensures ok { IfOk result (λ d. self.new ≡ logged self.old d.entry.value) }
         ensures err { OnErr result (self.new ≡ self.old) }
     {
-        let judged = judge(alloc, draft.team(), &self.state, draft.changes())?;
+        let judged = judge(alloc, draft, &self.state)?;
         self.enter(alloc, draft, &judged)
     }
 }

@@ -274,7 +274,7 @@ impl Draft {
     pub fn applied(&self, alloc: Global) -> Result<Applied, AllocError>
         ensures { IfOk result (λ outcome. IsApplied (on_base self.now) outcome) }
     {
-        apply(alloc, self.team, &self.base, &self.changes)
+        apply(alloc, self, &self.base)
     }
 
     /// The sheet of a name, as the draft shows it.

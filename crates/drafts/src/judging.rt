@@ -5,14 +5,12 @@ ghost use Rattle.drafts.specs.Applied.{applied};
 ghost use Rattle.drafts.specs.Outcomes.{IsJudged, IsShared};
 
 use crate::applying::{Applied, apply};
-use crate::change::{Change, Refusal};
+use crate::change::Refusal;
+use crate::draft::Draft;
 use crate::state::NodeState;
-use crate::team::Team;
 use assignment::{Assignment, Obstruction, Verdict, assign};
-use indexmap::IndexMap;
 use std::alloc::{AllocError, Global};
 use std::sync::Arc;
-use task_sheet::Name;
 
 /// What changes come to, with the verdict on the set.
 #[derive(Drop)]
@@ -41,17 +39,12 @@ pub fn share(alloc: Global, verdict: Verdict) -> Result<Judged, Verdict>
     }
 }
 
-/// What a team's changes come to on a state, tested on the caller's thread.
-pub fn judge(
-    alloc: Global,
-    team: Team,
-    state: &NodeState,
-    changes: &IndexMap<Name, Change>,
-) -> Result<Judged, AllocError>
+/// What a draft's changes come to on a state, tested on the caller's thread.
+pub fn judge(alloc: Global, draft: &Draft, state: &NodeState) -> Result<Judged, AllocError>
     ensures { IfOk result (λ judged. IsJudged
-        (applied team state.now.tasks changes.now.entries) judged) }
+        (applied draft.now.team state.now.tasks draft.now.changes) judged) }
 {
-    match apply(alloc, team, state, changes)? {
+    match apply(alloc, draft, state)? {
         Applied::Refused { refusal } => Ok(Judged::Refused { refusal }),
         Applied::Tasks { set, teams: _ } => match share(alloc, assign(alloc, set)?) {
             Ok(judged) => Ok(judged),

@@ -67,7 +67,7 @@ pub fn propose(alloc: Global, draft: Draft) -> Result<Proposal, ProposeFault>
     ensures right { IfOk result IsProposal }
     ensures back { IfErr result (λ fault. fault.draft ≡ draft) }
 {
-    match judge(alloc, draft.team(), draft.base(), draft.changes()) {
+    match judge(alloc, &draft, draft.base()) {
         Ok(judged) => Ok(Proposal { draft, judged }),
         Err(_) => Err(ProposeFault { draft }),
     }

@@ -55,7 +55,7 @@ fn still_holds(alloc: Global, book: &Book, proposal: &Proposal) -> Result<bool, 
         let _ = proposal.judged();
         return Ok(true);
     }
-    match apply(alloc, draft.team(), book.state(), draft.changes())? {
+    match apply(alloc, draft, book.state())? {
         Applied::Refused { refusal } => match proposal.judged() {
             Judged::Refused { refusal: told } => Ok(told.is_same(&refusal)),
             _ => Ok(false),
