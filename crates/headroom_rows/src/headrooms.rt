@@ -1,10 +1,8 @@
 //! The headroom of each task: with some order, and in the best order as it stands.
-ghost use Rattle.std.specs.Prelude.{◌≡◌, IfOk};
-ghost use Rattle.assignment.specs.Placings.{tasks_of_places};
 ghost use Rattle.ceilings.specs.IsTableOf.{IsTableOf};
 ghost use Rattle.task_sheet.specs.Orders.{IsPassingOrder};
 
-use assignment::{Place, Placing, place_all};
+use assignment::{Placing, place_all, tasks_of_places};
 use ceilings::LockTable;
 use example_sets::{again, set_of};
 use headroom::{headroom, headroom_in_order};
@@ -91,17 +89,6 @@ fn headrooms_of_the_examples(rt: HostRuntime) -> Result<(), Fail> {
     Ok(())
 }
 
-// The tasks of places.
-fn tasks_of(alloc: Global, places: &[Place]) -> Result<Vec<usize>, AllocError>
-    ensures { IfOk result (λ order. order.items ≡ tasks_of_places places.now) }
-{
-    let mut order = Vec::with_capacity(alloc, places.len())?;
-    for place in places {
-        order.push(place.task)?;
-    }
-    Ok(order)
-}
-
 // The headroom of each task by rank, in an order that passes.
 fn line_in(
     alloc: Global,
@@ -126,7 +113,7 @@ fn best_line_of(alloc: Global, document: &str) -> Result<String, Fail> {
     let table = again!(LockTable::new(alloc, &set))?;
     match again!(place_all(alloc, &set, &table))? {
         Placing::Best(places) => {
-            let order = tasks_of(alloc, &places)?;
+            let order = tasks_of_places(alloc, &places)?;
             Ok(line_in(alloc, &set, &table, &order)?)
         }
         Placing::Stuck(_) => Err("an order")?,
