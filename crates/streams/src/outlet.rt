@@ -1,16 +1,11 @@
 //! Writers for which bytes are held back.
-ghost use Rattle.std.specs.Prelude.{◌≡◌, [], true, IfSome, OnOk, OnErr};
+ghost use Rattle.std.specs.Prelude.{◌≡◌, [], true, OnOk, OnErr};
 ghost use Rattle.std.specs.Io.KnownBytes.{Appends};
 ghost use Rattle.streams.specs.Puts.{Puts};
 
 use crate::held::Held;
 use crate::watched::{Watched, WriteFailed};
-use arrayvec::ArrayString;
-use std::fmt::{Display, Write as _};
 use std::io::Write;
-
-// How many bytes a value has at most that is put at once.
-const LINE_LIMIT: usize = 512;
 
 /// A writer, and the bytes that are held back for it.
 #[derive(Drop)]
@@ -37,24 +32,6 @@ impl<'a, W: Write + Drop> Outlet<'a, W> {
         ensures { Puts W.contents self.old self.new result bytes.now }
     {
         self.held.put(bytes, self.out)
-    }
-
-    /// What `write!` calls: puts a value as its `Display` gives it. One of more than 512 bytes is written piece after
-    /// piece.
-    pub fn write_fmt<D: Display + Drop>(&mut self, text: D) -> Result<(), WriteFailed>
-        ensures put { IfSome (D.output text) (Puts W.contents self.old self.new result) }
-        ensures ok { OnOk result (self.new.out.now.has_failed ≡ self.old.out.now.has_failed) }
-        ensures failed { OnErr result (self.new.out.now.has_failed ≡ true) }
-        ensures same { self.new.out.ghost_name ≡ self.old.out.ghost_name }
-    {
-        let mut line: ArrayString<LINE_LIMIT> = ArrayString::new();
-        match write!(line, "{text}") {
-            Ok(()) => self.put(line.as_bytes()),
-            Err(_) => {
-                self.held.send(self.out)?;
-                write!(self.out, "{text}")
-            }
-        }
     }
 
     /// Writes what is held back.
