@@ -18,7 +18,8 @@ use Rattle.desk_core.specs.Findings.{Decides, IsTold}
 use Rattle.desk_core.specs.Stages.{IsTrialOn}
 use Rattle.desk_core.specs.Standings.{IsStanding, IsStandingOn}
 use Rattle.desk_core.specs.Trials.{TrialData}
-use Rattle.desk_core.specs.World.{World, Live, live_at, IsTestedOn, IsToldReply}
+use Rattle.desk_core.specs.World.{World, Live, live_at, with_found, IsTestedOn, IsToldReply}
+use Rattle.desk_core.proofs.BroughtLaws.{live-brought}
 use Rattle.desk_core.proofs.SlotLaws.{set-same, found-moved}
 
 -- a draft that is tested asks nothing
@@ -44,11 +45,12 @@ tried-some (Ok tasks) t u told r so tried is =
     )
 
 -- ---- of a live draft
-pub live-advanced : (l m : Live) (result : Result (Option Reply) AllocError) → m.draft ≡ l.draft → IfOk result (IsAdvancedOn (on_base l.draft) l.found m.found) → IfOk result (IsAdvancedIn (Some l) (Some m))
-live-advanced l m (Err e) same so = tt
-live-advanced l m (Ok None) same so = (so.0, λ i. Some (let x : Live = record { draft = same i; found = so.1 i } in x))
-live-advanced l m (Ok (Some r)) same so =
-    (so.0, so.1, (m, (m.found, so.2, λ i. let x : Live = record { draft = same i; found = m.found } in x), refl))
+pub live-advanced : (old l : Live) (r : Option Reply) (found after : List Asked) → l ≡ old → after ≡ found → IsAdvancedOn (on_base l.draft) l.found found r → IsAdvancedIn (Some old) (Some (with_found l after)) r
+live-advanced old l None found after is same so =
+    subst (λ (x : Live). IsAdvancedIn (Some x) (Some (with_found l after)) None) is (so.0, ap (λ xs. Some (with_found l xs)) (same ∙ so.1))
+live-advanced old l (Some r) found after is same so =
+    subst (λ (x : Live). IsAdvancedIn (Some x) (Some (with_found l after)) (Some r)) is
+    (so.0, so.1, (with_found l after, live-brought l l so.0.question r found after refl same so.2, refl))
 
 pub slot-advanced : (slot : Option Live) (l m : Live) (result : Result (Option Reply) AllocError) → slot ≡ Some l → IfOk result (IsAdvancedIn (Some l) (Some m)) → IfOk result (IsAdvancedIn slot (Some m))
 slot-advanced slot l m result is so = subst (λ (o : Option Live). IfOk result (IsAdvancedIn o (Some m))) (sym is) so

@@ -4,6 +4,7 @@ use Rattle.std.proofs.lemmas.Bool.{ltb-true}
 use Rattle.assignment.specs.Questions.{QuestionData, FindingData}
 use Rattle.drafts.specs.declared.roster.Owned.{Owned}
 use Rattle.drafts.specs.declared.change.Refusal.{Refusal}
+use Rattle.drafts.specs.Changes.{on_base}
 use Rattle.desk_core.specs.declared.events.Reply.{Reply}
 use Rattle.desk_core.specs.declared.events.Reply.TheVariants as reply
 use Rattle.desk_core.specs.declared.events.Cause.TheVariants as cause
@@ -12,7 +13,7 @@ use Rattle.desk_core.specs.declared.told.Told.{Told}
 use Rattle.desk_core.specs.declared.told.Told.TheVariants.{Stranger, Twice, Taken, LevelDone, Tested}
 use Rattle.desk_core.specs.Findings.{asked_of, IsTold, IsTested, found_after}
 use Rattle.desk_core.specs.Trials.{TrialData}
-use Rattle.desk_core.specs.World.{IsFound, IsToldReply, IsTestedOn}
+use Rattle.desk_core.specs.World.{Live, with_found, IsFound, IsBroughtTo, IsToldReply, IsTestedOn}
 use Rattle.desk_core.specs.Stages.{IsTrialOn}
 use Rattle.desk_core.specs.Brought.{IsTelling, IsBrought}
 use Rattle.task_sheet.proofs.ChosenLaws.{level_at-part}
@@ -37,3 +38,9 @@ brought-answer (Ok tasks) trial found after q (Ok r) so same is =
 pub tested-stranger : (outcome : Result (List Owned) Refusal) (found after : List Asked) (q : QuestionData) → IsTestedOn outcome found → after ≡ found → IsFound outcome found q (reply.Refused cause.Stranger) after
 tested-stranger (Err refusal) found after q tested same = absurd tested
 tested-stranger (Ok tasks) found after q tested same = (Stranger, (λ k present. absurd (present.undecided (tested k))), refl, same)
+
+-- so it is for a live draft, with these findings after its stage was put away
+pub live-brought : (old l : Live) (q : QuestionData) (r : Reply) (found after : List Asked) → l ≡ old → after ≡ found → IsFound (on_base l.draft) l.found q r found → IsBroughtTo old q r (with_found l after)
+live-brought old l q r found after is same so =
+    subst (λ (x : Live). IsBroughtTo x q r (with_found l after)) is
+    (after, subst (λ (xs : List Asked). IsFound (on_base l.draft) l.found q r xs) (sym same) so, refl)

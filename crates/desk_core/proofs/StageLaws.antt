@@ -1,5 +1,5 @@
 -- How far the test of a draft has come, from stage to stage.
-use Rattle.std.proofs.Common.{◌≡◌, ◌∙◌, ◌↔◌, ℕ, zero, suc, ◌<◌, List, [], length, map, None, Result, Ok, Err, Vec, Global, IfOk, IsTrue, refl, sym, ap, subst, arith}
+use Rattle.std.proofs.Common.{◌≡◌, ◌∙◌, ◌↔◌, ℕ, zero, suc, ◌<◌, List, [], length, map, None, Result, Ok, Err, Vec, Box, Global, IfOk, IsTrue, refl, sym, ap, subst, arith}
 use Rattle.std.specs.Ordering.{nat_cmp}
 use Rattle.std.specs.declared.sync.Arc.{Arc}
 use Rattle.std.specs.FinSet.{FinSet, contains, empty}
@@ -16,7 +16,7 @@ use Rattle.desk_core.specs.declared.asked.Asked.{Asked}
 use Rattle.desk_core.specs.declared.events.Standing.{Standing}
 use Rattle.desk_core.specs.declared.events.Standing.TheVariants as standing
 use Rattle.desk_core.specs.declared.stage.Stage.{Stage}
-use Rattle.desk_core.specs.declared.stage.Stage.TheVariants.{Tested}
+use Rattle.desk_core.specs.declared.stage.Stage.TheVariants.{Trying, Tested}
 use Rattle.drafts.specs.Applied.{set_of}
 use Rattle.desk_core.specs.Trials.{TrialData, names_of}
 use Rattle.desk_core.specs.Findings.{IsTested}
@@ -55,6 +55,13 @@ tested-stage outcome stage set members found brought is so same =
     let tested = tested-tested outcome set members found (subst (λ (s : Stage). IsStage outcome s) is so) in
     subst (λ (xs : List Asked). IsTestedOn outcome xs) (sym (ap (λ (s : Stage). found_of s) is) ∙ same) tested
 
+-- a trial that goes on is one of what the changes come to, with the findings that were brought
+pub trying-stage : (outcome : Result (List Owned) Refusal) (stage : Stage) (trial : Box TrialData Global) (now : TrialData) (brought : List Asked) → stage ≡ Trying trial → now ≡ trial.value → IsStage outcome stage → found_of stage ≡ brought → IsTrialOn outcome now × (now.found ≡ brought)
+trying-stage outcome stage trial now brought is at so same = (
+  subst (λ (t : TrialData). IsTrialOn outcome t) (sym at) (subst (λ (s : Stage). IsStage outcome s) is so),
+  ap (λ (t : TrialData). t.found) at ∙ sym (ap (λ (s : Stage). found_of s) is) ∙ same,
+)
+
 pub trying-rest : (outcome : Result (List Owned) Refusal) (trial : TrialData) (set : Arc (List Task) Global) (members : FinSet nat_cmp) (found : Vec Asked Global) → IsTrialOn outcome trial → set.value ≡ trial.set → IsTested trial.set trial.found → IsShown trial.set (names_of trial.set members) → found.items ≡ trial.found
     → IsStage outcome (Tested set members found)
 trying-rest (Err refusal) trial set members found so of_set tested shown same = absurd so
@@ -76,9 +83,9 @@ tested-standing (Ok tasks) set members found before (Ok standing.NoSuchDraft) so
 tested-standing (Ok tasks) set members found before (Ok standing.Untestable) so same is = absurd is
 
 -- a draft that is tested asks nothing
-pub tested-unasked : (outcome : Result (List Owned) Refusal) (found before : List Asked) (name : List ℕ) → IsTestedOn outcome found → found ≡ before → IsQuestionOn outcome before name None
-tested-unasked (Err refusal) found before name tested same = absurd tested
-tested-unasked (Ok tasks) found before name tested same = λ q asked. asked.present.undecided (subst (λ xs. IsTested (set_of tasks) xs) same tested asked.level)
+pub tested-unasked : (outcome : Result (List Owned) Refusal) (found : List Asked) (name : List ℕ) → IsTestedOn outcome found → IsQuestionOn outcome found name None
+tested-unasked (Err refusal) found name tested = absurd tested
+tested-unasked (Ok tasks) found name tested = λ q asked. asked.present.undecided (tested asked.level)
 
 -- ---- a draft without findings asks for one where its changes come to some task
 untested : (U : List Task) → 0 < length U → ¬ IsTested U []

@@ -7,7 +7,7 @@ ghost use Rattle.desk_core.specs.Advances.{IsAdvanced};
 ghost use Rattle.desk_core.specs.Standings.{IsQuestionOf, IsStanding};
 ghost use Rattle.drafts.specs.Machine.{empty_desk, IsLegal, replay, admissions};
 
-use crate::events::{Cause, Event, Reply, Standing};
+use crate::events::{Event, Reply, Standing};
 use crate::slot::Slot;
 use assignment::{AnswerFault, Finding, Question};
 use drafts::{Book, Team};
@@ -101,10 +101,7 @@ impl Core {
         ensures back { IfErr result (λ back. back ≡ sheet) }
     {
         match place_of(&self.drafts, draft) {
-            None => {
-                let cause = Cause::NoSuchDraft;
-                Ok(Reply::Refused { cause })
-            }
+            None => Ok(Reply::no_such_draft()),
             Some(i) => self.drafts[i].put(alloc, sheet),
         }
     }
@@ -115,10 +112,7 @@ impl Core {
         ensures err { OnErr result (self.new ≡ self.old) }
     {
         match place_of(&self.drafts, draft) {
-            None => {
-                let cause = Cause::NoSuchDraft;
-                Ok(Reply::Refused { cause })
-            }
+            None => Ok(Reply::no_such_draft()),
             Some(i) => self.drafts[i].remove(alloc, name),
         }
     }
@@ -130,10 +124,7 @@ impl Core {
         ensures back { IfErr result (λ back. back ≡ finding) }
     {
         match place_of(&self.drafts, draft) {
-            None => {
-                let cause = Cause::NoSuchDraft;
-                Ok(Reply::Refused { cause })
-            }
+            None => Ok(Reply::no_such_draft()),
             Some(i) => self.drafts[i].take(alloc, finding),
         }
     }
@@ -144,10 +135,7 @@ impl Core {
         ensures err { OnErr result (self.new ≡ self.old) }
     {
         match place_of(&self.drafts, draft) {
-            None => {
-                let cause = Cause::NoSuchDraft;
-                Ok(Reply::Refused { cause })
-            }
+            None => Ok(Reply::no_such_draft()),
             Some(i) => self.drafts[i].commit(alloc, &mut self.book),
         }
     }
@@ -157,10 +145,7 @@ impl Core {
         ensures { Happens self.old (Abandon draft) result self.new }
     {
         match place_of(&self.drafts, draft) {
-            None => {
-                let cause = Cause::NoSuchDraft;
-                Reply::Refused { cause }
-            }
+            None => Reply::no_such_draft(),
             Some(i) => self.drafts[i].abandon(),
         }
     }

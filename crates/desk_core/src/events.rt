@@ -1,5 +1,9 @@
 //! What actors ask of the core, and what it answers.
 
+ghost use Rattle.std.specs.Prelude.{◌≡◌};
+ghost use Rattle.desk_core.specs.declared.events.Cause.TheVariants.{NoSuchDraft};
+ghost use Rattle.desk_core.specs.declared.events.Reply.TheVariants.{Refused};
+
 use assignment::{Finding, Question};
 use drafts::{Entry, Team};
 use std::sync::Arc;
@@ -55,6 +59,16 @@ pub enum Reply {
     Refused {
         cause: Cause,
     },
+}
+
+impl Reply {
+    // The reply where the draft isn't live.
+    pub(crate) fn no_such_draft() -> Reply
+        ensures { result ≡ Refused NoSuchDraft }
+    {
+        let cause = Cause::NoSuchDraft;
+        Reply::Refused { cause }
+    }
 }
 
 /// Where a draft stands.

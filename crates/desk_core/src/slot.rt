@@ -8,7 +8,7 @@ ghost use Rattle.desk_core.specs.Slots.{IsEditIn, IsFoundIn, IsCommitIn, IsAband
 ghost use Rattle.desk_core.specs.Standings.{IsQuestionOf, IsStanding};
 ghost use Rattle.desk_core.specs.World.{opened};
 
-use crate::events::{Cause, Reply, Standing};
+use crate::events::{Reply, Standing};
 use crate::live::Live;
 use assignment::{AnswerFault, Finding, Question};
 use drafts::{Book, NodeState, Team};
@@ -131,10 +131,7 @@ impl Slot {
         match &mut self.kept {
             SlotContents::Grown { live } => live.put(sheet),
             SlotContents::Opened { .. } => unreachable!(),
-            SlotContents::Nothing => {
-                let cause = Cause::NoSuchDraft;
-                Ok(Reply::Refused { cause })
-            }
+            SlotContents::Nothing => Ok(Reply::no_such_draft()),
         }
     }
 
@@ -148,10 +145,7 @@ impl Slot {
         match &mut self.kept {
             SlotContents::Grown { live } => live.remove(name),
             SlotContents::Opened { .. } => unreachable!(),
-            SlotContents::Nothing => {
-                let cause = Cause::NoSuchDraft;
-                Ok(Reply::Refused { cause })
-            }
+            SlotContents::Nothing => Ok(Reply::no_such_draft()),
         }
     }
 
@@ -167,10 +161,7 @@ impl Slot {
         match &mut self.kept {
             SlotContents::Grown { live } => live.take(alloc, finding),
             SlotContents::Opened { .. } => unreachable!(),
-            SlotContents::Nothing => {
-                let cause = Cause::NoSuchDraft;
-                Ok(Reply::Refused { cause })
-            }
+            SlotContents::Nothing => Ok(Reply::no_such_draft()),
         }
     }
 
@@ -193,9 +184,7 @@ impl Slot {
         ensures gone { self.new ≡ None }
     {
         match mem::replace(&mut self.kept, SlotContents::Nothing) {
-            SlotContents::Nothing => Reply::Refused {
-                cause: Cause::NoSuchDraft,
-            },
+            SlotContents::Nothing => Reply::no_such_draft(),
             _ => Reply::Done,
         }
     }
@@ -211,10 +200,7 @@ impl Slot {
         let live = match &mut self.kept {
             SlotContents::Grown { live } => live,
             SlotContents::Opened { .. } => unreachable!(),
-            SlotContents::Nothing => {
-                let cause = Cause::NoSuchDraft;
-                return Ok(Reply::Refused { cause });
-            }
+            SlotContents::Nothing => return Ok(Reply::no_such_draft()),
         };
         let version = book.state().version();
         if live.draft().base_version() < version && live.is_tested(alloc)? {

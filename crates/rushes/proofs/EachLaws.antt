@@ -1,5 +1,5 @@
 -- Two lists, place by place.
-use Rattle.std.proofs.Common.{◌≡◌, ◌∙◌, List, [], ◌∷◌, ◌++◌, length, arith, ap, sym, append_assoc}
+use Rattle.std.proofs.Common.{◌≡◌, ◌≤◌, ◌+◌, ◌∙◌, ℕ, List, [], ◌∷◌, ◌++◌, length, arith, ap, sym, append_assoc}
 use Rattle.std.proofs.lemmas.List.{append-nil}
 use Rattle.rushes.specs.Starts.{Each}
 
@@ -20,11 +20,23 @@ Each-joined R S E [] [] (z ∷ zs) step one two = absurd two
 Each-joined R S E (x ∷ xs) (y ∷ ys) [] step one two = absurd two
 
 -- ---- a list that is worked off
--- one item more was taken
-pub taken : {X : Type 0} (done rest all left : List X) (x : X) → rest ≡ x ∷ left → done ++ rest ≡ all → (done ++ x ∷ []) ++ left ≡ all
-taken done rest all left x next is = append_assoc done (x ∷ []) left ∙ ap (λ xs. done ++ xs) (sym next) ∙ is
+-- of all items these are done and these are left, so many; and there is room for one thing more for each of them
+pub record WorkedOff {X : Type 0} (done left all : List X) (count made space : ℕ) : Type 0 where
+  pub counted : length left ≡ count
+  pub room : made + count ≤ space
+  pub rest : done ++ left ≡ all
+
+-- one item more is done, and one thing made of it
+pub one_more : {X : Type 0} (done left next all : List X) (x : X) (m n made more space still : ℕ) → WorkedOff done left all m made space → (left ≡ x ∷ next) × (n + 1 ≡ m) → more ≡ made + 1 → still ≡ space → WorkedOff (done ++ x ∷ []) next all n more still
+one_more done left next all x m n made more space still was step grown same =
+    let fewer = ap length step.0 in
+    record {
+      counted = omega (arith, fewer, step.1, was.counted);
+      room = omega (arith, grown, same, step.1, was.room);
+      rest = append_assoc done (x ∷ []) next ∙ ap (λ xs. done ++ xs) (sym step.0) ∙ was.rest;
+    }
 
 -- nothing is left
-pub worked_off : {X : Type 0} (done rest all : List X) → length rest ≡ 0 → done ++ rest ≡ all → done ≡ all
-worked_off done [] all none is = sym (append-nil done) ∙ is
-worked_off done (x ∷ rest) all none is = absurd (omega arith)
+pub all_done : {X : Type 0} (done left all : List X) (count made space : ℕ) → WorkedOff done left all count made space → count ≡ 0 → done ≡ all
+all_done done [] all count made space was none = sym (append-nil done) ∙ was.rest
+all_done done (x ∷ left) all count made space was none = absurd (omega (arith, was.counted))

@@ -1,10 +1,11 @@
 //! Where a team keeps one of its drafts.
 ghost use Rattle.std.specs.Prelude.{◌≡◌, ◌↔◌, IfOk, OnOk, IsTrue, IsSome, ℕ, None, Some, option_map, Option};
 ghost use Rattle.drafts.specs.Changes.{after_put, after_remove, Draft};
+ghost use Rattle.drafts.specs.declared.draft.EditCause.TheVariants.{Refused};
 ghost use Rattle.rushes.specs.Hands.{edited, refused};
 ghost use Rattle.rushes.specs.HandFields.{IsOfTeam};
 
-use drafts::{Draft, EditCause, EditRefusal, PutFault};
+use drafts::{Draft, EditCause, EditRefusal};
 use std::alloc::{AllocError, Global};
 use std::marker::Model;
 use task_sheet::{Name, Sheet};
@@ -20,6 +21,16 @@ impl Model for DraftSlot {
     ghost Value = { Option Draft };
 
     ghost view = { λ s. option_map (λ b. b.value) s.draft };
+}
+
+// The refusal for which an edit was not made; the error is want of memory.
+fn refusal_of(cause: EditCause) -> Result<EditRefusal, AllocError>
+    ensures { IfOk result (λ refusal. cause ≡ Refused refusal) }
+{
+    match cause {
+        EditCause::Refused { refusal } => Ok(refusal),
+        EditCause::OutOfMemory => Err(AllocError),
+    }
 }
 
 impl DraftSlot {
@@ -67,18 +78,7 @@ impl DraftSlot {
         };
         match draft.put(sheet) {
             Ok(()) => Ok(None),
-            Err(
-                PutFault {
-                    cause: EditCause::Refused { refusal },
-                    sheet: _,
-                },
-            ) => Ok(Some(refusal)),
-            Err(
-                PutFault {
-                    cause: EditCause::OutOfMemory,
-                    sheet: _,
-                },
-            ) => Err(AllocError),
+            Err(fault) => Ok(Some(refusal_of(fault.cause)?)),
         }
     }
 
@@ -95,8 +95,7 @@ impl DraftSlot {
         };
         match draft.remove(name) {
             Ok(()) => Ok(None),
-            Err(EditCause::Refused { refusal }) => Ok(Some(refusal)),
-            Err(EditCause::OutOfMemory) => Err(AllocError),
+            Err(cause) => Ok(Some(refusal_of(cause)?)),
         }
     }
 }

@@ -18,20 +18,11 @@ use std::thread::{Promise, PromisedHandle, Scope, Threads};
 pub(crate) type Ended<L> = Result<Hand<L>, RushFault>;
 
 /// What a thread gives back is what the lines made of this pass.
+#[derive(Drop)]
 pub(crate) struct TeamPromise<'a, L: Ledger> {
     lines: &'a [Line],
     pass: Snapshot<Pass<L>>,
     workers: usize,
-}
-
-impl<'a, L: Ledger> Drop for TeamPromise<'a, L> {
-    fn drop(self) {
-        let TeamPromise {
-            lines: _,
-            pass: _,
-            workers: _,
-        } = self;
-    }
 }
 
 impl<'a, L: Ledger> Promise<Result<Hand<L>, RushFault>> for TeamPromise<'a, L> {

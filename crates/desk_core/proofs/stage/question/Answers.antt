@@ -1,13 +1,10 @@
-use Rattle.std.proofs.Common.{◌∙◌, sym, ap, subst}
-use Rattle.desk_core.specs.declared.stage.Stage.{Stage}
 use Rattle.drafts.specs.Changes.{on_base}
-use Rattle.desk_core.specs.Stages.{found_of, IsStage}
-use Rattle.desk_core.proofs.StageLaws.{tested-tested, tested-unasked}
+use Rattle.desk_core.specs.Stages.{found_of}
+use Rattle.desk_core.proofs.StageLaws.{tested-stage, tested-unasked}
 use Rattle.desk_core.proofs.stage.question.Goals as goal
 
 pub returns-in-Tested-clause-ok : goal.returns-in-Tested-clause-ok
 returns-in-Tested-clause-ok c =
     let outcome = on_base c.args.draft.now in
-    let so = subst (λ (s : Stage). IsStage outcome s) c.in-Tested.is c.begin.ensures.kept in
-    let same = sym (ap (λ (s : Stage). found_of s) c.in-Tested.is) ∙ c.begin.ensures.found in
-    tested-unasked outcome c.in-Tested.found.items (found_of c.args.stage.now) c.args.name (tested-tested outcome c.in-Tested.set c.in-Tested.members c.in-Tested.found so) same
+    let found = found_of c.args.stage.now in
+    tested-unasked outcome found c.args.name (tested-stage outcome c.begin.new.stage c.in-Tested.set c.in-Tested.members c.in-Tested.found found c.in-Tested.is c.begin.ensures.kept c.begin.ensures.found)

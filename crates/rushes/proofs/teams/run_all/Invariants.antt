@@ -1,16 +1,15 @@
-use Rattle.std.proofs.Common.{◌≡◌, ◌≤◌, ◌+◌, ◌++◌, [], length, vec_len}
+use Rattle.std.proofs.Common.{◌≡◌, ◌≤◌, [], vec_len}
 use Rattle.std.specs.Prelude.{IfOk, IfErr, vec_capacity}
 use Rattle.std.specs.Vec.Iter.{into_iter_items, into_iter_len}
 use Rattle.rushes.specs.Starts.{Each, IsEnd}
+use Rattle.rushes.proofs.EachLaws.{WorkedOff}
 use Rattle.rushes.proofs.teams.run_all.Given as goal
 
 -- a team is started for each pass that was taken
 abbrev pub invariant-loop-pass : goal.invariant-loop-pass
 invariant-loop-pass g l = record {
-  counted : length (into_iter_items l.pass-iterator) ≡ into_iter_len l.pass-iterator;
-  room : vec_len l.all + into_iter_len l.pass-iterator ≤ vec_capacity l.all;
+  work : WorkedOff l.yielded (into_iter_items l.pass-iterator) l.fn.passes.items (into_iter_len l.pass-iterator) (vec_len l.all) (vec_capacity l.all);
   empty : l.room.items ≡ [];
   kept : vec_capacity l.all ≤ vec_capacity l.room;
-  rest : l.yielded ++ into_iter_items l.pass-iterator ≡ l.fn.passes.items;
   started : Each (λ started pass. IfOk started (λ h. (h.promise.lines.now ≡ l.lines) × (h.promise.workers ≡ l.workers) × (h.promise.pass.value ≡ pass)) × IfErr started (λ ended. IsEnd l.workers l.lines pass ended)) l.all.items l.yielded;
 }
