@@ -22,16 +22,6 @@ pub enum DrawFault {
     WriteFailed,
 }
 
-impl From<AllocError> for DrawFault {
-    ghost use Rattle.picture.specs.declared.document.DrawFault.TheVariants.{OutOfMemory};
-
-    ghost from_gives = { λ _ fault. fault ≡ OutOfMemory };
-
-    fn from(_: AllocError) -> DrawFault {
-        DrawFault::OutOfMemory
-    }
-}
-
 // A count for each of so many jobs, which is 0.
 fn no_ticks(alloc: Global, jobs: usize) -> Result<Vec<u64>, AllocError>
     ensures { IfOk result (λ ticks. (length ticks.items ≡ jobs)
@@ -105,7 +95,7 @@ pub fn draw<W: Write + Drop>(
     ensures failed { result ≡ Err DrawFault.WriteFailed → output.new.has_failed ≡ true }
     ensures memory { result ≡ Err DrawFault.OutOfMemory → output.new ≡ output.old }
 {
-    let mut executed = no_ticks(alloc, trace.jobs.len())?;
+    let mut executed = no_ticks(alloc, trace.jobs.len()).map_err(|_| DrawFault::OutOfMemory)?;
     match put_all(rows, until, releases, trace, &mut executed, output) {
         Ok(()) => Ok(()),
         Err(_) => Err(DrawFault::WriteFailed),

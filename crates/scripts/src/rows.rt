@@ -27,21 +27,31 @@ fn late(sheet: Sheet, jitter: u64) -> Result<Sheet, RowFault>
     }
 }
 
-// The sheet of these values and sections, of which the first `KEPT` are given.
-fn valid(
+// The values that every sheet has.
+#[derive(Clone, Copy)]
+struct Values {
     name: Name,
     weight: u64,
     period: u64,
     deadline: u64,
     cost: u64,
-    sections: Vec<Section>,
-) -> Result<Sheet, RowFault>
+}
+
+// The sheet of these values and sections, of which the first `KEPT` are given.
+fn valid(values: Values, sections: Vec<Section>) -> Result<Sheet, RowFault>
     ensures gives { (all : List CriticalSection) → sections.items ≡ take KEPT all
-        → let task = task_of name weight period deadline cost all in
+        → let task = task_of values.name values.weight values.period values.deadline values.cost all in
         GivesRow (λ x. x) result (valid (sheet_fault task) task) }
-    ensures named { IfOk result (λ sheet. sheet.name ≡ name) }
+    ensures named { IfOk result (λ sheet. sheet.name ≡ values.name) }
 {
-    match Sheet::new(name, weight, period, deadline, cost, sections) {
+    match Sheet::new(
+        values.name,
+        values.weight,
+        values.period,
+        values.deadline,
+        values.cost,
+        sections,
+    ) {
         Ok(sheet) => Ok(sheet),
         Err(SheetFault { cause, sections: _ }) => Err(RowFault::Sheet { cause }),
     }
@@ -49,20 +59,13 @@ fn valid(
 
 // The sheet of these values and of the sections that are left.
 #[tactic(auto, unfolding(crate::specs::Rows::made_in))]
-fn made_of(
-    alloc: Global,
-    words: &mut Words<'_>,
-    name: Name,
-    weight: u64,
-    period: u64,
-    deadline: u64,
-    cost: u64,
-) -> Result<Sheet, RowFault>
-    ensures gives { GivesRow (λ x. x) result (made_in name weight period deadline cost words.old) }
-    ensures named { IfOk result (λ sheet. sheet.name ≡ name) }
+fn made_of(alloc: Global, words: &mut Words<'_>, values: Values) -> Result<Sheet, RowFault>
+    ensures gives { GivesRow (λ x. x) result (made_in values.name values.weight values.period
+        values.deadline values.cost words.old) }
+    ensures named { IfOk result (λ sheet. sheet.name ≡ values.name) }
 {
     let sections = sections_of(alloc, words)?;
-    valid(name, weight, period, deadline, cost, sections)
+    valid(values, sections)
 }
 
 // The sheet of the values that are left.
@@ -70,14 +73,16 @@ fn made_of(
 fn sheet_of(alloc: Global, words: &mut Words<'_>) -> Result<Sheet, RowFault>
     ensures { GivesRow (λ x. x) result (sheet_in words.old) }
 {
-    let name = next_name(words)?;
-    let weight = next_number(words)?;
-    let period = next_number(words)?;
-    let deadline = next_number(words)?;
-    let cost = next_number(words)?;
+    let values = Values {
+        name: next_name(words)?,
+        weight: next_number(words)?,
+        period: next_number(words)?,
+        deadline: next_number(words)?,
+        cost: next_number(words)?,
+    };
     let jitter = number_or_zero(next_field(b"j", words))?;
     let names = names_or_none(alloc, next_field(b"over", words))?;
-    let sheet = made_of(alloc, words, name, weight, period, deadline, cost)?;
+    let sheet = made_of(alloc, words, values)?;
     let sheet = late(sheet, jitter)?;
     match sheet.outranking(names) {
         Ok(sheet) => Ok(sheet),

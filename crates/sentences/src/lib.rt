@@ -9,6 +9,7 @@ mod records;
 mod sets;
 mod shown;
 mod texts;
+mod told;
 mod tree;
 mod values;
 

@@ -1,6 +1,7 @@
 //! Why a text is no release list or no settings of a set.
 
 use crate::texts::{is_skipped, line_at, push_line, push_unseen, word_at};
+use crate::told::told;
 use ceiling_kernel::{HORIZON, RELEASE_LIMIT, RunFault};
 use judge::SettingsFault;
 use lines::number_of;
@@ -11,28 +12,36 @@ use task_sheet::Name;
 
 /// What a person is told of a line that a release list doesn't have; none where memory is wanting.
 pub fn of_release_line(alloc: Global, bytes: &[u8], line: u64) -> Option<String> {
-    let mut text = String::new(alloc);
-    match push_release_line(&mut text, bytes, line) {
-        Ok(()) => Some(text),
-        Err(_) => None,
-    }
+    told(alloc, |text| push_release_line(text, bytes, line))
 }
 
-// The number of the first line that isn't skipped.
-fn first_line(bytes: &[u8]) -> Option<u64> {
+// The number of the first line of which it holds, of those that aren't skipped.
+fn first_line<F: FnMut(&[u8]) -> bool>(bytes: &[u8], mut holds: F) -> Option<u64>
+    requires { F.IsAlwaysCallable holds }
+{
     let mut number = 0u64;
     for line in bytes.split(|byte| *byte == b'\n') {
         number = number.saturating_add(1);
-        if !is_skipped(line) {
+        if !is_skipped(line) && holds(line) {
             return Some(number);
         }
     }
     None
 }
 
+// The number of the line of a place among those that aren't skipped; the line until has place 0.
+fn line_of_place(bytes: &[u8], place: usize) -> Option<u64> {
+    let mut left = place;
+    first_line(bytes, |_| {
+        let is_here = left == 0;
+        left = left.saturating_sub(1);
+        is_here
+    })
+}
+
 // A line that a release list doesn't have at its place.
 fn push_release_line(text: &mut String, bytes: &[u8], line: u64) -> Result<(), AllocError> {
-    match first_line(bytes) {
+    match line_of_place(bytes, 0) {
         None => text.push_str("there is no line until N"),
         Some(first) if first == line => {
             push_line(text, bytes, line)?;
@@ -49,11 +58,7 @@ fn push_release_line(text: &mut String, bytes: &[u8], line: u64) -> Result<(), A
 
 /// What a person is told of why a release list wasn't run; none where memory is wanting.
 pub fn of_run(alloc: Global, bytes: &[u8], fault: RunFault) -> Option<String> {
-    let mut text = String::new(alloc);
-    match push_run_fault(&mut text, bytes, fault) {
-        Ok(()) => Some(text),
-        Err(_) => None,
-    }
+    told(alloc, |text| push_run_fault(text, bytes, fault))
 }
 
 // Why the list wasn't run.
@@ -89,22 +94,6 @@ fn push_run_fault(text: &mut String, bytes: &[u8], fault: RunFault) -> Result<()
     }
 }
 
-// The number of the line of a place among those that aren't skipped; the line until has place 0.
-fn line_of_place(bytes: &[u8], place: usize) -> Option<u64> {
-    let mut number = 0u64;
-    let mut left = place;
-    for line in bytes.split(|byte| *byte == b'\n') {
-        number = number.saturating_add(1);
-        if !is_skipped(line) {
-            if left == 0 {
-                return Some(number);
-            }
-            left -= 1;
-        }
-    }
-    None
-}
-
 // A release with its line, and what is wrong with it.
 fn push_release(
     text: &mut String,
@@ -137,18 +126,12 @@ fn until_of(bytes: &[u8]) -> u64 {
 
 // The number of the first line of a release that becomes ready at a time or after it.
 fn line_ready_at(bytes: &[u8], until: u64) -> Option<u64> {
-    let mut number = 0u64;
     let mut is_release = false;
-    for line in bytes.split(|byte| *byte == b'\n') {
-        number = number.saturating_add(1);
-        if !is_skipped(line) {
-            if is_release && time_at(line, 0).saturating_add(time_at(line, 2)) >= until {
-                return Some(number);
-            }
-            is_release = true;
-        }
-    }
-    None
+    first_line(bytes, |line| {
+        let is_ready = is_release && time_at(line, 0).saturating_add(time_at(line, 2)) >= until;
+        is_release = true;
+        is_ready
+    })
 }
 
 // The end is too late, or a release is past it.
@@ -168,11 +151,7 @@ fn push_horizon(text: &mut String, bytes: &[u8]) -> Result<(), AllocError> {
 
 /// What a person is told of a fault of settings; none where memory is wanting.
 pub fn of_settings(alloc: Global, bytes: &[u8], fault: SettingsFault) -> Option<String> {
-    let mut text = String::new(alloc);
-    match push_settings_fault(&mut text, bytes, fault) {
-        Ok(()) => Some(text),
-        Err(_) => None,
-    }
+    told(alloc, |text| push_settings_fault(text, bytes, fault))
 }
 
 // What is wrong with the settings.
@@ -230,14 +209,9 @@ fn push_settings_line(text: &mut String, bytes: &[u8], line: u64) -> Result<(), 
 
 // The number of the line of a lock's mutex.
 fn line_of_mutex(bytes: &[u8], lock: &Name) -> Option<u64> {
-    let mut number = 0u64;
-    for line in bytes.split(|byte| *byte == b'\n') {
-        number = number.saturating_add(1);
-        if word_at(line, 0) == Some(b"mutex") && word_at(line, 1) == Some(lock.bytes()) {
-            return Some(number);
-        }
-    }
-    None
+    first_line(bytes, |line| {
+        word_at(line, 0) == Some(b"mutex") && word_at(line, 1) == Some(lock.bytes())
+    })
 }
 
 // A mutex that isn't at its ceiling.

@@ -2,8 +2,9 @@
 
 use crate::causes::{push_cause, push_jitter};
 use crate::sets::section_of;
-use crate::shown::push_bytes;
+use crate::shown::push_behind;
 use crate::texts::{line_at, push_line, push_unseen, word_at};
+use crate::told::told;
 use crate::values::{Numbers, Span, end_of, no_span};
 use lines::{cut, number_of};
 use scripts::ScriptFault;
@@ -15,11 +16,7 @@ const BEHIND_COST: usize = 7;
 
 /// What a person is told of a script's fault; none where memory is wanting.
 pub fn of_script(alloc: Global, bytes: &[u8], fault: ScriptFault) -> Option<String> {
-    let mut text = String::new(alloc);
-    match push_fault(&mut text, bytes, fault) {
-        Ok(()) => Some(text),
-        Err(_) => None,
-    }
+    told(alloc, |text| push_fault(text, bytes, fault))
 }
 
 // What is wrong with a line.
@@ -194,14 +191,8 @@ fn push_sheet(
 
 // The section that a cause names, as it stands in the line.
 fn push_section(text: &mut String, put: &[u8], cause: SheetCause) -> Result<(), AllocError> {
-    let Some(place) = section_of(cause) else {
-        return Ok(());
-    };
-    match section_at(put, place) {
-        Some(section) => {
-            text.push_str(", in ")?;
-            push_bytes(text, section)
-        }
+    match section_of(cause) {
+        Some(place) => push_behind(text, ", in ", section_at(put, place)),
         None => Ok(()),
     }
 }

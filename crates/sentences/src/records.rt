@@ -1,7 +1,8 @@
 //! Why a text is no certificate, or doesn't show what it says.
 
-use crate::shown::push_bytes;
+use crate::shown::push_behind;
 use crate::texts::{line_at, push_line, push_unseen};
+use crate::told::told;
 use cert_checker::CheckFault;
 use certificate::CertFault;
 use std::alloc::{AllocError, Global};
@@ -9,11 +10,7 @@ use task_sheet::Name;
 
 /// What a person is told of a fault of a certificate's text; none where memory is wanting.
 pub fn of_certificate(alloc: Global, bytes: &[u8], fault: CertFault) -> Option<String> {
-    let mut text = String::new(alloc);
-    match push_text_fault(&mut text, bytes, fault) {
-        Ok(()) => Some(text),
-        Err(_) => None,
-    }
+    told(alloc, |text| push_text_fault(text, bytes, fault))
 }
 
 // What is wrong with the text.
@@ -34,10 +31,7 @@ fn push_text_fault(text: &mut String, bytes: &[u8], fault: CertFault) -> Result<
 // The first line, which is no head.
 fn push_head(text: &mut String, bytes: &[u8]) -> Result<(), AllocError> {
     text.push_str("line 1 has to be desk-certificate 1 or desk-certificate 2")?;
-    if let Some(line) = line_at(bytes, 1) {
-        text.push_str("; it is ")?;
-        push_bytes(text, line)?;
-    }
+    push_behind(text, "; it is ", line_at(bytes, 1))?;
     push_unseen(text, bytes, 1)
 }
 
@@ -54,11 +48,7 @@ fn push_bad_line(text: &mut String, bytes: &[u8], line: u64) -> Result<(), Alloc
 
 /// What a person is told of what a certificate fails to show; none where memory is wanting.
 pub fn of_check(alloc: Global, fault: CheckFault) -> Option<String> {
-    let mut text = String::new(alloc);
-    match push_check_fault(&mut text, fault) {
-        Ok(()) => Some(text),
-        Err(_) => None,
-    }
+    told(alloc, |text| push_check_fault(text, fault))
 }
 
 // What the certificate fails to show.

@@ -1,8 +1,9 @@
 //! Why a document is no task set.
 
 use crate::causes::{push_cause, push_jitter};
-use crate::shown::{push_bytes, push_shown};
+use crate::shown::{push_behind, push_shown};
 use crate::texts::line_at;
+use crate::told::told;
 use crate::tree::{
     bad_name_in, items_at, place_of_name, push_place, repeated_in, table_of, text_at, unknown_key,
 };
@@ -19,12 +20,11 @@ pub fn of_set(alloc: Global, bytes: &[u8], fault: SetFault) -> Option<String> {
     if fault == SetFault::OutOfMemory {
         return None;
     }
-    let said = match toml::table_from_slice(alloc, bytes) {
-        Ok(root) => of_tree(alloc, &root, fault),
-        Err(error) if error.is_memory() => return None,
-        Err(error) => of_syntax(alloc, bytes, &error),
-    };
-    said.ok()
+    match toml::table_from_slice(alloc, bytes) {
+        Ok(root) => told(alloc, |text| push_tree(text, &root, fault)),
+        Err(error) if error.is_memory() => None,
+        Err(error) => told(alloc, |text| push_syntax(text, bytes, &error)),
+    }
 }
 
 // The line and the column, from 1, behind so many bytes. A column counts characters.
@@ -43,28 +43,21 @@ fn position(bytes: &[u8], count: usize) -> (u64, u64) {
 }
 
 // What the parser says, and where, with the line.
-fn of_syntax(alloc: Global, bytes: &[u8], error: &toml::de::Error) -> Result<String, AllocError> {
-    let mut text = String::new(alloc);
+fn push_syntax(text: &mut String, bytes: &[u8], error: &toml::de::Error) -> Result<(), AllocError> {
     let Some(span) = error.span() else {
         return Err(AllocError);
     };
     let (line, column) = position(bytes, span.start);
     write!(text, "line {line}, column {column}: ")?;
     text.push_str(error.message())?;
-    if let Some(shown) = line_at(bytes, line) {
-        text.push_str(", in ")?;
-        push_bytes(&mut text, shown)?;
-    }
-    Ok(text)
+    push_behind(text, ", in ", line_at(bytes, line))
 }
 
 // What the tree of a document shows of a fault.
-fn of_tree(alloc: Global, root: &Table, fault: SetFault) -> Result<String, AllocError> {
-    let mut text = String::new(alloc);
+fn push_tree(text: &mut String, root: &Table, fault: SetFault) -> Result<(), AllocError> {
     let (task, section) = place_of(fault);
-    push_place(&mut text, root, task, section)?;
-    push_fault(&mut text, root, fault)?;
-    Ok(text)
+    push_place(text, root, task, section)?;
+    push_fault(text, root, fault)
 }
 
 // The task and the section that a fault names, from 1; a sheet's cause names its section itself.

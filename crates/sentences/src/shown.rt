@@ -33,14 +33,29 @@ pub(crate) fn push_shown(text: &mut String, foreign: &str) -> Result<(), AllocEr
     Ok(())
 }
 
-/// Bytes in quotes, cut where they are long. Of bytes that are no text those of ASCII are shown.
-pub(crate) fn push_bytes(text: &mut String, foreign: &[u8]) -> Result<(), AllocError> {
+// Bytes in quotes, cut where they are long. Of bytes that are no text those of ASCII are shown.
+fn push_bytes(text: &mut String, foreign: &[u8]) -> Result<(), AllocError> {
     text.push_str("\"")?;
     match std::str::from_utf8(foreign) {
         Ok(foreign) => push_shown(text, foreign)?,
         Err(_) => push_ascii(text, foreign)?,
     }
     text.push_str("\"")
+}
+
+/// The same behind some words, where there are such bytes.
+pub(crate) fn push_behind(
+    text: &mut String,
+    words: &str,
+    foreign: Option<&[u8]>,
+) -> Result<(), AllocError> {
+    match foreign {
+        Some(foreign) => {
+            text.push_str(words)?;
+            push_bytes(text, foreign)
+        }
+        None => Ok(()),
+    }
 }
 
 // The bytes of ASCII, with `?` for each other one, cut where they are many.

@@ -1,6 +1,6 @@
 //! The lines of a text, as a sentence shows them.
 
-use crate::shown::push_bytes;
+use crate::shown::push_behind;
 use std::alloc::AllocError;
 
 /// The line of a number, from 1, without its LF.
@@ -46,13 +46,7 @@ fn has_empty_word(line: &[u8]) -> bool {
 /// A line of a text, with its number.
 pub(crate) fn push_line(text: &mut String, bytes: &[u8], number: u64) -> Result<(), AllocError> {
     write!(text, "line {number}")?;
-    match line_at(bytes, number) {
-        Some(line) => {
-            text.push_str(", ")?;
-            push_bytes(text, line)
-        }
-        None => Ok(()),
-    }
+    push_behind(text, ", ", line_at(bytes, number))
 }
 
 /// A slip that the eye misses in a line of a text.

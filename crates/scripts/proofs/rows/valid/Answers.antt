@@ -6,7 +6,8 @@ use Rattle.scripts.proofs.rows.valid.Goals as goal
 
 pub returns-clause-gives : goal.returns-clause-gives
 returns-clause-gives c = λ all kept.
-    let fault = sym (first_sections c.args.name c.args.weight c.args.period c.args.deadline c.args.cost all)
-    ∙ ap (λ (xs : List CriticalSection). sheet_fault (task_of c.args.name c.args.weight c.args.period c.args.deadline c.args.cost xs)) (sym kept)
+    let v = c.args.values in
+    let fault = sym (first_sections v.name v.weight v.period v.deadline v.cost all)
+    ∙ ap (λ (xs : List CriticalSection). sheet_fault (task_of v.name v.weight v.period v.deadline v.cost xs)) (sym kept)
     ∙ c.in-Err.ensures.err in
     rw fault
