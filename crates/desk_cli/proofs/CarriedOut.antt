@@ -1,6 +1,6 @@
 -- What became of a command, from what became of its inputs and of what it printed.
 use Rattle.std.proofs.Common.{◌≡◌, ◌∙◌, ◌++◌, ℕ, List, Bool, true, false, Option, Ok, Err, inl, inr, refl, sym, ap, subst}
-use Rattle.std.specs.Prelude.{if◌then◌else◌}
+use Rattle.std.specs.Prelude.{if◌then◌else◌, IfOk, MatchResult, Result}
 use Rattle.std.proofs.KnownBytes.{Appends-trans}
 use Rattle.std.proofs.lemmas.Bool.{true≢false}
 use Rattle.std.specs.Io.KnownBytes.{Appends}
@@ -82,11 +82,29 @@ pub wanting : {W : Type 0} {says : Option (List ℕ) → Option (List ℕ) → S
     → IsSaidOn says holds old new s
 wanting told tells = shown told refl refl (λ is. cc) tells
 
+-- a refusal is said, which is none of a failed read
+pub refusal_said : {W : Type 0} {says : Option (List ℕ) → Option (List ℕ) → Status → Type 0} {holds : W → Option (List ℕ)} {old new : WatchedData W} {s : Status}
+    (r : CommandRefusal) (Why : CommandRefusal → Type 0) → Why r → (Why failed_read → ⊥)
+    → IsPrintedOn holds old new (refusal_line r) (status_of r) s
+    → (Appends (holds old.inner) (holds new.inner) (refusal_line r) → s ≡ status_of r → says (holds old.inner) (holds new.inner) s)
+    → IsSaidOn says holds old new s
+refusal_said r Why why never told tells = shown told refl refl (λ is. never (subst Why (failed_by r is) why)) tells
+
 -- what is said is another thing said
 pub said_as : {W : Type 0} {says says' : Option (List ℕ) → Option (List ℕ) → Status → Type 0} {holds : W → Option (List ℕ)} {old new : WatchedData W} {s : Status}
     → IsSaidOn says holds old new s → (says (holds old.inner) (holds new.inner) s → says' (holds old.inner) (holds new.inner) s)
     → IsSaidOn says' holds old new s
 said_as told tells = record { printed = λ sound. tells (told.printed sound); failed = told.failed; unwritten = told.unwritten }
+
+-- what is said of a text is said, by what the text was made to hold; or that there was no memory for it
+pub made_said : {T E W : Type 0} {says : Option (List ℕ) → Option (List ℕ) → Status → Type 0} {holds : W → Option (List ℕ)} {old new : WatchedData W} {s : Status}
+    (r : Result T E) {Q : T → Type 0} {Wrote : T → Option (List ℕ) → Option (List ℕ) → Status → Type 0} {Wants : Option (List ℕ) → Option (List ℕ) → Status → Type 0}
+    → IfOk r Q → IsSaidOn (λ before after t. MatchResult r (λ x. Wrote x before after t) (λ _. Wants before after t)) holds old new s
+    → ((x : T) → Q x → Wrote x (holds old.inner) (holds new.inner) s → says (holds old.inner) (holds new.inner) s)
+    → (Wants (holds old.inner) (holds new.inner) s → says (holds old.inner) (holds new.inner) s)
+    → IsSaidOn says holds old new s
+made_said (Ok x) made told tells wants = said_as told (λ wrote. tells x made wrote)
+made_said (Err e) made told tells wants = said_as told wants
 
 -- what is said was printed, and the writer's flag stays
 pub said_sound : {W : Type 0} {says : Option (List ℕ) → Option (List ℕ) → Status → Type 0} {holds : W → Option (List ℕ)} {old new : WatchedData W} {s : Status}

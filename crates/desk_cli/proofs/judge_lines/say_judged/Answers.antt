@@ -1,0 +1,34 @@
+use Rattle.std.proofs.Common.{◌≡◌, ◌∙◌, ℕ, List, Ok, Err, inl, inr, ap, sym, subst}
+use Rattle.std.specs.Io.KnownBytes.{Appends}
+use Rattle.judge.specs.declared.judging.JudgedTask.{JudgedTask}
+use Rattle.judge.specs.Lines.{judged_lines}
+use Rattle.desk_cli.specs.Judge.{JudgesText, judged_status}
+use Rattle.desk_cli.specs.declared.refusal.CommandRefusal.{CommandRefusal}
+use Rattle.desk_cli.specs.declared.refusal.CommandRefusal.TheVariants as refusal
+use Rattle.desk_cli.proofs.CarriedOut.{judged_ends, made_said, refusal_said}
+use Rattle.desk_cli.proofs.judge_lines.say_judged.Goals as goal
+
+pub print_made-requires : goal.print_made-requires
+print_made-requires g c = λ is. judged_ends c.in-Ok.judged.items (sym (c.judged_status.ensures ∙ ap judged_status c.deref-2.ensures.value) ∙ is)
+
+-- want of memory for the lines is an answer of its own
+pub returns-in-Ok : goal.returns-in-Ok
+returns-in-Ok g c =
+    let U = c.args.tasks.now in
+    let text = c.args.text.now in
+    let before = g.W.Write.contents c.args.output.now.inner in
+    let after = g.W.Write.contents c.print_made.new.output.inner in
+    let found : JudgesText U text (Ok c.in-Ok.judged) = subst (JudgesText U text) c.in-Ok.is c.judge_text-answer.ensures.answer in
+    let lines = ap (λ (entries : List JudgedTask). judged_lines U entries) c.deref.ensures.value in
+    let status : c.judged_status.result ≡ judged_status c.in-Ok.judged.items = cc in
+    made_said c.judged_text.result c.judged_text.ensures c.print_made.ensures
+    (λ made same wrote. λ preference set other both. (Ok (U, c.in-Ok.judged), (text, both, found), subst (λ (t : List ℕ). Appends before after t) (same ∙ lines) wrote.0, wrote.1 ∙ status))
+    (λ want. λ preference set other both. (Err refusal.OutOfMemory, inl tt, want.0, want.1))
+
+pub returns : goal.returns
+returns g c =
+    let U = c.args.tasks.now in
+    let text = c.args.text.now in
+    let why : JudgesText U text (Err c.in-Err.refusal) = subst (JudgesText U text) c.in-Err.is c.judge_text-answer.ensures.answer in
+    refusal_said c.in-Err.refusal (λ (r : CommandRefusal). JudgesText U text (Err r)) why (λ never. never) c.refuse.ensures
+    (λ wrote is. λ preference set other both. (Err c.in-Err.refusal, inr (U, text, both, why), wrote, is))

@@ -1,0 +1,33 @@
+use Rattle.std.proofs.Common.{◌∙◌, ℕ, List, Option, Ok, Err, sym, subst}
+use Rattle.std.specs.Io.KnownBytes.{Appends}
+use Rattle.desk_cli.specs.Admit.{admit_lines}
+use Rattle.desk_cli.specs.Settings.{settings_of}
+use Rattle.desk_cli.specs.declared.refusal.CommandRefusal.TheVariants as refusal
+use Rattle.desk_cli.proofs.CarriedOut.{made_said, placing_ends, said_as}
+use Rattle.desk_cli.proofs.Headrooms.{admits_placed}
+use Rattle.desk_cli.proofs.Placed.{says_by}
+use Rattle.desk_cli.proofs.of_one.say_placing.Goals as goal
+
+-- what is printed is what the set's verdict says; want of memory for the lines is an answer of its own
+pub returns-in-Admit : goal.returns-in-Admit
+returns-in-Admit g c =
+    rw c.in-Admit.is (made_said c.placing_text.result c.placing_text.ensures c.print_made.ensures
+    (λ text same wrote. λ preference known has. says_by admit_lines preference known _ _ c.args.set.now c.args.placing.now _ _ c.requires.kept (has, c.requires.placing) (λ v says. says.lines ∙ sym same) wrote.0 (wrote.1 ∙ c.placing_status-status.ensures))
+    (λ want. λ preference known has. (Err refusal.OutOfMemory, tt, want.0, want.1)))
+
+pub returns-in-Settings : goal.returns-in-Settings
+returns-in-Settings g c =
+    rw c.in-Settings.is (made_said c.node_text.result c.node_text.ensures c.print_made-in-Settings.ensures
+    (λ text same wrote. λ preference known has. says_by settings_of preference known _ _ c.args.set.now c.args.placing.now _ _ c.requires.kept (has, c.requires.placing) (λ v says. says.settings ∙ sym same) wrote.0 (wrote.1 ∙ c.placing_status-status.ensures))
+    (λ want. λ preference known has. (Err refusal.OutOfMemory, tt, want.0, want.1)))
+
+pub returns-in-Explain : goal.returns-in-Explain
+returns-in-Explain g c =
+    rw c.in-Explain.is (made_said c.explained_text.result c.explained_text.ensures c.print_made-in-Explain.ensures
+    (λ text found wrote. λ preference known has. (Ok (record { set = c.args.set.now; placing = c.args.placing.now; explanation = found.0 }), ((has, c.requires.placing), found.1), subst (λ (t : List ℕ). Appends _ _ t) found.2 wrote.0, wrote.1 ∙ c.placing_status-status.ensures))
+    (λ want. λ preference known has. (Err refusal.OutOfMemory, tt, want.0, want.1)))
+
+pub returns-in-Headroom : goal.returns-in-Headroom
+returns-in-Headroom g c =
+    rw c.in-Headroom.is (said_as c.print_placing.ensures (λ told. λ preference known has.
+    (told.0, told.1, admits_placed preference known c.args.set.now c.args.placing.now (has, c.requires.placing) told.0 told.2, told.3, told.4)))

@@ -1,0 +1,11 @@
+use Rattle.desk_cli.proofs.CarriedOut.{carried_out_on_both, refused_on_both, said_as}
+use Rattle.desk_cli.proofs.Refused.{two_refused}
+use Rattle.desk_cli.proofs.of_two.carry_out_on_both.Goals as goal
+
+pub returns-in-Ok : goal.returns-in-Ok
+returns-in-Ok g c =
+    carried_out_on_both c.in-Ok.ensures.read (said_as c.say_both.ensures (λ told. told c.args.preference _ _ c.in-Ok.ensures.answer))
+
+pub returns : goal.returns
+returns g c =
+    refused_on_both c.in-Err.ensures.read c.refuse.ensures (λ wrote is. two_refused _ _ _ _ wrote is c.args.command c.args.preference _ _ c.in-Err.ensures.answer)
