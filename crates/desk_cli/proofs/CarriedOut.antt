@@ -20,6 +20,7 @@ use Rattle.judge.specs.declared.judging.JudgedTask.{JudgedTask}
 use Rattle.desk_cli.specs.Admit.{placing_status, verdict_status}
 use Rattle.desk_cli.specs.Judge.{judged_status}
 use Rattle.desk_cli.specs.Outcomes.{AreRead, IsCarriedOut, IsCarriedOutOnBoth, IsRead, IsSaidOn, IsPrintedOn, failed_read}
+use Rattle.desk_cli.specs.Printed.{IsPrinted}
 use Rattle.desk_cli.specs.Refusals.{refusal_line, status_of}
 use Rattle.desk_cli.specs.declared.refusal.CommandRefusal.{CommandRefusal}
 use Rattle.desk_cli.specs.declared.refusal.CommandRefusal.TheVariants as refusal
@@ -105,6 +106,14 @@ pub made_said : {T E W : Type 0} {says : Option (List ℕ) → Option (List ℕ)
     → IsSaidOn says holds old new s
 made_said (Ok x) made told tells wants = said_as told (λ wrote. tells x made wrote)
 made_said (Err e) made told tells wants = said_as told wants
+
+-- the same, where the text was made to be these bytes
+pub made_printed : {T E W : Type 0} {holds : W → Option (List ℕ)} {old new : WatchedData W} {s done : Status} (r : Result T E) (bytes : T → List ℕ) (text : List ℕ)
+    → IfOk r (λ x. bytes x ≡ text)
+    → IsSaidOn (λ before after t. MatchResult r (λ x. Appends before after (bytes x) × (t ≡ done)) (λ _. Appends before after (refusal_line refusal.OutOfMemory) × (t ≡ OutOfMemory))) holds old new s
+    → IsSaidOn (λ before after t. IsPrinted before after text done t) holds old new s
+made_printed {holds = holds} {old = old} {new = new} r bytes text made told =
+    made_said r made told (λ x same wrote. inl (subst (λ (t : List ℕ). Appends (holds old.inner) (holds new.inner) t) same wrote.0, wrote.1)) (λ want. inr want)
 
 -- what is said was printed, and the writer's flag stays
 pub said_sound : {W : Type 0} {says : Option (List ℕ) → Option (List ℕ) → Status → Type 0} {holds : W → Option (List ℕ)} {old new : WatchedData W} {s : Status}

@@ -8,5 +8,5 @@ pub returns-in-Ok : goal.returns-in-Ok
 returns-in-Ok g c =
     shown c.print_certificate.ensures (ap (λ (k : Cert). spelling k) c.in-Ok.ensures) c.status_of.ensures (verdict_ends c.args.verdict.now) (λ wrote is. inl (wrote, is))
 
-pub returns : goal.returns
-returns g c = wanting c.refuse.ensures (λ wrote is. inr (wrote, is))
+pub returns-in-Err : goal.returns-in-Err
+returns-in-Err g c = wanting c.refuse.ensures (λ wrote is. inr (wrote, is))

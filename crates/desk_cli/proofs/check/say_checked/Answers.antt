@@ -11,8 +11,8 @@ returns-in-Ok g c =
     let shows : ChecksText U text (Ok c.in-Ok.checked) = subst (ChecksText U text) c.in-Ok.is c.check_text-answer.ensures in
     shown c.print.ensures c.line_of.ensures refl done_ends (λ wrote is. λ preference set other both. (Ok c.in-Ok.checked, (U, text, both, shows), wrote, is))
 
-pub returns : goal.returns
-returns g c =
+pub returns-in-Err : goal.returns-in-Err
+returns-in-Err g c =
     let U = c.args.tasks.now in
     let text = c.args.text.now in
     let why : ChecksText U text (Err c.in-Err.refusal) = subst (ChecksText U text) c.in-Err.is c.check_text-answer.ensures in

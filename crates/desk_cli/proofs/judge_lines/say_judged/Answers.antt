@@ -1,11 +1,11 @@
-use Rattle.std.proofs.Common.{◌≡◌, ◌∙◌, ℕ, List, Ok, Err, inl, inr, ap, sym, subst}
+use Rattle.std.proofs.Common.{◌≡◌, ◌∙◌, ℕ, List, Ok, Err, inl, inr, ap, sym, subst, string_bytes}
 use Rattle.std.specs.Io.KnownBytes.{Appends}
 use Rattle.judge.specs.declared.judging.JudgedTask.{JudgedTask}
 use Rattle.judge.specs.Lines.{judged_lines}
 use Rattle.desk_cli.specs.Judge.{JudgesText, judged_status}
 use Rattle.desk_cli.specs.declared.refusal.CommandRefusal.{CommandRefusal}
 use Rattle.desk_cli.specs.declared.refusal.CommandRefusal.TheVariants as refusal
-use Rattle.desk_cli.proofs.CarriedOut.{judged_ends, made_said, refusal_said}
+use Rattle.desk_cli.proofs.CarriedOut.{judged_ends, made_printed, refusal_said, said_as}
 use Rattle.desk_cli.proofs.judge_lines.say_judged.Goals as goal
 
 pub print_made-requires : goal.print_made-requires
@@ -21,12 +21,13 @@ returns-in-Ok g c =
     let found : JudgesText U text (Ok c.in-Ok.judged) = subst (JudgesText U text) c.in-Ok.is c.judge_text-answer.ensures.answer in
     let lines = ap (λ (entries : List JudgedTask). judged_lines U entries) c.deref.ensures.value in
     let status : c.judged_status.result ≡ judged_status c.in-Ok.judged.items = cc in
-    made_said c.judged_text.result c.judged_text.ensures c.print_made.ensures
-    (λ made same wrote. λ preference set other both. (Ok (U, c.in-Ok.judged), (text, both, found), subst (λ (t : List ℕ). Appends before after t) (same ∙ lines) wrote.0, wrote.1 ∙ status))
-    (λ want. λ preference set other both. (Err refusal.OutOfMemory, inl tt, want.0, want.1))
+    said_as (made_printed c.judged_text.result (λ t. string_bytes t) _ c.judged_text.ensures c.print_made.ensures) (λ told. λ preference set other both. elim told [
+      | inl wrote ↦ (Ok (U, c.in-Ok.judged), (text, both, found), subst (λ (t : List ℕ). Appends before after t) lines wrote.0, wrote.1 ∙ status)
+      | inr want ↦ (Err refusal.OutOfMemory, inl tt, want.0, want.1)
+    ])
 
-pub returns : goal.returns
-returns g c =
+pub returns-in-Err : goal.returns-in-Err
+returns-in-Err g c =
     let U = c.args.tasks.now in
     let text = c.args.text.now in
     let why : JudgesText U text (Err c.in-Err.refusal) = subst (JudgesText U text) c.in-Err.is c.judge_text-answer.ensures.answer in

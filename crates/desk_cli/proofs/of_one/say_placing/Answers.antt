@@ -1,25 +1,23 @@
-use Rattle.std.proofs.Common.{◌∙◌, ℕ, List, Option, Ok, Err, sym, subst}
+use Rattle.std.proofs.Common.{◌∙◌, ℕ, List, Option, Ok, Err, subst, string_bytes}
 use Rattle.std.specs.Io.KnownBytes.{Appends}
 use Rattle.desk_cli.specs.Admit.{admit_lines}
 use Rattle.desk_cli.specs.Settings.{settings_of}
 use Rattle.desk_cli.specs.declared.refusal.CommandRefusal.TheVariants as refusal
-use Rattle.desk_cli.proofs.CarriedOut.{made_said, placing_ends, said_as}
+use Rattle.desk_cli.proofs.CarriedOut.{made_printed, made_said, placing_ends, said_as}
 use Rattle.desk_cli.proofs.Headrooms.{admits_placed}
-use Rattle.desk_cli.proofs.Placed.{says_by}
+use Rattle.desk_cli.proofs.Placed.{printed_says}
 use Rattle.desk_cli.proofs.of_one.say_placing.Goals as goal
 
 -- what is printed is what the set's verdict says; want of memory for the lines is an answer of its own
 pub returns-in-Admit : goal.returns-in-Admit
 returns-in-Admit g c =
-    rw c.in-Admit.is (made_said c.placing_text.result c.placing_text.ensures c.print_made.ensures
-    (λ text same wrote. λ preference known has. says_by admit_lines preference known _ _ c.args.set.now c.args.placing.now _ _ c.requires.kept (has, c.requires.placing) (λ v says. says.lines ∙ sym same) wrote.0 (wrote.1 ∙ c.placing_status-status.ensures))
-    (λ want. λ preference known has. (Err refusal.OutOfMemory, tt, want.0, want.1)))
+    rw c.in-Admit.is (said_as (made_printed c.placing_text.result (λ t. string_bytes t) _ c.placing_text.ensures c.print_made.ensures) (λ told. λ preference known has.
+    printed_says admit_lines preference known _ _ c.args.set.now c.args.placing.now _ _ _ c.requires.kept (has, c.requires.placing) (λ v says. says.lines) c.placing_status-status.ensures told))
 
 pub returns-in-Settings : goal.returns-in-Settings
 returns-in-Settings g c =
-    rw c.in-Settings.is (made_said c.node_text.result c.node_text.ensures c.print_made-in-Settings.ensures
-    (λ text same wrote. λ preference known has. says_by settings_of preference known _ _ c.args.set.now c.args.placing.now _ _ c.requires.kept (has, c.requires.placing) (λ v says. says.settings ∙ sym same) wrote.0 (wrote.1 ∙ c.placing_status-status.ensures))
-    (λ want. λ preference known has. (Err refusal.OutOfMemory, tt, want.0, want.1)))
+    rw c.in-Settings.is (said_as (made_printed c.node_text.result (λ t. string_bytes t) _ c.node_text.ensures c.print_made-in-Settings.ensures) (λ told. λ preference known has.
+    printed_says settings_of preference known _ _ c.args.set.now c.args.placing.now _ _ _ c.requires.kept (has, c.requires.placing) (λ v says. says.settings) c.placing_status-status.ensures told))
 
 pub returns-in-Explain : goal.returns-in-Explain
 returns-in-Explain g c =

@@ -6,6 +6,6 @@ pub returns-in-Ok : goal.returns-in-Ok
 returns-in-Ok g c =
     carried_out_on_both c.in-Ok.ensures.read (said_as c.say_both.ensures (λ told. told c.args.preference _ _ c.in-Ok.ensures.answer))
 
-pub returns : goal.returns
-returns g c =
+pub returns-in-Err : goal.returns-in-Err
+returns-in-Err g c =
     refused_on_both c.in-Err.ensures.read c.refuse.ensures (λ wrote is. two_refused _ _ _ _ wrote is c.args.command c.args.preference _ _ c.in-Err.ensures.answer)

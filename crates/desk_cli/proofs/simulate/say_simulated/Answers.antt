@@ -16,8 +16,8 @@ returns-in-Ok g c =
       | inr want ↦ (Err refusal.OutOfMemory, inl tt, want.0, want.1)
     ])
 
-pub returns : goal.returns
-returns g c =
+pub returns-in-Err : goal.returns-in-Err
+returns-in-Err g c =
     let U = c.args.tasks.now in
     let text = c.args.text.now in
     let why : SimulatesText U text (Err c.in-Err.refusal) = subst (SimulatesText U text) c.in-Err.is c.simulate_text-answer.ensures in
