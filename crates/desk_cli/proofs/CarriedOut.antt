@@ -97,23 +97,24 @@ pub said_as : {W : Type 0} {says says' : Option (List ℕ) → Option (List ℕ)
     → IsSaidOn says' holds old new s
 said_as told tells = record { printed = λ sound. tells (told.printed sound); failed = told.failed; unwritten = told.unwritten }
 
--- what is said of a text is said, by what the text was made to hold; or that there was no memory for it
-pub made_said : {T E W : Type 0} {says : Option (List ℕ) → Option (List ℕ) → Status → Type 0} {holds : W → Option (List ℕ)} {old new : WatchedData W} {s : Status}
-    (r : Result T E) {Q : T → Type 0} {Wrote : T → Option (List ℕ) → Option (List ℕ) → Status → Type 0} {Wants : Option (List ℕ) → Option (List ℕ) → Status → Type 0}
-    → IfOk r Q → IsSaidOn (λ before after t. MatchResult r (λ x. Wrote x before after t) (λ _. Wants before after t)) holds old new s
-    → ((x : T) → Q x → Wrote x (holds old.inner) (holds new.inner) s → says (holds old.inner) (holds new.inner) s)
-    → (Wants (holds old.inner) (holds new.inner) s → says (holds old.inner) (holds new.inner) s)
+-- what is printed of a text that was made is said, or that there was no memory for it
+pub made_said : {T E W : Type 0} {says : Option (List ℕ) → Option (List ℕ) → Status → Type 0} {holds : W → Option (List ℕ)} {old new : WatchedData W} {s : Status} {Q : T → Type 0}
+    (r : Result T E) (bytes : T → List ℕ) (due : Status)
+    → IfOk r Q
+    → IsSaidOn (λ before after t. MatchResult r (λ x. Appends before after (bytes x) × (t ≡ due)) (λ _. Appends before after (refusal_line refusal.OutOfMemory) × (t ≡ OutOfMemory))) holds old new s
+    → ((x : T) → Q x → Appends (holds old.inner) (holds new.inner) (bytes x) → s ≡ due → says (holds old.inner) (holds new.inner) s)
+    → (Appends (holds old.inner) (holds new.inner) (refusal_line refusal.OutOfMemory) → s ≡ OutOfMemory → says (holds old.inner) (holds new.inner) s)
     → IsSaidOn says holds old new s
-made_said (Ok x) made told tells wants = said_as told (λ wrote. tells x made wrote)
-made_said (Err e) made told tells wants = said_as told wants
+made_said (Ok x) bytes due made told tells wants = said_as told (λ wrote. tells x made wrote.0 wrote.1)
+made_said (Err e) bytes due made told tells wants = said_as told (λ want. wants want.0 want.1)
 
 -- the same, where the text was made to be these bytes
-pub made_printed : {T E W : Type 0} {holds : W → Option (List ℕ)} {old new : WatchedData W} {s done : Status} (r : Result T E) (bytes : T → List ℕ) (text : List ℕ)
+pub made_printed : {T E W : Type 0} {holds : W → Option (List ℕ)} {old new : WatchedData W} {s : Status} (r : Result T E) (bytes : T → List ℕ) (due : Status) (text : List ℕ)
     → IfOk r (λ x. bytes x ≡ text)
-    → IsSaidOn (λ before after t. MatchResult r (λ x. Appends before after (bytes x) × (t ≡ done)) (λ _. Appends before after (refusal_line refusal.OutOfMemory) × (t ≡ OutOfMemory))) holds old new s
-    → IsSaidOn (λ before after t. IsPrinted before after text done t) holds old new s
-made_printed {holds = holds} {old = old} {new = new} r bytes text made told =
-    made_said r made told (λ x same wrote. inl (subst (λ (t : List ℕ). Appends (holds old.inner) (holds new.inner) t) same wrote.0, wrote.1)) (λ want. inr want)
+    → IsSaidOn (λ before after t. MatchResult r (λ x. Appends before after (bytes x) × (t ≡ due)) (λ _. Appends before after (refusal_line refusal.OutOfMemory) × (t ≡ OutOfMemory))) holds old new s
+    → IsSaidOn (λ before after t. IsPrinted before after text due t) holds old new s
+made_printed {holds = holds} {old = old} {new = new} r bytes due text made told =
+    made_said r bytes due made told (λ x same wrote is. inl (subst (λ (t : List ℕ). Appends (holds old.inner) (holds new.inner) t) same wrote, is)) (λ wrote is. inr (wrote, is))
 
 -- what is said was printed, and the writer's flag stays
 pub said_sound : {W : Type 0} {says : Option (List ℕ) → Option (List ℕ) → Status → Type 0} {holds : W → Option (List ℕ)} {old new : WatchedData W} {s : Status}

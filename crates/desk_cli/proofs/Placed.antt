@@ -67,11 +67,11 @@ said_by U kept p placing =
     by (data_of.Infeasible members) (Best places) verdict same = absurd same
 
 -- what is printed of a placing is what its verdict says; want of memory for it is an answer of its own
-pub printed_says : (lines : Verdict → List ℕ) (preference : Preference) (known before after : Option (List ℕ)) (U : List Task) (p : Placing) (text : List ℕ) (done s : Status)
-    → IsTaskSet U → Places preference known (Ok (U, p)) → ((v : Verdict) → IsSaidBy U p v → lines v ≡ text) → done ≡ placing_status p → IsPrinted before after text done s
+pub printed_says : (lines : Verdict → List ℕ) (preference : Preference) (known before after : Option (List ℕ)) (U : List Task) (p : Placing) (text : List ℕ) (due s : Status)
+    → IsTaskSet U → Places preference known (Ok (U, p)) → ((v : Verdict) → IsSaidBy U p v → lines v ≡ text) → due ≡ placing_status p → IsPrinted before after text due s
     → Says lines preference known before after s
-printed_says lines preference known before after U p text done s kept placed same status (inr want) = (Err refusal.OutOfMemory, tt, want.0, want.1)
-printed_says lines preference known before after U p text done s kept placed same status (inl wrote) =
+printed_says lines preference known before after U p text due s kept placed same status (inr want) = (Err refusal.OutOfMemory, tt, want.0, want.1)
+printed_says lines preference known before after U p text due s kept placed same status (inl wrote) =
     let found = said_by U kept p placed.1 in
     let says = found.1 in (
       Ok found.0,

@@ -82,5 +82,9 @@ pub(crate) fn print_stuck<W: Write + Drop>(
         (infeasible_line set.now (listed_below (length set.now) (indexes_of members)))
         Status.Infeasible s) W.contents output.old output.new result }
 {
-    print_made(infeasible_text(alloc, set, members), Status::Infeasible, output)
+    print_made(
+        infeasible_text(alloc, set, members),
+        Status::Infeasible,
+        output,
+    )
 }

@@ -27,7 +27,11 @@ fn why_text(alloc: Global, set: &TaskSet, placing: &Placing) -> Result<String, A
 }
 
 // The first line of a placing, and then the lines of what explains it.
-pub(crate) fn explained_text(alloc: Global, set: &TaskSet, placing: &Placing) -> Result<String, AllocError>
+pub(crate) fn explained_text(
+    alloc: Global,
+    set: &TaskSet,
+    placing: &Placing,
+) -> Result<String, AllocError>
     requires { IsPlacingOf set.now placing.now }
     ensures { IfOk result (λ text. (explanation : Explanation)
         × Explains set.now placing.now explanation

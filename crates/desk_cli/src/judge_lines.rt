@@ -54,7 +54,11 @@ pub(crate) fn say_judged<W: Write + Drop, P: Audience>(
     let answer = judge_text(alloc, tasks, text);
     tell(&answer, tasks, Which::Second, text, people);
     match answer {
-        Ok(judged) => print_made(judged_text(alloc, tasks, &judged), judged_status(&judged), output),
+        Ok(judged) => print_made(
+            judged_text(alloc, tasks, &judged),
+            judged_status(&judged),
+            output,
+        ),
         Err(refusal) => refuse(refusal, output),
     }
 }

@@ -10,7 +10,11 @@ use std::alloc::{AllocError, Global};
 use task_sheet::TaskSet;
 
 // The lines of a placing's settings.
-pub(crate) fn node_text(alloc: Global, set: &TaskSet, placing: &Placing) -> Result<String, AllocError>
+pub(crate) fn node_text(
+    alloc: Global,
+    set: &TaskSet,
+    placing: &Placing,
+) -> Result<String, AllocError>
     requires { IsPlacingOf set.now placing.now }
     ensures { IfOk result (λ text. string_bytes text ≡ placing_settings set.now placing.now) }
 {

@@ -9,7 +9,7 @@ use Rattle.desk_cli.proofs.CarriedOut.{judged_ends, made_printed, refusal_said, 
 use Rattle.desk_cli.proofs.judge_lines.say_judged.Goals as goal
 
 pub print_made-requires : goal.print_made-requires
-print_made-requires g c = λ is. judged_ends c.in-Ok.judged.items (sym (c.judged_status.ensures ∙ ap judged_status c.deref-2.ensures.value) ∙ is)
+print_made-requires g c = λ is. judged_ends c.in-Ok.judged.items (sym (c.judged_status.ensures ∙ ap judged_status c.deref-in-Ok.ensures.value) ∙ is)
 
 -- want of memory for the lines is an answer of its own
 pub returns-in-Ok : goal.returns-in-Ok
@@ -21,7 +21,7 @@ returns-in-Ok g c =
     let found : JudgesText U text (Ok c.in-Ok.judged) = subst (JudgesText U text) c.in-Ok.is c.judge_text-answer.ensures.answer in
     let lines = ap (λ (entries : List JudgedTask). judged_lines U entries) c.deref.ensures.value in
     let status : c.judged_status.result ≡ judged_status c.in-Ok.judged.items = cc in
-    said_as (made_printed c.judged_text.result (λ t. string_bytes t) _ c.judged_text.ensures c.print_made.ensures) (λ told. λ preference set other both. elim told [
+    said_as (made_printed c.judged_text.result (λ t. string_bytes t) _ _ c.judged_text.ensures c.print_made.ensures) (λ told. λ preference set other both. elim told [
       | inl wrote ↦ (Ok (U, c.in-Ok.judged), (text, both, found), subst (λ (t : List ℕ). Appends before after t) lines wrote.0, wrote.1 ∙ status)
       | inr want ↦ (Err refusal.OutOfMemory, inl tt, want.0, want.1)
     ])

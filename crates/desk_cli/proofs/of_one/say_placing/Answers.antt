@@ -11,19 +11,21 @@ use Rattle.desk_cli.proofs.of_one.say_placing.Goals as goal
 -- what is printed is what the set's verdict says; want of memory for the lines is an answer of its own
 pub returns-in-Admit : goal.returns-in-Admit
 returns-in-Admit g c =
-    rw c.in-Admit.is (said_as (made_printed c.placing_text.result (λ t. string_bytes t) _ c.placing_text.ensures c.print_made.ensures) (λ told. λ preference known has.
+    rw c.in-Admit.is (said_as (made_printed c.placing_text.result (λ t. string_bytes t) _ _ c.placing_text.ensures c.print_made.ensures) (λ told. λ preference known has.
     printed_says admit_lines preference known _ _ c.args.set.now c.args.placing.now _ _ _ c.requires.kept (has, c.requires.placing) (λ v says. says.lines) c.placing_status-status.ensures told))
 
 pub returns-in-Settings : goal.returns-in-Settings
 returns-in-Settings g c =
-    rw c.in-Settings.is (said_as (made_printed c.node_text.result (λ t. string_bytes t) _ c.node_text.ensures c.print_made-in-Settings.ensures) (λ told. λ preference known has.
+    rw c.in-Settings.is (said_as (made_printed c.node_text.result (λ t. string_bytes t) _ _ c.node_text.ensures c.print_made-in-Settings.ensures) (λ told. λ preference known has.
     printed_says settings_of preference known _ _ c.args.set.now c.args.placing.now _ _ _ c.requires.kept (has, c.requires.placing) (λ v says. says.settings) c.placing_status-status.ensures told))
 
 pub returns-in-Explain : goal.returns-in-Explain
 returns-in-Explain g c =
-    rw c.in-Explain.is (made_said c.explained_text.result c.explained_text.ensures c.print_made-in-Explain.ensures
-    (λ text found wrote. λ preference known has. (Ok (record { set = c.args.set.now; placing = c.args.placing.now; explanation = found.0 }), ((has, c.requires.placing), found.1), subst (λ (t : List ℕ). Appends _ _ t) found.2 wrote.0, wrote.1 ∙ c.placing_status-status.ensures))
-    (λ want. λ preference known has. (Err refusal.OutOfMemory, tt, want.0, want.1)))
+    let before = g.W.Write.contents c.args.output.now.inner in
+    let after = g.W.Write.contents c.print_made-in-Explain.new.output.inner in
+    rw c.in-Explain.is (made_said c.explained_text.result (λ t. string_bytes t) _ c.explained_text.ensures c.print_made-in-Explain.ensures
+    (λ text found wrote is. λ preference known has. (Ok (record { set = c.args.set.now; placing = c.args.placing.now; explanation = found.0 }), ((has, c.requires.placing), found.1), subst (λ (t : List ℕ). Appends before after t) found.2 wrote, is ∙ c.placing_status-status.ensures))
+    (λ wrote is. λ preference known has. (Err refusal.OutOfMemory, tt, wrote, is)))
 
 pub returns-in-Headroom : goal.returns-in-Headroom
 returns-in-Headroom g c =

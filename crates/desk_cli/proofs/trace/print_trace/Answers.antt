@@ -3,4 +3,4 @@ use Rattle.desk_cli.proofs.CarriedOut.{made_printed}
 use Rattle.desk_cli.proofs.trace.print_trace.Goals as goal
 
 pub returns : goal.returns
-returns g c = made_printed c.trace_text.result (λ t. string_bytes t) _ c.trace_text.ensures c.print_made.ensures
+returns g c = made_printed c.trace_text.result (λ t. string_bytes t) _ _ c.trace_text.ensures c.print_made.ensures
