@@ -1,6 +1,6 @@
 -- What became of a command, from what became of its inputs and of what it printed.
 use Rattle.std.proofs.Common.{◌≡◌, ◌∙◌, ◌++◌, ℕ, List, Bool, true, false, Option, Ok, Err, inl, inr, refl, sym, ap, subst}
-use Rattle.std.specs.Prelude.{if◌then◌else◌}
+use Rattle.std.specs.Prelude.{if◌then◌else◌, IfOk, MatchResult, Result}
 use Rattle.std.proofs.KnownBytes.{Appends-trans}
 use Rattle.std.proofs.lemmas.Bool.{true≢false}
 use Rattle.std.specs.Io.KnownBytes.{Appends}
@@ -20,6 +20,7 @@ use Rattle.judge.specs.declared.judging.JudgedTask.{JudgedTask}
 use Rattle.desk_cli.specs.Admit.{placing_status, verdict_status}
 use Rattle.desk_cli.specs.Judge.{judged_status}
 use Rattle.desk_cli.specs.Outcomes.{AreRead, IsCarriedOut, IsCarriedOutOnBoth, IsRead, IsSaidOn, IsPrintedOn, failed_read}
+use Rattle.desk_cli.specs.Printed.{IsPrinted}
 use Rattle.desk_cli.specs.Refusals.{refusal_line, status_of}
 use Rattle.desk_cli.specs.declared.refusal.CommandRefusal.{CommandRefusal}
 use Rattle.desk_cli.specs.declared.refusal.CommandRefusal.TheVariants as refusal
@@ -82,11 +83,38 @@ pub wanting : {W : Type 0} {says : Option (List ℕ) → Option (List ℕ) → S
     → IsSaidOn says holds old new s
 wanting told tells = shown told refl refl (λ is. cc) tells
 
+-- a refusal is said, which is none of a failed read
+pub refusal_said : {W : Type 0} {says : Option (List ℕ) → Option (List ℕ) → Status → Type 0} {holds : W → Option (List ℕ)} {old new : WatchedData W} {s : Status}
+    (r : CommandRefusal) (Why : CommandRefusal → Type 0) → Why r → (Why failed_read → ⊥)
+    → IsPrintedOn holds old new (refusal_line r) (status_of r) s
+    → (Appends (holds old.inner) (holds new.inner) (refusal_line r) → s ≡ status_of r → says (holds old.inner) (holds new.inner) s)
+    → IsSaidOn says holds old new s
+refusal_said r Why why never told tells = shown told refl refl (λ is. never (subst Why (failed_by r is) why)) tells
+
 -- what is said is another thing said
 pub said_as : {W : Type 0} {says says' : Option (List ℕ) → Option (List ℕ) → Status → Type 0} {holds : W → Option (List ℕ)} {old new : WatchedData W} {s : Status}
     → IsSaidOn says holds old new s → (says (holds old.inner) (holds new.inner) s → says' (holds old.inner) (holds new.inner) s)
     → IsSaidOn says' holds old new s
 said_as told tells = record { printed = λ sound. tells (told.printed sound); failed = told.failed; unwritten = told.unwritten }
+
+-- what is printed of a text that was made is said, or that there was no memory for it
+pub made_said : {T E W : Type 0} {says : Option (List ℕ) → Option (List ℕ) → Status → Type 0} {holds : W → Option (List ℕ)} {old new : WatchedData W} {s : Status} {Q : T → Type 0}
+    (r : Result T E) (bytes : T → List ℕ) (due : Status)
+    → IfOk r Q
+    → IsSaidOn (λ before after t. MatchResult r (λ x. Appends before after (bytes x) × (t ≡ due)) (λ _. Appends before after (refusal_line refusal.OutOfMemory) × (t ≡ OutOfMemory))) holds old new s
+    → ((x : T) → Q x → Appends (holds old.inner) (holds new.inner) (bytes x) → s ≡ due → says (holds old.inner) (holds new.inner) s)
+    → (Appends (holds old.inner) (holds new.inner) (refusal_line refusal.OutOfMemory) → s ≡ OutOfMemory → says (holds old.inner) (holds new.inner) s)
+    → IsSaidOn says holds old new s
+made_said (Ok x) bytes due made told tells wants = said_as told (λ wrote. tells x made wrote.0 wrote.1)
+made_said (Err e) bytes due made told tells wants = said_as told (λ want. wants want.0 want.1)
+
+-- the same, where the text was made to be these bytes
+pub made_printed : {T E W : Type 0} {holds : W → Option (List ℕ)} {old new : WatchedData W} {s : Status} (r : Result T E) (bytes : T → List ℕ) (due : Status) (text : List ℕ)
+    → IfOk r (λ x. bytes x ≡ text)
+    → IsSaidOn (λ before after t. MatchResult r (λ x. Appends before after (bytes x) × (t ≡ due)) (λ _. Appends before after (refusal_line refusal.OutOfMemory) × (t ≡ OutOfMemory))) holds old new s
+    → IsSaidOn (λ before after t. IsPrinted before after text due t) holds old new s
+made_printed {holds = holds} {old = old} {new = new} r bytes due text made told =
+    made_said r bytes due made told (λ x same wrote is. inl (subst (λ (t : List ℕ). Appends (holds old.inner) (holds new.inner) t) same wrote, is)) (λ wrote is. inr (wrote, is))
 
 -- what is said was printed, and the writer's flag stays
 pub said_sound : {W : Type 0} {says : Option (List ℕ) → Option (List ℕ) → Status → Type 0} {holds : W → Option (List ℕ)} {old new : WatchedData W} {s : Status}

@@ -1,5 +1,5 @@
 -- A placing of a set says what the set's verdict says: the same lines, and the same status.
-use Rattle.std.proofs.Common.{◌≡◌, ◌++◌, ◌∙◌, ℕ, List, [], ◌∷◌, length, codes, Option, Ok, refl, sym, ap, subst}
+use Rattle.std.proofs.Common.{◌≡◌, ◌++◌, ◌∙◌, ℕ, List, [], ◌∷◌, length, codes, Option, Ok, Err, inl, inr, refl, sym, ap, subst}
 use Rattle.std.specs.Fmt.{decimal}
 use Rattle.std.specs.Io.KnownBytes.{Appends}
 use Rattle.std.proofs.lemmas.List.{length-map}
@@ -21,8 +21,10 @@ use Rattle.settings.specs.Settings.{settings_lines}
 use Rattle.desk_cli.specs.Admit.{Places, Says, admit_lines, placing_status, verdict_status}
 use Rattle.desk_cli.specs.Headroom.{first_line, placing_first}
 use Rattle.desk_cli.specs.Lines.{admitted_lines, infeasible_line, placing_lines}
+use Rattle.desk_cli.specs.Printed.{IsPrinted}
 use Rattle.desk_cli.specs.Sets.{HasSet}
 use Rattle.desk_cli.specs.Settings.{placing_settings, settings_of}
+use Rattle.desk_cli.specs.declared.refusal.CommandRefusal.TheVariants as refusal
 use Rattle.desk_cli.specs.declared.status.Status.{Status}
 
 -- the verdict is one on the set, and says the same
@@ -64,15 +66,16 @@ said_by U kept p placing =
     by (data_of.Admitted levels) (Stuck left) verdict same = absurd same
     by (data_of.Infeasible members) (Best places) verdict same = absurd same
 
--- what is printed of a placing is what its verdict says
-pub says_by : (lines : Verdict → List ℕ) (preference : Preference) (known before after : Option (List ℕ)) (U : List Task) (p : Placing) (text : List ℕ) (s : Status)
-    → IsTaskSet U → Places preference known (Ok (U, p)) → ((v : Verdict) → IsSaidBy U p v → lines v ≡ text) → Appends before after text → s ≡ placing_status p
+-- what is printed of a placing is what its verdict says; want of memory for it is an answer of its own
+pub printed_says : (lines : Verdict → List ℕ) (preference : Preference) (known before after : Option (List ℕ)) (U : List Task) (p : Placing) (text : List ℕ) (due s : Status)
+    → IsTaskSet U → Places preference known (Ok (U, p)) → ((v : Verdict) → IsSaidBy U p v → lines v ≡ text) → due ≡ placing_status p → IsPrinted before after text due s
     → Says lines preference known before after s
-says_by lines preference known before after U p text s kept placed same wrote is =
+printed_says lines preference known before after U p text due s kept placed same status (inr want) = (Err refusal.OutOfMemory, tt, want.0, want.1)
+printed_says lines preference known before after U p text due s kept placed same status (inl wrote) =
     let found = said_by U kept p placed.1 in
     let says = found.1 in (
       Ok found.0,
       (subst (λ (V : List Task). HasSet preference known V) (sym says.set) placed.0, says.verdict),
-      subst (λ (t : List ℕ). Appends before after t) (sym (same found.0 says)) wrote,
-      is ∙ sym says.status,
+      subst (λ (t : List ℕ). Appends before after t) (sym (same found.0 says)) wrote.0,
+      wrote.1 ∙ status ∙ sym says.status,
     )

@@ -1,6 +1,7 @@
 pub mod Admit
 pub mod Certify
 pub mod Check
+pub mod Commands
 pub mod Draw
 pub mod Explain
 pub mod Headroom
@@ -14,6 +15,7 @@ pub mod Refusals
 pub mod Releases
 pub mod ReleasesText
 pub mod Rush
+pub mod Saying
 pub mod Sets
 pub mod Settings
 pub mod Simulate

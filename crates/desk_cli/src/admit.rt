@@ -1,11 +1,9 @@
-//! `desk admit`.
+//! The verdict of a set, and what becomes of its tasks.
 ghost use Rattle.std.specs.Prelude.{◌≡◌};
-ghost use Rattle.desk_cli.specs.Admit.{Admits, Places, Says, admit_lines, placing_status, verdict_status};
-ghost use Rattle.desk_cli.specs.Outcomes.{IsCarriedOut, IsRead, failed_read};
+ghost use Rattle.desk_cli.specs.Admit.{Admits, Places, placing_status, verdict_status};
+ghost use Rattle.desk_cli.specs.Outcomes.{IsRead, failed_read};
 
-use crate::answer::placing_text;
 use crate::audience::Audience;
-use crate::output::{print, refuse};
 use crate::refusal::CommandRefusal;
 use crate::sets::read_one;
 use crate::status::Status;
@@ -13,7 +11,7 @@ use assignment::{Placing, Verdict, assign, place_all};
 use ceilings::LockTable;
 use preferences::Preference;
 use std::alloc::{AllocError, Global};
-use std::io::{Read, Write};
+use std::io::Read;
 use std::sync::Arc;
 use streams::Watched;
 use task_sheet::TaskSet;
@@ -67,26 +65,5 @@ pub(crate) fn placing_status(placing: &Placing) -> Status
     match placing {
         Placing::Best(_) => Status::Done,
         Placing::Stuck(_) => Status::Infeasible,
-    }
-}
-
-/// `desk admit`: reads a task set by a preference, and prints the levels and responses (in microseconds) of its best
-/// order, or the tasks of its greatest obstruction, or why the input was refused.
-pub fn run_admit<R: Read + Drop, W: Write + Drop, P: Audience>(
-    alloc: Global,
-    preference: Preference,
-    set: &mut Watched<R>,
-    output: &mut Watched<W>,
-    people: &mut P,
-) -> Status
-    ensures { IsCarriedOut (Says admit_lines preference) R.remaining W.contents
-        set.old set.new output.old output.new result }
-{
-    match place(alloc, preference, set, people) {
-        Ok((tasks, placing)) => match placing_text(alloc, &tasks, &placing) {
-            Ok(text) => print(text.as_bytes(), placing_status(&placing), output),
-            Err(_) => refuse(CommandRefusal::OutOfMemory, output),
-        },
-        Err(refusal) => refuse(refusal, output),
     }
 }

@@ -1,11 +1,11 @@
 //! The lines of a verdict.
-ghost use Rattle.std.specs.Prelude.{◌≡◌, ◌++◌, ◌<◌, length, true, false, OnOk, IfOk, string_bytes};
+ghost use Rattle.std.specs.Prelude.{◌≡◌, ◌++◌, ◌<◌, length, OnOk, IfOk, string_bytes};
 ghost use Rattle.task_sheet.specs.Indexes.{indexes_of, listed_below};
+ghost use Rattle.desk_cli.specs.Outcomes.{IsSaidOn};
 ghost use Rattle.desk_cli.specs.Printed.{IsPrinted};
 ghost use Rattle.desk_cli.specs.Lines.{admitted_lines, infeasible_line, level_line, placing_lines};
 
-use crate::output::{print, refuse};
-use crate::refusal::CommandRefusal;
+use crate::output::print_made;
 use crate::status::Status;
 use assignment::{Place, Placing};
 use lines::{push_name, push_names};
@@ -78,16 +78,13 @@ pub(crate) fn print_stuck<W: Write + Drop>(
     members: Members,
     output: &mut Watched<W>,
 ) -> Status
-    ensures printed { output.new.has_failed ≡ false
-        → IsPrinted (W.contents output.old.inner) (W.contents output.new.inner)
-        (infeasible_line set.now (listed_below (length set.now)
-        (indexes_of members))) Status.Infeasible result }
-    ensures failed { result ≡ Status.InputOrOutputFailed → output.new.has_failed ≡ true }
-    ensures unwritten { output.old.has_failed ≡ false → output.new.has_failed ≡ true
-        → result ≡ Status.InputOrOutputFailed }
+    ensures { IsSaidOn (λ before after s. IsPrinted before after
+        (infeasible_line set.now (listed_below (length set.now) (indexes_of members)))
+        Status.Infeasible s) W.contents output.old output.new result }
 {
-    match infeasible_text(alloc, set, members) {
-        Ok(text) => print(text.as_bytes(), Status::Infeasible, output),
-        Err(_) => refuse(CommandRefusal::OutOfMemory, output),
-    }
+    print_made(
+        infeasible_text(alloc, set, members),
+        Status::Infeasible,
+        output,
+    )
 }

@@ -1,18 +1,18 @@
 //! `desk certify`.
 ghost use Rattle.certificate.specs.Spelling.{spelling};
-ghost use Rattle.desk_cli.specs.Admit.{Says};
+ghost use Rattle.desk_cli.specs.Admit.{verdict_status};
 ghost use Rattle.desk_cli.specs.Certify.{certificate_lines};
-ghost use Rattle.desk_cli.specs.Outcomes.{IsCarriedOut, IsPrintedOn};
+ghost use Rattle.desk_cli.specs.Outcomes.{IsPrintedOn, IsSaidOn};
+ghost use Rattle.desk_cli.specs.Printed.{IsPrinted};
 
-use crate::admit::{decide, status_of};
-use crate::audience::Audience;
+use crate::admit::status_of;
 use crate::output::refuse;
 use crate::refusal::CommandRefusal;
 use crate::status::Status;
+use assignment::Verdict;
 use certificate::Certificate;
-use preferences::Preference;
 use std::alloc::Global;
-use std::io::{Read, Write};
+use std::io::Write;
 use streams::Watched;
 
 // Prints the certificate, and gives the status that belongs to it; where the writer fails, the status of that.
@@ -29,23 +29,17 @@ fn print_certificate<W: Write + Drop>(
     }
 }
 
-/// `desk certify`: reads a task set by a preference, and prints the certificate of its verdict, or why the input was
-/// refused.
-pub fn run_certify<R: Read + Drop, W: Write + Drop, P: Audience>(
+// Prints the certificate of a verdict, or that there was no memory for it.
+pub(crate) fn print_verdict<W: Write + Drop>(
     alloc: Global,
-    preference: Preference,
-    set: &mut Watched<R>,
+    verdict: &Verdict,
     output: &mut Watched<W>,
-    people: &mut P,
 ) -> Status
-    ensures { IsCarriedOut (Says certificate_lines preference) R.remaining W.contents
-        set.old set.new output.old output.new result }
+    ensures { IsSaidOn (λ before after s. IsPrinted before after (certificate_lines verdict.now)
+        (verdict_status verdict.now) s) W.contents output.old output.new result }
 {
-    match decide(alloc, preference, set, people) {
-        Ok(verdict) => match Certificate::of(alloc, &verdict) {
-            Ok(certificate) => print_certificate(&certificate, status_of(&verdict), output),
-            Err(_) => refuse(CommandRefusal::OutOfMemory, output),
-        },
-        Err(refusal) => refuse(refusal, output),
+    match Certificate::of(alloc, verdict) {
+        Ok(certificate) => print_certificate(&certificate, status_of(verdict), output),
+        Err(_) => refuse(CommandRefusal::OutOfMemory, output),
     }
 }

@@ -4,21 +4,17 @@ ghost use Rattle.task_sheet.specs.Orders.{IsOrder};
 ghost use Rattle.task_sheet.specs.declared.set.TheConstants.{TASK_LIMIT};
 ghost use Rattle.assignment.specs.Placings.{tasks_of_places};
 ghost use Rattle.desk_cli.specs.Printed.{IsPrinted};
-ghost use Rattle.desk_cli.specs.Simulate.{simulation_status};
-ghost use Rattle.desk_cli.specs.Draw.{IsInOrder, SaysDrawn, drawing_said, picture_of, drawn_row, rows_of};
-ghost use Rattle.desk_cli.specs.Outcomes.{IsCarriedOutOnBoth, IsSaidOn};
+ghost use Rattle.desk_cli.specs.Draw.{picture_of, drawn_row, rows_of};
+ghost use Rattle.desk_cli.specs.Outcomes.{IsSaidOn};
 
-use crate::answer::print_stuck;
-use crate::audience::Audience;
 use crate::output::refuse;
 use crate::refusal::CommandRefusal;
-use crate::simulate::{Run, Simulated, simulated_of};
+use crate::simulate::Run;
 use crate::status::Status;
 use assignment::Place;
 use picture::{DrawFault, TaskRow, draw};
-use preferences::Preference;
 use std::alloc::{AllocError, Global};
-use std::io::{Read, Write};
+use std::io::Write;
 use streams::Watched;
 use task_sheet::{Sheet, TaskSet};
 
@@ -57,7 +53,7 @@ fn rows_in(alloc: Global, set: &TaskSet, places: &[Place]) -> Result<Vec<TaskRow
 }
 
 // Draws a run of a set.
-fn draw_run<W: Write + Drop>(
+pub(crate) fn draw_run<W: Write + Drop>(
     alloc: Global,
     set: &TaskSet,
     run: &Run,
@@ -74,43 +70,5 @@ fn draw_run<W: Write + Drop>(
         Ok(()) => Status::Done,
         Err(DrawFault::OutOfMemory) => refuse(CommandRefusal::OutOfMemory, output),
         Err(DrawFault::WriteFailed) => Status::InputOrOutputFailed,
-    }
-}
-
-// Draws what came of a set.
-fn draw_simulated<W: Write + Drop>(
-    alloc: Global,
-    set: &TaskSet,
-    simulated: &Simulated,
-    output: &mut Watched<W>,
-) -> Status
-    requires { IsInOrder set.now simulated.now }
-    ensures { IsSaidOn (λ before after s. IsPrinted before after
-        (drawing_said set.now simulated.now) (simulation_status simulated.now) s)
-        W.contents output.old output.new result }
-{
-    match simulated {
-        Simulated::Ran(run) => draw_run(alloc, set, run, output),
-        Simulated::Infeasible(members) => print_stuck(alloc, set, *members, output),
-    }
-}
-
-/// `desk draw`: reads a task set by a preference and a release list, and prints what the simulated kernel does at the
-/// levels of the set's best order as a picture, an SVG 1.1 document; or the tasks of the set's greatest obstruction; or
-/// why one of them was refused. Both are read before either is parsed, the set first.
-pub fn run_draw<R: Read + Drop, S: Read + Drop, W: Write + Drop, P: Audience>(
-    alloc: Global,
-    preference: Preference,
-    set: &mut Watched<R>,
-    releases: &mut Watched<S>,
-    output: &mut Watched<W>,
-    people: &mut P,
-) -> Status
-    ensures { IsCarriedOutOnBoth (SaysDrawn preference) R.remaining S.remaining W.contents
-        set.old set.new releases.old releases.new output.old output.new result }
-{
-    match simulated_of(alloc, preference, set, releases, people) {
-        Ok((tasks, simulated)) => draw_simulated(alloc, &tasks, &simulated, output),
-        Err(refusal) => refuse(refusal, output),
     }
 }

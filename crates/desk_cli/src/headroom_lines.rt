@@ -5,13 +5,12 @@ ghost use Rattle.task_sheet.specs.TaskSet.{IsTaskSet};
 ghost use Rattle.ceilings.specs.IsTableOf.{IsTableOf};
 ghost use Rattle.task_sheet.specs.Orders.{IsPassingOrder};
 ghost use Rattle.assignment.specs.Placings.{IsPlacingOf, tasks_of_places};
-ghost use Rattle.desk_cli.specs.Headroom.{AnswersIn, IsLast, IsTaskLine, ListsAll, ListsSome, SaysHeadroom, SaysPlaced, headroom_line, most_words, placing_first, placing_order};
+ghost use Rattle.desk_cli.specs.Headroom.{AnswersIn, IsLast, IsTaskLine, ListsAll, ListsSome, SaysPlaced, headroom_line, most_words, placing_first, placing_order};
 ghost use Rattle.streams.specs.Sending.{Sends};
-ghost use Rattle.desk_cli.specs.Outcomes.{IsCarriedOut, IsSaidOn};
+ghost use Rattle.desk_cli.specs.Outcomes.{IsSaidOn};
 
-use crate::admit::{place, placing_status};
+use crate::admit::placing_status;
 use crate::answer::infeasible_text;
-use crate::audience::Audience;
 use crate::output::refuse;
 use crate::refusal::CommandRefusal;
 use crate::status::Status;
@@ -19,9 +18,8 @@ use assignment::{Place, Placing};
 use ceilings::LockTable;
 use factor::factor;
 use headroom::{headroom, headroom_in_order};
-use preferences::Preference;
 use std::alloc::{AllocError, Global};
-use std::io::{Read, Write};
+use std::io::Write;
 use streams::{Held, Watched};
 use task_sheet::{Sheet, TaskSet};
 
@@ -252,7 +250,7 @@ fn make_ready(
 }
 
 // Prints the lines of a placing, or that memory was wanting before the first.
-fn print_placing<W: Write + Drop>(
+pub(crate) fn print_placing<W: Write + Drop>(
     alloc: Global,
     set: &TaskSet,
     placing: &Placing,
@@ -269,25 +267,5 @@ fn print_placing<W: Write + Drop>(
         Ok(()) => placing_status(placing),
         Err(ListFault::OutOfMemory) => refuse(CommandRefusal::OutOfMemory, output),
         Err(ListFault::WriteFailed) => Status::InputOrOutputFailed,
-    }
-}
-
-/// `desk headroom`: reads a task set by a preference, and prints the first line of its verdict; for each task by rank
-/// its cost and the greatest costs, in microseconds, with which the best order passes as it stands and with which some
-/// order passes, all else equal; and the greatest factor on all costs at once, in thousandths; or why the input was
-/// refused.
-pub fn run_headroom<R: Read + Drop, W: Write + Drop, P: Audience>(
-    alloc: Global,
-    preference: Preference,
-    set: &mut Watched<R>,
-    output: &mut Watched<W>,
-    people: &mut P,
-) -> Status
-    ensures { IsCarriedOut (SaysHeadroom preference) R.remaining W.contents
-        set.old set.new output.old output.new result }
-{
-    match place(alloc, preference, set, people) {
-        Ok((tasks, placing)) => print_placing(alloc, &tasks, &placing, output),
-        Err(refusal) => refuse(refusal, output),
     }
 }

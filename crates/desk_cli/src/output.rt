@@ -1,7 +1,7 @@
 //! Printing.
-ghost use Rattle.std.specs.Prelude.{◌≡◌, ◌⊎◌, codes, true, false};
+ghost use Rattle.std.specs.Prelude.{◌≡◌, ◌≢◌, ◌⊎◌, codes, true, false, MatchResult, string_bytes};
 ghost use Rattle.std.specs.Io.KnownBytes.{Appends};
-ghost use Rattle.desk_cli.specs.Outcomes.{IsPrintedOn};
+ghost use Rattle.desk_cli.specs.Outcomes.{IsPrintedOn, IsSaidOn};
 ghost use Rattle.desk_cli.specs.Refusals.{refusal_line, status_of};
 ghost use Rattle.desk_cli.specs.WordsFaults.{IsMemory, fault_status, goes_out};
 
@@ -10,6 +10,7 @@ use crate::status::Status;
 use clap::Error;
 use clap::error::ErrorKind;
 use command_line::WordsFault;
+use std::alloc::AllocError;
 use std::io::Write;
 use streams::Watched;
 
@@ -31,6 +32,25 @@ pub fn refuse<W: Write + Drop>(refusal: CommandRefusal, output: &mut Watched<W>)
     match write!(output, "{refusal}") {
         Ok(()) => refusal.status(),
         Err(_) => Status::InputOrOutputFailed,
+    }
+}
+
+// Prints a text that was made, and gives the status that belongs to it; or that there was no memory for it.
+pub(crate) fn print_made<W: Write + Drop>(
+    text: Result<String, AllocError>,
+    status: Status,
+    output: &mut Watched<W>,
+) -> Status
+    requires { status ≢ Status.InputOrOutputFailed }
+    ensures { IsSaidOn (λ before after s. MatchResult text
+        (λ made. Appends before after (string_bytes made) × (s ≡ status))
+        (λ _. Appends before after (refusal_line CommandRefusal.OutOfMemory)
+        × (s ≡ Status.OutOfMemory)))
+        W.contents output.old output.new result }
+{
+    match text {
+        Ok(text) => print(text.as_bytes(), status, output),
+        Err(_) => refuse(CommandRefusal::OutOfMemory, output),
     }
 }
 

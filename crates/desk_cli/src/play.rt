@@ -1,6 +1,8 @@
 //! `desk play`.
-ghost use Rattle.desk_cli.specs.Outcomes.{IsCarriedOut, IsRead, failed_read};
-ghost use Rattle.desk_cli.specs.Play.{SaysPlayed, Scripts};
+ghost use Rattle.std.specs.Prelude.{ℕ, List};
+ghost use Rattle.std.specs.Io.KnownBytes.{Appends};
+ghost use Rattle.desk_cli.specs.Outcomes.{IsRead, IsSaidOn, failed_read};
+ghost use Rattle.desk_cli.specs.Play.{IsPlay, Scripts};
 
 use crate::audience::{Audience, Which};
 use crate::output::refuse;
@@ -32,24 +34,18 @@ pub(crate) fn lines_of<R: Read + Drop, P: Audience>(
     }
 }
 
-/// `desk play`: reads a script of drafts, findings and commits, plays it on an empty desk, and prints the lines of the
-/// replies while it goes, through a buffer, and then the book; or why the script was refused, and then nothing of it
-/// was played.
-pub fn run_play<R: Read + Drop, W: Write + Drop, P: Audience>(
+// Plays the lines of a script, and prints what comes of them.
+pub(crate) fn play<W: Write + Drop>(
     alloc: Global,
-    script: &mut Watched<R>,
+    lines: Vec<Line>,
     output: &mut Watched<W>,
-    people: &mut P,
 ) -> Status
-    ensures { IsCarriedOut SaysPlayed R.remaining W.contents
-        script.old script.new output.old output.new result }
+    ensures { IsSaidOn (λ before after s. (text : List ℕ) × Appends before after text
+        × IsPlay lines.items text s) W.contents output.old output.new result }
 {
-    match lines_of(alloc, script, people) {
-        Err(refusal) => refuse(refusal, output),
-        Ok(lines) => match play_lines(alloc, lines, output) {
-            Ok(()) => Status::Done,
-            Err(PlayFault::OutOfMemory) => refuse(CommandRefusal::OutOfMemory, output),
-            Err(PlayFault::WriteFailed) => Status::InputOrOutputFailed,
-        },
+    match play_lines(alloc, lines, output) {
+        Ok(()) => Status::Done,
+        Err(PlayFault::OutOfMemory) => refuse(CommandRefusal::OutOfMemory, output),
+        Err(PlayFault::WriteFailed) => Status::InputOrOutputFailed,
     }
 }

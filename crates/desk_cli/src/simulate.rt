@@ -1,25 +1,27 @@
 //! `desk simulate`.
 ghost use Rattle.task_sheet.specs.Orders.{IsBest};
 ghost use Rattle.assignment.specs.Placings.{tasks_of_places};
+ghost use Rattle.desk_cli.specs.Saying.{SaysOfRun, run_shown};
+ghost use Rattle.desk_cli.specs.Draw.{IsInOrder};
 ghost use Rattle.desk_cli.specs.Printed.{IsPrinted};
-ghost use Rattle.desk_cli.specs.Simulate.{RunsOrder, SaysSimulated, Simulates, SimulatesText, simulation_said, simulation_status};
-ghost use Rattle.desk_cli.specs.Outcomes.{AreRead, IsCarriedOutOnBoth, IsSaidOn, failed_read};
+ghost use Rattle.desk_cli.specs.Simulate.{RunsOrder, SimulatesText, simulation_status};
+ghost use Rattle.desk_cli.specs.Outcomes.{IsSaidOn};
 
 use crate::answer::print_stuck;
 use crate::audience::{Audience, Which};
+use crate::draw::draw_run;
 use crate::headroom_lines::tasks_of;
-use crate::output::{print, refuse};
+use crate::output::refuse;
 use crate::refusal::CommandRefusal;
 use crate::release_text::read_releases;
-use crate::sets::{read_two, tell};
+use crate::sets::tell;
 use crate::status::Status;
-use crate::trace::trace_text;
+use crate::trace::print_trace;
 use assignment::{Place, Placing, place_all};
 use ceiling_kernel::{Kernel, KernelFault, Release, Trace};
 use ceilings::LockTable;
-use preferences::Preference;
 use std::alloc::Global;
-use std::io::{Read, Write};
+use std::io::Write;
 use streams::Watched;
 use task_sheet::{Members, TaskSet};
 
@@ -41,6 +43,15 @@ pub enum Simulated {
     /// No order of the set passes, and nothing was run: the members of the greatest obstruction.
     Infeasible(Members),
     Ran(Run),
+}
+
+/// How a run is shown.
+#[derive(Clone, Copy)]
+pub enum Show {
+    /// As the lines of its trace.
+    Lines,
+    /// As an SVG 1.1 document.
+    Picture,
 }
 
 // Runs the tasks at the levels of their best order.
@@ -89,61 +100,44 @@ fn simulate_text(alloc: Global, tasks: &TaskSet, text: &[u8]) -> Result<Simulate
     }
 }
 
-// The set, and what it and the release list come to, once both are read.
-pub(crate) fn simulated_of<R: Read + Drop, S: Read + Drop, P: Audience>(
+// Shows what came of a set.
+fn show_simulated<W: Write + Drop>(
     alloc: Global,
-    preference: Preference,
-    set: &mut Watched<R>,
-    releases: &mut Watched<S>,
-    people: &mut P,
-) -> Result<(TaskSet, Simulated), CommandRefusal>
-    ensures answer { Simulates preference (R.remaining set.old.inner)
-        (S.remaining releases.old.inner) result }
-    ensures read { AreRead failed_read R.remaining set.old set.new releases.old releases.new
-        result }
-{
-    let (tasks, text) = read_two(alloc, preference, set, releases, people)?;
-    let simulated = simulate_text(alloc, &tasks, &text);
-    tell(&simulated, &tasks, Which::Second, &text, people);
-    Ok((tasks, simulated?))
-}
-
-// Prints the lines of what came of a set.
-fn print_simulated<W: Write + Drop>(
-    alloc: Global,
+    show: Show,
     set: &TaskSet,
     simulated: &Simulated,
     output: &mut Watched<W>,
 ) -> Status
+    requires { IsInOrder set.now simulated.now }
     ensures { IsSaidOn (λ before after s. IsPrinted before after
-        (simulation_said set.now simulated.now) (simulation_status simulated.now) s)
+        (run_shown show set.now simulated.now) (simulation_status simulated.now) s)
         W.contents output.old output.new result }
 {
     match simulated {
-        Simulated::Ran(run) => match trace_text(alloc, &run.trace) {
-            Ok(text) => print(text.as_bytes(), Status::Done, output),
-            Err(_) => refuse(CommandRefusal::OutOfMemory, output),
-        },
         Simulated::Infeasible(members) => print_stuck(alloc, set, *members, output),
+        Simulated::Ran(run) => match show {
+            Show::Lines => print_trace(alloc, &run.trace, output),
+            Show::Picture => draw_run(alloc, set, run, output),
+        },
     }
 }
 
-/// `desk simulate`: reads a task set by a preference and a release list, and prints what the simulated kernel does at
-/// the levels of the set's best order, in microseconds; or the tasks of its greatest obstruction; or why one of them
-/// was refused. Both are read before either is parsed, the set first.
-pub fn run_simulate<R: Read + Drop, S: Read + Drop, W: Write + Drop, P: Audience>(
+// Says what comes of a set and the text of a release list.
+pub(crate) fn say_simulated<W: Write + Drop, P: Audience>(
     alloc: Global,
-    preference: Preference,
-    set: &mut Watched<R>,
-    releases: &mut Watched<S>,
+    show: Show,
+    tasks: &TaskSet,
+    text: &[u8],
     output: &mut Watched<W>,
     people: &mut P,
 ) -> Status
-    ensures { IsCarriedOutOnBoth (SaysSimulated preference) R.remaining S.remaining W.contents
-        set.old set.new releases.old releases.new output.old output.new result }
+    ensures { IsSaidOn (SaysOfRun show tasks.now text.now)
+        W.contents output.old output.new result }
 {
-    match simulated_of(alloc, preference, set, releases, people) {
-        Ok((tasks, simulated)) => print_simulated(alloc, &tasks, &simulated, output),
+    let answer = simulate_text(alloc, tasks, text);
+    tell(&answer, tasks, Which::Second, text, people);
+    match answer {
+        Ok(simulated) => show_simulated(alloc, show, tasks, &simulated, output),
         Err(refusal) => refuse(refusal, output),
     }
 }

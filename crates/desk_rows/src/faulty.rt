@@ -1,5 +1,6 @@
 //! Readers and writers that fail, are interrupted or take little at a time.
-use desk_cli::{Nobody, Status, run_admit};
+use command_line::OfOne;
+use desk_cli::{Nobody, Status, carry_out};
 use example_sets::THREE_TASKS;
 use preferences::Preference;
 use std::alloc::Global;
@@ -54,8 +55,9 @@ impl Write for FaultyWriter {
 
 // The status of `admit` where a reader has the set and a writer takes what is printed.
 fn admit<R: Read + Drop, W: Write + Drop>(alloc: Global, set: R, output: W) -> Status {
-    run_admit(
+    carry_out(
         alloc,
+        OfOne::Admit,
         Preference::Weights,
         &mut Watched::new(set),
         &mut Watched::new(output),

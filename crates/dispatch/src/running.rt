@@ -4,16 +4,16 @@ ghost use Rattle.std.specs.Io.KnownBytes.{Appends};
 ghost use Rattle.command_line.specs.declared.calls.Input.{Input};
 ghost use Rattle.command_line.specs.Calls.{HasNumber};
 ghost use Rattle.command_line.specs.Commands.{least_of, most_of};
-ghost use Rattle.dispatch.specs.Running.{CallSays, MayTell, NumberSays, NumberTells, OneSays, TwoSay, preference_of};
+ghost use Rattle.dispatch.specs.Running.{CallSays, MayTell, NumberSays, NumberTells, preference_of};
 ghost use Rattle.streams.specs.Inputs.{IsDisturbed};
+ghost use Rattle.desk_cli.specs.Commands.{OneSays, TwoSay};
 ghost use Rattle.desk_cli.specs.Refusals.{refusal_line};
 ghost use Rattle.dispatch.specs.Opened.{AreOpened, AreUnread, HasFailed};
 
 use command_line::{Call, Input, OfNumber, OfOne, OfTwo};
 use desk_cli::{
-    Audience, CommandRefusal, Status, Which, refuse, run_admit, run_certify, run_check, run_draw,
-    run_explain, run_headroom, run_judge, run_play, run_releases, run_rush, run_settings,
-    run_simulate,
+    Audience, CommandRefusal, Status, Which, carry_out, carry_out_on_both, refuse, run_releases,
+    run_rush,
 };
 use preferences::Preference;
 use std::alloc::Global;
@@ -164,14 +164,7 @@ pub fn run_one<S: Read + Drop, W: Write + Drop, P: Audience>(
     ensures unwritten { output.old.has_failed ≡ false → output.new.has_failed ≡ true
         → result ≡ Status.InputOrOutputFailed }
 {
-    match command {
-        OfOne::Admit => run_admit(alloc, preference, input, output, people),
-        OfOne::Certify => run_certify(alloc, preference, input, output, people),
-        OfOne::Headroom => run_headroom(alloc, preference, input, output, people),
-        OfOne::Settings => run_settings(alloc, preference, input, output, people),
-        OfOne::Explain => run_explain(alloc, preference, input, output, people),
-        OfOne::Play => run_play(alloc, input, output, people),
-    }
+    carry_out(alloc, command, preference, input, output, people)
 }
 
 /// Runs a command on a task set and a second input; what it prints and its status are those of the command.
@@ -195,12 +188,7 @@ pub fn run_two<S: Read + Drop, W: Write + Drop, P: Audience>(
     ensures unwritten { output.old.has_failed ≡ false → output.new.has_failed ≡ true
         → result ≡ Status.InputOrOutputFailed }
 {
-    match command {
-        OfTwo::Check => run_check(alloc, preference, first, second, output, people),
-        OfTwo::Judge => run_judge(alloc, preference, first, second, output, people),
-        OfTwo::Simulate => run_simulate(alloc, preference, first, second, output, people),
-        OfTwo::Draw => run_draw(alloc, preference, first, second, output, people),
-    }
+    carry_out_on_both(alloc, command, preference, first, second, output, people)
 }
 
 // Runs a command on its input and its number.

@@ -7,7 +7,7 @@ ghost use Rattle.desk_cli.specs.Headroom.{SaysHeadroom};
 ghost use Rattle.desk_cli.specs.Play.{SaysPlayed};
 ghost use Rattle.desk_cli.specs.Releases.{SaysList};
 ghost use Rattle.desk_cli.specs.Settings.{settings_of};
-ghost use Rattle.dispatch.specs.Running.{OneSays};
+ghost use Rattle.desk_cli.specs.Commands.{OneSays};
 ghost use Rattle.preferences.specs.declared.preferred.Preference.TheVariants.{Weights};
 ghost use Rattle.libdesk.specs.Answers.{AnswersCall};
 

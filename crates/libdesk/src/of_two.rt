@@ -4,7 +4,7 @@ ghost use Rattle.desk_cli.specs.Check.{SaysChecked};
 ghost use Rattle.desk_cli.specs.Draw.{SaysDrawn};
 ghost use Rattle.desk_cli.specs.Judge.{SaysJudged};
 ghost use Rattle.desk_cli.specs.Simulate.{SaysSimulated};
-ghost use Rattle.dispatch.specs.Running.{TwoSay};
+ghost use Rattle.desk_cli.specs.Commands.{TwoSay};
 ghost use Rattle.preferences.specs.declared.preferred.Preference.TheVariants.{Weights};
 ghost use Rattle.libdesk.specs.Answers.{AnswersCall};
 

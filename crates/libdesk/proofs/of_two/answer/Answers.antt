@@ -1,5 +1,5 @@
 use Rattle.std.proofs.Common.{◌≡◌, List, ℕ, [], Some, subst}
-use Rattle.dispatch.specs.Running.{TwoSay}
+use Rattle.desk_cli.specs.Commands.{TwoSay}
 use Rattle.preferences.specs.declared.preferred.Preference.TheVariants.{Weights}
 use Rattle.libdesk.proofs.Handing.{answered}
 use Rattle.libdesk.proofs.of_two.answer.Goals as goal

@@ -1,0 +1,52 @@
+use Rattle.std.proofs.Common.{◌≡◌, List, Ok, Err, inl, inr, refl, subst}
+use Rattle.task_sheet.specs.Sheet.{Task}
+use Rattle.task_sheet.specs.TaskSet.{IsTaskSet}
+use Rattle.command_line.specs.declared.calls.OfOne.{OfOne}
+use Rattle.command_line.specs.declared.calls.OfOne.TheVariants.{Admit, Certify, Headroom, Settings, Explain, Play}
+use Rattle.desk_cli.specs.Saying.{IsOfPlacing}
+use Rattle.desk_cli.specs.declared.refusal.CommandRefusal.TheVariants as refusal
+use Rattle.desk_cli.proofs.CarriedOut.{carried_out, refused, said_as}
+use Rattle.desk_cli.proofs.Refused.{one_refused, placed_refused}
+use Rattle.desk_cli.proofs.of_one.carry_out.Goals as goal
+
+-- the commands that are left
+of_placing : (c : OfOne) → (c ≡ Certify → ⊥) → (c ≡ Play → ⊥) → IsOfPlacing c
+of_placing Admit one other = tt
+of_placing Certify one other = absurd (one refl)
+of_placing Headroom one other = tt
+of_placing Settings one other = tt
+of_placing Explain one other = tt
+of_placing Play one other = absurd (other refl)
+
+pub say_placing-requires-clause-command : goal.say_placing-requires-clause-command
+say_placing-requires-clause-command g c = of_placing c.args.command c.in_default.not-Certify c.in_default.not-Play
+
+-- want of memory for what is printed is an answer of its own
+pub returns-in-Ok : goal.returns-in-Ok
+returns-in-Ok g c =
+    rw c.in-Certify.is (carried_out c.in-Ok.ensures.read (said_as c.print_verdict.ensures (λ told. elim told [
+      | inl wrote ↦ (Ok c.in-Ok.verdict, c.in-Ok.ensures.answer, wrote.0, wrote.1)
+      | inr want ↦ (Err refusal.OutOfMemory, tt, want.0, want.1)
+    ])))
+
+pub returns-in-Err : goal.returns-in-Err
+returns-in-Err g c =
+    rw c.in-Certify.is (refused c.in-Err.ensures.read c.refuse.ensures (λ wrote is. one_refused _ _ _ c.in-Err.refusal wrote is Certify c.args.preference _ c.in-Err.ensures.answer))
+
+pub returns-in-Ok-lines_of : goal.returns-in-Ok-lines_of
+returns-in-Ok-lines_of g c =
+    let lines = c.in-Ok-lines_of.lines.items in
+    rw c.in-Play.is (carried_out c.in-Ok-lines_of.ensures.read (said_as c.play.ensures (λ played. (played.0, played.1, inr (lines, c.in-Ok-lines_of.ensures.answer, played.2)))))
+
+pub returns-in-Err-lines_of : goal.returns-in-Err-lines_of
+returns-in-Err-lines_of g c =
+    rw c.in-Play.is (refused c.in-Err-lines_of.ensures.read c.refuse-in-Err-lines_of.ensures (λ wrote is. one_refused _ _ _ c.in-Err-lines_of.refusal wrote is Play c.args.preference _ c.in-Err-lines_of.ensures.answer))
+
+pub returns-in-Ok-place : goal.returns-in-Ok-place
+returns-in-Ok-place g c =
+    carried_out c.in-Ok-place.ensures.read (said_as c.say_placing.ensures (λ told. told c.args.preference _ c.in-Ok-place.ensures.answer.0))
+
+pub returns-in-Err-place : goal.returns-in-Err-place
+returns-in-Err-place g c =
+    refused c.in-Err-place.ensures.read c.refuse-in-Err-place.ensures
+    (λ wrote is. placed_refused _ _ _ c.in-Err-place.refusal wrote is c.args.command c.args.preference _ c.in_default.not-Play c.in-Err-place.ensures.answer)

@@ -1,0 +1,77 @@
+//! The commands of one input.
+ghost use Rattle.task_sheet.specs.TaskSet.{IsTaskSet};
+ghost use Rattle.assignment.specs.Placings.{IsPlacingOf};
+ghost use Rattle.desk_cli.specs.Commands.{OneSays};
+ghost use Rattle.desk_cli.specs.Saying.{IsOfPlacing, SaysOfSet};
+ghost use Rattle.desk_cli.specs.Outcomes.{IsCarriedOut, IsSaidOn};
+
+use crate::admit::{decide, place, placing_status};
+use crate::answer::placing_text;
+use crate::audience::Audience;
+use crate::certify::print_verdict;
+use crate::explain_lines::explained_text;
+use crate::headroom_lines::print_placing;
+use crate::output::{print_made, refuse};
+use crate::play::{lines_of, play};
+use crate::settings_lines::node_text;
+use crate::status::Status;
+use assignment::Placing;
+use command_line::OfOne;
+use preferences::Preference;
+use std::alloc::Global;
+use std::io::{Read, Write};
+use streams::Watched;
+use task_sheet::TaskSet;
+
+// Prints what a command says of a set's placing.
+fn say_placing<W: Write + Drop>(
+    alloc: Global,
+    command: OfOne,
+    set: &TaskSet,
+    placing: &Placing,
+    output: &mut Watched<W>,
+) -> Status
+    requires command { IsOfPlacing command }
+    requires kept { IsTaskSet set.now }
+    requires placing { IsPlacingOf set.now placing.now }
+    ensures { IsSaidOn (SaysOfSet command set.now) W.contents output.old output.new result }
+{
+    let status = placing_status(placing);
+    match command {
+        OfOne::Admit => print_made(placing_text(alloc, set, placing), status, output),
+        OfOne::Headroom => print_placing(alloc, set, placing, output),
+        OfOne::Settings => print_made(node_text(alloc, set, placing), status, output),
+        OfOne::Explain => print_made(explained_text(alloc, set, placing), status, output),
+        OfOne::Certify => unreachable!(),
+        OfOne::Play => unreachable!(),
+    }
+}
+
+/// A command of one input: reads a task set by a preference, or a script, and prints what docs/FORMATS.md says of the
+/// command, or why the input was refused. Of a script that was refused nothing is played.
+pub fn carry_out<R: Read + Drop, W: Write + Drop, P: Audience>(
+    alloc: Global,
+    command: OfOne,
+    preference: Preference,
+    input: &mut Watched<R>,
+    output: &mut Watched<W>,
+    people: &mut P,
+) -> Status
+    ensures { IsCarriedOut (OneSays command preference) R.remaining W.contents
+        input.old input.new output.old output.new result }
+{
+    match command {
+        OfOne::Certify => match decide(alloc, preference, input, people) {
+            Ok(verdict) => print_verdict(alloc, &verdict, output),
+            Err(refusal) => refuse(refusal, output),
+        },
+        OfOne::Play => match lines_of(alloc, input, people) {
+            Ok(lines) => play(alloc, lines, output),
+            Err(refusal) => refuse(refusal, output),
+        },
+        _ => match place(alloc, preference, input, people) {
+            Ok((tasks, placing)) => say_placing(alloc, command, &tasks, &placing, output),
+            Err(refusal) => refuse(refusal, output),
+        },
+    }
+}
