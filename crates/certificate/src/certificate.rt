@@ -68,7 +68,7 @@ impl Certificate {
         &self.body
     }
 
-    /// Writes the spelling, through a buffer of 65,536 bytes. The error comes where the writer fails, or has failed:
+    /// Writes the spelling, through a buffer of 16,384 bytes. The error comes where the writer fails, or has failed:
     /// how much of the spelling went out is then open.
     pub fn write<W: Write + Drop>(&self, out: &mut Watched<W>) -> Result<(), WriteFailed>
         ensures written { OnOk result

@@ -198,7 +198,7 @@ fn put_lines<W: Write + Drop>(
     }
 }
 
-// Prints the lines through a buffer of 65,536 bytes, which takes no memory. What it holds is written before any answer
+// Prints the lines through a buffer of 16,384 bytes, which takes no memory. What it holds is written before any answer
 // but that the writer failed.
 fn print_lines<W: Write + Drop>(
     alloc: Global,

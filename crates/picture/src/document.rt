@@ -78,7 +78,7 @@ fn put_all<W: Write + Drop>(
 }
 
 /// Writes the picture of a run of these rows, the highest level first, whose trace ends at `until`, in microseconds:
-/// an SVG 1.1 document. It is held back and sent, 65,536 bytes at a time; memory is taken for one count of each job, before
+/// an SVG 1.1 document. It is held back and sent, 16,384 bytes at a time; memory is taken for one count of each job, before
 /// anything is written.
 pub fn draw<W: Write + Drop>(
     alloc: Global,

@@ -131,7 +131,7 @@ fn put_lines<W: Write + Drop>(
     }
 }
 
-/// Plays lines from an empty desk on. The line of each is put as it was played, through a buffer of 65,536 bytes, and at
+/// Plays lines from an empty desk on. The line of each is put as it was played, through a buffer of 16,384 bytes, and at
 /// the end the book. The buffer takes no memory, and what it holds is written before any answer but that the writer
 /// failed. The clause `all` names the book, which is legal: the lines are a run (`laws::played_lines_are_runs`), and the
 /// book of any run is legal (`desk_core::laws::runs_are_legal`).
