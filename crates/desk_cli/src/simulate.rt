@@ -7,14 +7,13 @@ ghost use Rattle.desk_cli.specs.Outcomes.{AreRead, IsCarriedOutOnBoth, IsSaidOn,
 
 use crate::answer::print_stuck;
 use crate::audience::{Audience, Which};
-use crate::headroom_lines::tasks_of;
 use crate::output::{print, refuse};
 use crate::refusal::CommandRefusal;
 use crate::release_text::read_releases;
 use crate::sets::{read_two, tell};
 use crate::status::Status;
 use crate::trace::trace_text;
-use assignment::{Place, Placing, place_all};
+use assignment::{Place, Placing, place_all, tasks_of_places};
 use ceiling_kernel::{Kernel, KernelFault, Release, Trace};
 use ceilings::LockTable;
 use preferences::Preference;
@@ -54,7 +53,7 @@ fn run_best(
     requires { IsBest set.now (tasks_of_places places.now) }
     ensures { RunsOrder set.now (tasks_of_places places.now) releases.now until result }
 {
-    let order = tasks_of(alloc, places)?;
+    let order = tasks_of_places(alloc, places)?;
     let kernel = match Kernel::new(alloc, set, &order) {
         Ok(kernel) => kernel,
         Err(KernelFault::OutOfMemory) => return Err(CommandRefusal::OutOfMemory),
