@@ -4,7 +4,7 @@ ghost use Rattle.std.specs.Io.KnownBytes.{Appends};
 ghost use Rattle.task_sheet.specs.TaskSet.{IsTaskSet};
 ghost use Rattle.ceilings.specs.IsTableOf.{IsTableOf};
 ghost use Rattle.task_sheet.specs.Orders.{IsPassingOrder};
-ghost use Rattle.assignment.specs.Placings.{IsPlacingOf, tasks_of_places};
+ghost use Rattle.assignment.specs.Placings.{IsPlacingOf};
 ghost use Rattle.desk_cli.specs.Headroom.{AnswersIn, IsLast, IsTaskLine, ListsAll, ListsSome, SaysPlaced, headroom_line, most_words, placing_first, placing_order};
 ghost use Rattle.streams.specs.Sending.{Sends};
 ghost use Rattle.desk_cli.specs.Outcomes.{IsSaidOn};
@@ -14,7 +14,7 @@ use crate::answer::infeasible_text;
 use crate::output::refuse;
 use crate::refusal::CommandRefusal;
 use crate::status::Status;
-use assignment::{Place, Placing};
+use assignment::{Placing, tasks_of_places};
 use ceilings::LockTable;
 use factor::factor;
 use headroom::{headroom, headroom_in_order};
@@ -54,20 +54,9 @@ fn order_of(alloc: Global, placing: &Placing) -> Result<Option<Vec<usize>>, Allo
     ensures { IfOk result (λ order. option_map (λ o. o.items) order ≡ placing_order placing.now) }
 {
     match placing {
-        Placing::Best(places) => Ok(Some(tasks_of(alloc, places)?)),
+        Placing::Best(places) => Ok(Some(tasks_of_places(alloc, places)?)),
         Placing::Stuck(_) => Ok(None),
     }
-}
-
-// The tasks of places, the lowest level first.
-pub(crate) fn tasks_of(alloc: Global, places: &[Place]) -> Result<Vec<usize>, AllocError>
-    ensures { IfOk result (λ order. order.items ≡ tasks_of_places places.now) }
-{
-    let mut order = Vec::with_capacity(alloc, places.len())?;
-    for place in places {
-        order.push(place.task)?;
-    }
-    Ok(order)
 }
 
 // The greatest cost of a task with which the order passes, where there is one.

@@ -10,14 +10,13 @@ ghost use Rattle.desk_cli.specs.Outcomes.{IsSaidOn};
 use crate::answer::print_stuck;
 use crate::audience::{Audience, Which};
 use crate::draw::draw_run;
-use crate::headroom_lines::tasks_of;
 use crate::output::refuse;
 use crate::refusal::CommandRefusal;
 use crate::release_text::read_releases;
 use crate::sets::tell;
 use crate::status::Status;
 use crate::trace::print_trace;
-use assignment::{Place, Placing, place_all};
+use assignment::{Place, Placing, place_all, tasks_of_places};
 use ceiling_kernel::{Kernel, KernelFault, Release, Trace};
 use ceilings::LockTable;
 use std::alloc::Global;
@@ -65,7 +64,7 @@ fn run_best(
     requires { IsBest set.now (tasks_of_places places.now) }
     ensures { RunsOrder set.now (tasks_of_places places.now) releases.now until result }
 {
-    let order = tasks_of(alloc, places)?;
+    let order = tasks_of_places(alloc, places)?;
     let kernel = match Kernel::new(alloc, set, &order) {
         Ok(kernel) => kernel,
         Err(KernelFault::OutOfMemory) => return Err(CommandRefusal::OutOfMemory),
