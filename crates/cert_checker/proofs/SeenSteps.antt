@@ -1,5 +1,5 @@
 -- Which tasks were named, one name after the other.
-use Rattle.std.proofs.Common.{◌≡◌, ℕ, zero, suc, ◌+◌, ◌<◌, ◌≤◌, Bool, true, false, ◌||◌, ◌&&◌, ◌==◌, not, nat_lt, List, [], ◌∷◌, length, drop, get_or, refl, sym, ◌∙◌, ap, subst, arith, inl, inr}
+use Rattle.std.proofs.Common.{◌≡◌, ℕ, zero, suc, ◌+◌, ◌<◌, ◌≤◌, Bool, true, false, ◌||◌, ◌&&◌, ◌==◌, not, nat_lt, List, [], ◌∷◌, length, map, drop, get_or, refl, sym, ◌∙◌, ap, subst, arith, inl, inr}
 use Rattle.std.proofs.Math.Path.{fun_ext}
 use Rattle.std.proofs.Math.Bool.{and-false, or-false}
 use Rattle.std.proofs.Math.Seq.{drop-cons}
@@ -58,18 +58,14 @@ seen-all U seen here all e h = (
   fun_ext (λ k. sym (or-false (seen k)) ∙ sym (ap (λ (ks : List ℕ). seen k || among ks k) e) ∙ h.seen_too k),
 )
 
--- ---- the lists that are gone over
-pub fails-at : (U : List Task) (cs : List Fail) (i : ℕ) (c : Fail) → i < length cs → c ≡ get_or cs i c → tasks_of (failures_of U (drop i cs)) ≡ task_by_name U c.name ∷ tasks_of (failures_of U (drop (i + 1) cs))
-fails-at U cs i c lt e = ap (λ (x : List Fail). tasks_of (failures_of U x)) (dropped cs i c lt e)
+-- ---- the tasks that names are
+pub fails-named : (U : List Task) (fs : List Fail) → map (λ f. task_by_name U f.name) fs ≡ tasks_of (failures_of U fs)
+fails-named U [] = refl
+fails-named U (f ∷ fs) = ap (λ (ks : List ℕ). task_by_name U f.name ∷ ks) (fails-named U fs)
 
-pub fails-end : (U : List Task) (cs : List Fail) (i : ℕ) → length cs ≤ i → tasks_of (failures_of U (drop i cs)) ≡ []
-fails-end U cs i le = ap (λ (x : List Fail). tasks_of (failures_of U x)) (drop_of_length-le cs le)
-
-pub levels-at : (U : List Task) (ls : List CertLevelData) (i : ℕ) (l : CertLevelData) → i < length ls → l ≡ get_or ls i l → order_of (levels_of U (drop i ls)) ≡ task_by_name U l.name ∷ order_of (levels_of U (drop (i + 1) ls))
-levels-at U ls i l lt e = ap (λ (x : List CertLevelData). order_of (levels_of U x)) (dropped ls i l lt e)
-
-pub levels-end : (U : List Task) (ls : List CertLevelData) (i : ℕ) → length ls ≤ i → order_of (levels_of U (drop i ls)) ≡ []
-levels-end U ls i le = ap (λ (x : List CertLevelData). order_of (levels_of U x)) (drop_of_length-le ls le)
+pub levels-named : (U : List Task) (ls : List CertLevelData) → map (λ l. task_by_name U l.name) ls ≡ order_of (levels_of U ls)
+levels-named U [] = refl
+levels-named U (l ∷ ls) = ap (λ (ks : List ℕ). task_by_name U l.name ∷ ks) (levels-named U ls)
 
 -- ---- all tasks
 pub has_all-lacks : (n : ℕ) (L : Indexes) (k : ℕ) → k < n → L k ≡ false → has_all n L ≡ false
@@ -82,7 +78,23 @@ has_all-lacks (suc n) L k lt out = elim (cases_eq k n) [
 pub is-new : (n task : ℕ) (seen : Indexes) → task < n → seen task ≡ false → (nat_lt task n && not (seen task)) ≡ true
 is-new n task seen lt out = rw (lt-ltb task n lt, out) refl
 
--- one more name
-pub seen-step : (U : List Task) (seen more : Indexes) (name read : List ℕ) (here rest all : List ℕ) → read ≡ name → here ≡ task_by_name U name ∷ rest
-    → (nat_lt (task_by_name U read) (length U) && not (seen (task_by_name U read))) ≡ true → more ≡ with_index seen (task_by_name U read) → IsSeen U seen here all → IsSeen U more rest all
-seen-step U seen more name read here rest all e first new is h = seen-more U seen more (task_by_name U read) here rest all (first ∙ ap (λ (n : List ℕ). task_by_name U n ∷ rest) (sym e)) new is h
+-- one more item, by its name
+pub seen-step : {X : Type 0} (U : List Task) (task : X → ℕ) (seen more : Indexes) (xs : List X) (i : ℕ) (x : X) (name : List ℕ) → i < length xs → x ≡ get_or xs i x → task_by_name U name ≡ task x
+    → (nat_lt (task_by_name U name) (length U) && not (seen (task_by_name U name))) ≡ true → more ≡ with_index seen (task_by_name U name)
+    → IsSeen U seen (map task (drop i xs)) (map task xs) → IsSeen U more (map task (drop (i + 1) xs)) (map task xs)
+seen-step {X} U task seen more xs i x name lt is same new now h =
+    seen-more U seen more (task_by_name U name) (map task (drop i xs)) (map task (drop (i + 1) xs)) (map task xs)
+    (ap (λ (ys : List X). map task ys) (dropped xs i x lt is) ∙ ap (λ k. k ∷ map task (drop (i + 1) xs)) (sym same)) new now h
+
+-- an item whose name is of no task, or of one that was seen
+pub seen-stop : {X : Type 0} (U : List Task) (task : X → ℕ) (seen : Indexes) (xs : List X) (i : ℕ) (x : X) (name : List ℕ) → i < length xs → x ≡ get_or xs i x → task_by_name U name ≡ task x
+    → (nat_lt (task_by_name U name) (length U) && not (seen (task_by_name U name))) ≡ false
+    → IsSeen U seen (map task (drop i xs)) (map task xs) → are_new (length U) no_index (map task xs) ≡ false
+seen-stop {X} U task seen xs i x name lt is same old h =
+    seen-again U seen (task_by_name U name) (map task (drop i xs)) (map task (drop (i + 1) xs)) (map task xs)
+    (ap (λ (ys : List X). map task ys) (dropped xs i x lt is) ∙ ap (λ k. k ∷ map task (drop (i + 1) xs)) (sym same)) old h
+
+-- no item is left
+pub seen-end : {X : Type 0} (U : List Task) (task : X → ℕ) (seen : Indexes) (xs : List X) (i : ℕ) → length xs ≤ i → IsSeen U seen (map task (drop i xs)) (map task xs)
+    → (are_new (length U) no_index (map task xs) ≡ true) × (seen ≡ among (map task xs))
+seen-end {X} U task seen xs i le h = seen-all U seen (map task (drop i xs)) (map task xs) (ap (λ (ys : List X). map task ys) (drop_of_length-le xs le)) h

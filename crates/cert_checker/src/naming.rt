@@ -1,6 +1,7 @@
 //! The tasks that names are.
-ghost use Rattle.std.specs.Prelude.{◌≡◌, ◌<◌, ◌≤◌, ◌&&◌, not, nat_lt, true, false, length};
+ghost use Rattle.std.specs.Prelude.{◌≡◌, ℕ, ◌<◌, ◌≤◌, ◌&&◌, not, nat_lt, true, false, List, length, map};
 ghost use Rattle.std.specs.Prelude.{MatchOption};
+ghost use Rattle.std.specs.Fn.{FnReturnsAt};
 ghost use Rattle.task_sheet.specs.Indexes.{indexes_of, no_index, with_index, among};
 ghost use Rattle.task_sheet.specs.declared.set.TheConstants.{TASK_LIMIT};
 ghost use Rattle.task_sheet.specs.Verdicts.{tasks_of, order_of};
@@ -35,6 +36,24 @@ fn see(set: &TaskSet, seen: Members, name: Name) -> Option<Members>
     }
 }
 
+// The tasks that the names of items are, where each is one and none is named twice.
+fn tasks_named<T, F: Fn(&T) -> Name>(set: &TaskSet, items: &[T], name_of: F) -> Option<Members>
+    requires { F.IsAlwaysCallable name_of }
+    ensures { (task : T → ℕ)
+        → ((item : T) (name : List ℕ) → FnReturnsAt F.Fn name_of item name
+        → task_by_name set.now name ≡ task item)
+        → MatchOption result
+        (are_new (length set.now) no_index (map task items.now) ≡ false)
+        (λ m. (are_new (length set.now) no_index (map task items.now) ≡ true)
+        × (indexes_of m ≡ among (map task items.now))) }
+{
+    let mut seen = Members::empty();
+    for item in items {
+        seen = see(set, seen, name_of(item))?;
+    }
+    Some(seen)
+}
+
 /// The tasks of failures, where each is one and none is named twice.
 pub fn tasks_of(set: &TaskSet, fails: &[CertFail]) -> Option<Members>
     ensures { MatchOption result
@@ -42,11 +61,7 @@ pub fn tasks_of(set: &TaskSet, fails: &[CertFail]) -> Option<Members>
         (λ m. (are_new (length set.now) no_index (tasks_of (failures_of set.now fails.now)) ≡ true)
         × (indexes_of m ≡ among (tasks_of (failures_of set.now fails.now)))) }
 {
-    let mut seen = Members::empty();
-    for fail in fails {
-        seen = see(set, seen, fail.name)?;
-    }
-    Some(seen)
+    tasks_named(set, fails, |fail| fail.name)
 }
 
 // The tasks of levels, where each is one and none is named twice.
@@ -56,11 +71,7 @@ fn order_of(set: &TaskSet, levels: &[CertLevel]) -> Option<Members>
         (λ m. (are_new (length set.now) no_index (order_of (levels_of set.now levels.now)) ≡ true)
         × (indexes_of m ≡ among (order_of (levels_of set.now levels.now)))) }
 {
-    let mut seen = Members::empty();
-    for level in levels {
-        seen = see(set, seen, level.name)?;
-    }
-    Some(seen)
+    tasks_named(set, levels, |level| level.name)
 }
 
 // Whether all tasks of the set were seen.
