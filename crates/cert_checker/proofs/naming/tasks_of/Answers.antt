@@ -1,7 +1,4 @@
-use Rattle.std.proofs.Common.{ℕ, List, rules, subst}
-use Rattle.std.specs.Prelude.{◌≡◌, true, false, length, MatchOption}
-use Rattle.task_sheet.specs.Indexes.{indexes_of, no_index, among}
-use Rattle.cert_checker.specs.Faults.{are_new}
+use Rattle.std.proofs.Common.{rules}
 use Rattle.cert_checker.specs.Naming.{task_by_name}
 use Rattle.cert_checker.proofs.SeenSteps.{fails-named}
 use Rattle.cert_checker.proofs.naming.tasks_of.Goals as goal
