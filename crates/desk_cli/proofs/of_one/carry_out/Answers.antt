@@ -1,6 +1,4 @@
-use Rattle.std.proofs.Common.{◌≡◌, List, Ok, Err, inl, inr, refl, subst}
-use Rattle.task_sheet.specs.Sheet.{Task}
-use Rattle.task_sheet.specs.TaskSet.{IsTaskSet}
+use Rattle.std.proofs.Common.{◌≡◌, Ok, Err, inl, inr, refl}
 use Rattle.command_line.specs.declared.calls.OfOne.{OfOne}
 use Rattle.command_line.specs.declared.calls.OfOne.TheVariants.{Admit, Certify, Headroom, Settings, Explain, Play}
 use Rattle.desk_cli.specs.Saying.{IsOfPlacing}

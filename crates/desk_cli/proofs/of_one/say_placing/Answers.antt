@@ -1,9 +1,9 @@
-use Rattle.std.proofs.Common.{◌∙◌, ℕ, List, Option, Ok, Err, subst, string_bytes}
+use Rattle.std.proofs.Common.{◌∙◌, ℕ, List, Ok, Err, subst, string_bytes}
 use Rattle.std.specs.Io.KnownBytes.{Appends}
 use Rattle.desk_cli.specs.Admit.{admit_lines}
 use Rattle.desk_cli.specs.Settings.{settings_of}
 use Rattle.desk_cli.specs.declared.refusal.CommandRefusal.TheVariants as refusal
-use Rattle.desk_cli.proofs.CarriedOut.{made_printed, made_said, placing_ends, said_as}
+use Rattle.desk_cli.proofs.CarriedOut.{made_printed, made_said, said_as}
 use Rattle.desk_cli.proofs.Headrooms.{admits_placed}
 use Rattle.desk_cli.proofs.Placed.{printed_says}
 use Rattle.desk_cli.proofs.of_one.say_placing.Goals as goal

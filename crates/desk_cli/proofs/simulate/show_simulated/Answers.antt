@@ -1,4 +1,4 @@
-use Rattle.std.proofs.Common.{◌≡◌, ℕ, List, refl, sym}
+use Rattle.std.proofs.Common.{◌≡◌, List, refl, sym}
 use Rattle.task_sheet.specs.Sheet.{Task}
 use Rattle.desk_cli.specs.Draw.{drawing_said}
 use Rattle.desk_cli.specs.Saying.{run_shown}
