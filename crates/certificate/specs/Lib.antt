@@ -5,5 +5,4 @@ pub mod Lines
 pub mod ReasonOf
 pub mod BodyOf
 pub mod Versions
-pub mod Fields
 pub mod CertificateOf

@@ -27,15 +27,14 @@ pub struct Certificate {
 }
 
 impl Model for Certificate {
-    ghost use Rattle.certificate.specs.Body.{Cert};
+    ghost use Rattle.certificate.specs.Body.{Cert, HasSpelling};
+    ghost use Rattle.certificate.specs.BodyOf.{body_of};
 
     ghost Value = { Cert };
 
-    ghost use Rattle.certificate.specs.Fields.{cert_in, IsCertificateKept};
+    ghost view = { λ c. record { version = c.version; body = body_of c.body } };
 
-    ghost view = { cert_in };
-
-    ghost invariant = { IsCertificateKept };
+    ghost invariant = { λ c. HasSpelling (record { version = c.version; body = body_of c.body }) };
 }
 
 impl Certificate {

@@ -6,12 +6,10 @@ pub mod Rulings
 pub mod Commits
 pub mod Books
 pub mod Changes
-pub mod StateFields
 pub mod Outcomes
 pub mod DraftFields
 pub mod EditFaults
 pub mod BookFields
 pub mod Proposals
-pub mod ProposalFields
 pub mod Settling
 pub mod VerdictFaults

@@ -34,9 +34,9 @@ impl Model for Draft {
 
     ghost Value = { Draft };
 
-    ghost use Rattle.drafts.specs.DraftFields.{draft_of, IsDraftKept};
+    ghost use Rattle.drafts.specs.DraftFields.{IsDraftKept};
 
-    ghost view = { draft_of };
+    ghost view = { λ d. record { team = d.team; base = d.base.value; changes = d.changes.entries } };
 
     ghost invariant = { IsDraftKept };
 }

@@ -23,15 +23,13 @@ pub struct Proposal {
 }
 
 impl Model for Proposal {
-    ghost use Rattle.drafts.specs.Proposals.{ProposalData};
+    ghost use Rattle.drafts.specs.Proposals.{ProposalData, IsProposal};
 
     ghost Value = { ProposalData };
 
-    ghost use Rattle.drafts.specs.ProposalFields.{proposal_of, IsProposalKept};
+    ghost view = { λ p. record { draft = p.draft; judged = p.judged } };
 
-    ghost view = { proposal_of };
-
-    ghost invariant = { IsProposalKept };
+    ghost invariant = { λ p. IsProposal (record { draft = p.draft; judged = p.judged }) };
 }
 
 /// Memory was wanting; the draft is handed back.

@@ -27,15 +27,19 @@ pub struct NodeState {
 }
 
 impl Model for NodeState {
+    ghost use Rattle.std.specs.Prelude.{◌≡◌, length};
+    ghost use Rattle.drafts.specs.Applied.{owned_of};
     ghost use Rattle.drafts.specs.Machine.{MachineState};
 
     ghost Value = { MachineState };
 
-    ghost use Rattle.drafts.specs.StateFields.{desk_of, IsStateKept};
+    ghost view = { λ s. record {
+      version = s.version;
+      tasks = owned_of s.assignment.value.set s.teams.items;
+    } };
 
-    ghost view = { desk_of };
-
-    ghost invariant = { IsStateKept };
+    // Each task has a team.
+    ghost invariant = { λ s. length s.teams.items ≡ length s.assignment.value.set };
 }
 
 // The set with the index as a member where it is wanted.
