@@ -1,20 +1,11 @@
 -- How a `Climb` keeps the levels that are closed, and the room for those to come.
-use Rattle.std.specs.Prelude.{◌+◌, ◌≤◌, MatchOption, vec_len, vec_capacity, is_some}
+use Rattle.std.specs.Prelude.{◌+◌, ◌≤◌, MatchOption, vec_len, vec_capacity}
 use Rattle.std.specs.FinSet.{len}
 use Rattle.task_sheet.specs.TaskSet.{IsTaskSet}
 use Rattle.task_sheet.specs.Indexes.{indexes_of}
 use Rattle.assignment.specs.Levels.{IsObstructed}
-use Rattle.assignment.specs.Climbs.{ClimbState, IsClimbing}
+use Rattle.assignment.specs.Climbs.{IsClimbing}
 use Rattle.assignment.specs.declared.climb.Climb.TheInside.{Inside}
-
--- what callers see of a climb
-abbrev pub climb_of : Inside → ClimbState
-climb_of a = record {
-  set = a.set.value;
-  levels = a.levels.items;
-  left = a.left;
-  stuck = is_some a.members;
-}
 
 -- the levels so far are right, and there is room for those to come
 pub record IsClimbKept (a : Inside) : Type 0 where

@@ -2,6 +2,7 @@
 use Rattle.std.specs.Prelude.{◌≡◌, ℕ, ◌<◌, ◌&&◌, ◌⊎◌, Bool, true, false, not, List, length, Option, None, Some, is_some, IsSome, IsTrue, IsFalse, slice_index_or}
 use Rattle.std.specs.Ordering.{nat_cmp}
 use Rattle.std.specs.FinSet.{FinSet, contains, remove}
+pub use Rattle.task_sheet.specs.SetCodes.{set_codes}
 use Rattle.task_sheet.specs.Sheet.{Task}
 use Rattle.task_sheet.specs.Indexes.{Indexes, indexes_of, without_index, listed_below}
 use Rattle.task_sheet.specs.Orders.{Stands}

@@ -27,17 +27,21 @@ pub struct Climb {
 }
 
 impl Model for Climb {
-    ghost use Rattle.std.specs.Coded.{codes};
-    ghost use Rattle.task_sheet.specs.contracts.members.Members as chosen;
-    ghost use Rattle.assignment.specs.Climbs.{ClimbState};
+    ghost use Rattle.assignment.specs.Climbs.{ClimbState, set_codes};
 
     ghost Value = { ClimbState };
 
-    ghost coded = { Prim.hlevel (codes, chosen.the_row.coded) };
+    ghost coded = { Prim.hlevel set_codes };
 
-    ghost use Rattle.assignment.specs.ClimbFields.{climb_of, IsClimbKept};
+    ghost use Rattle.std.specs.Prelude.{is_some};
+    ghost use Rattle.assignment.specs.ClimbFields.{IsClimbKept};
 
-    ghost view = { climb_of };
+    ghost view = { λ c. record {
+      set = c.set.value;
+      levels = c.levels.items;
+      left = c.left;
+      stuck = is_some c.members;
+    } };
 
     ghost invariant = { IsClimbKept };
 }

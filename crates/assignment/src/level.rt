@@ -27,13 +27,11 @@ pub struct Level {
 }
 
 impl Model for Level {
-    ghost use Rattle.std.specs.Coded.{codes};
-    ghost use Rattle.task_sheet.specs.contracts.members.Members as members;
-    ghost use Rattle.assignment.specs.Levels.{LevelState};
+    ghost use Rattle.assignment.specs.Levels.{LevelState, set_codes};
 
     ghost Value = { LevelState };
 
-    ghost coded = { Prim.hlevel (codes, members.the_row.coded) };
+    ghost coded = { Prim.hlevel set_codes };
 
     ghost use Rattle.assignment.specs.LevelFields.{IsLevelKept};
 

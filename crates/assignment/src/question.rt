@@ -1,10 +1,9 @@
 //! Questions whether a task may stand, and findings on them.
 ghost use Rattle.std.specs.Prelude.{◌≡◌, ◌↔◌, ◌<◌, length, IsTrue, IsFalse, IfOk, IfErr, IfSome, IfNone};
-ghost use Rattle.std.specs.Coded.{codes};
 ghost use Rattle.task_sheet.specs.Indexes.{indexes_of, IsPart};
 ghost use Rattle.task_sheet.specs.Orders.{all_of, is_bound, Stands};
 ghost use Rattle.task_sheet.specs.Verdicts.{IsLeastOver};
-ghost use Rattle.task_sheet.specs.contracts.members.Members as members;
+ghost use Rattle.task_sheet.specs.SetCodes.{set_codes};
 ghost use Rattle.ceilings.specs.IsTableOf.{IsTableOf};
 ghost use Rattle.assignment.specs.Questions.{IsQuestion, IsRight, QuestionData, FindingData};
 
@@ -28,7 +27,7 @@ pub struct Question {
 impl Model for Question {
     ghost Value = { QuestionData };
 
-    ghost coded = { Prim.hlevel (codes, members.the_row.coded) };
+    ghost coded = { Prim.hlevel set_codes };
 
     ghost view = { λ q. record { set = q.set.value; above = q.above; task = q.task } };
 
@@ -48,7 +47,7 @@ pub struct Finding {
 impl Model for Finding {
     ghost Value = { FindingData };
 
-    ghost coded = { Prim.hlevel (codes, members.the_row.coded) };
+    ghost coded = { Prim.hlevel set_codes };
 
     ghost view = { λ f. record { question = f.question; answer = f.answer } };
 

@@ -2,13 +2,12 @@
 ghost use Rattle.std.specs.Prelude.{◌≡◌, ◌<◌, ◌≤◌, ℕ, List, length, max, IfOk, OnOk, if◌then◌else◌};
 ghost use Rattle.std.specs.Ordering.{nat_cmp};
 ghost use Rattle.std.specs.FinSet.{FinSet};
-ghost use Rattle.std.specs.Coded.{codes};
 ghost use Rattle.task_sheet.specs.Sheet.{Task};
 ghost use Rattle.task_sheet.specs.declared.set.TheConstants.{TASK_LIMIT};
 ghost use Rattle.task_sheet.specs.Indexes.{indexes_of};
 ghost use Rattle.task_sheet.specs.Locks.{reaches};
 ghost use Rattle.task_sheet.specs.Demand.{longest_reached};
-ghost use Rattle.task_sheet.specs.contracts.members.Members as members;
+ghost use Rattle.task_sheet.specs.SetCodes.{set_codes};
 ghost use Rattle.ceilings.specs.Holds.{is_reached, longest_of, longest_from, longest_held, longest_outside, HoldData, TaskHoldsData};
 ghost use Rattle.ceilings.specs.IsTableOf.{AreUsersOf};
 
@@ -27,7 +26,7 @@ pub(crate) struct Hold {
 impl Model for Hold {
     ghost Value = { HoldData };
 
-    ghost coded = { Prim.hlevel (codes, members.the_row.coded) };
+    ghost coded = { Prim.hlevel set_codes };
 
     ghost view = { λ h. record { users = h.users; len = h.len } };
 
@@ -54,7 +53,7 @@ pub(crate) struct TaskHolds {
 impl Model for TaskHolds {
     ghost Value = { TaskHoldsData };
 
-    ghost coded = { Prim.hlevel (codes, members.the_row.coded) };
+    ghost coded = { Prim.hlevel set_codes };
 
     ghost view = { λ t. record { task = t.task; holds = t.holds.items } };
 

@@ -3,13 +3,12 @@
 #![tactic(auto)]
 
 ghost use Rattle.std.specs.Prelude.{◌≡◌, ◌<◌, ◌≤◌, ℕ, List, length, position, slice_get, All, IfOk};
-ghost use Rattle.std.specs.Coded.{codes};
 ghost use Rattle.task_sheet.specs.Sheet.{Task, same_bytes, task_at};
 ghost use Rattle.task_sheet.specs.declared.set.TheConstants.{TASK_LIMIT};
 ghost use Rattle.task_sheet.specs.Indexes.{indexes_of};
 ghost use Rattle.task_sheet.specs.Locks.{uses, reaches, ceiling_of};
 ghost use Rattle.task_sheet.specs.Orders.{must_outrank};
-ghost use Rattle.task_sheet.specs.contracts.members.Members as members;
+ghost use Rattle.task_sheet.specs.SetCodes.{set_codes};
 ghost use Rattle.ceilings.specs.Table.{locks_in, users_in, some_uses};
 ghost use Rattle.ceilings.specs.Holds.{longest_outside, TableData};
 ghost use Rattle.ceilings.specs.IsTableOf.{IsTableOf, locks_of};
@@ -37,7 +36,7 @@ pub struct LockTable {
 impl Model for LockTable {
     ghost Value = { TableData };
 
-    ghost coded = { Prim.hlevel (codes, members.the_row.coded) };
+    ghost coded = { Prim.hlevel set_codes };
 
     ghost view = { λ t. record {
       users = t.users;

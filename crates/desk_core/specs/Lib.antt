@@ -9,7 +9,6 @@ pub mod SlotFields
 pub mod Stages
 pub mod LiveFields
 pub mod Brought
-pub mod CoreFields
 pub mod Asking
 pub mod Standings
 pub mod Said

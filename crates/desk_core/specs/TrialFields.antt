@@ -3,12 +3,7 @@ use Rattle.std.specs.Prelude.{◌≡◌, false}
 use Rattle.ceilings.specs.IsTableOf.{IsTableOf}
 use Rattle.assignment.specs.Levels.{LevelState}
 use Rattle.desk_core.specs.Progress.{present_of, IsProgress}
-use Rattle.desk_core.specs.Trials.{TrialData}
 use Rattle.desk_core.specs.declared.trial.Trial.TheInside.{Inside}
-
--- what callers see of a trial
-abbrev pub trial_of : Inside → TrialData
-trial_of a = record { set = a.set.value; found = a.found.items }
 
 -- the table is that of the set, the climb is as far as the findings are, and the level that is kept, if any, is the
 -- present one

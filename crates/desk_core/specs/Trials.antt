@@ -2,6 +2,7 @@
 use Rattle.std.specs.Prelude.{ℕ, List, length, map}
 use Rattle.std.specs.Ordering.{nat_cmp}
 use Rattle.std.specs.FinSet.{FinSet}
+pub use Rattle.task_sheet.specs.SetCodes.{set_codes}
 use Rattle.task_sheet.specs.Sheet.{Task, task_at}
 use Rattle.task_sheet.specs.Indexes.{indexes_of, listed_below}
 use Rattle.desk_core.specs.declared.asked.Asked.{Asked}

@@ -1,5 +1,6 @@
 -- The desk with all its live drafts, and what happens at each event.
 use Rattle.std.specs.Prelude.{◌≡◌, ℕ, ◌+◌, ◌-◌, ◌<◌, ◌⊎◌, ◌==◌, List, [], ◌∷◌, ◌++◌, length, map, Option, None, Some, Result, Ok, Err, slice_get, slice_set, if◌then◌else◌}
+pub use Rattle.task_sheet.specs.SetCodes.{set_codes}
 use Rattle.task_sheet.specs.Sheet.{Task, task_at}
 use Rattle.task_sheet.specs.Orders.{IsFeasible}
 use Rattle.task_sheet.specs.Verdicts.{FailureData, tasks_of, IsVerdictOf}

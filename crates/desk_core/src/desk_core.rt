@@ -23,17 +23,13 @@ pub struct Core {
 }
 
 impl Model for Core {
-    ghost use Rattle.std.specs.Coded.{codes};
-    ghost use Rattle.task_sheet.specs.contracts.members.Members as chosen;
-    ghost use Rattle.desk_core.specs.World.{World};
+    ghost use Rattle.desk_core.specs.World.{World, set_codes};
 
     ghost Value = { World };
 
-    ghost coded = { Prim.hlevel (codes, chosen.the_row.coded) };
+    ghost coded = { Prim.hlevel set_codes };
 
-    ghost use Rattle.desk_core.specs.CoreFields.{world_of};
-
-    ghost view = { world_of };
+    ghost view = { λ c. record { book = c.book; drafts = c.drafts.items } };
 }
 
 /// Memory was wanting; the event is handed back, and the core is as it was.

@@ -32,13 +32,11 @@ pub struct Live {
 }
 
 impl Model for Live {
-    ghost use Rattle.std.specs.Coded.{codes};
-    ghost use Rattle.task_sheet.specs.contracts.members.Members as chosen;
-    ghost use Rattle.desk_core.specs.World.{Live};
+    ghost use Rattle.desk_core.specs.World.{Live, set_codes};
 
     ghost Value = { Live };
 
-    ghost coded = { Prim.hlevel (codes, chosen.the_row.coded) };
+    ghost coded = { Prim.hlevel set_codes };
 
     ghost use Rattle.desk_core.specs.LiveFields.{live_of, IsLiveKept};
 

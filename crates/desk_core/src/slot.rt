@@ -37,13 +37,11 @@ pub struct Slot {
 
 impl Model for Slot {
     ghost use Rattle.std.specs.Prelude.{Option};
-    ghost use Rattle.std.specs.Coded.{codes};
-    ghost use Rattle.task_sheet.specs.contracts.members.Members as chosen;
-    ghost use Rattle.desk_core.specs.World.{Live};
+    ghost use Rattle.desk_core.specs.World.{Live, set_codes};
 
     ghost Value = { Option Live };
 
-    ghost coded = { Prim.hlevel (codes, chosen.the_row.coded) };
+    ghost coded = { Prim.hlevel set_codes };
 
     ghost use Rattle.desk_core.specs.SlotFields.{kept_in};
 

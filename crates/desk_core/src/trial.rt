@@ -39,17 +39,15 @@ pub struct Trial {
 }
 
 impl Model for Trial {
-    ghost use Rattle.std.specs.Coded.{codes};
-    ghost use Rattle.task_sheet.specs.contracts.members.Members as chosen;
-    ghost use Rattle.desk_core.specs.Trials.{TrialData};
+    ghost use Rattle.desk_core.specs.Trials.{TrialData, set_codes};
 
     ghost Value = { TrialData };
 
-    ghost coded = { Prim.hlevel (codes, chosen.the_row.coded) };
+    ghost coded = { Prim.hlevel set_codes };
 
-    ghost use Rattle.desk_core.specs.TrialFields.{trial_of, IsTrialKept};
+    ghost use Rattle.desk_core.specs.TrialFields.{IsTrialKept};
 
-    ghost view = { trial_of };
+    ghost view = { λ t. record { set = t.set.value; found = t.found.items } };
 
     ghost invariant = { IsTrialKept };
 }

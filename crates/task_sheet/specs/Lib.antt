@@ -7,6 +7,7 @@ pub mod SheetFault
 pub mod Members
 pub mod MembersWords
 pub mod MembersLaws
+pub mod SetCodes
 pub mod TaskSet
 pub mod SetFields
 pub mod SheetsFault

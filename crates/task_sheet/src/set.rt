@@ -74,16 +74,6 @@ pub enum WithoutFault {
     OutOfMemory,
 }
 
-impl From<AllocError> for WithoutFault {
-    ghost use Rattle.task_sheet.specs.declared.set.WithoutFault.TheVariants.{OutOfMemory};
-
-    ghost from_gives = { λ _ fault. fault ≡ OutOfMemory };
-
-    fn from(_error: AllocError) -> WithoutFault {
-        WithoutFault::OutOfMemory
-    }
-}
-
 /// At most 32 sheets with distinct names, by rank: by weight, then by the bytes of the name. A task's
 /// index in the set is its place in this order, from 0. Tasks of less rank are wanted at lower levels, where
 /// levels are assigned from the lowest up (Audsley 1991).
@@ -271,7 +261,9 @@ impl TaskSet {
         if !is_taken(&self.sheets, name) {
             return Err(WithoutFault::NoSuchTask);
         }
-        let sheets = copy_others(alloc, &self.sheets, name)?;
-        Ok(TaskSet { sheets })
+        match copy_others(alloc, &self.sheets, name) {
+            Ok(sheets) => Ok(TaskSet { sheets }),
+            Err(_) => Err(WithoutFault::OutOfMemory),
+        }
     }
 }
