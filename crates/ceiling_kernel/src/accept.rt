@@ -48,7 +48,10 @@ fn find_tasks(alloc: Global, set: &TaskSet, releases: &[Release]) -> Result<Vec<
         let Some(task) = set.find(releases[k].name) else {
             return Err(RunFault::UnknownTask { place: k + 1 });
         };
-        places.push(task)?;
+        match places.push(task) {
+            Ok(()) => {}
+            Err(_) => return Err(RunFault::OutOfMemory),
+        }
     }
     Ok(places)
 }

@@ -2,7 +2,7 @@
 ghost use Rattle.std.specs.Prelude.{◌≡◌};
 ghost use Rattle.ceiling_kernel.specs.declared.trace.RunFault.TheVariants.{OutOfMemory};
 
-use std::alloc::{AllocError, AllocFailed};
+use std::alloc::AllocError;
 use task_sheet::Name;
 
 /// A job of the task with that name arrives at that time, and becomes ready so much later; in microseconds.
@@ -62,14 +62,6 @@ impl From<AllocError> for RunFault {
     ghost from_gives = { λ _ fault. fault ≡ OutOfMemory };
 
     fn from(_: AllocError) -> RunFault {
-        RunFault::OutOfMemory
-    }
-}
-
-impl<T: Drop> From<AllocFailed<T>> for RunFault {
-    ghost from_gives = { λ _ fault. fault ≡ OutOfMemory };
-
-    fn from(_: AllocFailed<T>) -> RunFault {
         RunFault::OutOfMemory
     }
 }

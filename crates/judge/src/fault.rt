@@ -2,7 +2,7 @@
 ghost use Rattle.std.specs.Prelude.{◌≡◌};
 ghost use Rattle.judge.specs.declared.fault.SettingsFault.TheVariants.{OutOfMemory};
 
-use std::alloc::{AllocError, AllocFailed};
+use std::alloc::AllocError;
 use task_sheet::Name;
 
 /// Why a text is no settings of a set. Lines are counted from 1. Each is looked for over the whole text before the
@@ -35,14 +35,6 @@ impl From<AllocError> for SettingsFault {
     ghost from_gives = { λ _ fault. fault ≡ OutOfMemory };
 
     fn from(_e: AllocError) -> SettingsFault {
-        SettingsFault::OutOfMemory
-    }
-}
-
-impl<T: Drop> From<AllocFailed<T>> for SettingsFault {
-    ghost from_gives = { λ _ fault. fault ≡ OutOfMemory };
-
-    fn from(_e: AllocFailed<T>) -> SettingsFault {
         SettingsFault::OutOfMemory
     }
 }

@@ -91,7 +91,9 @@ pub(crate) fn read_rows(alloc: Global, text: &[u8]) -> Result<Vec<SettingRow>, S
         let Some(row) = read_row(line.number, line.text) else {
             return Err(SettingsFault::BadLine { line: line.number });
         };
-        rows.push(row)?;
+        if rows.push(row).is_err() {
+            return Err(SettingsFault::OutOfMemory);
+        }
         at = after;
     }
     Ok(rows)

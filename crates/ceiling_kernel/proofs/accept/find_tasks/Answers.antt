@@ -20,5 +20,5 @@ loop-k-preserved c =
     let known = unknown_at U rs c.loop-k.k c.index-releases-k.result (Some c.in-Some.task) c.loop-k-test.true c.in-Some.ensures in
     record {
       known = first_more (is_unknown U rs) c.loop-k.k c.loop-k.invariant.known known;
-      places = c.in_ok-push.ensures.items ∙ numbers-next U rs c.loop-k.places.items c.loop-k.k c.in-Some.task c.index-releases-k.result c.loop-k-test.true c.in-Some.ensures c.loop-k.invariant.places;
+      places = c.in-Ok.ensures.items ∙ numbers-next U rs c.loop-k.places.items c.loop-k.k c.in-Some.task c.index-releases-k.result c.loop-k-test.true c.in-Some.ensures c.loop-k.invariant.places;
     }
