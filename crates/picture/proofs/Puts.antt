@@ -3,10 +3,10 @@ use Rattle.std.proofs.Common.{◌≡◌, ℕ, ◌+◌, ◌<◌, List, length, ge
 use Rattle.std.specs.Prelude.{⊤, Some, None, Result, Ok, Err, OnOk}
 use Rattle.std.specs.Io.KnownBytes.{Appends}
 use Rattle.std.proofs.lemmas.List.{get_or_read}
-use Rattle.streams.proofs.Writes.{writes_both}
+use Rattle.streams.proofs.Puts.{puts_both}
 use Rattle.picture.specs.Rows.{each}
-use Rattle.picture.specs.Puts.{Puts}
-use Rattle.picture.specs.declared.page.Page.{Page}
+use Rattle.streams.specs.Puts.{Puts}
+use Rattle.streams.specs.declared.outlet.Outlet.{Outlet}
 use Rattle.streams.specs.Sending.{Sends}
 use Rattle.streams.specs.declared.watched.WriteFailed.{WriteFailed}
 
@@ -19,13 +19,8 @@ sends_nothing : (bytes : Option (List ℕ)) (held : List ℕ) → Sends bytes he
 sends_nothing None held = tt
 sends_nothing (Some x) held = sym (append-nil (x ++ held))
 
--- two texts, the last of which may have failed
-pub puts_both : {W : Type 0} {contents : W → Option (List ℕ)} {a b c : Page W} {u : ⊤} {r : Result ⊤ WriteFailed} {xs ys : List ℕ}
-    → Puts contents a b (Ok u) xs → Puts contents b c r ys → Puts contents a c r (xs ++ ys)
-puts_both one two = record { writes = writes_both one.writes two.writes; same = two.same ∙ one.same }
-
 -- nothing was put yet
-pub puts_none : {W : Type 0} (contents : W → Option (List ℕ)) (a : Page W) (text : ℕ → List ℕ) → Puts contents a a (Ok tt) (each 0 text)
+pub puts_none : {W : Type 0} (contents : W → Option (List ℕ)) (a : Outlet W) (text : ℕ → List ℕ) → Puts contents a a (Ok tt) (each 0 text)
 unfolding each
 puts_none contents a text = record {
   writes = record { sent = sends_nothing (contents a.out.now.inner) a.held; ok = refl; failed = tt };
@@ -33,13 +28,13 @@ puts_none contents a text = record {
 }
 
 -- one text more
-pub puts_one_more : {W : Type 0} {contents : W → Option (List ℕ)} {a b c : Page W} {u v : ⊤} (text : ℕ → List ℕ) (n : ℕ)
+pub puts_one_more : {W : Type 0} {contents : W → Option (List ℕ)} {a b c : Outlet W} {u v : ⊤} (text : ℕ → List ℕ) (n : ℕ)
     → Puts contents a b (Ok u) (each n text) → Puts contents b c (Ok v) (text n) → Puts contents a c (Ok v) (each (n + 1) text)
 puts_one_more {contents = contents} {a = a} {c = c} {v = v} text n so_far next =
     subst (Puts contents a c (Ok v)) (sym (each_more text n)) (puts_both so_far next)
 
 -- one item's text more
-pub puts_item : {W : Type 0} {contents : W → Option (List ℕ)} {a b c : Page W} {u v : ⊤} {X : Type 0} (text : ℕ → X → List ℕ) (items : List X) (none : X) (n : ℕ) (x : X)
+pub puts_item : {W : Type 0} {contents : W → Option (List ℕ)} {a b c : Outlet W} {u v : ⊤} {X : Type 0} (text : ℕ → X → List ℕ) (items : List X) (none : X) (n : ℕ) (x : X)
     → n < length items → x ≡ get_or items n x
     → Puts contents a b (Ok u) (each n (λ i. text i (get_or items i none))) → Puts contents b c (Ok v) (text n x)
     → Puts contents a c (Ok v) (each (n + 1) (λ i. text i (get_or items i none)))
@@ -47,13 +42,13 @@ puts_item {contents = contents} {b = b} {c = c} {v = v} {X = X} text items none 
     puts_one_more (λ i. text i (get_or items i none)) n so_far (subst (λ (y : X). Puts contents b c (Ok v) (text n y)) (get_or_read items n x lt is none) next)
 
 -- nothing was put yet behind a first text
-pub puts_head : {W : Type 0} {contents : W → Option (List ℕ)} {a b : Page W} {u : ⊤} {head : List ℕ} (text : ℕ → List ℕ)
+pub puts_head : {W : Type 0} {contents : W → Option (List ℕ)} {a b : Outlet W} {u : ⊤} {head : List ℕ} (text : ℕ → List ℕ)
     → Puts contents a b (Ok u) head → Puts contents a b (Ok u) (head ++ each 0 text)
 unfolding each
 puts_head {contents = contents} {a = a} {b = b} {u = u} {head = head} text first = subst (Puts contents a b (Ok u)) (sym (append-nil head)) first
 
 -- one item's text more behind a first text
-pub puts_item_behind : {W : Type 0} {contents : W → Option (List ℕ)} {a b c : Page W} {u v : ⊤} {X : Type 0} (head : List ℕ) (text : ℕ → X → List ℕ) (items : List X) (none : X) (n : ℕ) (x : X)
+pub puts_item_behind : {W : Type 0} {contents : W → Option (List ℕ)} {a b c : Outlet W} {u v : ⊤} {X : Type 0} (head : List ℕ) (text : ℕ → X → List ℕ) (items : List X) (none : X) (n : ℕ) (x : X)
     → n < length items → x ≡ get_or items n x
     → Puts contents a b (Ok u) (head ++ each n (λ i. text i (get_or items i none))) → Puts contents b c (Ok v) (text n x)
     → Puts contents a c (Ok v) (head ++ each (n + 1) (λ i. text i (get_or items i none)))

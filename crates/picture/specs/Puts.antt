@@ -1,11 +1,10 @@
 -- What a put does to a page.
-use Rattle.std.specs.Prelude.{⊤, ◌≡◌, ℕ, List, Option, Result}
-use Rattle.streams.specs.Sending.{Writes}
+use Rattle.std.specs.Prelude.{⊤, ℕ, List, Option, Result}
+use Rattle.streams.specs.Puts as outlet
 use Rattle.streams.specs.declared.watched.WriteFailed.{WriteFailed}
 use Rattle.picture.specs.declared.page.Page.{Page}
 
--- the text was written to the page's writer, behind what is held back; it is the same writer
-pub record Puts {W : Type 0} (contents : W → Option (List ℕ))
-    (old new : Page W) (result : Result ⊤ WriteFailed) (text : List ℕ) : Type 0 where
-  pub writes : Writes contents old.out.now old.held new.out.now new.held result text
-  pub same : new.out.ghost_name ≡ old.out.ghost_name
+-- the text was put into the page's outlet
+abbrev pub Puts : {W : Type 0} → (W → Option (List ℕ)) → (old new : Page W)
+    → (result : Result ⊤ WriteFailed) → (text : List ℕ) → Type 0
+Puts contents old new result text = outlet.Puts contents old.out new.out result text

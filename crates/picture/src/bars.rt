@@ -51,7 +51,7 @@ impl<W: Write + Drop> Page<'_, W> {
         let start = slice.start;
         let stop = slice.stop;
         write!(
-            self,
+            self.out,
             "<path class=\"e\" d=\"{bar}\"><title>{name} {start} to {stop} us</title></path>\n"
         )
     }

@@ -11,7 +11,7 @@ use crate::rows::TaskRow;
 use ceiling_kernel::{JobRecord, Release, Trace};
 use std::alloc::{AllocError, Global};
 use std::io::Write;
-use streams::{Watched, WriteFailed};
+use streams::{Outlet, Watched, WriteFailed};
 
 /// Why there is no picture.
 #[derive(Clone, Copy, Debug, PartialEq, Eq)]
@@ -51,7 +51,7 @@ fn put_document<W: Write + Drop>(
     page.put_jobs(frame, rows, jobs)?;
     page.put_slices(frame, rows, jobs, &trace.slices, executed)?;
     page.put_all_marks(frame, rows, releases)?;
-    page.put("</svg>\n")
+    page.out.put(b"</svg>\n")
 }
 
 // The document, sent whole.
@@ -72,9 +72,11 @@ fn put_all<W: Write + Drop>(
     ensures failed { OnErr result (output.new.has_failed ≡ true) }
 {
     let frame = frame_of(rows, until);
-    let mut page = Page::new(output);
+    let mut page = Page {
+        out: Outlet::new(output),
+    };
     put_document(&mut page, frame, rows, until, releases, trace, executed)?;
-    page.send()
+    page.out.flush()
 }
 
 /// Writes the picture of a run of these rows, the highest level first, whose trace ends at `until`, in microseconds:

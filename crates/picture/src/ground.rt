@@ -29,7 +29,7 @@ impl<W: Write + Drop> Page<'_, W> {
         let width = wide / 10;
         let height = high / 10;
         write!(
-            self,
+            self.out,
             "xmlns:xlink=\"http://www.w3.org/1999/xlink\" version=\"1.1\" width=\"{width}\" height=\"{height}\" viewBox=\"0 0 {wide} {high}\">\n"
         )
     }
@@ -39,7 +39,7 @@ impl<W: Write + Drop> Page<'_, W> {
         ensures { Puts W.contents self.old self.new result (title_text rows jobs until) }
     {
         write!(
-            self,
+            self.out,
             "<title>tasks: {rows}, jobs: {jobs}, until {until} us</title>\n"
         )
     }
@@ -55,8 +55,8 @@ impl<W: Write + Drop> Page<'_, W> {
         requires { rows ≤ TASK_LIMIT }
         ensures { Puts W.contents self.old self.new result (document_head frame rows jobs until) }
     {
-        self.put(
-            "<?xml version=\"1.0\" encoding=\"UTF-8\"?>\n<svg xmlns=\"http://www.w3.org/2000/svg\" ",
+        self.out.put(
+            b"<?xml version=\"1.0\" encoding=\"UTF-8\"?>\n<svg xmlns=\"http://www.w3.org/2000/svg\" ",
         )?;
         self.put_measures(frame, top_of(rows) + 60)?;
         self.put_title(rows, jobs, until)
@@ -76,7 +76,7 @@ impl<W: Write + Drop> Page<'_, W> {
         let number = time / unit_of(step);
         let unit = unit_name(step);
         write!(
-            self,
+            self.out,
             "<path class=\"g\" d=\"M{x} 1300V{bottom}\"/><text class=\"s\" x=\"{x}\" y=\"1260\">{number} {unit}</text>\n"
         )
     }
@@ -101,7 +101,7 @@ impl<W: Write + Drop> Page<'_, W> {
     {
         let y = top_of(k) + 490;
         let end = end_of(frame);
-        write!(self, "<path class=\"l\" d=\"M160 {y}H{end}\"/>\n")
+        write!(self.out, "<path class=\"l\" d=\"M160 {y}H{end}\"/>\n")
     }
 
     // The lines of the rows.
@@ -123,7 +123,7 @@ impl<W: Write + Drop> Page<'_, W> {
         let y = top_of(k) + 140;
         let name = row.sheet.name();
         write!(
-            self,
+            self.out,
             "<text class=\"n\" x=\"160\" y=\"{y}\">{name}</text>\n"
         )
     }
@@ -145,7 +145,7 @@ impl<W: Write + Drop> Page<'_, W> {
         ensures { Puts W.contents self.old self.new result (again_text i) }
     {
         let x = 3000 * (i + 1);
-        write!(self, "<use xlink:href=\"#n\" x=\"{x}\"/>\n")
+        write!(self.out, "<use xlink:href=\"#n\" x=\"{x}\"/>\n")
     }
 
     // The names again, wherever there is room.
@@ -164,9 +164,9 @@ impl<W: Write + Drop> Page<'_, W> {
         requires { length rows.now ≤ TASK_LIMIT }
         ensures { Puts W.contents self.old self.new result (names_group rows.now) }
     {
-        self.put("<g id=\"n\">\n")?;
+        self.out.put(b"<g id=\"n\">\n")?;
         self.put_own_names(rows)?;
-        self.put("</g>\n")
+        self.out.put(b"</g>\n")
     }
 
     // The scale, the lines and the names of the rows, and the names again.
@@ -184,7 +184,7 @@ impl<W: Write + Drop> Page<'_, W> {
     fn put_style(&mut self) -> Result<(), WriteFailed>
         ensures { Puts W.contents self.old self.new result (STYLE.now) }
     {
-        self.put(STYLE)
+        self.out.put(STYLE.as_bytes())
     }
 
     // What stands still.

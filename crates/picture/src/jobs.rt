@@ -31,13 +31,13 @@ impl<W: Write + Drop> Page<'_, W> {
         match job.finish {
             Some(_) => {
                 let bar = bar_of(x, x_after(frame, job.release, row.bound), k);
-                write!(self, "<path class=\"w\" d=\"{bar}\"><title>")
+                write!(self.out, "<path class=\"w\" d=\"{bar}\"><title>")
             }
             None => {
                 let y = top_of(k) + 305;
                 let end = end_of(frame);
                 write!(
-                    self,
+                    self.out,
                     "<path class=\"w\" d=\"M{x} {y}H{end}l60 30-60 30 60 30-60 30 60 30-60 30H{x}z\"><title>"
                 )
             }
@@ -50,7 +50,7 @@ impl<W: Write + Drop> Page<'_, W> {
     {
         let name = job.name;
         let release = job.release;
-        write!(self, "{name}: arrival {release}, ")
+        write!(self.out, "{name}: arrival {release}, ")
     }
 
     // When it is done, and how long after its arrival, if it is.
@@ -60,9 +60,9 @@ impl<W: Write + Drop> Page<'_, W> {
         match job.finish {
             Some(finish) => {
                 let response = finish.saturating_sub(job.release);
-                write!(self, "done {finish}, response {response}, ")
+                write!(self.out, "done {finish}, response {response}, ")
             }
-            None => self.put("not done, "),
+            None => self.out.put(b"not done, "),
         }
     }
 
@@ -73,7 +73,7 @@ impl<W: Write + Drop> Page<'_, W> {
         let bound = row.bound;
         let deadline = row.sheet.deadline();
         write!(
-            self,
+            self.out,
             "bound {bound}, deadline {deadline} us</title></path>\n"
         )
     }

@@ -8,7 +8,6 @@ mod frame;
 mod ground;
 mod jobs;
 pub mod laws;
-mod line;
 mod marks;
 mod page;
 mod parts;

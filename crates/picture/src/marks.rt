@@ -39,7 +39,7 @@ impl<W: Write + Drop> Page<'_, W> {
         ensures { Puts W.contents self.old self.new result (arrival_text frame release y) }
     {
         let x = x_of(frame, release.time);
-        write!(self, "M{x} {y}v100m-35-50l35-50 35 50\n")
+        write!(self.out, "M{x} {y}v100m-35-50l35-50 35 50\n")
     }
 
     // A stroke to when the job becomes ready, where that is later.
@@ -51,7 +51,7 @@ impl<W: Write + Drop> Page<'_, W> {
         }
         let x = x_of(frame, release.time);
         let ready = x_after(frame, release.time, release.late);
-        write!(self, "M{x} {y}H{ready}v-95\n")
+        write!(self.out, "M{x} {y}H{ready}v-95\n")
     }
 
     // A mark so long after the arrival, where that is in the picture.
@@ -70,7 +70,7 @@ impl<W: Write + Drop> Page<'_, W> {
             return Ok(());
         }
         let x = x_after(frame, release.time, len);
-        write!(self, "M{x} {y}{shape}")
+        write!(self.out, "M{x} {y}{shape}")
     }
 
     // The mark of a release in a row.
@@ -125,10 +125,10 @@ impl<W: Write + Drop> Page<'_, W> {
         ensures { Puts W.contents self.old self.new result (mark_head mark) }
     {
         match mark {
-            Mark::Arrival => self.put("<path class=\"a\" d=\"\n"),
-            Mark::Ready => self.put("<path class=\"r\" d=\"\n"),
-            Mark::Bound => self.put("<path class=\"b\" d=\"\n"),
-            Mark::Deadline => self.put("<path class=\"d\" d=\"\n"),
+            Mark::Arrival => self.out.put(b"<path class=\"a\" d=\"\n"),
+            Mark::Ready => self.out.put(b"<path class=\"r\" d=\"\n"),
+            Mark::Bound => self.out.put(b"<path class=\"b\" d=\"\n"),
+            Mark::Deadline => self.out.put(b"<path class=\"d\" d=\"\n"),
         }
     }
 
@@ -148,7 +148,7 @@ impl<W: Write + Drop> Page<'_, W> {
         for release in releases {
             self.put_mark(frame, rows, mark, *release)?;
         }
-        self.put("\"/>\n")
+        self.out.put(b"\"/>\n")
     }
 
     // The marks of all kinds.

@@ -28,7 +28,7 @@ impl<W: Write + Drop> Page<'_, W> {
     fn put_name(&mut self, name: Name) -> Result<(), WriteFailed>
         ensures { Puts W.contents self.old self.new result (codes " " ++ name) }
     {
-        write!(self, " {name}")
+        write!(self.out, " {name}")
     }
 
     // Names, each after one space.
@@ -56,7 +56,7 @@ impl<W: Write + Drop> Page<'_, W> {
     {
         let middle = (x + right) / 2;
         let y = top_of(k) + 433;
-        write!(self, "<text class=\"k\" x=\"{middle}\" y=\"{y}\">")
+        write!(self.out, "<text class=\"k\" x=\"{middle}\" y=\"{y}\">")
     }
 
     // The names of locks in the middle of a part, where there is room.
@@ -77,7 +77,7 @@ impl<W: Write + Drop> Page<'_, W> {
         }
         self.put_label_head(x, right, k)?;
         self.put_locks(section)?;
-        self.put("</text>\n")
+        self.out.put(b"</text>\n")
     }
 
     // The box of a part, up to the names of its locks.
@@ -94,14 +94,17 @@ impl<W: Write + Drop> Page<'_, W> {
     {
         let bar = bar_of(x_of(frame, start), x_of(frame, stop), k);
         let name = row.sheet.name();
-        write!(self, "<path class=\"h\" d=\"{bar}\"><title>{name} holds")
+        write!(
+            self.out,
+            "<path class=\"h\" d=\"{bar}\"><title>{name} holds"
+        )
     }
 
     // What stands behind them.
     fn put_part_end(&mut self, start: u64, stop: u64) -> Result<(), WriteFailed>
         ensures { Puts W.contents self.old self.new result (part_end start stop) }
     {
-        write!(self, " {start} to {stop} us</title></path>\n")
+        write!(self.out, " {start} to {stop} us</title></path>\n")
     }
 
     // A part of a slice in which its job holds locks.

@@ -1,10 +1,10 @@
 //! Bytes that are held back, so that a writer gets many at once.
-ghost use Rattle.std.specs.Prelude.{◌≡◌, ◌++◌, ◌+◌, ◌<◌, ◌≤◌, [], length, IsErr, OnOk, OnErr, true, ℕ, List, take};
+ghost use Rattle.std.specs.Prelude.{◌≡◌, ◌++◌, [], IsErr, OnOk, OnErr, true, false, ℕ, List};
 ghost use Rattle.std.specs.Io.KnownBytes.{Appends};
 ghost use Rattle.streams.specs.Sending.{Sends};
-ghost use Rattle.streams.specs.declared.held.TheConstants.{ROOM};
 
 use crate::watched::{Watched, WriteFailed};
+use arrayvec::ArrayVec;
 use std::io::Write;
 use std::marker::Model;
 
@@ -14,16 +14,13 @@ const ROOM: usize = 16_384;
 /// Up to 16,384 bytes that wait to be written. They lie in the value itself, and take no memory.
 #[derive(Drop)]
 pub struct Held {
-    bytes: [u8; ROOM],
-    len: usize,
+    bytes: ArrayVec<u8, ROOM>,
 }
 
 impl Model for Held {
     ghost Value = { List ℕ };
 
-    ghost view = { λ h. take h.len h.bytes };
-
-    ghost invariant = { λ h. h.len ≤ ROOM };
+    ghost view = { λ h. h.bytes.items };
 }
 
 impl Held {
@@ -32,36 +29,16 @@ impl Held {
         ensures { result ≡ [] }
     {
         Held {
-            bytes: [0; ROOM],
-            len: 0,
+            bytes: ArrayVec::new(),
         }
     }
 
-    fn has_room(&self, count: usize) -> bool
-        ensures { result ≡ true → length self.now + count ≤ ROOM }
+    // Puts a text behind what is held back, if there is room for both.
+    fn keep(&mut self, text: &[u8]) -> bool
+        ensures kept { result ≡ true → self.new ≡ self.old ++ text.now }
+        ensures full { result ≡ false → self.new ≡ self.old }
     {
-        self.len <= ROOM && count <= ROOM - self.len
-    }
-
-    fn bytes(&self) -> &[u8]
-        ensures { result.now ≡ self.now }
-    {
-        &self.bytes[..self.len]
-    }
-
-    fn clear(&mut self)
-        ensures { self.new ≡ [] }
-    {
-        self.len = 0;
-    }
-
-    fn push(&mut self, text: &[u8])
-        requires { length self.old + length text.now ≤ ROOM }
-        ensures { self.new ≡ self.old ++ text.now }
-    {
-        let end = self.len + text.len();
-        self.bytes[self.len..end].copy_from_slice(text);
-        self.len = end;
+        self.bytes.try_extend_from_slice(text).is_ok()
     }
 
     /// Writes what is held back.
@@ -73,8 +50,8 @@ impl Held {
         ensures failed { OnErr result (out.new.has_failed ≡ true) }
         ensures stuck { out.old.has_failed ≡ true → IsErr result × (out.new ≡ out.old) }
     {
-        out.write(self.bytes())?;
-        self.clear();
+        out.write(self.bytes.as_slice())?;
+        self.bytes.clear();
         Ok(())
     }
 
@@ -92,13 +69,13 @@ impl Held {
         ensures failed { OnErr result (out.new.has_failed ≡ true) }
         ensures stuck { out.old.has_failed ≡ true → out.new ≡ out.old }
     {
-        if !self.has_room(text.len()) {
-            self.send(out)?;
-            if !self.has_room(text.len()) {
-                return out.write(text);
-            }
+        if self.keep(text) {
+            return Ok(());
         }
-        self.push(text);
-        Ok(())
+        self.send(out)?;
+        if self.keep(text) {
+            return Ok(());
+        }
+        out.write(text)
     }
 }

@@ -1,11 +1,16 @@
 //! Writers for which bytes are held back.
-ghost use Rattle.std.specs.Prelude.{◌≡◌, [], true, OnOk, OnErr};
+ghost use Rattle.std.specs.Prelude.{◌≡◌, [], true, IfSome, OnOk, OnErr};
 ghost use Rattle.std.specs.Io.KnownBytes.{Appends};
 ghost use Rattle.streams.specs.Puts.{Puts};
 
 use crate::held::Held;
 use crate::watched::{Watched, WriteFailed};
+use arrayvec::ArrayVec;
+use std::fmt::Display;
 use std::io::Write;
+
+// How long a value's text may be that is put as one.
+const LINE: usize = 512;
 
 /// A writer, and the bytes that are held back for it.
 #[derive(Drop)]
@@ -32,6 +37,35 @@ impl<'a, W: Write + Drop> Outlet<'a, W> {
         ensures { Puts W.contents self.old self.new result bytes.now }
     {
         self.held.put(bytes, self.out)
+    }
+
+    /// What `write!` calls: puts a value as its `Display` gives it. One that is longer than 512 bytes is written piece
+    /// after piece.
+    pub fn write_fmt<D: Display + Drop>(&mut self, text: D) -> Result<(), WriteFailed>
+        ensures put { IfSome (D.output text) (Puts W.contents self.old self.new result) }
+        ensures ok { OnOk result (self.new.out.now.has_failed ≡ self.old.out.now.has_failed) }
+        ensures failed { OnErr result (self.new.out.now.has_failed ≡ true) }
+        ensures same { self.new.out.ghost_name ≡ self.old.out.ghost_name }
+    {
+        let mut line = ArrayVec::<u8, LINE>::new();
+        match write!(line, "{text}") {
+            Ok(()) => self.held.put(line.as_slice(), self.out),
+            Err(_) => {
+                self.held.send(self.out)?;
+                write!(self.out, "{text}")
+            }
+        }
+    }
+
+    /// Writes what is held back, where the outlet is in another value.
+    pub fn flush(&mut self) -> Result<(), WriteFailed>
+        ensures sent { OnOk result (Appends (W.contents self.old.out.now.inner)
+            (W.contents self.new.out.now.inner) self.old.held) }
+        ensures ok { OnOk result (self.new.out.now.has_failed ≡ self.old.out.now.has_failed) }
+        ensures failed { OnErr result (self.new.out.now.has_failed ≡ true) }
+        ensures same { self.new.out.ghost_name ≡ self.old.out.ghost_name }
+    {
+        self.held.send(self.out)
     }
 
     /// Writes what is held back.

@@ -1,4 +1,4 @@
-use Rattle.picture.proofs.Puts.{puts_both}
+use Rattle.streams.proofs.Puts.{puts_both}
 use Rattle.picture.proofs.page.Page.put_head.Goals as goal
 
 pub returns : goal.returns

@@ -1,5 +1,5 @@
 use Rattle.std.proofs.Common.{◌∙◌, sym}
-use Rattle.picture.proofs.Puts.{puts_both}
+use Rattle.streams.proofs.Puts.{puts_both}
 use Rattle.picture.proofs.page.Page.put_label.Goals as goal
 
 pub returns : goal.returns

@@ -9,7 +9,7 @@ use Rattle.picture.proofs.page.Page.put_slices.Goals as goal
 
 pub loop-slice-init : goal.loop-slice-init
 loop-slice-init g c = record {
-  put = puts_none g.W.Write.contents c.args.self.now (slice_in c.args.frame c.args.rows.now c.args.jobs.now c.args.slices.now);
+  put = puts_none g.W.Write.contents c.args.self.now.out (slice_in c.args.frame c.args.rows.now c.args.jobs.now c.args.slices.now);
   counts = none_counted c.args.executed.now c.args.jobs.now c.args.slices.now c.requires.jobs c.requires.none;
 }
 
