@@ -2,6 +2,7 @@
 
 ghost use Rattle.std.specs.Prelude.{◌≡◌};
 ghost use Rattle.candidate_workers.specs.Faults.{IsBadCount};
+ghost use Rattle.book_lock.specs.Settles.{HoldsSome};
 ghost use Rattle.book_lock.specs.Commits.{IsRound, IsLater, Commits};
 
 use crate::answer::{DeskFault, Settlement};
@@ -9,7 +10,7 @@ use crate::asking::examine;
 use crate::desk::Desk;
 use crate::pass::Pass;
 use candidate_workers::{Gate, WORKER_LIMIT};
-use drafts::{Draft, NodeState};
+use drafts::{Draft, HeldFault, NodeState};
 use std::alloc::Global;
 use std::sync::ledger::Ledger;
 use std::sync::{Arc, Wait};
@@ -59,27 +60,39 @@ pub enum Round {
     Overtaken { draft: Draft, base: Arc<NodeState> },
 }
 
-impl<L: Ledger> Desk<L> {
-    // Tests a draft outside the lock and settles it under it. A stranger is decided at once.
-    fn round<G: Gate + Sync, R: Threads + Wait>(
-        &self,
-        rt: &R,
-        alloc: Global,
-        pass: &mut Pass<L>,
-        draft: Draft,
-        workers: usize,
-        gate: &G,
-    ) -> Result<Round, CommitFault>
-        requires team { draft.team ≡ pass.old.team }
-        requires workers { IsBadCount workers → ⊥ }
-        ensures { IsRound (λ q. G.may_shut gate.now q)
-            (λ q. G.always_shuts gate.now q) draft pass.old result pass.new }
+// How drafts are committed: on which desk, by how many workers, past which gate.
+#[derive(Drop)]
+struct Committer<'a, L: Ledger, G: Gate, R> {
+    rt: &'a R,
+    alloc: Global,
+    desk: &'a Desk<L>,
+    workers: usize,
+    gate: &'a G,
+}
+
+impl<'a, L: Ledger, G: Gate + Sync, R: Threads + Wait> Committer<'a, L, G, R> {
+    // Decides on a draft on the present state, tested under the lock.
+    fn settle_held(&self, pass: &mut Pass<L>, draft: Draft) -> Result<usize, HeldFault>
+        requires { draft.team ≡ pass.old.team }
+        ensures { HoldsSome draft pass.old result pass.new }
     {
-        let proposal = match examine(rt, alloc, draft, workers, gate) {
+        let desk = self.desk;
+        let mut locked = desk.locked.lock(self.rt);
+        locked.settle_held(self.alloc, pass, draft)
+    }
+
+    // Tests a draft outside the lock and settles it under it. A stranger is decided at once.
+    fn round(&self, pass: &mut Pass<L>, draft: Draft) -> Result<Round, CommitFault>
+        requires team { draft.team ≡ pass.old.team }
+        requires workers { IsBadCount self.now.workers → ⊥ }
+        ensures { IsRound (λ q. G.may_shut self.now.gate.now q)
+            (λ q. G.always_shuts self.now.gate.now q) draft pass.old result pass.new }
+    {
+        let proposal = match examine(self.rt, self.alloc, draft, self.workers, self.gate) {
             Ok(proposal) => proposal,
             Err(fault) => return Err(fault),
         };
-        match self.settle(rt, alloc, pass, proposal) {
+        match self.desk.settle(self.rt, self.alloc, pass, proposal) {
             Ok(Settlement::Decided { place }) => Ok(Round::Decided { place }),
             Ok(Settlement::Stale { fresh, proposal }) => {
                 let (draft, base) = proposal.into_draft().exchange(fresh);
@@ -87,7 +100,7 @@ impl<L: Ledger> Desk<L> {
             }
             Err(DeskFault::OtherTeam { proposal: _ }) => unreachable!(),
             Err(DeskFault::Stranger { proposal }) => {
-                match self.settle_held(rt, alloc, pass, proposal.into_draft()) {
+                match self.settle_held(pass, proposal.into_draft()) {
                     Ok(place) => Ok(Round::Decided { place }),
                     Err(fault) => Err(CommitFault {
                         cause: CommitCause::OutOfMemory,
@@ -103,23 +116,19 @@ impl<L: Ledger> Desk<L> {
     }
 
     // Two more rounds, and then a decision under the lock. What is handed back gets this base.
-    fn later_rounds<G: Gate + Sync, R: Threads + Wait>(
+    fn later_rounds(
         &self,
-        rt: &R,
-        alloc: Global,
         pass: &mut Pass<L>,
         draft: Draft,
         base: Arc<NodeState>,
-        workers: usize,
-        gate: &G,
     ) -> Result<usize, CommitFault>
         requires team { draft.team ≡ pass.old.team }
-        requires workers { IsBadCount workers → ⊥ }
-        ensures { IsLater (λ q. G.may_shut gate.now q) draft base.value pass.old result pass.new }
+        requires workers { IsBadCount self.now.workers → ⊥ }
+        ensures { IsLater (λ q. G.may_shut self.now.gate.now q) draft base.value pass.old result pass.new }
     {
         let mut draft = draft;
         for _round in 0..2u32 {
-            match self.round(rt, alloc, pass, draft, workers, gate) {
+            match self.round(pass, draft) {
                 Ok(Round::Decided { place }) => return Ok(place),
                 Ok(
                     Round::Overtaken {
@@ -130,7 +139,7 @@ impl<L: Ledger> Desk<L> {
                 Err(fault) => return Err(fault.on(base)),
             }
         }
-        match self.settle_held(rt, alloc, pass, draft) {
+        match self.settle_held(pass, draft) {
             Ok(place) => Ok(place),
             Err(fault) => Err(CommitFault {
                 cause: CommitCause::OutOfMemory,
@@ -138,17 +147,19 @@ impl<L: Ledger> Desk<L> {
             }),
         }
     }
+}
 
+impl<L: Ledger> Desk<L> {
     /// Commits a draft: up to three rounds outside the lock, and then a decision under it. The place of the pass's new
     /// receipt. Refused in this order: `OtherTeam`, `BadWorkers`; then what came of the tests.
-    pub fn commit<G: Gate + Sync, R: Threads + Wait>(
-        &self,
-        rt: &R,
+    pub fn commit<'a, G: Gate + Sync, R: Threads + Wait>(
+        &'a self,
+        rt: &'a R,
         alloc: Global,
         pass: &mut Pass<L>,
         draft: Draft,
         workers: usize,
-        gate: &G,
+        gate: &'a G,
     ) -> Result<usize, CommitFault>
         ensures { Commits (λ q. G.may_shut gate.now q) (λ q. G.always_shuts gate.now q)
             workers draft pass.old result pass.new }
@@ -161,11 +172,16 @@ impl<L: Ledger> Desk<L> {
             let cause = CommitCause::BadWorkers;
             return Err(CommitFault { cause, draft });
         }
-        match self.round(rt, alloc, pass, draft, workers, gate) {
+        let committer = Committer {
+            rt,
+            alloc,
+            desk: self,
+            workers,
+            gate,
+        };
+        match committer.round(pass, draft) {
             Ok(Round::Decided { place }) => Ok(place),
-            Ok(Round::Overtaken { draft, base }) => {
-                self.later_rounds(rt, alloc, pass, draft, base, workers, gate)
-            }
+            Ok(Round::Overtaken { draft, base }) => { committer.later_rounds(pass, draft, base) }
             Err(fault) => Err(fault),
         }
     }

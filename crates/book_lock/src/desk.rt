@@ -2,13 +2,13 @@
 
 ghost use Rattle.std.specs.Prelude.{◌≡◌, ◌≤◌, IfErr, IfOk, map, ℕ, ◌<◌};
 ghost use Rattle.drafts.specs.declared.team.TheConstants.{TEAM_LIMIT};
-ghost use Rattle.book_lock.specs.Settles.{AnswersProposal, HoldsSome};
+ghost use Rattle.book_lock.specs.Settles.{AnswersProposal};
 ghost use Rattle.book_lock.specs.Opening.{IsNotOpenedFor, IsOpenedFor};
 
 use crate::answer::{DeskFault, OpenFault, Settlement};
 use crate::locked::Locked;
 use crate::pass::Pass;
-use drafts::{Draft, HeldFault, Proposal};
+use drafts::{Draft, Proposal};
 use std::alloc::Global;
 use std::marker::Model;
 use std::sync::ledger::Ledger;
@@ -54,20 +54,5 @@ impl<L: Ledger> Desk<L> {
         }
         let mut locked = self.locked.lock(rt);
         locked.settle(alloc, pass, proposal)
-    }
-
-    // Decides on a draft on the present state, tested under the lock.
-    pub(crate) fn settle_held(
-        &self,
-        rt: &impl Wait,
-        alloc: Global,
-        pass: &mut Pass<L>,
-        draft: Draft,
-    ) -> Result<usize, HeldFault>
-        requires { draft.team ≡ pass.old.team }
-        ensures { HoldsSome draft pass.old result pass.new }
-    {
-        let mut locked = self.locked.lock(rt);
-        locked.settle_held(alloc, pass, draft)
     }
 }

@@ -187,7 +187,10 @@ impl Core {
     {
         match place_of(&self.drafts, draft) {
             None => question.answer(alloc),
-            Some(i) => self.drafts[i].answer(alloc, question),
+            Some(i) => match self.drafts[i].trial() {
+                Some(trial) => trial.answer(alloc, question),
+                None => question.answer(alloc),
+            },
         }
     }
 

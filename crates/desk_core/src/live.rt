@@ -16,7 +16,7 @@ use crate::events::{Cause, Reply, Standing};
 use crate::stage::{Stage, begin, is_tested, put_away, question, standing};
 use crate::told::Told;
 use crate::trial::Trial;
-use assignment::{AnswerFault, Finding, Question};
+use assignment::{Finding, Question};
 use drafts::{Draft, EditCause, EditRefusal, NodeState, PutFault, Team};
 use std::alloc::{AllocError, Global};
 use std::marker::Model;
@@ -288,14 +288,11 @@ impl Live {
         question(alloc, &self.draft, &mut self.stage, name)
     }
 
-    /// The answer to a question, by the lock table of the test where the question is on its set.
-    pub fn answer(&self, alloc: Global, question: Question) -> Result<Finding, AnswerFault>
-        ensures ok { IfOk result (λ finding. finding.question ≡ question) }
-        ensures err { IfErr result (λ fault. fault.question ≡ question) }
-    {
+    /// The test of the draft, where it goes on.
+    pub fn trial(&self) -> Option<&Trial> {
         match &self.stage {
-            Stage::Trying { trial } => trial.answer(alloc, question),
-            _ => question.answer(alloc),
+            Stage::Trying { trial } => Some(trial),
+            _ => None,
         }
     }
 }

@@ -10,7 +10,8 @@ ghost use Rattle.desk_core.specs.World.{opened};
 
 use crate::events::{Reply, Standing};
 use crate::live::Live;
-use assignment::{AnswerFault, Finding, Question};
+use crate::trial::Trial;
+use assignment::{Finding, Question};
 use drafts::{Book, NodeState, Team};
 use std::alloc::{AllocError, Global};
 use std::marker::Model;
@@ -80,14 +81,11 @@ impl Slot {
         }
     }
 
-    /// The answer to a question, by the lock table of the draft's test where the question is on its set.
-    pub fn answer(&self, alloc: Global, question: Question) -> Result<Finding, AnswerFault>
-        ensures ok { IfOk result (λ finding. finding.question ≡ question) }
-        ensures err { IfErr result (λ fault. fault.question ≡ question) }
-    {
+    /// The test of the draft, where it goes on.
+    pub fn trial(&self) -> Option<&Trial> {
         match &self.kept {
-            SlotContents::Grown { live } => live.answer(alloc, question),
-            _ => question.answer(alloc),
+            SlotContents::Grown { live } => live.trial(),
+            _ => None,
         }
     }
 

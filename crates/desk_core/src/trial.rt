@@ -128,11 +128,19 @@ fn accept_at(climb: &mut Climb, mut level: Level, finding: Finding) -> (Told, Op
     }
 }
 
-// Notes a finding where it was taken.
-fn note(found: &mut Vec<Asked>, asked: Asked, told: Told)
+// Keeps what a finding made of the present level, and notes the finding where it was taken.
+fn keep(
+    level: &mut Option<Level>,
+    found: &mut Vec<Asked>,
+    kept: Option<Level>,
+    asked: Asked,
+    told: Told,
+)
     requires { vec_len found.old < vec_capacity found.old }
-    ensures { found.new.items ≡ found_after found.old.items asked told }
+    ensures level { level.new ≡ kept }
+    ensures found { found.new.items ≡ found_after found.old.items asked told }
 {
+    *level = kept;
     match told {
         Told::Stranger | Told::Twice => {}
         Told::Taken | Told::LevelDone { .. } | Told::Tested => found.push_reserved(asked),
@@ -374,8 +382,7 @@ impl Trial {
         };
         let asked = asked_by(&finding);
         let (told, kept) = take_at(&mut self.climb, level, finding);
-        self.level = kept;
-        note(&mut self.found, asked, told);
+        keep(&mut self.level, &mut self.found, kept, asked, told);
         Ok(told)
     }
 
@@ -405,8 +412,7 @@ impl Trial {
         };
         let asked = asked_by(&finding);
         let (told, kept) = accept_at(&mut self.climb, level, finding);
-        self.level = kept;
-        note(&mut self.found, asked, told);
+        keep(&mut self.level, &mut self.found, kept, asked, told);
         Ok(Some(told))
     }
 }

@@ -22,8 +22,8 @@ fn cause_of(standing: &Standing) -> Option<Cause>
     }
 }
 
-// The cause that is told of two drafts.
-fn first_cause(first: Option<Cause>, second: Option<Cause>) -> Option<Cause>
+/// The cause that is told of two drafts.
+pub(crate) fn first_cause(first: Option<Cause>, second: Option<Cause>) -> Option<Cause>
     ensures { result ≡ first_cause first second }
 {
     match first {
@@ -36,21 +36,17 @@ fn first_cause(first: Option<Cause>, second: Option<Cause>) -> Option<Cause>
     }
 }
 
-/// Why no finding of one draft can be brought to another.
-pub(crate) fn why_not(
+/// Why a draft has no levels.
+pub(crate) fn why_none(
     alloc: Global,
     core: &mut Core,
     draft: usize,
-    other: usize,
 ) -> Result<Option<Cause>, AllocError>
     ensures same { core.new ≡ core.old }
-    ensures ok { IfOk result (λ why. why
-        ≡ first_cause (no_levels (live_at core.old.drafts draft))
-        (no_levels (live_at core.old.drafts other))) }
+    ensures ok { IfOk result (λ why. why ≡ no_levels (live_at core.old.drafts draft)) }
 {
-    let first = core.standing(alloc, draft)?;
-    let second = core.standing(alloc, other)?;
-    Ok(first_cause(cause_of(&first), cause_of(&second)))
+    let standing = core.standing(alloc, draft)?;
+    Ok(cause_of(&standing))
 }
 
 /// The finding on the task of a name at a draft's present level.

@@ -6,7 +6,7 @@ ghost use Rattle.desk_core.specs.World.{live_at, start};
 ghost use Rattle.plays.specs.Plays.{Answers, first_cause, IsFoundLine, IsPlayed, IsStandingSaid, IsTestLine, no_levels, PlaysAll, PlaysSome};
 ghost use Rattle.plays.specs.Testing.{IsOver};
 
-use crate::asking::{bring_all, find, why_not};
+use crate::asking::{bring_all, find, first_cause, why_none};
 use crate::printing::{book_text, refused_text, reply_text, tested_text};
 use desk_core::{Cause, Core, Event, Standing};
 use scripts::{Line, Row};
@@ -47,7 +47,9 @@ fn play_found(
         (first_cause (no_levels (live_at core.old.drafts draft))
         (no_levels (live_at core.old.drafts other)))) }
 {
-    if let Some(cause) = why_not(alloc, core, draft, other)? {
+    let first = why_none(alloc, core, draft)?;
+    let second = why_none(alloc, core, other)?;
+    if let Some(cause) = first_cause(first, second) {
         return refused_text(alloc, cause);
     }
     match find(alloc, core, other, name)? {

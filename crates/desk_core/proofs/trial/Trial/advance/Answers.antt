@@ -6,6 +6,7 @@ use Rattle.desk_core.specs.Advances.{IsLeast}
 use Rattle.desk_core.specs.Asking.{IsNextAsked}
 use Rattle.desk_core.specs.Trials.{TrialData}
 use Rattle.desk_core.specs.Findings.{asked_of, IsTested, IsTold, found_after}
+use Rattle.desk_core.specs.Closing.{IsTakenAt}
 use Rattle.desk_core.specs.Progress.{present_of, IsProgress}
 use Rattle.desk_core.proofs.AskingLaws.{least-next}
 use Rattle.desk_core.proofs.ToldLaws.{tested-iff}
@@ -34,8 +35,9 @@ invariant_of-self-2 c =
     let q = c.in_ok-finding.finding.question in
     let going = c.is_unfinished.ensures.0 c.if-not-is_unfinished.false in
     let here = level_here a.climb a.level c.make_room.new.level c.take.result c.in-Some-take.level c.in_ok-make_room.ensures.ok c.take.ensures.value c.in-Some-take.is in
-    let noted = noted_in q c.accept_at-told.result.0 c.asked_by-asked.result a.found.items c.make_room.new.found.items c.note.new.found.items c.note.ensures c.make_room.ensures.kept c.asked_by-asked.ensures in
-    trial-taken a c.self.invariant going c.in-Some-take.level here q c.accept_at-told.new.climb c.accept_at-told.result.1 c.accept_at-told.result.0 c.accept_at-told.ensures c.note.new.found noted
+    let noted = noted_in q c.accept_at-told.result.0 c.asked_by-asked.result a.found.items c.make_room.new.found.items c.keep.new.found.items c.keep.ensures.found c.make_room.ensures.kept c.asked_by-asked.ensures in
+    let taken = subst (λ (kept : Option LevelState). IsTakenAt a.climb c.in-Some-take.level q c.accept_at-told.new.climb kept c.accept_at-told.result.0) (sym c.keep.ensures.level) c.accept_at-told.ensures in
+    trial-taken a c.self.invariant going c.in-Some-take.level here q c.accept_at-told.new.climb c.keep.new.level c.accept_at-told.result.0 taken c.keep.new.found noted
 
 pub returns-clause-ok : goal.returns-clause-ok
 returns-clause-ok c =
@@ -51,7 +53,7 @@ returns-clause-ok c =
     let least = subst (λ (l : LevelState). IsLeast l q) (first ∙ sym here) c.in_ok-finding.ensures in
     let told = c.accept_at-told.result.0 in
     let answer = trial-told a inv going c.in-Some-take.level here q c.accept_at-told.new.climb c.accept_at-told.result.1 told c.accept_at-told.ensures in
-    let noted = noted_in q told c.asked_by-asked.result a.found.items c.make_room.new.found.items c.note.new.found.items c.note.ensures c.make_room.ensures.kept c.asked_by-asked.ensures in (
+    let noted = noted_in q told c.asked_by-asked.result a.found.items c.make_room.new.found.items c.keep.new.found.items c.keep.ensures.found c.make_room.ensures.kept c.asked_by-asked.ensures in (
       f,
       record {
         asked = subst (λ (x : TrialData). (k : ℕ) × IsNextAsked x.set x.found q k) c.self.view_is (length a.climb.levels, least-next a.set.value a.climb c.in-Some-take.level a.found.items so going q least);

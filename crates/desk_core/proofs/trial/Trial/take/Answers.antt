@@ -5,6 +5,7 @@ use Rattle.std.proofs.lemmas.Bool.{both_ways}
 use Rattle.desk_core.specs.declared.told.Told.TheVariants.{Stranger}
 use Rattle.desk_core.specs.Trials.{TrialData}
 use Rattle.desk_core.specs.Findings.{IsTold}
+use Rattle.desk_core.specs.Closing.{IsTakenAt}
 use Rattle.desk_core.specs.Progress.{present_of}
 use Rattle.desk_core.proofs.ToldLaws.{told-ended}
 use Rattle.desk_core.proofs.StepLaws.{on_ok, on_err, level_here, noted_in, trial-roomy, trial-told, trial-taken}
@@ -38,5 +39,6 @@ invariant_of-self-2 c =
     let going = c.is_unfinished.ensures.0 c.if-not-is_unfinished.false in
     let started = on_ok (c.make_room.new.level ≡ Some (present_of a.climb a.level)) c.make_room.result (sym c.is_err.ensures.value ∙ c.if-is_err.false) c.make_room.ensures.ok in
     let here = level_here a.climb a.level c.make_room.new.level c.take.result c.in-Some.level started c.take.ensures.value c.in-Some.is in
-    let noted = noted_in c.args.finding.question c.take_at-told.result.0 c.asked_by-asked.result a.found.items c.make_room.new.found.items c.note.new.found.items c.note.ensures c.make_room.ensures.kept c.asked_by-asked.ensures in
-    trial-taken a c.self.invariant going c.in-Some.level here c.args.finding.question c.take_at-told.new.climb c.take_at-told.result.1 c.take_at-told.result.0 c.take_at-told.ensures c.note.new.found noted
+    let noted = noted_in c.args.finding.question c.take_at-told.result.0 c.asked_by-asked.result a.found.items c.make_room.new.found.items c.keep.new.found.items c.keep.ensures.found c.make_room.ensures.kept c.asked_by-asked.ensures in
+    let taken = subst (λ (kept : Option LevelState). IsTakenAt a.climb c.in-Some.level c.args.finding.question c.take_at-told.new.climb kept c.take_at-told.result.0) (sym c.keep.ensures.level) c.take_at-told.ensures in
+    trial-taken a c.self.invariant going c.in-Some.level here c.args.finding.question c.take_at-told.new.climb c.keep.new.level c.take_at-told.result.0 taken c.keep.new.found noted

@@ -4,12 +4,12 @@ use Rattle.book_lock.specs.Commits.{IsRound}
 use Rattle.book_lock.specs.declared.commit.Round.{Round}
 use Rattle.book_lock.specs.declared.commit.Round.TheVariants.{Decided}
 use Rattle.book_lock.proofs.Rounds.{received-held, received_for, on_its_base, later_fault}
-use Rattle.book_lock.proofs.desk.Desk.later_rounds.Goals as goal
+use Rattle.book_lock.proofs.commit.Committer.later_rounds.Goals as goal
 
 pub returns-in-Ok-Decided : goal.returns-in-Ok-Decided
 returns-in-Ok-Decided g c =
-    let may : QuestionData → Type 0 = λ q. g.G.Gate.may_shut c.args.gate.now q in
-    let always : QuestionData → Type 0 = λ q. g.G.Gate.always_shuts c.args.gate.now q in
+    let may : QuestionData → Type 0 = λ q. g.G.Gate.may_shut c.args.self.now.gate.now q in
+    let always : QuestionData → Type 0 = λ q. g.G.Gate.always_shuts c.args.self.now.gate.now q in
     let inv = c.loop-round.invariant in
     let h : IsRound may always c.loop-round.draft c.loop-round.pass (Ok (Decided c.in-Ok-Decided.place)) c.round.new.pass = subst (λ (x : Round). IsRound may always c.loop-round.draft c.loop-round.pass (Ok x) c.round.new.pass) c.in-Ok-Decided.field-0-is c.in-Ok-Decided.ensures in
     received_for c.args.draft c.loop-round.draft c.loop-round.pass c.args.pass.now c.round.new.pass c.in-Ok-Decided.place inv.0 inv.2 h.1
@@ -23,7 +23,7 @@ pub returns-in-Err : goal.returns-in-Err
 returns-in-Err g c =
     let inv = c.loop-round.invariant in
     let h = c.in-Err.ensures in
-    later_fault (λ (q : QuestionData). g.G.Gate.may_shut c.args.gate.now q) c.args.draft c.loop-round.draft c.args.base.value c.args.base.value c.args.pass.now c.loop-round.pass c.round.new.pass c.in-Err.fault c.on.result inv.0 inv.1 inv.2 refl h.0 h.1 h.2 c.on.ensures.cause c.on.ensures.draft
+    later_fault (λ (q : QuestionData). g.G.Gate.may_shut c.args.self.now.gate.now q) c.args.draft c.loop-round.draft c.args.base.value c.args.base.value c.args.pass.now c.loop-round.pass c.round.new.pass c.in-Err.fault c.on.result inv.0 inv.1 inv.2 refl h.0 h.1 h.2 c.on.ensures.cause c.on.ensures.draft
 
 pub returns-in-Err-settle_held : goal.returns-in-Err-settle_held
 returns-in-Err-settle_held g c =

@@ -7,7 +7,7 @@ use Rattle.book_lock.specs.declared.answer.Settlement.TheVariants.{Decided}
 use Rattle.book_lock.specs.declared.answer.DeskFault.{DeskFault}
 use Rattle.book_lock.specs.declared.answer.DeskFault.TheVariants.{Stranger}
 use Rattle.book_lock.proofs.Rounds.{received-settled, received-held, received_for}
-use Rattle.book_lock.proofs.desk.Desk.round.Goals as goal
+use Rattle.book_lock.proofs.commit.Committer.round.Goals as goal
 
 pub returns-in-Ok-Decided : goal.returns-in-Ok-Decided
 returns-in-Ok-Decided g c =
