@@ -2,6 +2,7 @@
 #![tactic(auto)]
 
 use std::alloc::Global;
+use std::fmt::Debug;
 use std::sync::Arc;
 use std::sync::atomic::{AtomicU64, Ordering};
 use std::test::Fail;
@@ -188,19 +189,19 @@ pub fn shared_set(alloc: Global, text: &str) -> Result<Arc<TaskSet>, Fail> {
     Ok(Arc::new(alloc, set)?)
 }
 
-/// Goes through a table of documents, each with what is to be found of it: the failure tells the first row of which
+/// Goes through a table of cases, each with the text that is to be found of it: the failure tells the first case of which
 /// something else is found.
-pub fn match_rows<F: Fn(Global, &str) -> Result<String, Fail>>(
+pub fn match_rows<C: Copy + Debug, F: Fn(Global, C) -> Result<String, Fail>>(
     alloc: Global,
-    rows: &[(&str, &str)],
+    rows: &[(C, &str)],
     find: F,
 ) -> Result<(), Fail>
     requires { F.IsAlwaysCallable find }
 {
-    for (document, want) in rows {
-        let found = find(alloc, *document)?;
+    for (case, want) in rows {
+        let found = find(alloc, *case)?;
         if found.as_str() != *want {
-            return Err(Fail::new(format_args!("{found}, not {want}, at {document}")));
+            return Err(Fail::new(format_args!("{found}, not {want}, at {case:?}")));
         }
     }
     Ok(())
