@@ -2,45 +2,41 @@
 #![tactic(auto)]
 
 use std::alloc::Global;
+use std::fmt::Debug;
 use std::sync::Arc;
 use std::sync::atomic::{AtomicU64, Ordering};
 use std::test::Fail;
 use std::thread;
 use task_sheet::{Name, SetFault, TaskSet, read_set};
 
+// A document: each task by its name, its period, deadline and cost, and what follows the cost.
+macro_rules! tasks {
+    ($($name:literal $period:literal/$deadline:literal/$cost:literal $($more:literal)?);*) => {
+        concat!(
+            "task = [\n",
+            $(
+                "    { name = '", $name, "', period = ", $period, ", deadline = ", $deadline, ", cost = ", $cost,
+                $($more,)?
+                " },\n",
+            )*
+            "]\n"
+        )
+    };
+}
+
 // The three tasks a, b and c, each with what follows its cost.
 macro_rules! three_tasks {
     ($a:literal, $b:literal, $c:literal) => {
-        concat!(
-            "
-task = [
-    { name = 'a', period = 7000, deadline = 7000, cost = 3000",
-            $a,
-            " },
-    { name = 'b', period = 12000, deadline = 12000, cost = 3000",
-            $b,
-            " },
-    { name = 'c', period = 20000, deadline = 20000, cost = 5000",
-            $c,
-            " },
-]
-"
-        )
+        tasks!("a" 7000/7000/3000 $a; "b" 12000/12000/3000 $b; "c" 20000/20000/5000 $c)
     };
 }
 
 // hi, with this deadline, and lo, which share a lock.
 macro_rules! blocked_out {
     ($deadline:literal) => {
-        concat!(
-            "
-task = [
-    { name = 'hi', period = 10000, deadline = ",
-            $deadline,
-            ", cost = 2000, section = [{ locks = ['m'], at = 0, len = 500 }] },
-    { name = 'lo', period = 50000, deadline = 50000, cost = 10000, section = [{ locks = ['m'], at = 1000, len = 2500 }] },
-]
-"
+        tasks!(
+            "hi" 10000/$deadline/2000 ", section = [{ locks = ['m'], at = 0, len = 500 }]";
+            "lo" 50000/50000/10000 ", section = [{ locks = ['m'], at = 1000, len = 2500 }]"
         )
     };
 }
@@ -48,47 +44,27 @@ task = [
 // Five tasks, of which each but the last must stand above the next; log has this deadline.
 macro_rules! own_order {
     ($deadline:literal) => {
-        concat!(
-            "
-task = [
-    { name = 'brake', period = 5000, deadline = 5000, cost = 500, outranks = ['steer'] },
-    { name = 'steer', period = 10000, deadline = 10000, cost = 2000, outranks = ['camera'] },
-    { name = 'camera', period = 40000, deadline = 40000, cost = 10000, outranks = ['map'] },
-    { name = 'map', period = 100000, deadline = 100000, cost = 20000, outranks = ['log'] },
-    { name = 'log', period = 200000, deadline = ",
-            $deadline,
-            ", cost = 20000 },
-]
-"
+        tasks!(
+            "brake" 5000/5000/500 ", outranks = ['steer']";
+            "steer" 10000/10000/2000 ", outranks = ['camera']";
+            "camera" 40000/40000/10000 ", outranks = ['map']";
+            "map" 100000/100000/20000 ", outranks = ['log']";
+            "log" 200000/$deadline/20000
         )
     };
 }
 
 /// One task whose cost is its period.
-pub const FILLS_ITS_PERIOD: &str = "
-task = [{ name = 'x', period = 1000, deadline = 1000, cost = 1000 }]
-";
+pub const FILLS_ITS_PERIOD: &str = tasks!("x" 1000/1000/1000);
 
 /// Two tasks; the demand of p at its deadline is above the deadline, and yet p passes.
-pub const DEMAND_OF_THE_DEADLINE: &str = "
-task = [
-    { name = 'p', period = 20000, deadline = 11000, cost = 4000 },
-    { name = 'q', period = 10000, deadline = 10000, cost = 5000 },
-]
-";
+pub const DEMAND_OF_THE_DEADLINE: &str = tasks!("p" 20000/11000/4000; "q" 10000/10000/5000);
 
 /// One task that can't meet its deadline.
-pub const COST_PAST_THE_DEADLINE: &str = "
-task = [{ name = 'x', period = 10000, deadline = 2000, cost = 3000 }]
-";
+pub const COST_PAST_THE_DEADLINE: &str = tasks!("x" 10000/2000/3000);
 
 /// The same task beside one that is harmless.
-pub const OBSTRUCTION_OF_ONE: &str = "
-task = [
-    { name = 'x', period = 10000, deadline = 2000, cost = 3000 },
-    { name = 'y', period = 100000, deadline = 100000, cost = 1000 },
-]
-";
+pub const OBSTRUCTION_OF_ONE: &str = tasks!("x" 10000/2000/3000; "y" 100000/100000/1000);
 
 /// The three tasks below, where a must stand above b.
 pub const A_OVER_B: &str = three_tasks!(", outranks = ['b']", "", "");
@@ -106,10 +82,10 @@ pub const A_OVER_B_OVER_A: &str = three_tasks!(", outranks = ['b']", ", outranks
 pub const A_OVER_Z: &str = three_tasks!(", outranks = ['z']", "", "");
 
 /// An order of one's own: each task must stand above the next, and log meets its bound exactly.
-pub const OWN_ORDER: &str = own_order!("100000");
+pub const OWN_ORDER: &str = own_order!(100000);
 
 /// The same, where log has a tick less: the order doesn't pass.
-pub const OWN_ORDER_TOO_TIGHT: &str = own_order!("99999");
+pub const OWN_ORDER_TOO_TIGHT: &str = own_order!(99999);
 
 /// Three tasks, of which c alone passes at the lowest level.
 pub const THREE_TASKS: &str = three_tasks!("", "", "");
@@ -121,45 +97,83 @@ pub const THREE_TASKS_LATE: &str = three_tasks!(", jitter = 1000", "", "");
 pub const THREE_TASKS_TOO_LATE: &str = three_tasks!(", jitter = 1001", "", "");
 
 /// The same three tasks without jitter, where a is wanted higher than b.
-pub const THREE_TASKS_WEIGHTED: &str = "
-task = [
-    { name = 'a', weight = 10, period = 7000, deadline = 7000, cost = 3000 },
-    { name = 'b', weight = 1, period = 12000, deadline = 12000, cost = 3000 },
-    { name = 'c', weight = 1, period = 20000, deadline = 20000, cost = 5000 },
-]
-";
+pub const THREE_TASKS_WEIGHTED: &str = three_tasks!(
+    ", weight = 10",
+    ", weight = 1",
+    ", weight = 1"
+);
 
 /// The same, where c passes nowhere below the others.
-pub const THREE_TASKS_TOO_TIGHT: &str = "
-task = [
-    { name = 'a', period = 7000, deadline = 7000, cost = 3000 },
-    { name = 'b', period = 12000, deadline = 12000, cost = 3000 },
-    { name = 'c', period = 20000, deadline = 19000, cost = 5000 },
-]
-";
+pub const THREE_TASKS_TOO_TIGHT: &str =
+    tasks!("a" 7000/7000/3000; "b" 12000/12000/3000; "c" 20000/19000/5000);
 
 /// hi and lo share a lock, for which mid is blocked.
-pub const SHARED_LOCK: &str = "
-task = [
-    { name = 'hi', weight = 2, period = 10000, deadline = 10000, cost = 1000, section = [{ locks = ['m'], at = 0, len = 200 }] },
-    { name = 'mid', weight = 1, period = 20000, deadline = 20000, cost = 2000 },
-    { name = 'lo', period = 100000, deadline = 100000, cost = 20000, section = [{ locks = ['m'], at = 100, len = 4000 }] },
-]
-";
+pub const SHARED_LOCK: &str = tasks!(
+    "hi" 10000/10000/1000 ", weight = 2, section = [{ locks = ['m'], at = 0, len = 200 }]";
+    "mid" 20000/20000/2000 ", weight = 1";
+    "lo" 100000/100000/20000 ", section = [{ locks = ['m'], at = 100, len = 4000 }]"
+);
 
 /// hi is blocked past its deadline.
-pub const BLOCKED_OUT: &str = blocked_out!("4400");
+pub const BLOCKED_OUT: &str = blocked_out!(4400);
 
 /// The same, with a deadline that holds the blocking.
-pub const BLOCKED_OUT_REPAIRED: &str = blocked_out!("4500");
+pub const BLOCKED_OUT_REPAIRED: &str = blocked_out!(4500);
 
 /// Two tasks that share a lock: above x, y blocks it no more.
-pub const EXCHANGE_WITH_EQUALITY: &str = "
-task = [
-    { name = 'x', period = 10000, deadline = 10000, cost = 1000, section = [{ locks = ['m'], at = 0, len = 100 }] },
-    { name = 'y', period = 20000, deadline = 20000, cost = 2000, section = [{ locks = ['m'], at = 0, len = 2000 }] },
-]
-";
+pub const EXCHANGE_WITH_EQUALITY: &str = tasks!(
+    "x" 10000/10000/1000 ", section = [{ locks = ['m'], at = 0, len = 100 }]";
+    "y" 20000/20000/2000 ", section = [{ locks = ['m'], at = 0, len = 2000 }]"
+);
+
+/// One task that comes every 10000.
+pub const EACH_10_000: &str = tasks!("x" 10000/10000/1000);
+
+/// One task that comes as often as a task may.
+pub const EACH_1000: &str = tasks!("x" 1000/1000/1);
+
+/// One task that comes as seldom as a task may.
+pub const EACH_10_000_000: &str = tasks!("x" 10000000/10000000/1);
+
+/// x below y, which both come every 1000, and don't both get done.
+pub const OVERRUN: &str = tasks!("x" 1000/1000/600; "y" 1000/1000/600);
+
+/// The same, where y takes as much as x leaves.
+pub const NO_OVERRUN: &str = tasks!("x" 1000/1000/600; "y" 1000/1000/400);
+
+/// The two that overrun, where both come up to 300 late.
+pub const LATE_OVERRUN: &str =
+    tasks!("x" 1000/1000/600 ", jitter = 300"; "y" 1000/1000/600 ", jitter = 300");
+
+/// No order passes: a release list is the set's all the same.
+pub const BOTH_FULL: &str = tasks!("y" 1000/1000/1000; "x" 1000/1000/1000);
+
+/// x may be later than y, and by nearly its period.
+pub const ONE_LATE: &str =
+    tasks!("x" 1000/1000/10 ", jitter = 900"; "y" 1100/1100/10 ", jitter = 50");
+
+/// By rank b comes before a.
+pub const BY_WEIGHT: &str =
+    tasks!("a" 2000/2000/10 ", weight = 2, jitter = 7"; "b" 1000/1000/10 ", weight = 1, jitter = 7");
+
+/// Weights say the one thing and deadlines the other.
+pub const AGAINST_WEIGHTS: &str = tasks!(
+    "short" 9000/2000/100 ", weight = 7";
+    "long" 9000/9000/100 ", weight = 1000";
+    "middle" 9000/5000/100 ", weight = 0"
+);
+
+/// The period that is shorter has the deadline that is longer.
+pub const AGAINST_PERIODS: &str = tasks!("p" 4000/4000/100; "q" 80000/3000/100);
+
+/// Two deadlines of two tasks each, and one of one.
+pub const SHARED_DEADLINES: &str = tasks!(
+    "e" 9000/1000/100 ", weight = 3";
+    "d" 9000/8000/100;
+    "c" 9000/4000/100 ", weight = 1";
+    "b" 9000/8000/100 ", weight = 2";
+    "a" 9000/4000/100 ", weight = 9"
+);
 
 /// What a call answers. Where this refusal comes, the call is made once more, with what the refusal hands back by the names
 /// of its pattern; with no pattern it is `AllocError`.
@@ -188,20 +202,48 @@ pub fn shared_set(alloc: Global, text: &str) -> Result<Arc<TaskSet>, Fail> {
     Ok(Arc::new(alloc, set)?)
 }
 
-/// Goes through a table of documents, each with what is to be found of it: the failure tells the first row of which
-/// something else is found.
-pub fn match_rows<F: Fn(Global, &str) -> Result<String, Fail>>(
+// Refuses what is found of a case where it is another text than was to be found.
+fn match_text<C: Copy + Debug>(case: C, found: &str, want: &str) -> Result<(), Fail> {
+    if found != want {
+        return Err(Fail::new(format_args!("{found}, not {want}, at {case:?}")));
+    }
+    Ok(())
+}
+
+/// Goes through a table of cases, each with the text that is to be found of it: the failure tells the first case of
+/// which something else is found.
+pub fn match_rows<C: Copy + Debug, F: Fn(Global, C) -> Result<String, Fail>>(
     alloc: Global,
-    rows: &[(&str, &str)],
+    rows: &[(C, &str)],
     find: F,
 ) -> Result<(), Fail>
     requires { F.IsAlwaysCallable find }
 {
-    for (document, want) in rows {
+    for (case, want) in rows {
+        let found = find(alloc, *case)?;
+        match_text(*case, found.as_str(), *want)?;
+    }
+    Ok(())
+}
+
+/// The same of a table of documents, each with two texts, which are found of it in two ways.
+pub fn match_both<F, G>(
+    alloc: Global,
+    rows: &[(&str, &str, &str)],
+    find: F,
+    find_other: G,
+) -> Result<(), Fail>
+where
+    F: Fn(Global, &str) -> Result<String, Fail>,
+    G: Fn(Global, &str) -> Result<String, Fail>,
+    requires one { F.IsAlwaysCallable find }
+    requires other { G.IsAlwaysCallable find_other }
+{
+    for (document, want, want_other) in rows {
         let found = find(alloc, *document)?;
-        if found.as_str() != *want {
-            return Err(Fail::new(format_args!("{found}, not {want}, at {document}")));
-        }
+        match_text(*document, found.as_str(), *want)?;
+        let found = find_other(alloc, *document)?;
+        match_text(*document, found.as_str(), *want_other)?;
     }
     Ok(())
 }

@@ -1,5 +1,5 @@
 //! What settings of a document's set come to, as text.
-use example_sets::{again, set_of};
+use example_sets::{again, match_rows, set_of};
 use judge::{SettingsFault, judge_settings, judged_text};
 use std::alloc::{AllocError, Global};
 use std::test::Fail;
@@ -20,8 +20,8 @@ fn fault_text(alloc: Global, fault: SettingsFault) -> Result<String, AllocError>
     }
 }
 
-/// The lines of the judgements, or the fault.
-pub fn answer_to(alloc: Global, document: &str, settings: &str) -> Result<String, Fail> {
+// The lines of the judgements, or the fault.
+fn answer_to(alloc: Global, document: &str, settings: &str) -> Result<String, Fail> {
     let set = set_of(alloc, document)?;
     let answer = again!(
         judge_settings(alloc, &set, settings.as_bytes()),
@@ -32,4 +32,19 @@ pub fn answer_to(alloc: Global, document: &str, settings: &str) -> Result<String
         Err(fault) => fault_text(alloc, fault)?,
     };
     Ok(text)
+}
+
+/// A document, and settings of its set with what they come to.
+pub type Answers = (&'static str, &'static [(&'static str, &'static str)]);
+
+/// Goes through documents with their settings: the failure tells the first settings that come to something else.
+pub fn match_answers(alloc: Global, sets: &[Answers]) -> Result<(), Fail> {
+    for (document, rows) in sets {
+        match_rows(
+            alloc,
+            *rows,
+            |alloc, settings| answer_to(alloc, *document, settings),
+        )?;
+    }
+    Ok(())
 }

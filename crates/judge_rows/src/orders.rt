@@ -1,85 +1,82 @@
 //! Orders, whether they pass or not.
-use crate::answers::answer_to;
+use crate::answers::{Answers, match_answers};
 use std::test::Fail;
 
-#[test]
-fn orders_of_three_tasks(rt: HostRuntime) -> Result<(), Fail> {
-    for (settings, want) in [
-        (
-            "thread a 20\nthread b 30\nthread c 10\n",
-            "meets 3\n1 c 20000 of 20000\n2 a 6000 of 7000\n3 b 3000 of 12000\n",
-        ),
-        (
-            "thread a 1\nthread b 2\nthread c 1000000",
-            "misses a\n1 a misses 7000\n2 b 8000 of 12000\n3 c 5000 of 20000\n",
-        ),
-        (
-            "# the highest first\nthread a 3\n\nthread c 2\nthread b 1\n",
-            "misses b\n1 b misses 12000\n2 c 11000 of 20000\n3 a 3000 of 7000\n",
-        ),
-        (
-            "thread b 1\nthread a 2\nthread c 3\n",
-            "misses a b\n1 b misses 12000\n2 a misses 7000\n3 c 5000 of 20000\n",
-        ),
-    ] {
-        let text = answer_to(rt.alloc(), example_sets::THREE_TASKS, settings)?;
-        assert_eq!(rt; text.as_str(), want);
-    }
-    Ok(())
-}
-
-#[test]
-fn orders_of_other_sets(rt: HostRuntime) -> Result<(), Fail> {
-    for (document, settings, want) in [
-        ("", "", "meets 0\n"),
-        (
-            example_sets::THREE_TASKS_LATE,
+const ORDERS: [Answers; 7] = [
+    ("", &[("", "meets 0\n")]),
+    (
+        example_sets::THREE_TASKS,
+        &[
+            (
+                "thread a 20\nthread b 30\nthread c 10\n",
+                "meets 3\n1 c 20000 of 20000\n2 a 6000 of 7000\n3 b 3000 of 12000\n",
+            ),
+            (
+                "thread a 1\nthread b 2\nthread c 1000000",
+                "misses a\n1 a misses 7000\n2 b 8000 of 12000\n3 c 5000 of 20000\n",
+            ),
+            (
+                "# the highest first\nthread a 3\n\nthread c 2\nthread b 1\n",
+                "misses b\n1 b misses 12000\n2 c 11000 of 20000\n3 a 3000 of 7000\n",
+            ),
+            (
+                "thread b 1\nthread a 2\nthread c 3\n",
+                "misses a b\n1 b misses 12000\n2 a misses 7000\n3 c 5000 of 20000\n",
+            ),
+        ],
+    ),
+    (
+        example_sets::THREE_TASKS_LATE,
+        &[(
             "thread c 1\nthread a 2\nthread b 3\n",
             "meets 3\n1 c 20000 of 20000\n2 a 7000 of 7000\n3 b 3000 of 12000\n",
-        ),
-        (
-            example_sets::A_OVER_B,
+        )],
+    ),
+    // Tasks that must stand above others.
+    (
+        example_sets::A_OVER_B,
+        &[(
             "thread a 1\nthread b 2\nthread c 3\n",
             "misses a\n1 a below b\n2 b 8000 of 12000\n3 c 5000 of 20000\n",
-        ),
-        (
-            example_sets::A_OVER_B_OVER_A,
+        )],
+    ),
+    (
+        example_sets::A_OVER_B_OVER_A,
+        &[(
             "thread c 1\nthread a 2\nthread b 3\n",
             "misses a\n1 c 20000 of 20000\n2 a below b\n3 b 3000 of 12000\n",
-        ),
-    ] {
-        let text = answer_to(rt.alloc(), document, settings)?;
-        assert_eq!(rt; text.as_str(), want);
-    }
-    Ok(())
-}
+        )],
+    ),
+    // Locks.
+    (
+        example_sets::SHARED_LOCK,
+        &[
+            (
+                "thread hi 90\nthread mid 50\nthread lo 7\nmutex m 90\n",
+                "meets 3\n1 lo 27000 of 100000\n2 mid 7000 of 20000\n3 hi 5000 of 10000\n",
+            ),
+            (
+                "mutex m 3\nthread mid 1\nthread lo 2\nthread hi 3\n",
+                "misses mid\n1 mid misses 20000\n2 lo 23000 of 100000\n3 hi 5000 of 10000\n",
+            ),
+        ],
+    ),
+    (
+        example_sets::BLOCKED_OUT,
+        &[
+            (
+                "thread lo 1\nthread hi 2\n",
+                "misses hi\n1 lo 14000 of 50000\n2 hi misses 4400\n",
+            ),
+            (
+                "thread hi 1\nthread lo 2\nmutex m 2\n",
+                "misses hi\n1 hi misses 4400\n2 lo 10500 of 50000\n",
+            ),
+        ],
+    ),
+];
 
 #[test]
-fn orders_with_locks(rt: HostRuntime) -> Result<(), Fail> {
-    for (document, settings, want) in [
-        (
-            example_sets::SHARED_LOCK,
-            "thread hi 90\nthread mid 50\nthread lo 7\nmutex m 90\n",
-            "meets 3\n1 lo 27000 of 100000\n2 mid 7000 of 20000\n3 hi 5000 of 10000\n",
-        ),
-        (
-            example_sets::SHARED_LOCK,
-            "mutex m 3\nthread mid 1\nthread lo 2\nthread hi 3\n",
-            "misses mid\n1 mid misses 20000\n2 lo 23000 of 100000\n3 hi 5000 of 10000\n",
-        ),
-        (
-            example_sets::BLOCKED_OUT,
-            "thread lo 1\nthread hi 2\n",
-            "misses hi\n1 lo 14000 of 50000\n2 hi misses 4400\n",
-        ),
-        (
-            example_sets::BLOCKED_OUT,
-            "thread hi 1\nthread lo 2\nmutex m 2\n",
-            "misses hi\n1 hi misses 4400\n2 lo 10500 of 50000\n",
-        ),
-    ] {
-        let text = answer_to(rt.alloc(), document, settings)?;
-        assert_eq!(rt; text.as_str(), want);
-    }
-    Ok(())
+fn orders_by_hand(rt: HostRuntime) -> Result<(), Fail> {
+    match_answers(rt.alloc(), &ORDERS)
 }
