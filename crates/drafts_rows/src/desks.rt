@@ -6,6 +6,7 @@ use drafts::{
 };
 use example_sets::{again, name};
 use std::alloc::{AllocError, Global};
+use std::process::Abort;
 use std::sync::Arc;
 use std::test::Fail;
 use task_sheet::{Name, Sheet, TaskSet};
@@ -22,20 +23,137 @@ pub fn sheet(alloc: Global, name: Name, cost: u64) -> Result<Sheet, Fail> {
     Ok(sheet)
 }
 
-/// An empty book.
-pub fn new_book(alloc: Global) -> Result<Book, Fail> {
-    Ok(again!(Book::new(alloc))?)
+/// A book, and what was told of it.
+#[derive(Drop)]
+pub struct Story {
+    pub alloc: Global,
+    pub book: Book,
+    pub text: String,
 }
 
-/// The present state.
-pub fn snapshot(book: &Book) -> Result<Arc<NodeState>, Fail> {
-    Ok(again!(book.snapshot())?)
+impl Story {
+    /// That of a book of which nothing is told yet.
+    pub fn of(alloc: Global, book: Book) -> Story {
+        Story {
+            alloc,
+            book,
+            text: String::new(alloc),
+        }
+    }
+
+    /// That of an empty book.
+    pub fn new(alloc: Global) -> Result<Story, Fail> {
+        Ok(Story::of(alloc, again!(Book::new(alloc))?))
+    }
+
+    /// The present state.
+    pub fn snapshot(&self) -> Result<Arc<NodeState>, Fail> {
+        Ok(again!(self.book.snapshot())?)
+    }
+
+    /// A draft on the present state.
+    pub fn open(&self, number: u64) -> Result<Draft, Fail> {
+        let base = self.snapshot()?;
+        Ok(Draft::new(self.alloc, team(number)?, base))
+    }
+
+    // A draft on the present state that puts a sheet.
+    fn open_put(&self, number: u64, sheet: Sheet) -> Result<Draft, Fail> {
+        let mut draft = self.open(number)?;
+        put_sheet(&mut draft, sheet).ok().ok_or("a put")?;
+        Ok(draft)
+    }
+
+    /// A draft on the present state with one put.
+    pub fn open_with(&self, number: u64, text: &str, cost: u64) -> Result<Draft, Fail> {
+        self.open_put(number, sheet(self.alloc, name(text)?, cost)?)
+    }
+
+    /// A draft on the present state that puts a (7000, 7000, 3000), with this jitter and above b.
+    pub fn open_bound(&self, number: u64, jitter: u64) -> Result<Draft, Fail> {
+        let sheet = Sheet::new(name("a")?, 0, 7000, 7000, 3000, Vec::new(self.alloc))?;
+        let mut names = Vec::new(self.alloc);
+        names.push(name("b")?)?;
+        self.open_put(number, sheet.jittered(jitter)?.outranking(names)?)
+    }
+
+    /// A draft on the present state that puts b (12000, 12000, 3000).
+    pub fn open_below(&self, number: u64) -> Result<Draft, Fail> {
+        let sheet = Sheet::new(name("b")?, 0, 12000, 12000, 3000, Vec::new(self.alloc))?;
+        self.open_put(number, sheet)
+    }
+
+    /// A draft on the present state with puts of that many names, each of cost 1.
+    pub fn open_full(&self, number: u64, count: u64) -> Result<Draft, Fail> {
+        let mut draft = self.open(number)?;
+        for index in 0..count {
+            let text = format!(in self.alloc; "t{index}")?;
+            let sheet = sheet(self.alloc, name(text.as_str())?, 1)?;
+            put_sheet(&mut draft, sheet).ok().ok_or("a put")?;
+        }
+        Ok(draft)
+    }
+
+    /// A proposal on the present state with one put.
+    pub fn propose_with(&self, number: u64, text: &str, cost: u64) -> Result<Proposal, Fail> {
+        proposed(self.alloc, self.open_with(number, text, cost)?)
+    }
+
+    /// Settles a proposal and tells what is answered. A proposal that is not settled gives its draft back, which is then
+    /// on the fresh state where it was stale.
+    pub fn settle(&mut self, proposal: Proposal) -> Result<Option<Draft>, Fail> {
+        let text = &mut self.text;
+        match settled(self.alloc, &mut self.book, proposal) {
+            Ok(Settled::Stale { fresh, proposal }) => moved_on(text, fresh, proposal),
+            Ok(Settled::Decided { place, entry }) => {
+                push_decision(text, place, &entry)?;
+                Ok(None)
+            }
+            Err(SettleFault::Stranger { proposal }) => handed_back(text, "stranger", proposal),
+            Err(SettleFault::OutOfMemory { proposal }) => {
+                handed_back(text, "OutOfMemory", proposal)
+            }
+        }
+    }
+
+    /// Settles a draft at once and tells the decision.
+    pub fn commit(&mut self, draft: Draft) -> Result<(), Fail> {
+        let decided = again!(
+            self.book.settle_held(self.alloc, draft),
+            HeldFault { draft }
+        );
+        let decided = decided.ok().ok_or("a decision")?;
+        push_decision(&mut self.text, decided.place, &decided.entry)?;
+        Ok(())
+    }
+
+    /// Opens a draft with one put, and settles it at once.
+    pub fn commit_with(&mut self, number: u64, text: &str, cost: u64) -> Result<(), Fail> {
+        let draft = self.open_with(number, text, cost)?;
+        self.commit(draft)
+    }
+
+    /// What was told, and the book at the end.
+    pub fn ended(mut self) -> Result<String, Fail> {
+        push_book(&mut self.text, &self.book)?;
+        Ok(self.text)
+    }
 }
 
-/// A draft on the present state.
-pub fn open(alloc: Global, book: &Book, number: u64) -> Result<Draft, Fail> {
-    let base = snapshot(book)?;
-    Ok(Draft::new(alloc, team(number)?, base))
+/// Goes through a table of cases, each with what is to be told of it.
+pub fn match_stories<C: Copy, F: Fn(Global, C) -> Result<String, Fail>>(
+    rt: &impl Abort,
+    alloc: Global,
+    rows: &[(C, &str)],
+    tell: F,
+) -> Result<(), Fail>
+    requires { F.IsAlwaysCallable tell }
+{
+    for (case, want) in rows {
+        let found = tell(alloc, *case)?;
+        assert_eq!(rt; found.as_str(), *want);
+    }
+    Ok(())
 }
 
 // The word for an edit that was not made.
@@ -82,50 +200,6 @@ pub fn remove(draft: &mut Draft, text: &str) -> Result<&'static str, Fail> {
     }
 }
 
-/// A draft on the present state with one put.
-pub fn open_with(
-    alloc: Global,
-    book: &Book,
-    number: u64,
-    text: &str,
-    cost: u64,
-) -> Result<Draft, Fail> {
-    open_put(alloc, book, number, sheet(alloc, name(text)?, cost)?)
-}
-
-// A draft on the present state that puts a sheet.
-fn open_put(alloc: Global, book: &Book, number: u64, sheet: Sheet) -> Result<Draft, Fail> {
-    let mut draft = open(alloc, book, number)?;
-    put_sheet(&mut draft, sheet).ok().ok_or("a put")?;
-    Ok(draft)
-}
-
-/// A draft on the present state that puts a (7000, 7000, 3000), with this jitter and above b.
-pub fn open_bound(alloc: Global, book: &Book, number: u64, jitter: u64) -> Result<Draft, Fail> {
-    let sheet = Sheet::new(name("a")?, 0, 7000, 7000, 3000, Vec::new(alloc))?;
-    let mut names = Vec::new(alloc);
-    names.push(name("b")?)?;
-    let sheet = sheet.jittered(jitter)?.outranking(names)?;
-    open_put(alloc, book, number, sheet)
-}
-
-/// A draft on the present state that puts b (12000, 12000, 3000).
-pub fn open_below(alloc: Global, book: &Book, number: u64) -> Result<Draft, Fail> {
-    let sheet = Sheet::new(name("b")?, 0, 12000, 12000, 3000, Vec::new(alloc))?;
-    open_put(alloc, book, number, sheet)
-}
-
-/// A draft on the present state with puts of that many names, each of cost 1.
-pub fn open_full(alloc: Global, book: &Book, number: u64, count: u64) -> Result<Draft, Fail> {
-    let mut draft = open(alloc, book, number)?;
-    for index in 0..count {
-        let text = format!(in alloc; "t{index}")?;
-        let sheet = sheet(alloc, name(text.as_str())?, 1)?;
-        put_sheet(&mut draft, sheet).ok().ok_or("a put")?;
-    }
-    Ok(draft)
-}
-
 /// The proposal of a draft.
 pub fn proposed(alloc: Global, draft: Draft) -> Result<Proposal, Fail> {
     let proposal = again!(propose(alloc, draft), ProposeFault { draft });
@@ -158,8 +232,8 @@ pub fn push_refusal(text: &mut String, refusal: &Refusal) -> Result<(), AllocErr
     }
 }
 
-/// Adds a decision: `admitted VERSION`, `refused REFUSAL`, or `infeasible` with each member and its chain.
-pub fn push_decision(text: &mut String, place: usize, entry: &Entry) -> Result<(), AllocError> {
+// Adds a decision: `admitted VERSION`, `refused REFUSAL`, or `infeasible` with each member and its chain.
+fn push_decision(text: &mut String, place: usize, entry: &Entry) -> Result<(), AllocError> {
     write!(text, "{place} ")?;
     match entry.decision() {
         Decision::Admitted { version } => write!(text, "admitted {version}; "),
@@ -203,35 +277,8 @@ fn settled(alloc: Global, book: &mut Book, proposal: Proposal) -> Result<Settled
     )
 }
 
-/// Settles a proposal and adds what is answered. A proposal that is not settled gives its draft back, which is then on
-/// the fresh state where it was stale.
-pub fn settle(
-    alloc: Global,
-    book: &mut Book,
-    proposal: Proposal,
-    text: &mut String,
-) -> Result<Option<Draft>, Fail> {
-    match settled(alloc, book, proposal) {
-        Ok(Settled::Stale { fresh, proposal }) => moved_on(text, fresh, proposal),
-        Ok(Settled::Decided { place, entry }) => {
-            push_decision(text, place, &entry)?;
-            Ok(None)
-        }
-        Err(SettleFault::Stranger { proposal }) => handed_back(text, "stranger", proposal),
-        Err(SettleFault::OutOfMemory { proposal }) => handed_back(text, "OutOfMemory", proposal),
-    }
-}
-
-/// Settles a draft at once and adds the decision.
-pub fn commit(alloc: Global, book: &mut Book, draft: Draft, text: &mut String) -> Result<(), Fail> {
-    let decided = again!(book.settle_held(alloc, draft), HeldFault { draft });
-    let decided = decided.ok().ok_or("a decision")?;
-    push_decision(text, decided.place, &decided.entry)?;
-    Ok(())
-}
-
-/// Adds the version, the number of entries, and each level with its response.
-pub fn push_book(text: &mut String, book: &Book) -> Result<(), AllocError> {
+// Adds the version, the number of entries, and each level with its response.
+fn push_book(text: &mut String, book: &Book) -> Result<(), AllocError> {
     let version = book.state().version();
     let entries = book.log().len();
     write!(text, "version {version} of {entries}")?;

@@ -1,22 +1,29 @@
 //! Edits of drafts.
-use crate::desks::{
-    commit, new_book, open, open_full, open_with, push_refusal, put, remove, snapshot, team,
-};
+use crate::desks::{Story, match_stories, push_refusal, put, remove, team};
 use drafts::{Applied, Draft};
 use example_sets::{again, name};
 use std::alloc::Global;
 use std::test::Fail;
 
-// A full draft and its copy.
-fn full_drafts(alloc: Global) -> Result<(Draft, Draft), Fail> {
-    let book = new_book(alloc)?;
-    let draft = open_full(alloc, &book, 1, 64)?;
-    let copy = again!(draft.copy(alloc))?;
-    Ok((draft, copy))
+// Which of two full drafts: the one that was opened, or its copy.
+#[derive(Clone, Copy)]
+enum Full {
+    Opened,
+    Copied,
+}
+
+// A full draft.
+fn full_draft(alloc: Global, which: Full) -> Result<Draft, Fail> {
+    let draft = Story::new(alloc)?.open_full(1, 64)?;
+    match which {
+        Full::Opened => Ok(draft),
+        Full::Copied => Ok(again!(draft.copy(alloc))?),
+    }
 }
 
 // What a full draft answers to a new name and to one that it has.
-fn two_puts(alloc: Global, mut draft: Draft) -> Result<String, Fail> {
+fn two_puts(alloc: Global, which: Full) -> Result<String, Fail> {
+    let mut draft = full_draft(alloc, which)?;
     let new = put(alloc, &mut draft, "another", 1)?;
     let known = put(alloc, &mut draft, "t7", 2)?;
     let len = draft.len();
@@ -26,13 +33,11 @@ fn two_puts(alloc: Global, mut draft: Draft) -> Result<String, Fail> {
 
 #[test]
 fn a_full_draft_and_its_copy(rt: HostRuntime) -> Result<(), Fail> {
-    let alloc = rt.alloc();
-    let (draft, copy) = full_drafts(alloc)?;
-    let found = two_puts(alloc, draft)?;
-    assert_eq!(rt; found.as_str(), "DraftFull done 64");
-    let found = two_puts(alloc, copy)?;
-    assert_eq!(rt; found.as_str(), "DraftFull done 64");
-    Ok(())
+    let rows = [
+        (Full::Opened, "DraftFull done 64"),
+        (Full::Copied, "DraftFull done 64"),
+    ];
+    match_stories(&rt, rt.alloc(), &rows, two_puts)
 }
 
 // Whether the draft shows a name, and how many changes it has.
@@ -62,56 +67,34 @@ fn removals(alloc: Global) -> Result<String, Fail> {
 
 // A draft of team 1 that puts d, where team 1 holds a and team 2 holds c.
 fn draft_beside(alloc: Global) -> Result<Draft, Fail> {
-    let mut text = String::new(alloc);
-    let mut book = new_book(alloc)?;
-    let first = open_with(alloc, &book, 1, "a", 1000)?;
-    commit(alloc, &mut book, first, &mut text)?;
-    let second = open_with(alloc, &book, 2, "c", 1000)?;
-    commit(alloc, &mut book, second, &mut text)?;
-    open_with(alloc, &book, 1, "d", 1000)
-}
-
-#[test]
-fn removals_in_their_order(rt: HostRuntime) -> Result<(), Fail> {
-    let found = removals(rt.alloc())?;
-    assert_eq!(rt;
-        found.as_str(),
-        "d done false 0; a done false 1; a NoSuchTask false 1; c NotYours true 1; e NoSuchTask false 1; "
-    );
-    Ok(())
+    let mut story = Story::new(alloc)?;
+    story.commit_with(1, "a", 1000)?;
+    story.commit_with(2, "c", 1000)?;
+    story.open_with(1, "d", 1000)
 }
 
 // Team 1's draft puts a on an empty book, where team 2 then commits a; the draft on the state after it.
-fn draft_of_a_foreign_name(alloc: Global, text: &mut String) -> Result<Draft, Fail> {
-    let mut book = new_book(alloc)?;
-    let draft = open_with(alloc, &book, 1, "a", 1000)?;
-    let other = open_with(alloc, &book, 2, "a", 2000)?;
-    commit(alloc, &mut book, other, text)?;
-    Ok(draft.rebase(snapshot(&book)?))
+fn draft_of_a_foreign_name(story: &mut Story) -> Result<Draft, Fail> {
+    let draft = story.open_with(1, "a", 1000)?;
+    story.commit_with(2, "a", 2000)?;
+    Ok(draft.rebase(story.snapshot()?))
 }
 
 // What a draft answers to a put and to a remove of a.
-fn push_edits(alloc: Global, text: &mut String, draft: &mut Draft) -> Result<(), Fail> {
-    let again = put(alloc, draft, "a", 1000)?;
+fn push_edits(story: &mut Story, draft: &mut Draft) -> Result<(), Fail> {
+    let again = put(story.alloc, draft, "a", 1000)?;
     let gone = remove(draft, "a")?;
-    write!(text, "{again} {gone} ")?;
+    write!(story.text, "{again} {gone} ")?;
     Ok(())
 }
 
 // What the draft of a foreign name answers to both, and what it shows then.
 fn rebased(alloc: Global) -> Result<String, Fail> {
-    let mut text = String::new(alloc);
-    let mut draft = draft_of_a_foreign_name(alloc, &mut text)?;
-    push_edits(alloc, &mut text, &mut draft)?;
-    push_view(&mut text, &draft, "a")?;
-    Ok(text)
-}
-
-#[test]
-fn after_a_rebase_onto_a_foreign_name(rt: HostRuntime) -> Result<(), Fail> {
-    let found = rebased(rt.alloc())?;
-    assert_eq!(rt; found.as_str(), "1 admitted 1; NotYours NotYours true 1; ");
-    Ok(())
+    let mut story = Story::new(alloc)?;
+    let mut draft = draft_of_a_foreign_name(&mut story)?;
+    push_edits(&mut story, &mut draft)?;
+    push_view(&mut story.text, &draft, "a")?;
+    Ok(story.text)
 }
 
 // Which of the first four indexes hold tasks of each of three teams, where team 1 holds a and team 2 holds c.
@@ -127,13 +110,6 @@ fn holders(alloc: Global) -> Result<String, Fail> {
         }
     }
     Ok(text)
-}
-
-#[test]
-fn tasks_of_each_team(rt: HostRuntime) -> Result<(), Fail> {
-    let found = holders(rt.alloc())?;
-    assert_eq!(rt; found.as_str(), "1:0 2:1 ");
-    Ok(())
 }
 
 // What a draft's changes come to: each task with its team, or the refusal.
@@ -153,16 +129,48 @@ fn push_applied(alloc: Global, text: &mut String, draft: &Draft) -> Result<(), F
 
 // That of a draft beside another team's task, and that of one which puts such a task.
 fn both_applied(alloc: Global) -> Result<String, Fail> {
-    let mut text = String::new(alloc);
-    push_applied(alloc, &mut text, &draft_beside(alloc)?)?;
-    let foreign = draft_of_a_foreign_name(alloc, &mut text)?;
-    push_applied(alloc, &mut text, &foreign)?;
-    Ok(text)
+    let mut story = Story::new(alloc)?;
+    push_applied(alloc, &mut story.text, &draft_beside(alloc)?)?;
+    let foreign = draft_of_a_foreign_name(&mut story)?;
+    push_applied(alloc, &mut story.text, &foreign)?;
+    Ok(story.text)
+}
+
+// What is told of drafts.
+#[derive(Clone, Copy)]
+enum Edits {
+    RemovalsInTheirOrder,
+    AfterARebaseOntoAForeignName,
+    TasksOfEachTeam,
+    WhatChangesComeTo,
+}
+
+// The story of these edits.
+fn told(alloc: Global, edits: Edits) -> Result<String, Fail> {
+    match edits {
+        Edits::RemovalsInTheirOrder => removals(alloc),
+        Edits::AfterARebaseOntoAForeignName => rebased(alloc),
+        Edits::TasksOfEachTeam => holders(alloc),
+        Edits::WhatChangesComeTo => both_applied(alloc),
+    }
 }
 
 #[test]
-fn what_changes_come_to(rt: HostRuntime) -> Result<(), Fail> {
-    let found = both_applied(rt.alloc())?;
-    assert_eq!(rt; found.as_str(), "a 1; c 2; d 1; 1 admitted 1; NotYours a");
-    Ok(())
+fn edits_of_drafts(rt: HostRuntime) -> Result<(), Fail> {
+    let rows = [
+        (
+            Edits::RemovalsInTheirOrder,
+            "d done false 0; a done false 1; a NoSuchTask false 1; c NotYours true 1; e NoSuchTask false 1; ",
+        ),
+        (
+            Edits::AfterARebaseOntoAForeignName,
+            "1 admitted 1; NotYours NotYours true 1; ",
+        ),
+        (Edits::TasksOfEachTeam, "1:0 2:1 "),
+        (
+            Edits::WhatChangesComeTo,
+            "a 1; c 2; d 1; 1 admitted 1; NotYours a",
+        ),
+    ];
+    match_stories(&rt, rt.alloc(), &rows, told)
 }

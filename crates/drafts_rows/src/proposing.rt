@@ -1,5 +1,5 @@
 //! Verdicts that are brought to drafts.
-use crate::desks::{new_book, open_with, sheet};
+use crate::desks::{Story, sheet};
 use assignment::{Verdict, assign};
 use drafts::{Draft, VerdictFault, propose_with};
 use example_sets::{again, name};
@@ -55,8 +55,7 @@ fn word(alloc: Global, draft: Draft, verdict: Verdict) -> &'static str {
 
 // What becomes of a draft that puts a and the verdict on these names.
 fn brought(alloc: Global, names: &[&str]) -> Result<&'static str, Fail> {
-    let book = new_book(alloc)?;
-    let draft = open_with(alloc, &book, 1, "a", 1000)?;
+    let draft = Story::new(alloc)?.open_with(1, "a", 1000)?;
     Ok(word(alloc, draft, verdict_on(alloc, names)?))
 }
 

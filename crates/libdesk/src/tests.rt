@@ -3,6 +3,7 @@ use crate::of_one::{
     desk_admit, desk_certify, desk_explain, desk_headroom, desk_play, desk_releases, desk_settings,
 };
 use crate::of_two::{desk_check, desk_draw, desk_judge, desk_simulate};
+use std::alloc::Global;
 
 const SET: &[u8] = b"[[task]]\nname = \"x\"\nperiod = 1000\ndeadline = 1000\ncost = 1000\n";
 
@@ -10,121 +11,114 @@ const CERTIFICATE: &[u8] = b"desk-certificate 1\nbest 0\nend\n";
 
 const RELEASES: &[u8] = b"until 1000\n0 x\n";
 
-const ROOM: usize = 64;
+// A call, and the texts that it is given.
+#[derive(Clone, Copy)]
+enum Call {
+    Admit(&'static [u8]),
+    Certify(&'static [u8]),
+    Explain(&'static [u8]),
+    Headroom(&'static [u8]),
+    Settings(&'static [u8]),
+    Play(&'static [u8]),
+    Releases(&'static [u8], u64),
+    Check(&'static [u8], &'static [u8]),
+    Judge(&'static [u8], &'static [u8]),
+    Simulate(&'static [u8], &'static [u8]),
+    Draw(&'static [u8], &'static [u8]),
+}
 
-// Whether a call that ends with this status has put this text into a room that was zeros, and nothing else.
-fn holds(room: &[u8], count: usize, status: u8, text: &[u8], wanted: u8) -> bool {
+// Makes a call.
+fn made(alloc: Global, call: Call, room: &mut [u8], status: &mut u8) -> usize {
+    match call {
+        Call::Admit(set) => desk_admit(alloc, set, room, status),
+        Call::Certify(set) => desk_certify(alloc, set, room, status),
+        Call::Explain(set) => desk_explain(alloc, set, room, status),
+        Call::Headroom(set) => desk_headroom(alloc, set, room, status),
+        Call::Settings(set) => desk_settings(alloc, set, room, status),
+        Call::Play(script) => desk_play(alloc, script, room, status),
+        Call::Releases(set, until) => desk_releases(alloc, set, until, room, status),
+        Call::Check(set, certificate) => desk_check(alloc, set, certificate, room, status),
+        Call::Judge(set, settings) => desk_judge(alloc, set, settings, room, status),
+        Call::Simulate(set, releases) => desk_simulate(alloc, set, releases, room, status),
+        Call::Draw(set, releases) => desk_draw(alloc, set, releases, room, status),
+    }
+}
+
+// Whether a call ends with this status and puts this text into a room of zeros, and nothing else.
+fn holds(alloc: Global, call: Call, room: &mut [u8], text: &[u8], wanted: u8) -> bool {
+    let mut status = 9;
+    let count = made(alloc, call, room, &mut status);
     count == text.len()
         && room.starts_with(text)
         && room.iter().skip(count).all(|byte| *byte == 0)
         && status == wanted
 }
 
-#[test]
-fn admits(rt: HostRuntime) {
-    let (mut room, mut status) = ([0; ROOM], 9);
-    let count = desk_admit(rt.alloc(), SET, &mut room, &mut status);
-    assert!(rt; holds(&room, count, status, b"admitted 1\n1 x 1000\n", 0));
-}
+// Calls, with what each puts into the room and its status.
+const ANSWERS: [(Call, &[u8], u8); 11] = [
+    (Call::Admit(SET), b"admitted 1\n1 x 1000\n", 0),
+    (Call::Admit(b"x = 1"), b"refused: UnknownKey 0 0\n", 4),
+    (Call::Certify(b""), CERTIFICATE, 0),
+    (Call::Check(b"", CERTIFICATE), b"best\n", 0),
+    (
+        Call::Headroom(SET),
+        b"admitted 1\nx 1000 1000 1000\nall 1000\n",
+        0,
+    ),
+    (Call::Settings(SET), b"thread x 1\n", 0),
+    (Call::Explain(b""), b"admitted 0\nload 0\n", 0),
+    (
+        Call::Judge(SET, b"thread x 7\n"),
+        b"meets 1\n1 x 1000 of 1000\n",
+        0,
+    ),
+    (Call::Releases(SET, 1000), RELEASES, 0),
+    (
+        Call::Simulate(SET, RELEASES),
+        b"0 1000 x\njob x 0 1000\n",
+        0,
+    ),
+    (
+        Call::Play(b"open 1\n"),
+        b"draft 1 version 0\nversion 0\n",
+        0,
+    ),
+];
 
 #[test]
-fn refuses(rt: HostRuntime) {
-    let (mut room, mut status) = ([0; ROOM], 9);
-    let count = desk_admit(rt.alloc(), b"x = 1", &mut room, &mut status);
-    assert!(rt; holds(&room, count, status, b"refused: UnknownKey 0 0\n", 4));
+fn answers_each_call(rt: HostRuntime) {
+    for (call, text, wanted) in ANSWERS {
+        assert!(rt;
+            holds(rt.alloc(), call, &mut [0; 64], text, wanted),
+            "not {text:?}"
+        );
+    }
 }
 
 #[test]
 fn fits_exactly(rt: HostRuntime) {
-    let (mut room, mut status) = ([0; 20], 9);
-    let count = desk_admit(rt.alloc(), SET, &mut room, &mut status);
-    assert!(rt; holds(&room, count, status, b"admitted 1\n1 x 1000\n", 0));
+    let text = b"admitted 1\n1 x 1000\n";
+    assert!(rt; holds(rt.alloc(), Call::Admit(SET), &mut [0; 20], text, 0));
 }
 
 #[test]
 fn writes_nothing_into_too_little_room(rt: HostRuntime) {
     let (mut room, mut status) = ([0; 19], 9);
-    let count = desk_admit(rt.alloc(), SET, &mut room, &mut status);
+    let count = made(rt.alloc(), Call::Admit(SET), &mut room, &mut status);
     assert_eq!(rt; (count, status), (20, 0));
     assert_eq!(rt; room, [0; 19]);
 }
 
 #[test]
-fn certifies(rt: HostRuntime) {
-    let (mut room, mut status) = ([0; ROOM], 9);
-    let count = desk_certify(rt.alloc(), b"", &mut room, &mut status);
-    assert!(rt; holds(&room, count, status, CERTIFICATE, 0));
-}
-
-#[test]
-fn checks(rt: HostRuntime) {
-    let (mut room, mut status) = ([0; ROOM], 9);
-    let count = desk_check(rt.alloc(), b"", CERTIFICATE, &mut room, &mut status);
-    assert!(rt; holds(&room, count, status, b"best\n", 0));
-}
-
-#[test]
-fn grows(rt: HostRuntime) {
-    let (mut room, mut status) = ([0; ROOM], 9);
-    let count = desk_headroom(rt.alloc(), SET, &mut room, &mut status);
-    assert!(rt;
-        holds(
-            &room,
-            count,
-            status,
-            b"admitted 1\nx 1000 1000 1000\nall 1000\n",
-            0
-        )
-    );
-}
-
-#[test]
-fn sets(rt: HostRuntime) {
-    let (mut room, mut status) = ([0; ROOM], 9);
-    let count = desk_settings(rt.alloc(), SET, &mut room, &mut status);
-    assert!(rt; holds(&room, count, status, b"thread x 1\n", 0));
-}
-
-#[test]
-fn explains(rt: HostRuntime) {
-    let (mut room, mut status) = ([0; ROOM], 9);
-    let count = desk_explain(rt.alloc(), b"", &mut room, &mut status);
-    assert!(rt; holds(&room, count, status, b"admitted 0\nload 0\n", 0));
-}
-
-#[test]
-fn judges(rt: HostRuntime) {
-    let (mut room, mut status) = ([0; ROOM], 9);
-    let count = desk_judge(rt.alloc(), SET, b"thread x 7\n", &mut room, &mut status);
-    assert!(rt; holds(&room, count, status, b"meets 1\n1 x 1000 of 1000\n", 0));
-}
-
-#[test]
-fn lists(rt: HostRuntime) {
-    let (mut room, mut status) = ([0; ROOM], 9);
-    let count = desk_releases(rt.alloc(), SET, 1000, &mut room, &mut status);
-    assert!(rt; holds(&room, count, status, RELEASES, 0));
-}
-
-#[test]
-fn simulates(rt: HostRuntime) {
-    let (mut room, mut status) = ([0; ROOM], 9);
-    let count = desk_simulate(rt.alloc(), SET, RELEASES, &mut room, &mut status);
-    assert!(rt; holds(&room, count, status, b"0 1000 x\njob x 0 1000\n", 0));
-}
-
-#[test]
 fn draws(rt: HostRuntime) {
     let (mut room, mut status) = ([0; 8192], 9);
-    let count = desk_draw(rt.alloc(), SET, RELEASES, &mut room, &mut status);
+    let count = made(
+        rt.alloc(),
+        Call::Draw(SET, RELEASES),
+        &mut room,
+        &mut status,
+    );
     assert!(rt; status == 0 && count <= 8192);
     assert!(rt; room.starts_with(b"<?xml version=\"1.0\" encoding=\"UTF-8\"?>\n"));
     assert!(rt; room[..count.min(8192)].ends_with(b"</svg>\n"));
-}
-
-#[test]
-fn plays(rt: HostRuntime) {
-    let (mut room, mut status) = ([0; ROOM], 9);
-    let count = desk_play(rt.alloc(), b"open 1\n", &mut room, &mut status);
-    assert!(rt; holds(&room, count, status, b"draft 1 version 0\nversion 0\n", 0));
 }
