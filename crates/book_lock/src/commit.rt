@@ -124,7 +124,8 @@ impl<'a, L: Ledger, G: Gate + Sync, R: Threads + Wait> Committer<'a, L, G, R> {
     ) -> Result<usize, CommitFault>
         requires team { draft.team ≡ pass.old.team }
         requires workers { IsBadCount self.now.workers → ⊥ }
-        ensures { IsLater (λ q. G.may_shut self.now.gate.now q) draft base.value pass.old result pass.new }
+        ensures { IsLater (λ q. G.may_shut self.now.gate.now q)
+            draft base.value pass.old result pass.new }
     {
         let mut draft = draft;
         for _round in 0..2u32 {

@@ -10,6 +10,8 @@ use Rattle.book_lock.specs.declared.closing.Closing.{Closing}
 use Rattle.book_lock.specs.Opening.{IsOpenedFor}
 use Rattle.book_lock.specs.Passes.{Known, newcomer, placed_entries}
 use Rattle.book_lock.specs.Commits.{Commits}
+use Rattle.rushes.specs.declared.edit.Edit.{Edit}
+use Rattle.rushes.specs.declared.edit.Edit.TheVariants as edit
 use Rattle.rushes.specs.declared.note.Missed.{Missed}
 use Rattle.rushes.specs.declared.note.Missed.TheVariants.{PutRefused, RemoveRefused, Ended}
 use Rattle.rushes.specs.declared.note.Note.{Note}
@@ -68,6 +70,11 @@ IsOpened h team k =
     MatchBool (team == h.pass.team)
     ((d : Draft) × IsOpenedFor h.pass d × (k ≡ with_draft h true (Some d)))
     (k ≡ with_draft h false None)
+
+-- what an edit of a draft comes to: its changes then, or why it is refused
+abbrev pub comes_to : Edit → Draft → Result (List (List ℕ × Change)) EditRefusal
+comes_to (edit.Put sheet) d = after_put d sheet.now
+comes_to (edit.Remove name) d = after_remove d name
 
 -- a draft after an edit; one that is refused leaves it
 abbrev pub edited : Draft → Result (List (List ℕ × Change)) EditRefusal → Draft

@@ -1,14 +1,15 @@
 //! A team's drafts and its pass, and its lines of a script.
 ghost use Rattle.std.specs.Prelude.{◌≡◌, ◌+◌, ◌<◌, [], length, None, Some, OnOk, IfOk, IsSome, MatchOption, slice_index_or};
 ghost use Rattle.candidate_workers.specs.Faults.{IsBadCount};
-ghost use Rattle.drafts.specs.Changes.{after_put, after_remove};
-ghost use Rattle.rushes.specs.Hands.{abandoned, after_edit, AreDone, draft_at, line_draft, new_hand, has_ended, IsTeamCommit, IsRowDone, IsLineDone, IsOpened, noting, own_at, refused, told, told_edit, Hand};
+ghost use Rattle.rushes.specs.Hands.{abandoned, after_edit, AreDone, comes_to, draft_at, line_draft, new_hand, has_ended, IsTeamCommit, IsRowDone, IsLineDone, IsOpened, noting, own_at, refused, told, told_edit, Hand};
 ghost use Rattle.rushes.specs.HandFields.{AllOwn};
 
+use crate::edit::Edit;
 use crate::fault::RushFault;
 use crate::note::{Missed, Note};
+use crate::site::Site;
 use crate::slot::DraftSlot;
-use book_lock::{CommitCause, Desk, OpenFault, Pass};
+use book_lock::{CommitCause, OpenFault, Pass};
 use candidate_workers::OpenGate;
 use drafts::{EditRefusal, Team};
 use scripts::{Line, Row};
@@ -17,7 +18,6 @@ use std::marker::Model;
 use std::sync::Wait;
 use std::sync::ledger::Ledger;
 use std::thread::Threads;
-use task_sheet::{Name, Sheet};
 
 /// All drafts that the lines so far opened, by number from 1, which of them are the team's, its pass, and what is told of
 /// its lines that did nothing.
@@ -101,13 +101,7 @@ impl<L: Ledger> Hand<L> {
     }
 
     // The line `open`.
-    fn open<R: Wait>(
-        &mut self,
-        rt: &R,
-        alloc: Global,
-        desk: &Desk<L>,
-        team: Team,
-    ) -> Result<(), RushFault>
+    fn open<R: Wait>(&mut self, site: &Site<'_, L, R>, team: Team) -> Result<(), RushFault>
         ensures { OnOk result (IsOpened self.old team self.new) }
     {
         self.own.reserve(1)?;
@@ -116,9 +110,9 @@ impl<L: Ledger> Hand<L> {
             self.own.push_reserved(false);
             return Ok(());
         }
-        match desk.open(rt, alloc, &self.pass) {
+        match site.desk.open(site.rt, site.alloc, &self.pass) {
             Ok(draft) => {
-                self.drafts.push(DraftSlot::of(alloc, draft)?)?;
+                self.drafts.push(DraftSlot::of(site.alloc, draft)?)?;
                 self.own.push_reserved(true);
                 Ok(())
             }
@@ -128,53 +122,32 @@ impl<L: Ledger> Hand<L> {
         }
     }
 
-    // The line `put`; why it is refused, if it is.
-    fn put(
+    // The lines `put` and `remove`; why the edit is refused, if it is.
+    fn edit(
         &mut self,
         alloc: Global,
         number: usize,
-        sheet: &Sheet,
+        edit: &Edit<'_>,
     ) -> Result<Option<EditRefusal>, AllocError>
         ensures edited { OnOk result (self.new
-            ≡ after_edit self.old number (λ d. after_put d sheet.now)
-            (draft_at self.old.drafts number)) }
+            ≡ after_edit self.old number (comes_to edit.now) (draft_at self.old.drafts number)) }
         ensures refused { IfOk result (λ refusal. refusal
-            ≡ refused (λ d. after_put d sheet.now) (draft_at self.old.drafts number)) }
+            ≡ refused (comes_to edit.now) (draft_at self.old.drafts number)) }
     {
         match index_of(&self.drafts, number) {
             None => Ok(None),
-            Some(i) => {
-                let copy = sheet.copy(alloc)?;
-                self.drafts[i].put(copy)
-            }
-        }
-    }
-
-    // The line `remove`; why it is refused, if it is.
-    fn remove(&mut self, number: usize, name: Name) -> Result<Option<EditRefusal>, AllocError>
-        ensures edited { OnOk result (self.new
-            ≡ after_edit self.old number (λ d. after_remove d name)
-            (draft_at self.old.drafts number)) }
-        ensures refused { IfOk result (λ refusal. refusal
-            ≡ refused (λ d. after_remove d name) (draft_at self.old.drafts number)) }
-    {
-        match index_of(&self.drafts, number) {
-            None => Ok(None),
-            Some(i) => self.drafts[i].remove(name),
+            Some(i) => self.drafts[i].edit(alloc, edit),
         }
     }
 
     // The line `commit`.
     fn commit<R: Threads + Wait>(
         &mut self,
-        rt: &R,
-        alloc: Global,
-        desk: &Desk<L>,
+        site: &Site<'_, L, R>,
         number: usize,
-        workers: usize,
     ) -> Result<(), RushFault>
-        requires { IsBadCount workers → ⊥ }
-        ensures { OnOk result (IsTeamCommit workers self.old number self.new
+        requires { IsBadCount site.now.workers → ⊥ }
+        ensures { OnOk result (IsTeamCommit site.now.workers self.old number self.new
             (draft_at self.old.drafts number)) }
     {
         let Some(i) = index_of(&self.drafts, number) else {
@@ -183,7 +156,15 @@ impl<L: Ledger> Hand<L> {
         let Some(draft) = self.drafts[i].take() else {
             unreachable!();
         };
-        let Err(fault) = desk.commit(rt, alloc, &mut self.pass, draft, workers, &OpenGate) else {
+        let committed = site.desk.commit(
+            site.rt,
+            site.alloc,
+            &mut self.pass,
+            draft,
+            site.workers,
+            &OpenGate,
+        );
+        let Err(fault) = committed else {
             return Ok(());
         };
         match fault.cause {
@@ -213,36 +194,33 @@ impl<L: Ledger> Hand<L> {
     // What a line says; why its edit is refused, if it is.
     fn run<R: Threads + Wait>(
         &mut self,
-        rt: &R,
-        alloc: Global,
-        desk: &Desk<L>,
+        site: &Site<'_, L, R>,
         row: &Row,
-        workers: usize,
     ) -> Result<Option<Missed>, RushFault>
-        requires { IsBadCount workers → ⊥ }
-        ensures done { OnOk result (IsRowDone workers self.old row.now self.new) }
+        requires { IsBadCount site.now.workers → ⊥ }
+        ensures done { OnOk result (IsRowDone site.now.workers self.old row.now self.new) }
         ensures told { IfOk result (λ missed. missed ≡ told_edit self.old row.now) }
     {
         match row {
             Row::Open { team } => {
-                self.open(rt, alloc, desk, *team)?;
+                self.open(site, *team)?;
                 Ok(None)
             }
             Row::Put { draft, sheet } => {
                 let sheet = sheet.sheet();
-                let refusal = self.put(alloc, *draft, sheet)?;
+                let refusal = self.edit(site.alloc, *draft, &Edit::Put { sheet })?;
                 let name = sheet.name();
                 Ok(refusal.map(|refusal| Missed::PutRefused { name, refusal }))
             }
             Row::Remove { draft, name } => {
-                let refusal = self.remove(*draft, *name)?;
                 let name = *name;
+                let refusal = self.edit(site.alloc, *draft, &Edit::Remove { name })?;
                 Ok(refusal.map(|refusal| Missed::RemoveRefused { name, refusal }))
             }
             Row::Found { .. } => Ok(None),
             Row::Test { .. } => Ok(None),
             Row::Commit { draft } => {
-                self.commit(rt, alloc, desk, *draft, workers)?;
+                self.commit(site, *draft)?;
                 Ok(None)
             }
             Row::Abandon { draft } => {
@@ -266,18 +244,15 @@ impl<L: Ledger> Hand<L> {
     // One line, and what is told of it.
     fn run_line<R: Threads + Wait>(
         &mut self,
-        rt: &R,
-        alloc: Global,
-        desk: &Desk<L>,
+        site: &Site<'_, L, R>,
         line: &Line,
-        workers: usize,
     ) -> Result<(), RushFault>
-        requires { IsBadCount workers → ⊥ }
-        ensures { OnOk result (IsLineDone workers self.old line.now self.new) }
+        requires { IsBadCount site.now.workers → ⊥ }
+        ensures { OnOk result (IsLineDone site.now.workers self.old line.now self.new) }
     {
         let draft = draft_of(&line.row);
         let has_ended = self.has_ended(draft);
-        let refused = self.run(rt, alloc, desk, &line.row, workers)?;
+        let refused = self.run(site, &line.row)?;
         let missed = if has_ended {
             Some(Missed::Ended { draft })
         } else {
@@ -304,19 +279,16 @@ impl<L: Ledger> Hand<L> {
 
 /// Runs a team's lines of a script, whose other lines are skipped. The first fault that is no refusal ends them.
 pub(crate) fn run_lines<L: Ledger, R: Threads + Wait>(
-    rt: &R,
-    alloc: Global,
-    desk: &Desk<L>,
+    site: &Site<'_, L, R>,
     pass: Pass<L>,
     lines: &[Line],
-    workers: usize,
 ) -> Result<Hand<L>, RushFault>
-    requires { IsBadCount workers → ⊥ }
-    ensures { IfOk result (λ last. AreDone workers (new_hand pass) lines.now last) }
+    requires { IsBadCount site.now.workers → ⊥ }
+    ensures { IfOk result (λ last. AreDone site.now.workers (new_hand pass) lines.now last) }
 {
-    let mut hand = Hand::new(alloc, pass);
+    let mut hand = Hand::new(site.alloc, pass);
     for line in lines {
-        hand.run_line(rt, alloc, desk, line, workers)?;
+        hand.run_line(site, line)?;
     }
     Ok(hand)
 }

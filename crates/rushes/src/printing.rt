@@ -1,5 +1,5 @@
 //! The lines of a log, and of what is told of lines that did nothing.
-ghost use Rattle.std.specs.Prelude.{◌≡◌, ◌≤◌, ◌++◌, codes, OnOk, IfOk, map, string_bytes};
+ghost use Rattle.std.specs.Prelude.{◌≡◌, ◌≤◌, ◌++◌, OnOk, IfOk, map, string_bytes};
 ghost use Rattle.drafts.specs.declared.team.TheConstants.{TEAM_LIMIT};
 ghost use Rattle.rushes.specs.Hands.{AreOfTeams, closed_book};
 ghost use Rattle.rushes.specs.Printed.{all_note_lines, edit_word, entry_line, IsBookLog, missed_words, note_line, note_lines};
@@ -11,7 +11,6 @@ use drafts::{EditRefusal, Entry};
 use plays::{book_text, ruling_text};
 use std::alloc::{AllocError, Global};
 use std::sync::ledger::Ledger;
-use task_sheet::Name;
 
 // The line of an entry, which has a place.
 fn push_entry(
@@ -58,28 +57,19 @@ fn edit_word(refusal: EditRefusal) -> &'static str
     }
 }
 
-// An edit on a name, and why it was refused.
-fn push_edit(
-    text: &mut String,
-    edit: &str,
-    name: Name,
-    refusal: EditRefusal,
-) -> Result<(), AllocError>
-    ensures { OnOk result (string_bytes text.new
-        ≡ string_bytes text.old ++ (edit.now ++ name ++ codes ": " ++ edit_word refusal)) }
-{
-    text.push_str(edit)?;
-    write!(text, "{name}: ")?;
-    text.push_str(edit_word(refusal))
-}
-
 // Why a line did nothing.
 fn push_missed(text: &mut String, missed: Missed) -> Result<(), AllocError>
     ensures { OnOk result (string_bytes text.new ≡ string_bytes text.old ++ missed_words missed) }
 {
     match missed {
-        Missed::PutRefused { name, refusal } => push_edit(text, "put ", name, refusal),
-        Missed::RemoveRefused { name, refusal } => push_edit(text, "remove ", name, refusal),
+        Missed::PutRefused { name, refusal } => {
+            write!(text, "put {name}: ")?;
+            text.push_str(edit_word(refusal))
+        }
+        Missed::RemoveRefused { name, refusal } => {
+            write!(text, "remove {name}: ")?;
+            text.push_str(edit_word(refusal))
+        }
         Missed::Ended { draft } => write!(text, "skipped, draft {draft} has ended"),
     }
 }

@@ -6,6 +6,7 @@ ghost use Rattle.rushes.specs.Printed.{IsRushText};
 
 use crate::fault::RushFault;
 use crate::printing::{log_text, notes_text};
+use crate::site::Site;
 use crate::teams::{passes_of, run_teams, teams_of};
 use book_lock::{CloseCause, Desk};
 use drafts::TEAM_LIMIT;
@@ -44,7 +45,13 @@ fn rush_on<L: Ledger + Send + Sync, R: Threads + Wait + Sync>(
     // For the teams and the passes that come back; made before any thread starts.
     let room = Vec::with_capacity(alloc, passes.len())?;
     let pass_room = Vec::with_capacity(alloc, passes.len())?;
-    let ends = run_teams(rt, alloc, &desk, passes, lines, workers)?;
+    let site = Site {
+        rt,
+        alloc,
+        desk: &desk,
+        workers,
+    };
+    let ends = run_teams(&site, passes, lines)?;
     let teams = teams_of(ends, room)?;
     let notes = notes_text(alloc, &teams)?;
     match desk.close(passes_of(teams, pass_room)) {

@@ -1,14 +1,15 @@
 //! Where a team keeps one of its drafts.
-ghost use Rattle.std.specs.Prelude.{◌≡◌, ◌↔◌, IfOk, OnOk, IsTrue, IsSome, ℕ, None, Some, option_map, Option};
-ghost use Rattle.drafts.specs.Changes.{after_put, after_remove, Draft};
+ghost use Rattle.std.specs.Prelude.{◌≡◌, ◌↔◌, IfOk, IfErr, OnOk, OnErr, Ok, IsTrue, IsSome, ℕ, None, Some, option_map, Option};
+ghost use Rattle.drafts.specs.Changes.{Draft};
+ghost use Rattle.drafts.specs.EditFaults.{IsEditFault};
 ghost use Rattle.drafts.specs.declared.draft.EditCause.TheVariants.{Refused};
-ghost use Rattle.rushes.specs.Hands.{edited, refused};
+ghost use Rattle.rushes.specs.Hands.{comes_to, edited, refused};
 ghost use Rattle.rushes.specs.HandFields.{IsOfTeam};
 
+use crate::edit::Edit;
 use drafts::{Draft, EditCause, EditRefusal};
 use std::alloc::{AllocError, Global};
 use std::marker::Model;
-use task_sheet::{Name, Sheet};
 
 /// A draft, or none where it is another team's or has ended. Each team has a slot for each draft of the script, so an
 /// empty one is small.
@@ -30,6 +31,28 @@ fn refusal_of(cause: EditCause) -> Result<EditRefusal, AllocError>
     match cause {
         EditCause::Refused { refusal } => Ok(refusal),
         EditCause::OutOfMemory => Err(AllocError),
+    }
+}
+
+// Makes an edit of a draft; one that isn't made leaves it.
+fn make(alloc: Global, draft: &mut Draft, edit: &Edit<'_>) -> Result<(), EditCause>
+    ensures ok { OnOk result (comes_to edit.now draft.old ≡ Ok draft.new.changes) }
+    ensures team { draft.new.team ≡ draft.old.team }
+    ensures base { draft.new.base ≡ draft.old.base }
+    ensures refused { IfErr result (λ cause. IsEditFault (comes_to edit.now draft.old) cause) }
+    ensures err { OnErr result (draft.new ≡ draft.old) }
+{
+    match edit {
+        Edit::Put { sheet } => {
+            let Ok(copy) = sheet.copy(alloc) else {
+                return Err(EditCause::OutOfMemory);
+            };
+            match draft.put(copy) {
+                Ok(()) => Ok(()),
+                Err(fault) => Err(fault.cause),
+            }
+        }
+        Edit::Remove { name } => draft.remove(*name),
     }
 }
 
@@ -65,35 +88,22 @@ impl DraftSlot {
         }
     }
 
-    /// Puts a sheet into the draft; one that is refused leaves it, and here is why.
-    pub(crate) fn put(&mut self, sheet: Sheet) -> Result<Option<EditRefusal>, AllocError>
-        ensures ok { OnOk result (self.new ≡ option_map
-            (λ d. edited d (after_put d sheet)) self.old) }
+    /// Makes an edit of the draft; one that is refused leaves it, and here is why.
+    pub(crate) fn edit(
+        &mut self,
+        alloc: Global,
+        edit: &Edit<'_>,
+    ) -> Result<Option<EditRefusal>, AllocError>
+        ensures ok { OnOk result (self.new
+            ≡ option_map (λ d. edited d (comes_to edit.now d)) self.old) }
         ensures refused { IfOk result (λ refusal. refusal
-            ≡ refused (λ d. after_put d sheet) self.old) }
+            ≡ refused (comes_to edit.now) self.old) }
         ensures own { (team : ℕ) → IsOfTeam team self.old → IsOfTeam team self.new }
     {
         let Some(draft) = &mut self.draft else {
             return Ok(None);
         };
-        match draft.put(sheet) {
-            Ok(()) => Ok(None),
-            Err(fault) => Ok(Some(refusal_of(fault.cause)?)),
-        }
-    }
-
-    /// Removes the task of a name in the draft; where it is refused the draft stays, and here is why.
-    pub(crate) fn remove(&mut self, name: Name) -> Result<Option<EditRefusal>, AllocError>
-        ensures ok { OnOk result (self.new ≡ option_map
-            (λ d. edited d (after_remove d name)) self.old) }
-        ensures refused { IfOk result (λ refusal. refusal
-            ≡ refused (λ d. after_remove d name) self.old) }
-        ensures own { (team : ℕ) → IsOfTeam team self.old → IsOfTeam team self.new }
-    {
-        let Some(draft) = &mut self.draft else {
-            return Ok(None);
-        };
-        match draft.remove(name) {
+        match make(alloc, draft, edit) {
             Ok(()) => Ok(None),
             Err(cause) => Ok(Some(refusal_of(cause)?)),
         }

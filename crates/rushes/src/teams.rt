@@ -5,9 +5,10 @@ ghost use Rattle.rushes.specs.Starts.{Each, IsEnd, first_fault};
 
 use crate::fault::RushFault;
 use crate::hand::{Hand, run_lines};
-use book_lock::{Desk, Pass};
+use crate::site::Site;
+use book_lock::Pass;
 use scripts::{Line, Row};
-use std::alloc::{AllocError, Global};
+use std::alloc::AllocError;
 use std::snapshot::Snapshot;
 use std::sync::Wait;
 use std::sync::ledger::Ledger;
@@ -46,31 +47,26 @@ fn has_lines(lines: &[Line], team: u64) -> bool {
 
 // Starts a team's thread. A team for which no draft is opened has nothing to do, and its lines are run here.
 fn start<'s, 'e: 's, L: Ledger + Send + Sync, R: Threads + Wait + Sync>(
-    rt: &'e R,
-    alloc: Global,
+    site: &'e Site<'e, L, R>,
     scope: &Scope<'s, &'e ()>,
-    desk: &'e Desk<L>,
     pass: Pass<L>,
     lines: &'e [Line],
-    workers: usize,
 ) -> Started<'e, L>
-    requires { IsBadCount workers → ⊥ }
+    requires { IsBadCount site.now.workers → ⊥ }
     ensures thread { IfOk result (λ h. (h.promise.lines.now ≡ lines.now)
-        × (h.promise.workers ≡ workers)
+        × (h.promise.workers ≡ site.now.workers)
         × (h.promise.pass.value ≡ pass)) }
-    ensures over { IfErr result (λ ended. IsEnd workers lines.now pass ended) }
+    ensures over { IfErr result (λ ended. IsEnd site.now.workers lines.now pass ended) }
 {
     if !has_lines(lines, pass.team().number()) {
-        return Err(run_lines(rt, alloc, desk, pass, lines, workers));
+        return Err(run_lines(site, pass, lines));
     }
     let kept = TeamPromise {
         lines,
         pass: Snapshot::of(&pass),
-        workers,
+        workers: site.workers,
     };
-    match scope.spawn_with(kept, move || {
-        run_lines(rt, alloc, desk, pass, lines, workers)
-    }) {
+    match scope.spawn_with(kept, move || { run_lines(site, pass, lines) }) {
         Ok(handle) => Ok(handle),
         Err(_) => Err(Err(RushFault::ThreadRefused)),
     }
@@ -119,49 +115,43 @@ fn join_all<'e, L: Ledger, R: Threads>(
 
 // Starts all teams, and joins them.
 fn run_all<'s, 'e: 's, L: Ledger + Send + Sync, R: Threads + Wait + Sync>(
-    rt: &'e R,
-    alloc: Global,
+    site: &'e Site<'e, L, R>,
     scope: &Scope<'s, &'e ()>,
-    desk: &'e Desk<L>,
     passes: Vec<Pass<L>>,
     lines: &'e [Line],
-    workers: usize,
 ) -> Result<Vec<Ended<L>>, AllocError>
-    requires { IsBadCount workers → ⊥ }
+    requires { IsBadCount site.now.workers → ⊥ }
     ensures { IfOk result (λ ends. Each
-        (λ start ended. IsEnd workers lines.now start ended) passes.items ends.items) }
+        (λ start ended. IsEnd site.now.workers lines.now start ended) passes.items ends.items) }
 {
-    let room = Vec::with_capacity(alloc, passes.len())?;
-    let mut all = Vec::with_capacity(alloc, passes.len())?;
+    let room = Vec::with_capacity(site.alloc, passes.len())?;
+    let mut all = Vec::with_capacity(site.alloc, passes.len())?;
     for pass in passes {
-        all.push_reserved(start(rt, alloc, scope, desk, pass, lines, workers));
+        all.push_reserved(start(site, scope, pass, lines));
     }
-    Ok(join_all(rt, lines, workers, all, room))
+    Ok(join_all(site.rt, lines, site.workers, all, room))
 }
 
 /// Runs the lines of each pass's team on a thread of its own, joins all threads, and gives what each team came to, in
 /// the order of the passes.
 pub(crate) fn run_teams<L: Ledger + Send + Sync, R: Threads + Wait + Sync>(
-    rt: &R,
-    alloc: Global,
-    desk: &Desk<L>,
+    site: &Site<'_, L, R>,
     passes: Vec<Pass<L>>,
     lines: &[Line],
-    workers: usize,
 ) -> Result<Vec<Ended<L>>, AllocError>
-    requires { IsBadCount workers → ⊥ }
+    requires { IsBadCount site.now.workers → ⊥ }
     ensures { IfOk result (λ ends. Each
-        (λ start ended. IsEnd workers lines.now start ended) passes.items ends.items) }
+        (λ start ended. IsEnd site.now.workers lines.now start ended) passes.items ends.items) }
 {
     thread::scope(
         thread::scope_env(),
-        rt,
+        site.rt,
         |scope| -> Result<Vec<Ended<L>>, AllocError>
-            requires { IsBadCount workers → ⊥ }
+            requires { IsBadCount site.now.workers → ⊥ }
             ensures { IfOk result (λ ends. Each
-                (λ start ended. IsEnd workers lines.entry.now start ended)
+                (λ start ended. IsEnd site.entry.now.workers lines.entry.now start ended)
                 passes.items ends.items) }
-        { run_all(rt, alloc, scope, desk, passes, lines, workers) },
+        { run_all(site, scope, passes, lines) },
     )
 }
 

@@ -14,5 +14,5 @@ loop-line-preserved g c =
     let up : i + 1 ≡ suc i = omega arith in
     λ k done.
     c.loop-line.invariant k
-    (subst (λ (xs : List Line). AreDone c.args.workers c.loop-line.hand xs k) (sym next)
-    (c.run_line.new.self, c.in_ok-run_line.ensures, subst (λ (n : ℕ). AreDone c.args.workers c.run_line.new.self (drop n lines) k) up done))
+    (subst (λ (xs : List Line). AreDone c.args.site.now.workers c.loop-line.hand xs k) (sym next)
+    (c.run_line.new.self, c.in_ok-run_line.ensures, subst (λ (n : ℕ). AreDone c.args.site.now.workers c.run_line.new.self (drop n lines) k) up done))

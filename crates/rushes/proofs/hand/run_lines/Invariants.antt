@@ -4,4 +4,4 @@ use Rattle.rushes.proofs.hand.run_lines.Given as goal
 
 -- what the lines that are left make of the team is what all lines make of it from the start on
 abbrev pub invariant-loop-line : goal.invariant-loop-line
-invariant-loop-line g l = (k : Hand) → AreDone l.workers l.hand (drop l.line-index l.lines) k → AreDone l.workers (new_hand l.fn.pass) l.lines k
+invariant-loop-line g l = (k : Hand) → AreDone l.site.workers l.hand (drop l.line-index l.lines) k → AreDone l.site.workers (new_hand l.fn.pass) l.lines k

@@ -18,6 +18,6 @@ returns g c =
     let was = c.loop-pass.invariant in
     let all = all_done c.loop-pass.yielded _ c.args.passes.items _ _ _ was.work c.in-None.ensures.steps.0 in
     Each-joined _ _ _ c.loop-pass.all.items c.args.passes.items c.join_all.result.items
-    (λ started start ended is so. finish_end c.args.workers c.args.lines.now started _ _ _ start ended is so)
+    (λ started start ended is so. finish_end c.args.site.now.workers c.args.lines.now started _ _ _ start ended is so)
     (rw (← all) was.started)
     c.join_all.ensures

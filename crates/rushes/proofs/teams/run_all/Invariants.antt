@@ -11,5 +11,5 @@ invariant-loop-pass g l = record {
   work : WorkedOff l.yielded (into_iter_items l.pass-iterator) l.fn.passes.items (into_iter_len l.pass-iterator) (vec_len l.all) (vec_capacity l.all);
   empty : l.room.items ≡ [];
   kept : vec_capacity l.all ≤ vec_capacity l.room;
-  started : Each (λ started pass. IfOk started (λ h. (h.promise.lines.now ≡ l.lines) × (h.promise.workers ≡ l.workers) × (h.promise.pass.value ≡ pass)) × IfErr started (λ ended. IsEnd l.workers l.lines pass ended)) l.all.items l.yielded;
+  started : Each (λ started pass. IfOk started (λ h. (h.promise.lines.now ≡ l.lines) × (h.promise.workers ≡ l.site.workers) × (h.promise.pass.value ≡ pass)) × IfErr started (λ ended. IsEnd l.site.workers l.lines pass ended)) l.all.items l.yielded;
 }
