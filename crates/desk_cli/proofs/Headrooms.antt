@@ -1,5 +1,5 @@
 -- The lines of a set's headrooms, one after the other, and the order that they speak of.
-use Rattle.std.proofs.Common.{◌≡◌, ℕ, suc, ◌+◌, ◌++◌, List, [], Option, Some, IfSome, Result, Ok, Err, false, refl, sym, ap, subst, arith}
+use Rattle.std.proofs.Common.{◌≡◌, ◌∙◌, ℕ, suc, ◌+◌, ◌++◌, List, [], Option, Some, IfSome, Result, Ok, Err, false, refl, sym, ap, subst, arith}
 use Rattle.std.specs.Prelude.{OnOk}
 use Rattle.std.specs.Io.KnownBytes.{Appends}
 use Rattle.std.specs.Result.{is_err}
@@ -8,6 +8,7 @@ use Rattle.plays.proofs.PlayLaws.{known_written}
 use Rattle.std.proofs.lemmas.Bool.{true≢false}
 use Rattle.task_sheet.specs.Sheet.{Task}
 use Rattle.task_sheet.specs.Orders.{IsPassingOrder}
+use Rattle.task_sheet.specs.TaskSet.{IsTaskSet}
 use Rattle.task_sheet.specs.Verdicts.{IsVerdictOf, order_of}
 use Rattle.task_sheet.proofs.LevelLaws.{IsBest-one}
 use Rattle.assignment.specs.Placings.{IsPlacingOf, tasks_of_places}
@@ -18,12 +19,13 @@ use Rattle.assignment.specs.declared.verdict.Verdict.{Verdict}
 use Rattle.assignment.specs.declared.verdict.Verdict.TheVariants.{Admitted, Infeasible}
 use Rattle.preferences.specs.declared.preferred.Preference.{Preference}
 use Rattle.desk_cli.specs.Admit.{Admits, Places, placing_status, verdict_status}
-use Rattle.desk_cli.specs.Headroom.{AreLines, IsTaskLine, TellsPlaced, placing_order, verdict_order}
+use Rattle.desk_cli.specs.Headroom.{AreLines, IsTaskLine, Lists, SaysPlaced, TellsPlaced, first_line, placing_first, placing_order, verdict_order}
 use Rattle.desk_cli.specs.Sets.{HasSet}
 use Rattle.desk_cli.specs.declared.refusal.CommandRefusal.{CommandRefusal}
 use Rattle.desk_cli.specs.declared.refusal.CommandRefusal.TheVariants as refusal
 use Rattle.desk_cli.specs.declared.status.Status.{Status}
 use Rattle.desk_cli.specs.declared.status.Status.TheVariants as status
+use Rattle.desk_cli.proofs.Placed.{said_by}
 
 -- what holds of a value, where there is no error
 pub where_sound : {T E : Type 0} (r : Result T E) (P : Type 0) → is_err r ≡ false → OnOk r P → P
@@ -62,6 +64,23 @@ pub admits_placed : (preference : Preference) (known : Option (List ℕ)) (U : L
 admits_placed preference known U p placed (Ok v) told = (subst (λ (V : List Task). HasSet preference known V) (sym told.0) placed.0, told.1)
 admits_placed preference known U p placed (Err refusal.OutOfMemory) told = tt
 admits_placed preference known U p placed (Err _) told = absurd told
+
+-- the first line and the lines behind it are those of the verdict that says what the placing says
+pub placed_said : (U : List Task) → IsTaskSet U → (p : Placing) → IsPlacingOf U p → (order : Option (List ℕ)) → order ≡ placing_order p → (first : List ℕ) → first ≡ placing_first U p
+    → (before after : Option (List ℕ)) (s : Status) (rest : List ℕ) → Lists U order (placing_status p) rest s → Appends before after (first ++ rest) → SaysPlaced U before after s
+placed_said U kept p placing order same first begins before after s rest lists wrote =
+    let found = said_by U kept p placing in
+    let v = found.0 in
+    let says = found.1 in
+    let of_verdict = same ∙ sym (order_same U p v placing says.set says.verdict says.status) in
+    let lists_set = subst (λ (X : List Task). Lists X order (placing_status p) rest s) (sym says.set) lists in
+    let lists_order = subst (λ o. Lists (verdict_set v) o (placing_status p) rest s) of_verdict lists_set in (
+      Ok v,
+      first_line v ++ rest,
+      (says.set, says.verdict),
+      (rest, refl, subst (λ done. Lists (verdict_set v) (verdict_order v) done rest s) (sym says.status) lists_order),
+      subst (λ (text : List ℕ). Appends before after (text ++ rest)) (begins ∙ sym says.first) wrote,
+    )
 
 -- what was put behind a first text, where nothing was held back, is written once that is sent
 pub known_after : (P : List ℕ → Type 0) (first : List ℕ) (before between after : Option (List ℕ)) (start held : List ℕ) → start ≡ [] → Appends between after held

@@ -20,10 +20,11 @@ use Rattle.assignment.proofs.VerdictPlacings.{some_verdict_says}
 use Rattle.settings.specs.Settings.{settings_lines}
 use Rattle.desk_cli.specs.Admit.{Places, Says, admit_lines, placing_status, verdict_status}
 use Rattle.desk_cli.specs.Headroom.{first_line, placing_first}
-use Rattle.desk_cli.specs.Lines.{admitted_lines, infeasible_line, placing_lines}
+use Rattle.desk_cli.specs.Lines.{admitted_lines, infeasible_line, placing_said}
 use Rattle.desk_cli.specs.Printed.{IsPrinted}
 use Rattle.desk_cli.specs.Sets.{HasSet}
-use Rattle.desk_cli.specs.Settings.{placing_settings, settings_of}
+use Rattle.desk_cli.specs.Settings.{settings_of}
+use Rattle.desk_cli.specs.declared.answer.OrderPart.TheVariants.{Levels, Settings}
 use Rattle.desk_cli.specs.declared.refusal.CommandRefusal.TheVariants as refusal
 use Rattle.desk_cli.specs.declared.status.Status.{Status}
 
@@ -31,8 +32,8 @@ use Rattle.desk_cli.specs.declared.status.Status.{Status}
 pub record IsSaidBy (U : List Task) (p : Placing) (v : Verdict) : Type 0 where
   pub set : verdict_set v ≡ U
   pub verdict : IsVerdictOf (verdict_set v) (verdict_of v)
-  pub lines : admit_lines v ≡ placing_lines U p
-  pub settings : settings_of v ≡ placing_settings U p
+  pub lines : admit_lines v ≡ placing_said Levels U p
+  pub settings : settings_of v ≡ placing_said Settings U p
   pub first : first_line v ≡ placing_first U p
   pub status : verdict_status v ≡ placing_status p
 

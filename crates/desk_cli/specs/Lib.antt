@@ -4,6 +4,7 @@ pub mod Check
 pub mod Commands
 pub mod Draw
 pub mod Explain
+pub mod Found
 pub mod Headroom
 pub mod Judge
 pub mod Lines

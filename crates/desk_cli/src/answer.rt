@@ -3,16 +3,29 @@ ghost use Rattle.std.specs.Prelude.{◌≡◌, ◌++◌, ◌<◌, length, OnOk, 
 ghost use Rattle.task_sheet.specs.Indexes.{indexes_of, listed_below};
 ghost use Rattle.desk_cli.specs.Outcomes.{IsSaidOn};
 ghost use Rattle.desk_cli.specs.Printed.{IsPrinted};
-ghost use Rattle.desk_cli.specs.Lines.{admitted_lines, infeasible_line, level_line, placing_lines};
+ghost use Rattle.assignment.specs.Placings.{IsPlacingOf};
+ghost use Rattle.desk_cli.specs.Lines.{admitted_lines, infeasible_line, level_line, placing_said};
 
 use crate::output::print_made;
 use crate::status::Status;
 use assignment::{Place, Placing};
 use lines::{push_name, push_names};
+use settings::settings_text;
 use std::alloc::{AllocError, Global};
 use std::io::Write;
 use streams::Watched;
 use task_sheet::{Members, TaskSet};
+
+/// How much is said of an order.
+#[derive(Clone, Copy)]
+pub enum OrderPart {
+    /// How many levels it has.
+    Count,
+    /// That, and each level, the lowest first.
+    Levels,
+    /// What a node is set to.
+    Settings,
+}
 
 // The line of a level, which has a number.
 fn push_level(
@@ -43,11 +56,7 @@ fn admitted_text(alloc: Global, set: &TaskSet, places: &[Place]) -> Result<Strin
 }
 
 // The line of an obstruction.
-pub(crate) fn infeasible_text(
-    alloc: Global,
-    set: &TaskSet,
-    members: Members,
-) -> Result<String, AllocError>
+fn infeasible_text(alloc: Global, set: &TaskSet, members: Members) -> Result<String, AllocError>
     ensures { IfOk result (λ text. string_bytes text
         ≡ infeasible_line set.now (listed_below (length set.now) (indexes_of members))) }
 {
@@ -57,17 +66,25 @@ pub(crate) fn infeasible_text(
     Ok(text)
 }
 
-// The lines that say a placing of a set.
+// So much of the order of a placing, or the line of its obstruction.
 pub(crate) fn placing_text(
     alloc: Global,
+    part: OrderPart,
     set: &TaskSet,
     placing: &Placing,
 ) -> Result<String, AllocError>
-    ensures { IfOk result (λ text. string_bytes text ≡ placing_lines set.now placing.now) }
+    requires { IsPlacingOf set.now placing.now }
+    ensures { IfOk result (λ text. string_bytes text ≡ placing_said part set.now placing.now) }
 {
-    match placing {
-        Placing::Best(places) => admitted_text(alloc, set, places),
-        Placing::Stuck(members) => infeasible_text(alloc, set, *members),
+    let places = match placing {
+        Placing::Best(places) => places,
+        Placing::Stuck(members) => return infeasible_text(alloc, set, *members),
+    };
+    let count = places.len();
+    match part {
+        OrderPart::Count => format!(in alloc; "admitted {count}\n"),
+        OrderPart::Levels => admitted_text(alloc, set, places),
+        OrderPart::Settings => settings_text(alloc, set, places),
     }
 }
 

@@ -6,7 +6,7 @@ ghost use Rattle.explain.specs.Lines.{explanation_lines};
 ghost use Rattle.explain.specs.declared.explanation.Explanation.{Explanation};
 ghost use Rattle.desk_cli.specs.Headroom.{placing_first};
 
-use crate::headroom_lines::first_text;
+use crate::answer::{OrderPart, placing_text};
 use assignment::Placing;
 use ceilings::LockTable;
 use explain::{explain, explanation_text};
@@ -39,7 +39,7 @@ pub(crate) fn explained_text(
         ++ explanation_lines set.now explanation)) }
 {
     let lines = why_text(alloc, set, placing)?;
-    let mut text = first_text(alloc, set, placing)?;
+    let mut text = placing_text(alloc, OrderPart::Count, set, placing)?;
     text.push_str(lines.as_str())?;
     Ok(text)
 }

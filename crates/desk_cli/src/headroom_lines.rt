@@ -1,16 +1,15 @@
 //! `desk headroom`.
-ghost use Rattle.std.specs.Prelude.{◌≡◌, ◌≢◌, ℕ, ◌<◌, List, ◌++◌, length, Err, true, IfOk, IfSome, OnOk, option_map, string_bytes};
+ghost use Rattle.std.specs.Prelude.{◌≡◌, ◌≢◌, ℕ, ◌<◌, List, ◌++◌, length, Err, true, IfOk, OnOk, option_map, string_bytes};
 ghost use Rattle.std.specs.Io.KnownBytes.{Appends};
 ghost use Rattle.task_sheet.specs.TaskSet.{IsTaskSet};
 ghost use Rattle.ceilings.specs.IsTableOf.{IsTableOf};
-ghost use Rattle.task_sheet.specs.Orders.{IsPassingOrder};
 ghost use Rattle.assignment.specs.Placings.{IsPlacingOf};
-ghost use Rattle.desk_cli.specs.Headroom.{AnswersIn, IsLast, IsTaskLine, ListsAll, ListsSome, SaysPlaced, headroom_line, most_words, placing_first, placing_order};
+ghost use Rattle.desk_cli.specs.Headroom.{AnswersIn, IsLast, IsListingOf, IsTaskLine, ListsAll, ListsSome, SaysPlaced, headroom_line, listing_order, most_words, placing_first, placing_order};
 ghost use Rattle.streams.specs.Sending.{Sends};
 ghost use Rattle.desk_cli.specs.Outcomes.{IsSaidOn};
 
 use crate::admit::placing_status;
-use crate::answer::infeasible_text;
+use crate::answer::{OrderPart, placing_text};
 use crate::output::refuse;
 use crate::refusal::CommandRefusal;
 use crate::status::Status;
@@ -23,21 +22,15 @@ use std::io::Write;
 use streams::{Held, Watched};
 use task_sheet::{Sheet, TaskSet};
 
-// The first line of a placing.
-pub(crate) fn first_text(
-    alloc: Global,
-    set: &TaskSet,
-    placing: &Placing,
-) -> Result<String, AllocError>
-    ensures { IfOk result (λ text. string_bytes text ≡ placing_first set.now placing.now) }
-{
-    match placing {
-        Placing::Best(places) => {
-            let count = places.len();
-            format!(in alloc; "admitted {count}\n")
-        }
-        Placing::Stuck(members) => infeasible_text(alloc, set, *members),
-    }
+// What the lines of a placed set are made of, made before the first is printed.
+#[derive(Drop)]
+struct Listing {
+    // Of the set's locks.
+    table: LockTable,
+    // The lowest level first; none after a no.
+    order: Option<Vec<usize>>,
+    // The first line.
+    first: String,
 }
 
 /// Why lines were not all printed.
@@ -63,18 +56,18 @@ fn order_of(alloc: Global, placing: &Placing) -> Result<Option<Vec<usize>>, Allo
 fn in_order(
     alloc: Global,
     set: &TaskSet,
-    table: &LockTable,
-    order: &Option<Vec<usize>>,
+    listing: &Listing,
     task: usize,
 ) -> Result<Option<u64>, AllocError>
-    requires table { IsTableOf set.now table.now }
+    requires listing { IsListingOf set.now listing.now }
     requires task { task < length set.now }
-    requires passing { IfSome (option_map (λ o. o.items) order.now) (IsPassingOrder set.now) }
-    ensures { IfOk result (λ own. AnswersIn set.now
-        (option_map (λ o. o.items) order.now) task own) }
+    ensures { IfOk result (λ own. AnswersIn set.now (listing_order listing.now) task own) }
 {
-    match order {
-        Some(order) => Ok(Some(headroom_in_order(alloc, set, table, order, task)?)),
+    match &listing.order {
+        Some(order) => {
+            let most = headroom_in_order(alloc, set, &listing.table, order, task)?;
+            Ok(Some(most))
+        }
         None => Ok(None),
     }
 }
@@ -112,18 +105,16 @@ fn line_text(
 fn task_text(
     alloc: Global,
     set: &TaskSet,
-    table: &LockTable,
-    order: &Option<Vec<usize>>,
+    listing: &Listing,
     task: usize,
 ) -> Result<String, AllocError>
-    requires table { IsTableOf set.now table.now }
+    requires listing { IsListingOf set.now listing.now }
     requires task { task < length set.now }
-    requires passing { IfSome (option_map (λ o. o.items) order.now) (IsPassingOrder set.now) }
-    ensures { IfOk result (λ text. IsTaskLine set.now (option_map (λ o. o.items) order.now) task
+    ensures { IfOk result (λ text. IsTaskLine set.now (listing_order listing.now) task
         (string_bytes text)) }
 {
-    let own = in_order(alloc, set, table, order, task)?;
-    let most = headroom(alloc, set, table, task)?;
+    let own = in_order(alloc, set, listing, task)?;
+    let most = headroom(alloc, set, &listing.table, task)?;
     line_text(alloc, &set.sheets()[task], own, most)
 }
 
@@ -147,38 +138,35 @@ fn last_text(alloc: Global, set: &TaskSet, table: &LockTable) -> Result<String, 
 fn put_lines<W: Write + Drop>(
     alloc: Global,
     set: &TaskSet,
-    table: &LockTable,
-    order: &Option<Vec<usize>>,
-    first: &[u8],
+    listing: &Listing,
     held: &mut Held,
     output: &mut Watched<W>,
 ) -> Result<(), ListFault>
-    requires table { IsTableOf set.now table.now }
-    requires passing { IfSome (option_map (λ o. o.items) order.now) (IsPassingOrder set.now) }
+    requires { IsListingOf set.now listing.now }
     ensures all { OnOk result ((text : List ℕ)
-        × ListsAll set.now (option_map (λ o. o.items) order.now) text
+        × ListsAll set.now (listing_order listing.now) text
         × Sends (W.contents output.old.inner) held.old (W.contents output.new.inner) held.new
-        (first.now ++ text)) }
+        (string_bytes listing.now.first ++ text)) }
     ensures some { result ≡ Err ListFault.OutOfMemory
-        → (text : List ℕ) × ListsSome set.now (option_map (λ o. o.items) order.now) text
+        → (text : List ℕ) × ListsSome set.now (listing_order listing.now) text
         × Sends (W.contents output.old.inner) held.old (W.contents output.new.inner) held.new
-        (first.now ++ text) }
+        (string_bytes listing.now.first ++ text) }
     ensures ok { result ≢ Err ListFault.WriteFailed
         → output.new.has_failed ≡ output.old.has_failed }
     ensures failed { result ≡ Err ListFault.WriteFailed → output.new.has_failed ≡ true }
 {
-    if held.put(first, output).is_err() {
+    if held.put(listing.first.as_bytes(), output).is_err() {
         return Err(ListFault::WriteFailed);
     }
     for task in 0..set.len() {
-        let Ok(text) = task_text(alloc, set, table, order, task) else {
+        let Ok(text) = task_text(alloc, set, listing, task) else {
             return Err(ListFault::OutOfMemory);
         };
         if held.put(text.as_bytes(), output).is_err() {
             return Err(ListFault::WriteFailed);
         }
     }
-    let Ok(text) = last_text(alloc, set, table) else {
+    let Ok(text) = last_text(alloc, set, &listing.table) else {
         return Err(ListFault::OutOfMemory);
     };
     match held.put(text.as_bytes(), output) {
@@ -192,25 +180,24 @@ fn put_lines<W: Write + Drop>(
 fn print_lines<W: Write + Drop>(
     alloc: Global,
     set: &TaskSet,
-    table: &LockTable,
-    order: &Option<Vec<usize>>,
-    first: &[u8],
+    listing: &Listing,
     output: &mut Watched<W>,
 ) -> Result<(), ListFault>
-    requires table { IsTableOf set.now table.now }
-    requires passing { IfSome (option_map (λ o. o.items) order.now) (IsPassingOrder set.now) }
+    requires { IsListingOf set.now listing.now }
     ensures all { OnOk result ((text : List ℕ)
-        × ListsAll set.now (option_map (λ o. o.items) order.now) text
-        × Appends (W.contents output.old.inner) (W.contents output.new.inner) (first.now ++ text)) }
+        × ListsAll set.now (listing_order listing.now) text
+        × Appends (W.contents output.old.inner) (W.contents output.new.inner)
+        (string_bytes listing.now.first ++ text)) }
     ensures some { result ≡ Err ListFault.OutOfMemory
-        → (text : List ℕ) × ListsSome set.now (option_map (λ o. o.items) order.now) text
-        × Appends (W.contents output.old.inner) (W.contents output.new.inner) (first.now ++ text) }
+        → (text : List ℕ) × ListsSome set.now (listing_order listing.now) text
+        × Appends (W.contents output.old.inner) (W.contents output.new.inner)
+        (string_bytes listing.now.first ++ text) }
     ensures ok { result ≢ Err ListFault.WriteFailed
         → output.new.has_failed ≡ output.old.has_failed }
     ensures failed { result ≡ Err ListFault.WriteFailed → output.new.has_failed ≡ true }
 {
     let mut held = Held::new();
-    let listed = put_lines(alloc, set, table, order, first, &mut held, output);
+    let listed = put_lines(alloc, set, listing, &mut held, output);
     if let Err(ListFault::WriteFailed) = listed {
         return listed;
     }
@@ -220,22 +207,22 @@ fn print_lines<W: Write + Drop>(
     }
 }
 
-// What is made before the first line is printed: the table of the set's locks, the order, and the line.
-fn make_ready(
-    alloc: Global,
-    set: &TaskSet,
-    placing: &Placing,
-) -> Result<(LockTable, Option<Vec<usize>>, String), AllocError>
-    ensures table { IfOk result (λ ready. IsTableOf set.now ready.0) }
-    ensures order { IfOk result (λ ready. option_map (λ o. o.items) ready.1
-        ≡ placing_order placing.now) }
-    ensures first { IfOk result (λ ready. string_bytes ready.2
+// What the lines of a placed set are made of.
+fn make_ready(alloc: Global, set: &TaskSet, placing: &Placing) -> Result<Listing, AllocError>
+    requires { IsPlacingOf set.now placing.now }
+    ensures table { IfOk result (λ listing. IsTableOf set.now listing.table) }
+    ensures order { IfOk result (λ listing. listing_order listing ≡ placing_order placing.now) }
+    ensures first { IfOk result (λ listing. string_bytes listing.first
         ≡ placing_first set.now placing.now) }
 {
     let table = LockTable::new(alloc, set)?;
     let order = order_of(alloc, placing)?;
-    let first = first_text(alloc, set, placing)?;
-    Ok((table, order, first))
+    let first = placing_text(alloc, OrderPart::Count, set, placing)?;
+    Ok(Listing {
+        table,
+        order,
+        first,
+    })
 }
 
 // Prints the lines of a placing, or that memory was wanting before the first.
@@ -249,10 +236,10 @@ pub(crate) fn print_placing<W: Write + Drop>(
     requires placing { IsPlacingOf set.now placing.now }
     ensures { IsSaidOn (SaysPlaced set.now) W.contents output.old output.new result }
 {
-    let Ok((table, order, first)) = make_ready(alloc, set, placing) else {
+    let Ok(listing) = make_ready(alloc, set, placing) else {
         return refuse(CommandRefusal::OutOfMemory, output);
     };
-    match print_lines(alloc, set, &table, &order, first.as_bytes(), output) {
+    match print_lines(alloc, set, &listing, output) {
         Ok(()) => placing_status(placing),
         Err(ListFault::OutOfMemory) => refuse(CommandRefusal::OutOfMemory, output),
         Err(ListFault::WriteFailed) => Status::InputOrOutputFailed,

@@ -20,7 +20,6 @@ mod release_text;
 mod releases;
 mod rush;
 mod sets;
-mod settings_lines;
 mod simulate;
 mod status;
 mod trace;

@@ -6,14 +6,13 @@ ghost use Rattle.desk_cli.specs.Saying.{IsOfPlacing, SaysOfSet};
 ghost use Rattle.desk_cli.specs.Outcomes.{IsCarriedOut, IsSaidOn};
 
 use crate::admit::{decide, place, placing_status};
-use crate::answer::placing_text;
+use crate::answer::{OrderPart, placing_text};
 use crate::audience::Audience;
 use crate::certify::print_verdict;
 use crate::explain_lines::explained_text;
 use crate::headroom_lines::print_placing;
 use crate::output::{print_made, refuse};
 use crate::play::{lines_of, play};
-use crate::settings_lines::node_text;
 use crate::status::Status;
 use assignment::Placing;
 use command_line::OfOne;
@@ -38,9 +37,15 @@ fn say_placing<W: Write + Drop>(
 {
     let status = placing_status(placing);
     match command {
-        OfOne::Admit => print_made(placing_text(alloc, set, placing), status, output),
+        OfOne::Admit => {
+            let text = placing_text(alloc, OrderPart::Levels, set, placing);
+            print_made(text, status, output)
+        }
         OfOne::Headroom => print_placing(alloc, set, placing, output),
-        OfOne::Settings => print_made(node_text(alloc, set, placing), status, output),
+        OfOne::Settings => {
+            let text = placing_text(alloc, OrderPart::Settings, set, placing);
+            print_made(text, status, output)
+        }
         OfOne::Explain => print_made(explained_text(alloc, set, placing), status, output),
         OfOne::Certify => unreachable!(),
         OfOne::Play => unreachable!(),

@@ -1,23 +1,90 @@
 //! The commands of a task set and a second input.
+ghost use Rattle.std.specs.Prelude.{IfOk};
 ghost use Rattle.desk_cli.specs.Commands.{TwoSay};
+ghost use Rattle.desk_cli.specs.Found.{FindsIn, IsFoundOf, PrintsFound};
 ghost use Rattle.desk_cli.specs.Saying.{SaysOfBoth};
 ghost use Rattle.desk_cli.specs.Outcomes.{IsCarriedOutOnBoth, IsSaidOn};
 
-use crate::audience::Audience;
-use crate::check::say_checked;
-use crate::judge_lines::say_judged;
-use crate::output::refuse;
-use crate::sets::read_two;
-use crate::simulate::{Show, say_simulated};
+use crate::answer::print_stuck;
+use crate::audience::{Audience, Which};
+use crate::check::{check_text, line_of};
+use crate::draw::draw_run;
+use crate::judge_lines::{judge_text, judged_status};
+use crate::output::{print, print_made, refuse};
+use crate::refusal::CommandRefusal;
+use crate::sets::{read_two, tell};
+use crate::simulate::{Simulated, simulate_text};
 use crate::status::Status;
+use crate::trace::trace_text;
+use cert_checker::Checked;
 use command_line::OfTwo;
+use judge::{JudgedTask, judged_text};
 use preferences::Preference;
 use std::alloc::Global;
 use std::io::{Read, Write};
 use streams::Watched;
 use task_sheet::TaskSet;
 
-// Says what a command says of a set and a text.
+/// What a command finds of a set and a text.
+#[derive(Drop)]
+pub enum Found {
+    /// What a certificate shows.
+    Shown(Checked),
+    /// What becomes of the tasks in the order that settings give.
+    Judged(Vec<JudgedTask>),
+    /// What comes of a release list, to be shown as the lines of its trace.
+    Simulated(Simulated),
+    /// The same, to be shown as an SVG 1.1 document.
+    Drawn(Simulated),
+}
+
+// What a command finds of a set and a text.
+fn find(
+    alloc: Global,
+    command: OfTwo,
+    tasks: &TaskSet,
+    text: &[u8],
+) -> Result<Found, CommandRefusal>
+    ensures answer { FindsIn command tasks.now text.now result }
+    ensures found { IfOk result (IsFoundOf tasks.now) }
+{
+    match command {
+        OfTwo::Check => Ok(Found::Shown(check_text(alloc, tasks, text)?)),
+        OfTwo::Judge => Ok(Found::Judged(judge_text(alloc, tasks, text)?)),
+        OfTwo::Simulate => Ok(Found::Simulated(simulate_text(alloc, tasks, text)?)),
+        OfTwo::Draw => Ok(Found::Drawn(simulate_text(alloc, tasks, text)?)),
+    }
+}
+
+// Prints what was found of a set, or that there was no memory for it.
+fn print_found<W: Write + Drop>(
+    alloc: Global,
+    tasks: &TaskSet,
+    found: &Found,
+    output: &mut Watched<W>,
+) -> Status
+    requires { IsFoundOf tasks.now found.now }
+    ensures { IsSaidOn (PrintsFound tasks.now found.now) W.contents output.old output.new result }
+{
+    match found {
+        Found::Shown(checked) => print(line_of(*checked), Status::Done, output),
+        Found::Judged(judged) => print_made(
+            judged_text(alloc, tasks, judged),
+            judged_status(judged),
+            output,
+        ),
+        Found::Simulated(Simulated::Ran(run)) => {
+            print_made(trace_text(alloc, &run.trace), Status::Done, output)
+        }
+        Found::Drawn(Simulated::Ran(run)) => draw_run(alloc, tasks, run, output),
+        Found::Simulated(Simulated::Infeasible(members)) => {
+            print_stuck(alloc, tasks, *members, output)
+        }
+        Found::Drawn(Simulated::Infeasible(members)) => print_stuck(alloc, tasks, *members, output),
+    }
+}
+
+// Says what a command says of a set and a text, and tells the audience what became of them.
 fn say_both<W: Write + Drop, P: Audience>(
     alloc: Global,
     command: OfTwo,
@@ -29,11 +96,11 @@ fn say_both<W: Write + Drop, P: Audience>(
     ensures { IsSaidOn (SaysOfBoth command tasks.now text.now)
         W.contents output.old output.new result }
 {
-    match command {
-        OfTwo::Check => say_checked(alloc, tasks, text, output, people),
-        OfTwo::Judge => say_judged(alloc, tasks, text, output, people),
-        OfTwo::Simulate => say_simulated(alloc, Show::Lines, tasks, text, output, people),
-        OfTwo::Draw => say_simulated(alloc, Show::Picture, tasks, text, output, people),
+    let answer = find(alloc, command, tasks, text);
+    tell(&answer, tasks, Which::Second, text, people);
+    match answer {
+        Ok(found) => print_found(alloc, tasks, &found, output),
+        Err(refusal) => refuse(refusal, output),
     }
 }
 

@@ -1,27 +1,14 @@
 //! `desk simulate`.
 ghost use Rattle.task_sheet.specs.Orders.{IsBest};
 ghost use Rattle.assignment.specs.Placings.{tasks_of_places};
-ghost use Rattle.desk_cli.specs.Saying.{SaysOfRun, run_shown};
-ghost use Rattle.desk_cli.specs.Draw.{IsInOrder};
-ghost use Rattle.desk_cli.specs.Printed.{IsPrinted};
-ghost use Rattle.desk_cli.specs.Simulate.{RunsOrder, SimulatesText, simulation_status};
-ghost use Rattle.desk_cli.specs.Outcomes.{IsSaidOn};
+ghost use Rattle.desk_cli.specs.Simulate.{RunsOrder, SimulatesText};
 
-use crate::answer::print_stuck;
-use crate::audience::{Audience, Which};
-use crate::draw::draw_run;
-use crate::output::refuse;
 use crate::refusal::CommandRefusal;
 use crate::release_text::read_releases;
-use crate::sets::tell;
-use crate::status::Status;
-use crate::trace::print_trace;
 use assignment::{Place, Placing, place_all, tasks_of_places};
 use ceiling_kernel::{Kernel, KernelFault, Release, Trace};
 use ceilings::LockTable;
 use std::alloc::Global;
-use std::io::Write;
-use streams::Watched;
 use task_sheet::{Members, TaskSet};
 
 /// A run of a set's tasks at the levels of their best order.
@@ -42,15 +29,6 @@ pub enum Simulated {
     /// No order of the set passes, and nothing was run: the members of the greatest obstruction.
     Infeasible(Members),
     Ran(Run),
-}
-
-/// How a run is shown.
-#[derive(Clone, Copy)]
-pub enum Show {
-    /// As the lines of its trace.
-    Lines,
-    /// As an SVG 1.1 document.
-    Picture,
 }
 
 // Runs the tasks at the levels of their best order.
@@ -77,7 +55,11 @@ fn run_best(
 }
 
 // What a set and a release list's text come to.
-fn simulate_text(alloc: Global, tasks: &TaskSet, text: &[u8]) -> Result<Simulated, CommandRefusal>
+pub(crate) fn simulate_text(
+    alloc: Global,
+    tasks: &TaskSet,
+    text: &[u8],
+) -> Result<Simulated, CommandRefusal>
     ensures { SimulatesText tasks.now text.now result }
 {
     let (until, releases) = match read_releases(alloc, text) {
@@ -96,47 +78,5 @@ fn simulate_text(alloc: Global, tasks: &TaskSet, text: &[u8]) -> Result<Simulate
                 trace,
             }))
         }
-    }
-}
-
-// Shows what came of a set.
-fn show_simulated<W: Write + Drop>(
-    alloc: Global,
-    show: Show,
-    set: &TaskSet,
-    simulated: &Simulated,
-    output: &mut Watched<W>,
-) -> Status
-    requires { IsInOrder set.now simulated.now }
-    ensures { IsSaidOn (λ before after s. IsPrinted before after
-        (run_shown show set.now simulated.now) (simulation_status simulated.now) s)
-        W.contents output.old output.new result }
-{
-    match simulated {
-        Simulated::Infeasible(members) => print_stuck(alloc, set, *members, output),
-        Simulated::Ran(run) => match show {
-            Show::Lines => print_trace(alloc, &run.trace, output),
-            Show::Picture => draw_run(alloc, set, run, output),
-        },
-    }
-}
-
-// Says what comes of a set and the text of a release list.
-pub(crate) fn say_simulated<W: Write + Drop, P: Audience>(
-    alloc: Global,
-    show: Show,
-    tasks: &TaskSet,
-    text: &[u8],
-    output: &mut Watched<W>,
-    people: &mut P,
-) -> Status
-    ensures { IsSaidOn (SaysOfRun show tasks.now text.now)
-        W.contents output.old output.new result }
-{
-    let answer = simulate_text(alloc, tasks, text);
-    tell(&answer, tasks, Which::Second, text, people);
-    match answer {
-        Ok(simulated) => show_simulated(alloc, show, tasks, &simulated, output),
-        Err(refusal) => refuse(refusal, output),
     }
 }

@@ -1,16 +1,10 @@
 //! The lines of a trace.
 ghost use Rattle.std.specs.Prelude.{◌≡◌, ◌++◌, slice_index_or, OnOk, IfOk, string_bytes};
 ghost use Rattle.ceiling_kernel.specs.Runs.{no_record};
-ghost use Rattle.desk_cli.specs.Outcomes.{IsSaidOn};
-ghost use Rattle.desk_cli.specs.Printed.{IsPrinted};
 ghost use Rattle.desk_cli.specs.TraceLines.{finish_words, job_line, job_lines, slice_line, slice_lines, trace_lines};
 
-use crate::output::print_made;
-use crate::status::Status;
 use ceiling_kernel::{JobRecord, Slice, Trace};
 use std::alloc::{AllocError, Global};
-use std::io::Write;
-use streams::Watched;
 
 // The name of the job at a place; nothing past the end.
 fn push_job_name(text: &mut String, jobs: &[JobRecord], place: usize) -> Result<(), AllocError>
@@ -78,23 +72,11 @@ fn push_jobs(text: &mut String, jobs: &[JobRecord]) -> Result<(), AllocError>
 }
 
 // The lines that say a trace.
-fn trace_text(alloc: Global, trace: &Trace) -> Result<String, AllocError>
+pub(crate) fn trace_text(alloc: Global, trace: &Trace) -> Result<String, AllocError>
     ensures { IfOk result (λ text. string_bytes text ≡ trace_lines trace.now) }
 {
     let mut text = String::new(alloc);
     push_slices(&mut text, trace)?;
     push_jobs(&mut text, &trace.jobs)?;
     Ok(text)
-}
-
-// Prints the lines of a trace, or that there was no memory for them.
-pub(crate) fn print_trace<W: Write + Drop>(
-    alloc: Global,
-    trace: &Trace,
-    output: &mut Watched<W>,
-) -> Status
-    ensures { IsSaidOn (λ before after s. IsPrinted before after (trace_lines trace.now)
-        Status.Done s) W.contents output.old output.new result }
-{
-    print_made(trace_text(alloc, trace), Status::Done, output)
 }

@@ -1,7 +1,7 @@
-use Rattle.std.proofs.Common.{◌≡◌, ◌∙◌, ◌++◌, ℕ, List, [], length, option_map, refl, sym, subst, arith, append_assoc, append-nil, string_bytes}
+use Rattle.std.proofs.Common.{◌≡◌, ◌∙◌, ◌++◌, ℕ, List, [], length, refl, sym, subst, arith, append_assoc, append-nil, string_bytes}
 use Rattle.std.specs.Io.KnownBytes.{Appends, append_known}
 use Rattle.std.proofs.KnownBytes.{Appends-trans}
-use Rattle.desk_cli.specs.Headroom.{AreLines}
+use Rattle.desk_cli.specs.Headroom.{AreLines, listing_order}
 use Rattle.desk_cli.proofs.Headrooms.{lines_more, where_sound}
 use Rattle.desk_cli.proofs.headroom_lines.put_lines.Goals as goal
 
@@ -10,9 +10,9 @@ loop-task-init g c =
     let before = append_known (g.W.Write.contents c.args.output.now.inner) c.args.held.now in
     let after = append_known (g.W.Write.contents c.put.new.out.inner) c.put.new.self in
     let ok = sym c.is_err.ensures.value ∙ c.if-is_err.false in
-    let wrote : Appends before after c.args.first.now = where_sound c.put.result (Appends before after c.args.first.now) ok c.put.ensures.sent in
+    let wrote : Appends before after (string_bytes c.args.listing.now.first) = subst (λ (bs : List ℕ). Appends before after bs) c.as_bytes.ensures.value (where_sound c.put.result (Appends before after c.as_bytes.result.now) ok c.put.ensures.sent) in
     record {
-      said = ([], refl, subst (λ bs. Appends before after bs) (sym (append-nil c.args.first.now)) wrote);
+      said = ([], refl, subst (λ bs. Appends before after bs) (sym (append-nil (string_bytes c.args.listing.now.first))) wrote);
       same_flag = where_sound c.put.result (c.put.new.out.has_failed ≡ c.args.output.now.has_failed) ok c.put.ensures.ok;
     }
 
@@ -24,12 +24,12 @@ loop-task-preserved g c =
     let between = append_known (g.W.Write.contents c.loop-task.output.inner) c.loop-task.held in
     let after = append_known (g.W.Write.contents c.put-in-loop-task.new.out.inner) c.put-in-loop-task.new.self in
     let ok = sym c.is_err-in-loop-task.ensures.value ∙ c.if-is_err-2.false in
-    let wrote : Appends between after line = subst (λ (bs : List ℕ). Appends between after bs) c.as_bytes.ensures.value (where_sound c.put-in-loop-task.result (Appends between after c.as_bytes.result.now) ok c.put-in-loop-task.ensures.sent) in
+    let wrote : Appends between after line = subst (λ (bs : List ℕ). Appends between after bs) c.as_bytes-in-loop-task.ensures.value (where_sound c.put-in-loop-task.result (Appends between after c.as_bytes-in-loop-task.result.now) ok c.put-in-loop-task.ensures.sent) in
     record {
       said = (
         said.0 ++ line,
-        lines_more c.args.set.now (option_map (λ o. o.items) c.args.order.now) c.loop-task.task said.0 line said.1 c.in-Ok.ensures,
-        subst (λ bs. Appends before after bs) (append_assoc c.args.first.now said.0 line) (Appends-trans before between after (c.args.first.now ++ said.0) line said.2 wrote),
+        lines_more c.args.set.now (listing_order c.args.listing.now) c.loop-task.task said.0 line said.1 c.in-Ok.ensures,
+        subst (λ bs. Appends before after bs) (append_assoc (string_bytes c.args.listing.now.first) said.0 line) (Appends-trans before between after ((string_bytes c.args.listing.now.first) ++ said.0) line said.2 wrote),
       );
       same_flag = where_sound c.put-in-loop-task.result (c.put-in-loop-task.new.out.has_failed ≡ c.loop-task.output.has_failed) ok c.put-in-loop-task.ensures.ok ∙ c.loop-task.invariant.same_flag;
     }
@@ -37,7 +37,7 @@ loop-task-preserved g c =
 pub returns-in-Ok-put-clause-all : goal.returns-in-Ok-put-clause-all
 returns-in-Ok-put-clause-all g c =
     let U = c.args.set.now in
-    let order = option_map (λ o. o.items) c.args.order.now in
+    let order = listing_order c.args.listing.now in
     let said = c.loop-task.invariant.said in
     let last : List ℕ = string_bytes c.in-Ok-last_text.text in
     let before = append_known (g.W.Write.contents c.args.output.now.inner) c.args.held.now in
@@ -47,5 +47,5 @@ returns-in-Ok-put-clause-all g c =
     let wrote : Appends between after last = subst (λ (bs : List ℕ). Appends between after bs) c.as_bytes-2.ensures.value c.in-Ok-put.ensures.sent in (
       said.0 ++ last,
       (said.0, last, subst (λ n. AreLines U order n said.0) count said.1, c.in-Ok-last_text.ensures, refl),
-      subst (λ bs. Appends before after bs) (append_assoc c.args.first.now said.0 last) (Appends-trans before between after (c.args.first.now ++ said.0) last said.2 wrote),
+      subst (λ bs. Appends before after bs) (append_assoc (string_bytes c.args.listing.now.first) said.0 last) (Appends-trans before between after ((string_bytes c.args.listing.now.first) ++ said.0) last said.2 wrote),
     )

@@ -11,12 +11,12 @@ use Rattle.desk_cli.proofs.of_one.say_placing.Goals as goal
 -- what is printed is what the set's verdict says; want of memory for the lines is an answer of its own
 pub returns-in-Admit : goal.returns-in-Admit
 returns-in-Admit g c =
-    rw c.in-Admit.is (said_as (made_printed c.placing_text.result (λ t. string_bytes t) _ _ c.placing_text.ensures c.print_made.ensures) (λ told. λ preference known has.
+    rw c.in-Admit.is (said_as (made_printed c.placing_text-text.result (λ t. string_bytes t) _ _ c.placing_text-text.ensures c.print_made.ensures) (λ told. λ preference known has.
     printed_says admit_lines preference known _ _ c.args.set.now c.args.placing.now _ _ _ c.requires.kept (has, c.requires.placing) (λ v says. says.lines) c.placing_status-status.ensures told))
 
 pub returns-in-Settings : goal.returns-in-Settings
 returns-in-Settings g c =
-    rw c.in-Settings.is (said_as (made_printed c.node_text.result (λ t. string_bytes t) _ _ c.node_text.ensures c.print_made-in-Settings.ensures) (λ told. λ preference known has.
+    rw c.in-Settings.is (said_as (made_printed c.placing_text-text-in-Settings.result (λ t. string_bytes t) _ _ c.placing_text-text-in-Settings.ensures c.print_made-in-Settings.ensures) (λ told. λ preference known has.
     printed_says settings_of preference known _ _ c.args.set.now c.args.placing.now _ _ _ c.requires.kept (has, c.requires.placing) (λ v says. says.settings) c.placing_status-status.ensures told))
 
 pub returns-in-Explain : goal.returns-in-Explain

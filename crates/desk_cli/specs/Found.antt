@@ -1,0 +1,54 @@
+-- What a command finds of a set and a text, and what is printed of it.
+use Rattle.std.specs.Prelude.{ℕ, List, ◌<◌, All, Option, Result, Ok, Err}
+use Rattle.task_sheet.specs.Sheet.{Task}
+use Rattle.task_sheet.specs.declared.set.TheConstants.{TASK_LIMIT}
+use Rattle.command_line.specs.declared.calls.OfTwo.{OfTwo}
+use Rattle.command_line.specs.declared.calls.OfTwo.TheVariants as command
+use Rattle.judge.specs.Lines.{judged_lines}
+use Rattle.desk_cli.specs.Check.{ChecksText, checked_line}
+use Rattle.desk_cli.specs.Draw.{IsInOrder, drawing_said}
+use Rattle.desk_cli.specs.Judge.{JudgesText, judged_status}
+use Rattle.desk_cli.specs.Printed.{IsPrinted}
+use Rattle.desk_cli.specs.Simulate.{SimulatesText, simulation_said, simulation_status}
+use Rattle.desk_cli.specs.declared.of_two.Found.{Found}
+use Rattle.desk_cli.specs.declared.of_two.Found.TheVariants.{Shown, Judged, Simulated, Drawn}
+use Rattle.desk_cli.specs.declared.refusal.CommandRefusal.{CommandRefusal}
+use Rattle.desk_cli.specs.declared.status.Status.{Status}
+use Rattle.desk_cli.specs.declared.status.Status.TheVariants.{Done}
+
+-- the answer of a command on a set and a text
+abbrev pub FindsIn : OfTwo → List Task → List ℕ → Result Found CommandRefusal → Type 0
+FindsIn command.Check U text (Ok (Shown kind)) = ChecksText U text (Ok kind)
+FindsIn command.Check U text (Err r) = ChecksText U text (Err r)
+FindsIn command.Judge U text (Ok (Judged judged)) = JudgesText U text (Ok judged)
+FindsIn command.Judge U text (Err r) = JudgesText U text (Err r)
+FindsIn command.Simulate U text (Ok (Simulated answer)) = SimulatesText U text (Ok answer)
+FindsIn command.Simulate U text (Err r) = SimulatesText U text (Err r)
+FindsIn command.Draw U text (Ok (Drawn answer)) = SimulatesText U text (Ok answer)
+FindsIn command.Draw U text (Err r) = SimulatesText U text (Err r)
+FindsIn _ U text _ = ⊥
+
+-- what was found speaks of tasks that a set may have, and of a run in an order of the set
+abbrev pub IsFoundOf : List Task → Found → Type 0
+IsFoundOf U (Judged judged) = All (λ j. j.task < TASK_LIMIT) judged.items
+IsFoundOf U (Drawn answer) = IsInOrder U answer
+IsFoundOf U _ = Unit {0}
+
+-- what is printed of what was found of a set
+abbrev pub found_said : List Task → Found → List ℕ
+found_said U (Shown kind) = checked_line kind
+found_said U (Judged judged) = judged_lines U judged.items
+found_said U (Simulated answer) = simulation_said U answer
+found_said U (Drawn answer) = drawing_said U answer
+
+-- the exit status of what was found
+abbrev pub found_status : Found → Status
+found_status (Shown kind) = Done
+found_status (Judged judged) = judged_status judged.items
+found_status (Simulated answer) = simulation_status answer
+found_status (Drawn answer) = simulation_status answer
+
+-- that is printed after what the writer held, with its status; or that there was no memory for it
+abbrev pub PrintsFound : List Task → Found → (before after : Option (List ℕ)) → Status → Type 0
+PrintsFound U found before after s =
+    IsPrinted before after (found_said U found) (found_status found) s
