@@ -1,7 +1,8 @@
 //! The bytes of certificates.
+use crate::checks::own_checked;
 use assignment::{Verdict, assign};
 use certificate::{CertFault, Certificate, read};
-use example_sets::{again, shared_set};
+use example_sets::{again, match_both, shared_set};
 use std::alloc::Global;
 use std::test::Fail;
 use streams::Watched;
@@ -28,6 +29,14 @@ end
 const THREE_TASKS: &str = best_of_three!("1");
 
 const THREE_TASKS_LATE: &str = best_of_three!("2");
+
+const SHARED_LOCK: &str = "desk-certificate 1
+best 3
+level 1 lo 27000
+level 2 mid 7000
+level 3 hi 5000
+end
+";
 
 const BLOCKED_OUT: &str = "desk-certificate 1
 none 1
@@ -85,6 +94,16 @@ level 5 brake 500
 end
 ";
 
+const OWN_ORDER_TOO_TIGHT: &str = "desk-certificate 2
+none 5
+member brake over steer
+member camera over map
+member log 1 52500 77500 84000 96500 100000
+member map over log
+member steer over camera
+end
+";
+
 const EMPTY_SET: &str = "desk-certificate 1
 best 0
 end
@@ -111,30 +130,51 @@ pub fn certified(alloc: Global, document: &str) -> Result<String, Fail> {
     Ok(String::from_utf8(bytes_of(alloc, &own)?)?)
 }
 
+// A document, the desk's own certificate of its set, and what the checker says of that.
+const OWN_CERTIFICATES: [(&str, &str, &str); 13] = [
+    (example_sets::THREE_TASKS, THREE_TASKS, "best"),
+    (example_sets::THREE_TASKS_LATE, THREE_TASKS_LATE, "best"),
+    (example_sets::SHARED_LOCK, SHARED_LOCK, "best"),
+    (example_sets::BLOCKED_OUT, BLOCKED_OUT, "no order"),
+    (example_sets::A_OVER_B, A_OVER_B, "best"),
+    (example_sets::A_LATE_OVER_B, A_OVER_B, "best"),
+    (example_sets::C_OVER_A, C_OVER_A, "no order"),
+    (example_sets::A_OVER_B_OVER_A, A_OVER_B_OVER_A, "no order"),
+    (
+        example_sets::THREE_TASKS_TOO_LATE,
+        THREE_TASKS_TOO_LATE,
+        "no order",
+    ),
+    (example_sets::OWN_ORDER, OWN_ORDER, "best"),
+    (
+        example_sets::OWN_ORDER_TOO_TIGHT,
+        OWN_ORDER_TOO_TIGHT,
+        "no order",
+    ),
+    (example_sets::A_OVER_Z, THREE_TASKS, "best"),
+    ("", EMPTY_SET, "best"),
+];
+
 #[test]
-fn own_certificates(rt: HostRuntime) -> Result<(), Fail> {
-    for (document, want, length) in [
-        (example_sets::THREE_TASKS, THREE_TASKS, 114),
-        (example_sets::THREE_TASKS_LATE, THREE_TASKS_LATE, 114),
-        (example_sets::BLOCKED_OUT, BLOCKED_OUT, 47),
-        (example_sets::A_OVER_B, A_OVER_B, 128),
-        (example_sets::A_LATE_OVER_B, A_OVER_B, 128),
-        (example_sets::C_OVER_A, C_OVER_A, 86),
-        (example_sets::A_OVER_B_OVER_A, A_OVER_B_OVER_A, 62),
-        (
-            example_sets::THREE_TASKS_TOO_LATE,
-            THREE_TASKS_TOO_LATE,
-            105,
-        ),
-        (example_sets::OWN_ORDER, OWN_ORDER, 261),
-        (example_sets::A_OVER_Z, THREE_TASKS, 114),
-        ("", EMPTY_SET, 30),
+fn own_certificates_are_accepted(rt: HostRuntime) -> Result<(), Fail> {
+    match_both(rt.alloc(), &OWN_CERTIFICATES, certified, own_checked)
+}
+
+#[test]
+fn lengths_of_certificates(rt: HostRuntime) {
+    for (text, length) in [
+        (THREE_TASKS, 114),
+        (THREE_TASKS_LATE, 114),
+        (BLOCKED_OUT, 47),
+        (A_OVER_B, 128),
+        (C_OVER_A, 86),
+        (A_OVER_B_OVER_A, 62),
+        (THREE_TASKS_TOO_LATE, 105),
+        (OWN_ORDER, 261),
+        (EMPTY_SET, 30),
     ] {
-        let text = certified(rt.alloc(), document)?;
-        assert_eq!(rt; text.as_str(), want);
-        assert_eq!(rt; text.len(), length);
+        assert_eq!(rt; text.len(), length, "of {text}");
     }
-    Ok(())
 }
 
 // Why bytes are no certificate, none where they are one.

@@ -1,6 +1,6 @@
 //! Runs of the simulated kernel.
 use ceiling_kernel::{Kernel, KernelFault, Release, RunFault, Slice, Trace};
-use example_sets::{again, name, set_of};
+use example_sets::{again, match_rows, name, set_of};
 use std::alloc::{AllocError, Global};
 use std::test::Fail;
 use task_sheet::TaskSet;
@@ -82,223 +82,161 @@ fn ran(
     again!(kernel.run(alloc, releases, until), RunFault::OutOfMemory)
 }
 
-// What comes of releases of a document's set in an order.
-fn run_of(
+// What comes of releases that a kernel runs until a time.
+fn line_in(
     alloc: Global,
-    document: &str,
-    order: &[usize],
+    kernel: &Kernel,
     list: &[(u64, &str, u64)],
     until: u64,
 ) -> Result<String, Fail> {
-    let set = set_of(alloc, document)?;
-    let kernel = kernel_of(alloc, &set, order).ok().ok_or("a wrong order")?;
     let releases = releases_of(alloc, list)?;
-    Ok(line_of(alloc, ran(alloc, &kernel, &releases, until))?)
+    Ok(line_of(alloc, ran(alloc, kernel, &releases, until))?)
 }
 
-const ONE: &str = "task = [{ name = 'x', period = 10000, deadline = 10000, cost = 1000 }]";
+// Releases, until when they run, and what comes of it.
+type Run = ((&'static [(u64, &'static str, u64)], u64), &'static str);
 
-// x below y, which both come every 1000.
-const OVERRUN: &str = "
-task = [
-    { name = 'x', period = 1000, deadline = 1000, cost = 600 },
-    { name = 'y', period = 1000, deadline = 1000, cost = 600 },
-]
-";
-
-const NO_OVERRUN: &str = "
-task = [
-    { name = 'x', period = 1000, deadline = 1000, cost = 600 },
-    { name = 'y', period = 1000, deadline = 1000, cost = 400 },
-]
-";
-
-// x below y, which both come every 1000 and up to 300 late.
-const LATE_OVERRUN: &str = "
-task = [
-    { name = 'x', period = 1000, deadline = 1000, cost = 600, jitter = 300 },
-    { name = 'y', period = 1000, deadline = 1000, cost = 600, jitter = 300 },
-]
-";
-
-// An example, an order of it, its releases, and until when it runs; then what comes of it.
-type Row = (
-    &'static str,
-    &'static [usize],
-    &'static [(u64, &'static str, u64)],
-    u64,
-    &'static str,
-);
-
-const ROWS: [Row; 22] = [
+// An example, an order of it, and runs of its kernel.
+const RUNS: [(&str, &[usize], &[Run]); 9] = [
     (
         example_sets::BLOCKED_OUT_REPAIRED,
         &[1, 0],
-        &[(0, "lo", 0), (1001, "hi", 0)],
-        20000,
-        "0 3500 0;3500 5500 1;5500 12000 0; 12000 5500",
+        &[
+            (
+                (&[(0, "lo", 0), (1001, "hi", 0)], 20000),
+                "0 3500 0;3500 5500 1;5500 12000 0; 12000 5500",
+            ),
+            (
+                (&[(0, "lo", 0), (1000, "hi", 0)], 20000),
+                "0 1000 0;1000 3000 1;3000 12000 0; 12000 3000",
+            ),
+            ((&[(0, "lo", 0)], 60_000_001), "PastHorizon"),
+            ((&[(20000, "lo", 0)], 20000), "PastHorizon"),
+            ((&[(0, "z", 0)], 20000), "UnknownTask 1"),
+            ((&[(5, "lo", 0), (4, "z", 0)], 20000), "Unsorted 2"),
+            ((&[(4, "lo", 0), (5, "z", 0)], 4), "UnknownTask 2"),
+            ((&[(4, "lo", 0), (5, "lo", 0)], 4), "TooSoon 2"),
+        ],
     ),
     (
-        example_sets::BLOCKED_OUT_REPAIRED,
-        &[1, 0],
-        &[(0, "lo", 0), (1000, "hi", 0)],
-        20000,
-        "0 1000 0;1000 3000 1;3000 12000 0; 12000 3000",
-    ),
-    (
-        ONE,
+        example_sets::EACH_10_000,
         &[0],
-        &[(0, "x", 0), (9999, "x", 0)],
-        20000,
-        "TooSoon 2",
+        &[
+            ((&[(0, "x", 0), (9999, "x", 0)], 20000), "TooSoon 2"),
+            (
+                (&[(0, "x", 0), (10000, "x", 0)], 20000),
+                "0 1000 0;10000 11000 1; 1000 11000",
+            ),
+        ],
     ),
     (
-        ONE,
-        &[0],
-        &[(0, "x", 0), (10000, "x", 0)],
-        20000,
-        "0 1000 0;10000 11000 1; 1000 11000",
-    ),
-    (
-        OVERRUN,
+        example_sets::OVERRUN,
         &[0, 1],
-        &[(0, "x", 0), (0, "y", 0), (1000, "x", 0), (1000, "y", 0)],
-        2000,
-        "Overrun x 1000",
+        &[
+            (
+                (
+                    &[(0, "x", 0), (0, "y", 0), (1000, "x", 0), (1000, "y", 0)],
+                    2000,
+                ),
+                "Overrun x 1000",
+            ),
+            (
+                (&[(0, "x", 0), (0, "y", 0)], 1000),
+                "0 600 1;600 1000 0; - 600",
+            ),
+        ],
     ),
     (
-        NO_OVERRUN,
+        example_sets::NO_OVERRUN,
         &[0, 1],
-        &[(0, "x", 0), (0, "y", 0), (1000, "x", 0), (1000, "y", 0)],
-        2000,
-        "0 400 1;400 1000 0;1000 1400 3;1400 2000 2; 1000 400 2000 1400",
-    ),
-    (
-        OVERRUN,
-        &[0, 1],
-        &[(0, "x", 0), (0, "y", 0)],
-        1000,
-        "0 600 1;600 1000 0; - 600",
+        &[(
+            (
+                &[(0, "x", 0), (0, "y", 0), (1000, "x", 0), (1000, "y", 0)],
+                2000,
+            ),
+            "0 400 1;400 1000 0;1000 1400 3;1400 2000 2; 1000 400 2000 1400",
+        )],
     ),
     (
         example_sets::SHARED_LOCK,
         &[0, 1, 2],
-        &[(0, "lo", 0), (200, "mid", 0), (300, "hi", 0)],
-        100000,
-        "0 4100 0;4100 5100 2;5100 7100 1;7100 23000 0; 23000 7100 5100",
+        &[(
+            (&[(0, "lo", 0), (200, "mid", 0), (300, "hi", 0)], 100000),
+            "0 4100 0;4100 5100 2;5100 7100 1;7100 23000 0; 23000 7100 5100",
+        )],
     ),
-    (example_sets::THREE_TASKS, &[2, 0, 1], &[], 0, ""),
-    (
-        example_sets::BLOCKED_OUT_REPAIRED,
-        &[1, 0],
-        &[(0, "lo", 0)],
-        60_000_001,
-        "PastHorizon",
-    ),
-    (
-        example_sets::BLOCKED_OUT_REPAIRED,
-        &[1, 0],
-        &[(20000, "lo", 0)],
-        20000,
-        "PastHorizon",
-    ),
-    (
-        example_sets::BLOCKED_OUT_REPAIRED,
-        &[1, 0],
-        &[(0, "z", 0)],
-        20000,
-        "UnknownTask 1",
-    ),
-    (
-        example_sets::BLOCKED_OUT_REPAIRED,
-        &[1, 0],
-        &[(5, "lo", 0), (4, "z", 0)],
-        20000,
-        "Unsorted 2",
-    ),
-    (
-        example_sets::BLOCKED_OUT_REPAIRED,
-        &[1, 0],
-        &[(4, "lo", 0), (5, "z", 0)],
-        4,
-        "UnknownTask 2",
-    ),
-    (
-        example_sets::BLOCKED_OUT_REPAIRED,
-        &[1, 0],
-        &[(4, "lo", 0), (5, "lo", 0)],
-        4,
-        "TooSoon 2",
-    ),
+    (example_sets::THREE_TASKS, &[2, 0, 1], &[((&[], 0), "")]),
     (
         example_sets::BLOCKED_OUT_REPAIRED,
         &[0, 1],
-        &[(0, "lo", 0), (1000, "hi", 0)],
-        20000,
-        "0 10000 0;10000 12000 1; 10000 12000",
+        &[(
+            (&[(0, "lo", 0), (1000, "hi", 0)], 20000),
+            "0 10000 0;10000 12000 1; 10000 12000",
+        )],
     ),
     (
         example_sets::THREE_TASKS_LATE,
         &[2, 0, 1],
         &[
-            (0, "a", 1000),
-            (1000, "b", 0),
-            (1000, "c", 0),
-            (7000, "a", 0),
-            (13000, "b", 0),
-            (14000, "a", 0),
+            (
+                (
+                    &[
+                        (0, "a", 1000),
+                        (1000, "b", 0),
+                        (1000, "c", 0),
+                        (7000, "a", 0),
+                        (13000, "b", 0),
+                        (14000, "a", 0),
+                    ],
+                    22000,
+                ),
+                "1000 4000 1;4000 7000 0;7000 10000 3;10000 13000 2;13000 16000 4;16000 19000 5;19000 21000 2; \
+                 7000 4000 21000 10000 16000 19000",
+            ),
+            ((&[(0, "a", 1001), (1000, "b", 0)], 22000), "TooLate 1"),
         ],
-        22000,
-        "1000 4000 1;4000 7000 0;7000 10000 3;10000 13000 2;13000 16000 4;16000 19000 5;19000 21000 2; \
-         7000 4000 21000 10000 16000 19000",
     ),
     (
-        example_sets::THREE_TASKS_LATE,
-        &[2, 0, 1],
-        &[(0, "a", 1001), (1000, "b", 0)],
-        22000,
-        "TooLate 1",
-    ),
-    (
-        LATE_OVERRUN,
+        example_sets::LATE_OVERRUN,
         &[0, 1],
         &[
-            (0, "x", 300),
-            (0, "y", 0),
-            (1000, "x", 200),
-            (1000, "y", 100),
+            (
+                (
+                    &[
+                        (0, "x", 300),
+                        (0, "y", 0),
+                        (1000, "x", 200),
+                        (1000, "y", 100),
+                    ],
+                    2000,
+                ),
+                "Overrun x 1200",
+            ),
+            ((&[(0, "x", 300), (200, "y", 0)], 300), "PastHorizon"),
+            (
+                (&[(0, "x", 300), (200, "y", 0)], 1400),
+                "200 800 1;800 1400 0; 1400 800",
+            ),
+            ((&[(0, "x", 301), (999, "x", 0)], 400), "TooSoon 2"),
         ],
-        2000,
-        "Overrun x 1200",
-    ),
-    (
-        LATE_OVERRUN,
-        &[0, 1],
-        &[(0, "x", 300), (200, "y", 0)],
-        300,
-        "PastHorizon",
-    ),
-    (
-        LATE_OVERRUN,
-        &[0, 1],
-        &[(0, "x", 300), (200, "y", 0)],
-        1400,
-        "200 800 1;800 1400 0; 1400 800",
-    ),
-    (
-        LATE_OVERRUN,
-        &[0, 1],
-        &[(0, "x", 301), (999, "x", 0)],
-        400,
-        "TooSoon 2",
     ),
 ];
 
+// Goes through the runs of the kernel of a document's set in an order.
+fn match_runs(alloc: Global, document: &str, order: &[usize], runs: &[Run]) -> Result<(), Fail> {
+    let set = set_of(alloc, document)?;
+    let kernel = kernel_of(alloc, &set, order).ok().ok_or("a wrong order")?;
+    match_rows(
+        alloc,
+        runs,
+        |alloc, (list, until)| line_in(alloc, &kernel, list, until),
+    )
+}
+
 #[test]
 fn runs_of_the_examples(rt: HostRuntime) -> Result<(), Fail> {
-    for (document, order, list, until, want) in ROWS {
-        let line = run_of(rt.alloc(), document, order, list, until)?;
-        assert_eq!(rt; line.as_str(), want);
+    for (document, order, runs) in RUNS {
+        match_runs(rt.alloc(), document, order, runs)?;
     }
     Ok(())
 }
@@ -315,8 +253,7 @@ fn wrong_orders(rt: HostRuntime) -> Result<(), Fail> {
 
 // Runs of x that comes every 1000, with so many releases.
 fn long_run(alloc: Global, count: u64) -> Result<Result<Trace, RunFault>, Fail> {
-    let document = "task = [{ name = 'x', period = 1000, deadline = 1000, cost = 1 }]";
-    let set = set_of(alloc, document)?;
+    let set = set_of(alloc, example_sets::EACH_1000)?;
     let kernel = kernel_of(alloc, &set, &[0]).ok().ok_or("a wrong order")?;
     let mut releases = Vec::new(alloc);
     for place in 0..count {

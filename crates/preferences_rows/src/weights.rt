@@ -1,37 +1,13 @@
 //! The weights and ranks of a set by each preference.
-use example_sets::set_of;
+use example_sets::{
+    A_LATE_OVER_B, AGAINST_PERIODS, AGAINST_WEIGHTS, DEMAND_OF_THE_DEADLINE,
+    EXCHANGE_WITH_EQUALITY, FILLS_ITS_PERIOD, SHARED_DEADLINES, SHARED_LOCK, THREE_TASKS,
+    match_both, set_of,
+};
 use preferences::{Preference, prefer, read_preferred};
 use std::alloc::{AllocError, AllocFailed, Global};
 use std::test::Fail;
 use task_sheet::TaskSet;
-
-// Weights say the one thing and deadlines the other.
-const AGAINST_WEIGHTS: &str = "
-task = [
-    { name = 'short', weight = 7, period = 9000, deadline = 2000, cost = 100 },
-    { name = 'long', weight = 1000, period = 9000, deadline = 9000, cost = 100 },
-    { name = 'middle', weight = 0, period = 9000, deadline = 5000, cost = 100 },
-]
-";
-
-// The period that is shorter has the deadline that is longer.
-const AGAINST_PERIODS: &str = "
-task = [
-    { name = 'p', period = 4000, deadline = 4000, cost = 100 },
-    { name = 'q', period = 80000, deadline = 3000, cost = 100 },
-]
-";
-
-// Two deadlines of two tasks each, and one of one.
-const SHARED_DEADLINES: &str = "
-task = [
-    { name = 'e', weight = 3, period = 9000, deadline = 1000, cost = 100 },
-    { name = 'd', period = 9000, deadline = 8000, cost = 100 },
-    { name = 'c', weight = 1, period = 9000, deadline = 4000, cost = 100 },
-    { name = 'b', weight = 2, period = 9000, deadline = 8000, cost = 100 },
-    { name = 'a', weight = 9, period = 9000, deadline = 4000, cost = 100 },
-]
-";
 
 // The set by a preference, taken again with the set that is handed back where memory was wanting.
 fn taken(
@@ -62,11 +38,11 @@ fn preferred_line(alloc: Global, document: &str, preference: Preference) -> Resu
 
 #[test]
 fn weights_by_hand(rt: HostRuntime) -> Result<(), Fail> {
-    for (document, by_weights, by_deadline) in [
+    let rows = [
         ("", "", ""),
-        (example_sets::FILLS_ITS_PERIOD, "x 0;", "x 0;"),
-        (example_sets::THREE_TASKS, "a 0;b 0;c 0;", "c 0;b 1;a 2;"),
-        (example_sets::DEMAND_OF_THE_DEADLINE, "p 0;q 0;", "p 0;q 1;"),
+        (FILLS_ITS_PERIOD, "x 0;", "x 0;"),
+        (THREE_TASKS, "a 0;b 0;c 0;", "c 0;b 1;a 2;"),
+        (DEMAND_OF_THE_DEADLINE, "p 0;q 0;", "p 0;q 1;"),
         (
             AGAINST_WEIGHTS,
             "middle 0;short 7;long 1000;",
@@ -78,13 +54,13 @@ fn weights_by_hand(rt: HostRuntime) -> Result<(), Fail> {
             "d 0;c 1;b 2;e 3;a 9;",
             "b 0;d 0;a 2;c 2;e 4;",
         ),
-    ] {
-        let weights = preferred_line(rt.alloc(), document, Preference::Weights)?;
-        assert_eq!(rt; weights.as_str(), by_weights);
-        let deadline = preferred_line(rt.alloc(), document, Preference::Deadline)?;
-        assert_eq!(rt; deadline.as_str(), by_deadline);
-    }
-    Ok(())
+    ];
+    match_both(
+        rt.alloc(),
+        &rows,
+        |alloc, document| preferred_line(alloc, document, Preference::Weights),
+        |alloc, document| preferred_line(alloc, document, Preference::Deadline),
+    )
 }
 
 // The sets that reading and taking give are the same, and by deadlines once more nothing changes.
@@ -100,9 +76,9 @@ fn read_and_taken_twice(rt: HostRuntime) -> Result<(), Fail> {
     for document in [
         "",
         SHARED_DEADLINES,
-        example_sets::SHARED_LOCK,
-        example_sets::A_LATE_OVER_B,
-        example_sets::EXCHANGE_WITH_EQUALITY,
+        SHARED_LOCK,
+        A_LATE_OVER_B,
+        EXCHANGE_WITH_EQUALITY,
     ] {
         assert!(rt; is_settled(rt.alloc(), document, Preference::Weights)?);
         assert!(rt; is_settled(rt.alloc(), document, Preference::Deadline)?);
