@@ -1,15 +1,15 @@
 //! Slices, as bars.
 ghost use Rattle.std.specs.Prelude.{◌≡◌, ◌+◌, ◌≤◌, ◌<◌, ℕ, length, slice_index};
-ghost use Rattle.task_sheet.specs.declared.set.TheConstants.{TASK_LIMIT};
 ghost use Rattle.picture.specs.Puts.{Puts};
 ghost use Rattle.picture.specs.Sections.{counted};
 ghost use Rattle.picture.specs.Elements.{bar_text, slice_text};
 ghost use Rattle.picture.specs.Document.{slice_by, slices_text};
 
 use crate::boxes::bar_of;
-use crate::frame::{Frame, x_of};
+use crate::chart::{Chart, Lane};
+use crate::frame::x_of;
 use crate::page::Page;
-use crate::rows::{TaskRow, find_row};
+use crate::rows::find_row;
 use crate::ticks::executed_after;
 use ceiling_kernel::{JobRecord, Slice};
 use std::io::Write;
@@ -36,18 +36,14 @@ fn count_slice(executed: &mut [u64], slice: Slice)
 
 impl<W: Write + Drop> Page<'_, W> {
     // A slice.
-    fn put_bar(
-        &mut self,
-        frame: Frame,
-        slice: Slice,
-        k: usize,
-        row: &TaskRow,
-    ) -> Result<(), WriteFailed>
-        requires { k ≤ TASK_LIMIT }
-        ensures { Puts W.contents self.old self.new result (bar_text frame slice k row.now) }
+    fn put_bar(&mut self, slice: Slice, lane: &Lane<'_>) -> Result<(), WriteFailed>
+        ensures { Puts W.contents self.old self.new result
+            (bar_text lane.now.frame slice lane.now.k lane.now.row.now) }
     {
-        let bar = bar_of(x_of(frame, slice.start), x_of(frame, slice.stop), k);
-        let name = row.sheet.name();
+        let start = x_of(lane.frame, slice.start);
+        let stop = x_of(lane.frame, slice.stop);
+        let bar = bar_of(start, stop, lane.k);
+        let name = lane.row.sheet.name();
         let start = slice.start;
         let stop = slice.stop;
         write!(
@@ -57,21 +53,13 @@ impl<W: Write + Drop> Page<'_, W> {
     }
 
     // A slice and its darker parts.
-    fn put_whole(
-        &mut self,
-        frame: Frame,
-        executed: u64,
-        slice: Slice,
-        k: usize,
-        row: &TaskRow,
-    ) -> Result<(), WriteFailed>
-        requires { k ≤ TASK_LIMIT }
+    fn put_whole(&mut self, executed: u64, slice: Slice, lane: &Lane<'_>) -> Result<(), WriteFailed>
         ensures { Puts W.contents self.old self.new result
-            (slice_text frame executed slice k row.now) }
+            (slice_text lane.now.frame executed slice lane.now.k lane.now.row.now) }
     {
-        self.put_bar(frame, slice, k, row)?;
-        for section in row.sheet.sections() {
-            self.put_dark(frame, executed, slice, k, row, section)?;
+        self.put_bar(slice, lane)?;
+        for section in lane.row.sheet.sections() {
+            self.put_dark(executed, slice, lane, section)?;
         }
         Ok(())
     }
@@ -79,21 +67,19 @@ impl<W: Write + Drop> Page<'_, W> {
     // A slice in the row of the task of its job.
     fn put_slice(
         &mut self,
-        frame: Frame,
-        rows: &[TaskRow],
+        chart: &Chart<'_>,
         jobs: &[JobRecord],
         executed: u64,
         slice: Slice,
     ) -> Result<(), WriteFailed>
-        requires { length rows.now ≤ TASK_LIMIT }
         ensures { Puts W.contents self.old self.new result
-            (slice_by frame rows.now jobs.now executed slice) }
+            (slice_by chart.now.frame chart.now.rows.now jobs.now executed slice) }
     {
         match jobs.get(slice.job) {
             None => Ok(()),
-            Some(job) => match find_row(rows, job.name) {
+            Some(job) => match find_row(chart.rows, job.name) {
                 None => Ok(()),
-                Some(k) => self.put_whole(frame, executed, slice, k, &rows[k]),
+                Some(k) => self.put_whole(executed, slice, &chart.lane(k)),
             },
         }
     }
@@ -101,21 +87,19 @@ impl<W: Write + Drop> Page<'_, W> {
     // Each slice, by time. The ticks that each job has executed are counted; none were before.
     pub(crate) fn put_slices(
         &mut self,
-        frame: Frame,
-        rows: &[TaskRow],
+        chart: &Chart<'_>,
         jobs: &[JobRecord],
         slices: &[Slice],
         executed: &mut [u64],
     ) -> Result<(), WriteFailed>
-        requires few { length rows.now ≤ TASK_LIMIT }
         requires jobs { length executed.old ≡ length jobs.now }
         requires none { (j : ℕ) → slice_index executed.old j ≡ 0 }
         ensures { Puts W.contents self.old self.new result
-            (slices_text frame rows.now jobs.now slices.now) }
+            (slices_text chart.now.frame chart.now.rows.now jobs.now slices.now) }
     {
         for slice in slices {
             let before = executed_by(executed, slice.job);
-            self.put_slice(frame, rows, jobs, before, *slice)?;
+            self.put_slice(chart, jobs, before, *slice)?;
             count_slice(executed, *slice);
         }
         Ok(())

@@ -5,7 +5,8 @@ ghost use Rattle.picture.specs.Puts.{Puts};
 ghost use Rattle.std.specs.Io.KnownBytes.{Appends};
 ghost use Rattle.picture.specs.Document.{framed, document};
 
-use crate::frame::{Frame, frame_of};
+use crate::chart::Chart;
+use crate::frame::frame_of;
 use crate::page::Page;
 use crate::rows::TaskRow;
 use ceiling_kernel::{JobRecord, Release, Trace};
@@ -33,24 +34,22 @@ fn no_ticks(alloc: Global, jobs: usize) -> Result<Vec<u64>, AllocError>
 // The document, with the counts of the ticks that each job executed.
 fn put_document<W: Write + Drop>(
     page: &mut Page<'_, W>,
-    frame: Frame,
-    rows: &[TaskRow],
+    chart: &Chart<'_>,
     until: u64,
     releases: &[Release],
     trace: &Trace,
     executed: &mut [u64],
 ) -> Result<(), WriteFailed>
-    requires few { length rows.now ≤ TASK_LIMIT }
     requires jobs { length executed.old ≡ length trace.now.jobs.items }
     requires none { (j : ℕ) → slice_index executed.old j ≡ 0 }
     ensures { Puts W.contents page.old page.new result
-        (framed frame rows.now until releases.now trace.now) }
+        (framed chart.now.frame chart.now.rows.now until releases.now trace.now) }
 {
     let jobs: &[JobRecord] = &trace.jobs;
-    page.put_ground(frame, rows, jobs.len(), until)?;
-    page.put_jobs(frame, rows, jobs)?;
-    page.put_slices(frame, rows, jobs, &trace.slices, executed)?;
-    page.put_all_marks(frame, rows, releases)?;
+    page.put_ground(chart, jobs.len(), until)?;
+    page.put_jobs(chart, jobs)?;
+    page.put_slices(chart, jobs, &trace.slices, executed)?;
+    page.put_all_marks(chart, releases)?;
     page.out.put(b"</svg>\n")
 }
 
@@ -71,11 +70,14 @@ fn put_all<W: Write + Drop>(
     ensures ok { OnOk result (output.new.has_failed ≡ output.old.has_failed) }
     ensures failed { OnErr result (output.new.has_failed ≡ true) }
 {
-    let frame = frame_of(rows, until);
+    let chart = Chart {
+        frame: frame_of(rows, until),
+        rows,
+    };
     let mut page = Page {
         out: Outlet::new(output),
     };
-    put_document(&mut page, frame, rows, until, releases, trace, executed)?;
+    put_document(&mut page, &chart, until, releases, trace, executed)?;
     page.out.flush()
 }
 

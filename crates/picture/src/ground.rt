@@ -1,15 +1,14 @@
 //! What stands still.
 ghost use Rattle.std.specs.Prelude.{◌≤◌, ◌<◌, length};
 ghost use Rattle.picture.specs.declared.frame.TheConstants.{WIDEST_STEP};
-ghost use Rattle.task_sheet.specs.declared.set.TheConstants.{TASK_LIMIT};
 ghost use Rattle.picture.specs.Puts.{Puts};
 ghost use Rattle.picture.specs.Elements.{tick_text, line_text, name_text, again_text};
 ghost use Rattle.picture.specs.declared.ground.TheConstants.{AGAIN_LIMIT, STYLE};
 ghost use Rattle.picture.specs.Document.{measures_text, title_text, document_head, ticks_text, lines_text, own_names, names_group, names_again, rows_text, ground_text};
 
+use crate::chart::{Chart, Lane};
 use crate::frame::{Frame, end_of, step_of, top_of, unit_name, unit_of, x_of};
 use crate::page::Page;
-use crate::rows::TaskRow;
 use std::io::Write;
 use streams::WriteFailed;
 
@@ -45,20 +44,15 @@ impl<W: Write + Drop> Page<'_, W> {
     }
 
     // The first lines.
-    fn put_head(
-        &mut self,
-        frame: Frame,
-        rows: usize,
-        jobs: usize,
-        until: u64,
-    ) -> Result<(), WriteFailed>
-        requires { rows ≤ TASK_LIMIT }
-        ensures { Puts W.contents self.old self.new result (document_head frame rows jobs until) }
+    fn put_head(&mut self, chart: &Chart<'_>, jobs: usize, until: u64) -> Result<(), WriteFailed>
+        ensures { Puts W.contents self.old self.new result
+            (document_head chart.now.frame (length chart.now.rows.now) jobs until) }
     {
         self.out.put(
             b"<?xml version=\"1.0\" encoding=\"UTF-8\"?>\n<svg xmlns=\"http://www.w3.org/2000/svg\" ",
         )?;
-        self.put_measures(frame, top_of(rows) + 60)?;
+        let rows = chart.rows.len();
+        self.put_measures(chart.frame, top_of(rows) + 60)?;
         self.put_title(rows, jobs, until)
     }
 
@@ -95,33 +89,33 @@ impl<W: Write + Drop> Page<'_, W> {
     }
 
     // The line of a row.
-    fn put_line(&mut self, frame: Frame, k: usize) -> Result<(), WriteFailed>
-        requires { k ≤ TASK_LIMIT }
-        ensures { Puts W.contents self.old self.new result (line_text frame k) }
+    fn put_line(&mut self, lane: &Lane<'_>) -> Result<(), WriteFailed>
+        ensures { Puts W.contents self.old self.new result
+            (line_text lane.now.frame lane.now.k) }
     {
-        let y = top_of(k) + 490;
-        let end = end_of(frame);
+        let y = top_of(lane.k) + 490;
+        let end = end_of(lane.frame);
         write!(self.out, "<path class=\"l\" d=\"M160 {y}H{end}\"/>\n")
     }
 
     // The lines of the rows.
-    fn put_lines(&mut self, frame: Frame, rows: &[TaskRow]) -> Result<(), WriteFailed>
-        requires { length rows.now ≤ TASK_LIMIT }
-        ensures { Puts W.contents self.old self.new result (lines_text frame rows.now) }
+    fn put_lines(&mut self, chart: &Chart<'_>) -> Result<(), WriteFailed>
+        ensures { Puts W.contents self.old self.new result
+            (lines_text chart.now.frame chart.now.rows.now) }
     {
-        for k in 0..rows.len() {
-            self.put_line(frame, k)?;
+        for k in 0..chart.rows.len() {
+            self.put_line(&chart.lane(k))?;
         }
         Ok(())
     }
 
     // The name of a row.
-    fn put_row_name(&mut self, k: usize, row: &TaskRow) -> Result<(), WriteFailed>
-        requires { k ≤ TASK_LIMIT }
-        ensures { Puts W.contents self.old self.new result (name_text k row.now) }
+    fn put_row_name(&mut self, lane: &Lane<'_>) -> Result<(), WriteFailed>
+        ensures { Puts W.contents self.old self.new result
+            (name_text lane.now.k lane.now.row.now) }
     {
-        let y = top_of(k) + 140;
-        let name = row.sheet.name();
+        let y = top_of(lane.k) + 140;
+        let name = lane.row.sheet.name();
         write!(
             self.out,
             "<text class=\"n\" x=\"160\" y=\"{y}\">{name}</text>\n"
@@ -129,12 +123,11 @@ impl<W: Write + Drop> Page<'_, W> {
     }
 
     // The names of the rows.
-    fn put_own_names(&mut self, rows: &[TaskRow]) -> Result<(), WriteFailed>
-        requires { length rows.now ≤ TASK_LIMIT }
-        ensures { Puts W.contents self.old self.new result (own_names rows.now) }
+    fn put_own_names(&mut self, chart: &Chart<'_>) -> Result<(), WriteFailed>
+        ensures { Puts W.contents self.old self.new result (own_names chart.now.rows.now) }
     {
-        for k in 0..rows.len() {
-            self.put_row_name(k, &rows[k])?;
+        for k in 0..chart.rows.len() {
+            self.put_row_name(&chart.lane(k))?;
         }
         Ok(())
     }
@@ -160,23 +153,23 @@ impl<W: Write + Drop> Page<'_, W> {
     }
 
     // The names of the rows, as a group.
-    fn put_group(&mut self, rows: &[TaskRow]) -> Result<(), WriteFailed>
-        requires { length rows.now ≤ TASK_LIMIT }
-        ensures { Puts W.contents self.old self.new result (names_group rows.now) }
+    fn put_group(&mut self, chart: &Chart<'_>) -> Result<(), WriteFailed>
+        ensures { Puts W.contents self.old self.new result (names_group chart.now.rows.now) }
     {
         self.out.put(b"<g id=\"n\">\n")?;
-        self.put_own_names(rows)?;
+        self.put_own_names(chart)?;
         self.out.put(b"</g>\n")
     }
 
     // The scale, the lines and the names of the rows, and the names again.
-    fn put_rows(&mut self, frame: Frame, rows: &[TaskRow]) -> Result<(), WriteFailed>
-        requires { length rows.now ≤ TASK_LIMIT }
-        ensures { Puts W.contents self.old self.new result (rows_text frame rows.now) }
+    fn put_rows(&mut self, chart: &Chart<'_>) -> Result<(), WriteFailed>
+        ensures { Puts W.contents self.old self.new result
+            (rows_text chart.now.frame chart.now.rows.now) }
     {
-        self.put_ticks(frame, top_of(rows.len()), step_of(frame))?;
-        self.put_lines(frame, rows)?;
-        self.put_group(rows)?;
+        let frame = chart.frame;
+        self.put_ticks(frame, top_of(chart.rows.len()), step_of(frame))?;
+        self.put_lines(chart)?;
+        self.put_group(chart)?;
         self.put_all_again(frame)
     }
 
@@ -190,16 +183,15 @@ impl<W: Write + Drop> Page<'_, W> {
     // What stands still.
     pub(crate) fn put_ground(
         &mut self,
-        frame: Frame,
-        rows: &[TaskRow],
+        chart: &Chart<'_>,
         jobs: usize,
         until: u64,
     ) -> Result<(), WriteFailed>
-        requires { length rows.now ≤ TASK_LIMIT }
-        ensures { Puts W.contents self.old self.new result (ground_text frame rows.now jobs until) }
+        ensures { Puts W.contents self.old self.new result
+            (ground_text chart.now.frame chart.now.rows.now jobs until) }
     {
-        self.put_head(frame, rows.len(), jobs, until)?;
+        self.put_head(chart, jobs, until)?;
         self.put_style()?;
-        self.put_rows(frame, rows)
+        self.put_rows(chart)
     }
 }

@@ -1,13 +1,13 @@
 //! Jobs, from their arrivals up to their bounds.
-ghost use Rattle.std.specs.Prelude.{◌+◌, ◌≤◌, length};
-ghost use Rattle.task_sheet.specs.declared.set.TheConstants.{TASK_LIMIT};
+ghost use Rattle.std.specs.Prelude.{◌+◌};
 ghost use Rattle.picture.specs.Puts.{Puts};
 ghost use Rattle.picture.specs.Rows.{on_row};
 ghost use Rattle.picture.specs.Elements.{job_box, arrival_words, done_words, limit_words, job_words, job_text};
 ghost use Rattle.picture.specs.Document.{jobs_text};
 
 use crate::boxes::bar_of;
-use crate::frame::{Frame, end_of, top_of, x_after, x_of};
+use crate::chart::{Chart, Lane};
+use crate::frame::{end_of, top_of, x_after, x_of};
 use crate::page::Page;
 use crate::rows::{TaskRow, find_row};
 use ceiling_kernel::JobRecord;
@@ -16,26 +16,20 @@ use streams::WriteFailed;
 
 impl<W: Write + Drop> Page<'_, W> {
     // The box of a job.
-    fn put_box(
-        &mut self,
-        frame: Frame,
-        k: usize,
-        row: &TaskRow,
-        job: &JobRecord,
-    ) -> Result<(), WriteFailed>
-        requires { k ≤ TASK_LIMIT }
+    fn put_box(&mut self, lane: &Lane<'_>, job: &JobRecord) -> Result<(), WriteFailed>
         ensures { Puts W.contents self.old self.new result
-            (job_box frame k row.now job.now job.now.finish) }
+            (job_box lane.now.frame lane.now.k lane.now.row.now job.now job.now.finish) }
     {
-        let x = x_of(frame, job.release);
+        let x = x_of(lane.frame, job.release);
         match job.finish {
             Some(_) => {
-                let bar = bar_of(x, x_after(frame, job.release, row.bound), k);
+                let right = x_after(lane.frame, job.release, lane.row.bound);
+                let bar = bar_of(x, right, lane.k);
                 write!(self.out, "<path class=\"w\" d=\"{bar}\"><title>")
             }
             None => {
-                let y = top_of(k) + 305;
-                let end = end_of(frame);
+                let y = top_of(lane.k) + 305;
+                let end = end_of(lane.frame);
                 write!(
                     self.out,
                     "<path class=\"w\" d=\"M{x} {y}H{end}l60 30-60 30 60 30-60 30 60 30-60 30H{x}z\"><title>"
@@ -88,22 +82,16 @@ impl<W: Write + Drop> Page<'_, W> {
     }
 
     // A job in the row of its task.
-    fn put_job(
-        &mut self,
-        frame: Frame,
-        rows: &[TaskRow],
-        job: &JobRecord,
-    ) -> Result<(), WriteFailed>
-        requires { length rows.now ≤ TASK_LIMIT }
+    fn put_job(&mut self, chart: &Chart<'_>, job: &JobRecord) -> Result<(), WriteFailed>
         ensures { Puts W.contents self.old self.new result
-            (on_row rows.now job.now.name (job_text frame job.now)) }
+            (on_row chart.now.rows.now job.now.name (job_text chart.now.frame job.now)) }
     {
-        match find_row(rows, job.name) {
+        match find_row(chart.rows, job.name) {
             None => Ok(()),
             Some(k) => {
-                let row = &rows[k];
-                self.put_box(frame, k, row, job)?;
-                self.put_job_words(row, job)
+                let lane = chart.lane(k);
+                self.put_box(&lane, job)?;
+                self.put_job_words(lane.row, job)
             }
         }
     }
@@ -111,15 +99,14 @@ impl<W: Write + Drop> Page<'_, W> {
     // Each job.
     pub(crate) fn put_jobs(
         &mut self,
-        frame: Frame,
-        rows: &[TaskRow],
+        chart: &Chart<'_>,
         jobs: &[JobRecord],
     ) -> Result<(), WriteFailed>
-        requires { length rows.now ≤ TASK_LIMIT }
-        ensures { Puts W.contents self.old self.new result (jobs_text frame rows.now jobs.now) }
+        ensures { Puts W.contents self.old self.new result
+            (jobs_text chart.now.frame chart.now.rows.now jobs.now) }
     {
         for job in jobs {
-            self.put_job(frame, rows, job)?;
+            self.put_job(chart, job)?;
         }
         Ok(())
     }

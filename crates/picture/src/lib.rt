@@ -3,6 +3,7 @@
 
 mod bars;
 mod boxes;
+mod chart;
 mod document;
 mod frame;
 mod ground;

@@ -1,14 +1,14 @@
 //! The marks of releases.
-ghost use Rattle.std.specs.Prelude.{◌≡◌, ◌+◌, ◌≤◌, nat_le, length};
-ghost use Rattle.task_sheet.specs.declared.set.TheConstants.{TASK_LIMIT};
+ghost use Rattle.std.specs.Prelude.{◌≡◌, ◌+◌, nat_le};
 ghost use Rattle.picture.specs.Puts.{Puts};
 ghost use Rattle.picture.specs.Rows.{on_row};
 ghost use Rattle.picture.specs.Elements.{arrival_text, ready_text, later_text, mark_text, mark_head};
 ghost use Rattle.picture.specs.Document.{marks_text, all_marks};
 
+use crate::chart::{Chart, Lane};
 use crate::frame::{Frame, top_of, x_after, x_of};
 use crate::page::Page;
-use crate::rows::{TaskRow, find_row};
+use crate::rows::find_row;
 use ceiling_kernel::Release;
 use std::io::Write;
 use streams::WriteFailed;
@@ -76,17 +76,16 @@ impl<W: Write + Drop> Page<'_, W> {
     // The mark of a release in a row.
     fn put_mark_in(
         &mut self,
-        frame: Frame,
         mark: Mark,
         release: Release,
-        k: usize,
-        row: &TaskRow,
+        lane: &Lane<'_>,
     ) -> Result<(), WriteFailed>
-        requires { k ≤ TASK_LIMIT }
         ensures { Puts W.contents self.old self.new result
-            (mark_text frame mark release k row.now) }
+            (mark_text lane.now.frame mark release lane.now.k lane.now.row.now) }
     {
-        let top = top_of(k);
+        let frame = lane.frame;
+        let row = lane.row;
+        let top = top_of(lane.k);
         match mark {
             Mark::Arrival => self.put_arrival(frame, release, top + 510),
             Mark::Ready => self.put_ready(frame, release, top + 610),
@@ -105,18 +104,16 @@ impl<W: Write + Drop> Page<'_, W> {
     // The mark of a release.
     fn put_mark(
         &mut self,
-        frame: Frame,
-        rows: &[TaskRow],
+        chart: &Chart<'_>,
         mark: Mark,
         release: Release,
     ) -> Result<(), WriteFailed>
-        requires { length rows.now ≤ TASK_LIMIT }
         ensures { Puts W.contents self.old self.new result
-            (on_row rows.now release.name (mark_text frame mark release)) }
+            (on_row chart.now.rows.now release.name (mark_text chart.now.frame mark release)) }
     {
-        match find_row(rows, release.name) {
+        match find_row(chart.rows, release.name) {
             None => Ok(()),
-            Some(k) => self.put_mark_in(frame, mark, release, k, &rows[k]),
+            Some(k) => self.put_mark_in(mark, release, &chart.lane(k)),
         }
     }
 
@@ -135,18 +132,16 @@ impl<W: Write + Drop> Page<'_, W> {
     // The marks of a kind, as one path.
     fn put_marks(
         &mut self,
-        frame: Frame,
-        rows: &[TaskRow],
+        chart: &Chart<'_>,
         mark: Mark,
         releases: &[Release],
     ) -> Result<(), WriteFailed>
-        requires { length rows.now ≤ TASK_LIMIT }
         ensures { Puts W.contents self.old self.new result
-            (marks_text frame rows.now mark releases.now) }
+            (marks_text chart.now.frame chart.now.rows.now mark releases.now) }
     {
         self.put_mark_head(mark)?;
         for release in releases {
-            self.put_mark(frame, rows, mark, *release)?;
+            self.put_mark(chart, mark, *release)?;
         }
         self.out.put(b"\"/>\n")
     }
@@ -154,16 +149,15 @@ impl<W: Write + Drop> Page<'_, W> {
     // The marks of all kinds.
     pub(crate) fn put_all_marks(
         &mut self,
-        frame: Frame,
-        rows: &[TaskRow],
+        chart: &Chart<'_>,
         releases: &[Release],
     ) -> Result<(), WriteFailed>
-        requires { length rows.now ≤ TASK_LIMIT }
-        ensures { Puts W.contents self.old self.new result (all_marks frame rows.now releases.now) }
+        ensures { Puts W.contents self.old self.new result
+            (all_marks chart.now.frame chart.now.rows.now releases.now) }
     {
-        self.put_marks(frame, rows, Mark::Ready, releases)?;
-        self.put_marks(frame, rows, Mark::Arrival, releases)?;
-        self.put_marks(frame, rows, Mark::Bound, releases)?;
-        self.put_marks(frame, rows, Mark::Deadline, releases)
+        self.put_marks(chart, Mark::Ready, releases)?;
+        self.put_marks(chart, Mark::Arrival, releases)?;
+        self.put_marks(chart, Mark::Bound, releases)?;
+        self.put_marks(chart, Mark::Deadline, releases)
     }
 }

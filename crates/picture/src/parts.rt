@@ -7,9 +7,9 @@ ghost use Rattle.picture.specs.Sections.{fits};
 ghost use Rattle.picture.specs.Elements.{names_text, label_head, label_text, part_head, part_end, part_text, dark_text};
 
 use crate::boxes::bar_of;
-use crate::frame::{Frame, top_of, x_after, x_of};
+use crate::chart::Lane;
+use crate::frame::{top_of, x_of};
 use crate::page::Page;
-use crate::rows::TaskRow;
 use crate::ticks::{dark_from, dark_to, fits};
 use ceiling_kernel::Slice;
 use std::io::Write;
@@ -81,19 +81,12 @@ impl<W: Write + Drop> Page<'_, W> {
     }
 
     // The box of a part, up to the names of its locks.
-    fn put_part_head(
-        &mut self,
-        frame: Frame,
-        k: usize,
-        row: &TaskRow,
-        start: u64,
-        stop: u64,
-    ) -> Result<(), WriteFailed>
-        requires { k ≤ TASK_LIMIT }
-        ensures { Puts W.contents self.old self.new result (part_head frame k row.now start stop) }
+    fn put_part_head(&mut self, lane: &Lane<'_>, start: u64, stop: u64) -> Result<(), WriteFailed>
+        ensures { Puts W.contents self.old self.new result
+            (part_head lane.now.frame lane.now.k lane.now.row.now start stop) }
     {
-        let bar = bar_of(x_of(frame, start), x_of(frame, stop), k);
-        let name = row.sheet.name();
+        let bar = bar_of(x_of(lane.frame, start), x_of(lane.frame, stop), lane.k);
+        let name = lane.row.sheet.name();
         write!(
             self.out,
             "<path class=\"h\" d=\"{bar}\"><title>{name} holds"
@@ -110,43 +103,38 @@ impl<W: Write + Drop> Page<'_, W> {
     // A part of a slice in which its job holds locks.
     fn put_part(
         &mut self,
-        frame: Frame,
-        k: usize,
-        row: &TaskRow,
+        lane: &Lane<'_>,
         section: &Section,
         start: u64,
         stop: u64,
     ) -> Result<(), WriteFailed>
-        requires { k ≤ TASK_LIMIT }
         ensures { Puts W.contents self.old self.new result
-            (part_text frame k row.now section.now.locks start stop) }
+            (part_text lane.now.frame lane.now.k lane.now.row.now section.now.locks start stop) }
     {
-        self.put_part_head(frame, k, row, start, stop)?;
+        self.put_part_head(lane, start, stop)?;
         self.put_locks(section)?;
         self.put_part_end(start, stop)?;
-        self.put_label(x_of(frame, start), x_of(frame, stop), k, section)
+        let x = x_of(lane.frame, start);
+        self.put_label(x, x_of(lane.frame, stop), lane.k, section)
     }
 
     // The darker part of a slice for a section, if there is one.
     pub(crate) fn put_dark(
         &mut self,
-        frame: Frame,
         executed: u64,
         slice: Slice,
-        k: usize,
-        row: &TaskRow,
+        lane: &Lane<'_>,
         section: &Section,
     ) -> Result<(), WriteFailed>
-        requires { k ≤ TASK_LIMIT }
         ensures { Puts W.contents self.old self.new result
-            (dark_text frame executed slice k row.now section.now) }
+            (dark_text lane.now.frame executed slice lane.now.k lane.now.row.now section.now) }
     {
         let from = dark_from(section, executed);
         let to = dark_to(section, executed, slice);
         if from < to {
             let start = slice.start + from;
             let stop = slice.start + to;
-            self.put_part(frame, k, row, section, start, stop)
+            self.put_part(lane, section, start, stop)
         } else {
             Ok(())
         }

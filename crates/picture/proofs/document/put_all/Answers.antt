@@ -9,7 +9,7 @@ returns-clause-sent g c =
     let first = g.W.Write.contents c.args.output.now.inner in
     let last = g.W.Write.contents c.flush.new.self.out.now.inner in
     let text = document c.args.rows.now c.args.until c.args.releases.now c.args.trace.now in
-    let sent = rw c.frame_of-frame.ensures at (rw c.new.ensures.empty at (rw c.new.ensures.writer at c.in_ok-put_document.ensures.writes.sent)) in
+    let sent = rw c.frame_of.ensures at (rw c.new.ensures.empty at (rw c.new.ensures.writer at c.in_ok-put_document.ensures.writes.sent)) in
     let whole : OnOk c.flush.result (Appends first last text) =
     all_sent c.flush.result first (g.W.Write.contents c.put_document.new.page.out.out.now.inner) last c.put_document.new.page.out.held text sent c.flush.ensures.sent in
     search (rules, whole)

@@ -5,4 +5,4 @@ use Rattle.picture.specs.Elements.{line_text}
 use Rattle.picture.proofs.page.Page.put_lines.Given as goal
 
 abbrev pub invariant-loop-k : goal.invariant-loop-k
-invariant-loop-k g l = Puts g.W.Write.contents l.fn.self l.self (Ok tt) (each l.k (line_text l.fn.frame))
+invariant-loop-k g l = Puts g.W.Write.contents l.fn.self l.self (Ok tt) (each l.k (line_text l.fn.chart.frame))

@@ -1,0 +1,41 @@
+//! Rows in a frame.
+ghost use Rattle.std.specs.Prelude.{◌≡◌, ◌<◌, ◌≤◌, length};
+ghost use Rattle.task_sheet.specs.declared.set.TheConstants.{TASK_LIMIT};
+
+use crate::frame::Frame;
+use crate::rows::TaskRow;
+
+// How time lies in a picture, and its rows, the highest level first.
+#[derive(Drop)]
+pub(crate) struct Chart<'a> {
+    pub(crate) frame: Frame,
+    pub(crate) rows: &'a [TaskRow],
+    ghost few: { length rows.now ≤ TASK_LIMIT },
+}
+
+// A row of it, and its place.
+#[derive(Drop)]
+pub(crate) struct Lane<'a> {
+    pub(crate) frame: Frame,
+    pub(crate) k: usize,
+    pub(crate) row: &'a TaskRow,
+    ghost within: { k ≤ TASK_LIMIT },
+}
+
+impl Chart<'_> {
+    ghost use Rattle.picture.specs.Rows.{row_at};
+
+    // The row at a place.
+    pub(crate) fn lane(&self, k: usize) -> Lane<'_>
+        requires { k < length self.now.rows.now }
+        ensures frame { result.frame ≡ self.now.frame }
+        ensures place { result.k ≡ k }
+        ensures row { result.row.now ≡ row_at self.now.rows.now k }
+    {
+        Lane {
+            frame: self.frame,
+            k,
+            row: &self.rows[k],
+        }
+    }
+}
