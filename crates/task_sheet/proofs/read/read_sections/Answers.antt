@@ -1,11 +1,10 @@
 use Rattle.std.proofs.Common.{rules, ◌≡◌, ◌∙◌, sym, ◌+◌, Some, None, ◌++◌, if◌then◌else◌, is_some}
-use Rattle.std.proofs.lemmas.Result.{err_from_is_err_and}
 use Rattle.std.specs.Option.{option_or, option_to_list}
 use Rattle.toml.specs.Data.{as_table}
 use Rattle.toml.specs.View.{view, items_view, table_view}
 use Rattle.task_sheet.specs.Tree.{tables_in, section_at}
 use Rattle.task_sheet.specs.TreeFault.{section_table_fault}
-use Rattle.task_sheet.proofs.TreeLaws.{IsReadAs, tables_more, tables_left, never_other, read_more}
+use Rattle.task_sheet.proofs.TreeLaws.{at_exit, IsReadAs, tables_more, tables_left, never_other, read_more}
 use Rattle.task_sheet.proofs.read.read_sections.Goals as goal
 use Rattle.task_sheet.proofs.read.read_sections.Goals.{in-Some+in_ok-section+in_ok-take, in_default}
 
@@ -28,7 +27,5 @@ loop-i-preserved c = elim c.match-as_table.branch [
 
 pub returns-in_err-section-clause-err : goal.returns-in_err-section-clause-err
 returns-in_err-section-clause-err c =
-    let p = err_from_is_err_and c.from_residual.result c.from_residual.ensures.1 in
-    rw (p.1, p.2) (λ other.
     let rest = tables_more c.args.items.now c.loop-i.i c.index-items-i.result (table_view c.in-Some.table.now) c.loop-i-test.true c.index-items-i.is c.in-Some.ensures in
-    sym c.loop-i.invariant.read.fault ∙ rw (rest, c.in_err-section.ensures.err other))
+    at_exit _ c.from_residual.result c.from_residual.ensures.1 (λ e same other. rw same (sym c.loop-i.invariant.read.fault ∙ rw (rest, c.in_err-section.ensures.err (rw same at other))))
