@@ -94,7 +94,7 @@ NoneAmong-more U X len n before here = λ k lt outside. elim (cases_eq k n) [
   | inr ne ↦ before k (omega arith) outside
 ]
 
-pub first-blocks : (U : List Task) (i : ℕ) (H : Indexes) (owner : ℕ) (b : BlockerData) → owner < length U → with_index H i owner ≡ false → NoneAmong U (with_index H i) (blocking_of U i H) owner
+first-blocks : (U : List Task) (i : ℕ) (H : Indexes) (owner : ℕ) (b : BlockerData) → owner < length U → with_index H i owner ≡ false → NoneAmong U (with_index H i) (blocking_of U i H) owner
     → IsFirstOf U (with_index H i) owner (blocking_of U i H) b → IsFirstBlocker U i H b
 first-blocks U i H owner b lt outside before is =
     let X = with_index H i in
@@ -121,7 +121,7 @@ first-blocks U i H owner b lt outside before is =
       lock = is.lock;
     }
 
-pub none-blocks : (U : List Task) (i : ℕ) (H : Indexes) → NoneAmong U (with_index H i) (blocking_of U i H) (length U) → blocking_of U i H ≡ 0
+none-blocks : (U : List Task) (i : ℕ) (H : Indexes) → NoneAmong U (with_index H i) (blocking_of U i H) (length U) → blocking_of U i H ≡ 0
 none-blocks U i H none = elim (blocking-some U i H) [
   | inl zero ↦ zero
   | inr some ↦
@@ -132,3 +132,12 @@ none-blocks U i H none = elim (blocking-some U i H) [
       slice_get-get_or (task_at U b.task).sections place s b.section.1 ∙ ap (λ (x : CriticalSection). Some x) b.section.2 in
       absurd (none b.task b.in_set b.outside place s b.section.1 at b.reached (sym some.2))
 ]
+
+-- ---- the same of the members X and the length that the search holds
+pub first-found : (U : List Task) (i : ℕ) (H X : Indexes) (len owner : ℕ) (b : BlockerData) → X ≡ with_index H i → len ≡ blocking_of U i H → owner < length U → X owner ≡ false → NoneAmong U X len owner
+    → IsFirstOf U X owner len b → IsFirstBlocker U i H b
+first-found U i H X len owner b same long lt outside before is =
+    first-blocks U i H owner b lt (rw same at outside) (rw (same, long) at before) (rw (same, long) at is)
+
+pub none-found : (U : List Task) (i : ℕ) (H X : Indexes) (len : ℕ) → X ≡ with_index H i → len ≡ blocking_of U i H → NoneAmong U X len (length U) → blocking_of U i H ≡ 0
+none-found U i H X len same long none = none-blocks U i H (rw (same, long) at none)

@@ -1,5 +1,5 @@
 -- Greatest obstructions within some tasks, and what is left where the tasks are gone through one by one.
-use Rattle.std.proofs.Common.{◌≡◌, ℕ, zero, suc, ◌+◌, ◌<◌, ◌≤◌, ◌⊎◌, inl, inr, true, false, List, length, refl, sym, ◌∙◌, subst, arith}
+use Rattle.std.proofs.Common.{◌≡◌, ℕ, zero, suc, ◌+◌, ◌<◌, ◌≤◌, ◌⊎◌, inl, inr, true, false, List, length, refl, sym, ◌∙◌, ap, subst, arith}
 use Rattle.std.specs.Ordering.{nat_cmp}
 use Rattle.std.specs.FinSet as members
 use Rattle.std.proofs.lemmas.Bool.{cases_Bool, cases_eq, both_ways, ltb-true}
@@ -10,7 +10,7 @@ use Rattle.task_sheet.specs.Levels.{NoneStands, IsObstruction}
 use Rattle.task_sheet.proofs.IndexLaws.{same_parts, without-member, without-parts, without-part, without-part_of, count_below, without-fewer}
 use Rattle.task_sheet.proofs.Below.{find_below}
 use Rattle.task_sheet.proofs.Deciding.{NoneBelow, find_chosen}
-use Rattle.task_sheet.proofs.MembersIndexes.{member_of-len}
+use Rattle.task_sheet.proofs.MembersIndexes.{indexes_of-remove, member_of-len}
 use Rattle.task_sheet.proofs.PassingLaws.{Stands-part}
 use Rattle.explain.specs.Conflict.{HoldsObstruction, IsGreatestWithin, IsLeastConflict, IsGoneThrough, IsLeftOf}
 
@@ -22,12 +22,16 @@ pub record IsPeeled (U : List Task) (L left : Indexes) : Type 0 where
 pub IsPeeled-start : (U : List Task) (L : Indexes) → IsPeeled U L L
 IsPeeled-start U L = record { part = λ k h. h; holds = λ S o part. part }
 
-pub IsPeeled-less : (U : List Task) (L left : Indexes) (i : ℕ) → AllTasks U → IsPeeled U L left → Stands U i (without_index left i) → IsPeeled U L (without_index left i)
+IsPeeled-less : (U : List Task) (L left : Indexes) (i : ℕ) → AllTasks U → IsPeeled U L left → Stands U i (without_index left i) → IsPeeled U L (without_index left i)
 IsPeeled-less U L left i valid so stands = record {
   part = λ k h. so.part k (without-parts left i k h).0;
   holds = λ S o part k h. without-member left i k (so.holds S o part k h) (λ e.
       o.stuck i (rw e at h) (Stands-part U valid i _ _ (without-part S left i (so.holds S o part)) stands));
 }
+
+pub IsPeeled-remove : (U : List Task) (L : Indexes) (left left' : members.FinSet nat_cmp) (i : ℕ) → AllTasks U → IsPeeled U L (indexes_of left) → left' ≡ members.remove left i → Stands U i (without_index (indexes_of left) i) → IsPeeled U L (indexes_of left')
+IsPeeled-remove U L left left' i valid so removed stands =
+    subst (λ (X : Indexes). IsPeeled U L X) (sym (ap indexes_of removed ∙ indexes_of-remove left i)) (IsPeeled-less U L (indexes_of left) i valid so stands)
 
 pub IsPeeled-stuck : (U : List Task) (L left : Indexes) (k : ℕ) → IsPart L (all_of U) → IsPeeled U L left → left k ≡ true → NoneStands U left → IsGreatestWithin U L left
 IsPeeled-stuck U L left k part so some stuck = record {

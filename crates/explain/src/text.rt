@@ -1,7 +1,7 @@
 //! The lines of an explanation.
 ghost use Rattle.std.specs.Prelude.{◌≡◌, ◌++◌, length, IfOk, OnOk, string_bytes};
 ghost use Rattle.task_sheet.specs.Indexes.{indexes_of, listed_below};
-ghost use Rattle.explain.specs.Lines.{above_line, above_lines, account_lines, blocked_line, blocker_line, conflict_line, explained_lines, explanation_lines, jitter_line, level_account_lines, load_line, need_lines, needs_lines, parts_lines, response_lines};
+ghost use Rattle.explain.specs.Lines.{above_line, account_lines, blocked_line, blocker_line, conflict_line, explained_lines, explanation_lines, jitter_line, load_line, need_lines, needs_lines, parts_lines, response_lines};
 
 use crate::accounts::Account;
 use crate::blocker::Blocker;
@@ -63,17 +63,6 @@ fn push_above(text: &mut String, set: &TaskSet, above: &Above) -> Result<(), All
     writeln!(text, " {jobs} jobs {time}")
 }
 
-// A line for each task above.
-fn push_aboves(text: &mut String, set: &TaskSet, above: &[Above]) -> Result<(), AllocError>
-    ensures { OnOk result (string_bytes text.new ≡ string_bytes text.old
-        ++ above_lines set.now above.now) }
-{
-    for task in above {
-        push_above(text, set, task)?;
-    }
-    Ok(())
-}
-
 // The lines of the parts of a time.
 fn push_parts(text: &mut String, set: &TaskSet, parts: &Parts) -> Result<(), AllocError>
     ensures { OnOk result (string_bytes text.new ≡ string_bytes text.old
@@ -83,7 +72,10 @@ fn push_parts(text: &mut String, set: &TaskSet, parts: &Parts) -> Result<(), All
     writeln!(text, "  cost {cost}")?;
     push_jitter(text, parts.jitter)?;
     push_blocked(text, set, &parts.blocker)?;
-    push_aboves(text, set, &parts.above)
+    for above in &parts.above {
+        push_above(text, set, above)?;
+    }
+    Ok(())
 }
 
 // The lines of a task's time.
@@ -98,27 +90,15 @@ fn push_account(text: &mut String, set: &TaskSet, account: &Account) -> Result<(
     push_parts(text, set, &account.parts)
 }
 
-// The lines of a level, which has a number.
-fn push_level(
-    text: &mut String,
-    set: &TaskSet,
-    number: usize,
-    account: &Account,
-) -> Result<(), AllocError>
-    ensures { OnOk result (string_bytes text.new ≡ string_bytes text.old
-        ++ level_account_lines set.now number account.now) }
-{
-    write!(text, "{number} ")?;
-    push_account(text, set, account)
-}
-
 // The lines of each level, the lowest first.
 fn push_responses(text: &mut String, set: &TaskSet, accounts: &[Account]) -> Result<(), AllocError>
     ensures { OnOk result (string_bytes text.new ≡ string_bytes text.old
         ++ response_lines set.now 1 accounts.now) }
 {
     for (below, account) in accounts.iter().enumerate() {
-        push_level(text, set, below + 1, account)?;
+        let number = below + 1;
+        write!(text, "{number} ")?;
+        push_account(text, set, account)?;
     }
     Ok(())
 }

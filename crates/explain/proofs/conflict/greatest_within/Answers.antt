@@ -1,9 +1,9 @@
-use Rattle.std.proofs.Common.{◌∙◌, ap, sym, subst}
+use Rattle.std.proofs.Common.{◌∙◌, ap}
 use Rattle.std.proofs.lemmas.Bool.{both_ways}
 use Rattle.task_sheet.specs.Indexes.{Indexes, indexes_of}
 use Rattle.task_sheet.proofs.TaskLaws.{AllTasks-from_set}
-use Rattle.task_sheet.proofs.MembersIndexes.{indexes_of-empty, indexes_of-remove, len-remove_member}
-use Rattle.explain.proofs.ConflictLaws.{IsPeeled, IsPeeled-start, IsPeeled-less, IsPeeled-none, IsPeeled-some}
+use Rattle.task_sheet.proofs.MembersIndexes.{indexes_of-empty, len-remove_member}
+use Rattle.explain.proofs.ConflictLaws.{IsPeeled-start, IsPeeled-remove, IsPeeled-none, IsPeeled-some}
 use Rattle.explain.proofs.conflict.greatest_within.Goals as goal
 
 pub loop-task-init : goal.loop-task-init
@@ -17,12 +17,7 @@ loop-task-smaller c = rw c.without-left.ensures (len-remove_member c.loop-task.l
 
 pub loop-task-preserved : goal.loop-task-preserved
 loop-task-preserved c =
-    let U = c.args.set.now in
-    let L = indexes_of c.args.tasks in
-    let i = c.in-Some.task in
-    let less = ap indexes_of c.without-left.ensures ∙ indexes_of-remove c.loop-task.left i in
-    subst (λ (X : Indexes). IsPeeled U L X) (sym less)
-    (IsPeeled-less U L (indexes_of c.loop-task.left) i (AllTasks-from_set U c.sheets-sheets.ensures.kept) c.loop-task.invariant c.in-Some.ensures.stands)
+    IsPeeled-remove c.args.set.now (indexes_of c.args.tasks) c.loop-task.left c.without-left.result c.in-Some.task (AllTasks-from_set c.args.set.now c.sheets-sheets.ensures.kept) c.loop-task.invariant c.without-left.ensures c.in-Some.ensures.stands
 
 pub returns-then-is_empty-clause-none : goal.returns-then-is_empty-clause-none
 returns-then-is_empty-clause-none c =
