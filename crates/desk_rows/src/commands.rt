@@ -1,7 +1,6 @@
 //! What the commands print, and the statuses that they end with.
 use command_line::{OfOne, OfTwo};
-use desk_cli::{Nobody, Status};
-use dispatch::{run_one, run_two};
+use desk_cli::{Nobody, Status, carry_out, carry_out_on_both};
 use example_sets::{BLOCKED_OUT_REPAIRED, THREE_TASKS};
 use preferences::Preference;
 use std::alloc::Global;
@@ -14,7 +13,7 @@ fn printed_of_one(alloc: Global, command: OfOne, text: &[u8]) -> Result<(String,
     let mut reader = Watched::new(text);
     let mut writer = Watched::new(&mut printed);
     let by = Preference::Weights;
-    let status = run_one(alloc, command, by, &mut reader, &mut writer, &mut Nobody);
+    let status = carry_out(alloc, command, by, &mut reader, &mut writer, &mut Nobody);
     Ok((String::from_utf8(printed)?, status))
 }
 
@@ -27,7 +26,7 @@ fn printed_of_two<'a>(
 ) -> Result<(String, Status), Fail> {
     let mut printed = Vec::new(alloc);
     let mut writer = Watched::new(&mut printed);
-    let status = run_two(
+    let status = carry_out_on_both(
         alloc,
         command,
         Preference::Weights,

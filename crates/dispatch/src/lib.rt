@@ -3,4 +3,4 @@
 
 mod running;
 
-pub use running::{CallEnd, NotOpened, Opens, run_call, run_one, run_two};
+pub use running::{CallEnd, NotOpened, Opens, run_call};

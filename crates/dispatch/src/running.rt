@@ -145,52 +145,6 @@ fn ran_both<S: Read + Drop>(status: Status, first: Watched<S>, second: Watched<S
     }
 }
 
-/// Runs a command on its input; what it prints and its status are those of the command.
-pub fn run_one<S: Read + Drop, W: Write + Drop, P: Audience>(
-    alloc: Global,
-    command: OfOne,
-    preference: Preference,
-    input: &mut Watched<S>,
-    output: &mut Watched<W>,
-    people: &mut P,
-) -> Status
-    ensures printed { output.new.has_failed ≡ false
-        → OneSays command preference (S.remaining input.old.inner)
-        (W.contents output.old.inner) (W.contents output.new.inner) result }
-    ensures failed { result ≡ Status.InputOrOutputFailed
-        → IsDisturbed input.new ⊎ (output.new.has_failed ≡ true) }
-    ensures unread { input.old.has_failed ≡ false → input.new.has_failed ≡ true
-        → output.old.has_failed ≡ false → result ≡ Status.InputOrOutputFailed }
-    ensures unwritten { output.old.has_failed ≡ false → output.new.has_failed ≡ true
-        → result ≡ Status.InputOrOutputFailed }
-{
-    carry_out(alloc, command, preference, input, output, people)
-}
-
-/// Runs a command on a task set and a second input; what it prints and its status are those of the command.
-pub fn run_two<S: Read + Drop, W: Write + Drop, P: Audience>(
-    alloc: Global,
-    command: OfTwo,
-    preference: Preference,
-    first: &mut Watched<S>,
-    second: &mut Watched<S>,
-    output: &mut Watched<W>,
-    people: &mut P,
-) -> Status
-    ensures printed { output.new.has_failed ≡ false
-        → TwoSay command preference (S.remaining first.old.inner) (S.remaining second.old.inner)
-        (W.contents output.old.inner) (W.contents output.new.inner) result }
-    ensures failed { result ≡ Status.InputOrOutputFailed
-        → (IsDisturbed first.new ⊎ IsDisturbed second.new) ⊎ (output.new.has_failed ≡ true) }
-    ensures unread { first.old.has_failed ≡ false → second.old.has_failed ≡ false
-        → (first.new.has_failed ≡ true) ⊎ (second.new.has_failed ≡ true)
-        → output.old.has_failed ≡ false → result ≡ Status.InputOrOutputFailed }
-    ensures unwritten { output.old.has_failed ≡ false → output.new.has_failed ≡ true
-        → result ≡ Status.InputOrOutputFailed }
-{
-    carry_out_on_both(alloc, command, preference, first, second, output, people)
-}
-
 // Runs a command on its input and its number.
 fn run_number<
     S: Read + Drop,
@@ -267,14 +221,8 @@ pub fn run_call<O: Opens, W: Write + Drop, E: Write + Drop, P: Audience, R: Thre
             by_deadline,
         } => match open_one(inputs, input) {
             Some(mut input) => {
-                let status = run_one(
-                    alloc,
-                    command,
-                    preference_of(by_deadline),
-                    &mut input,
-                    output,
-                    people,
-                );
+                let preference = preference_of(by_deadline);
+                let status = carry_out(alloc, command, preference, &mut input, output, people);
                 ran_one(status, input)
             }
             None => not_opened(Which::First, output, people),
@@ -286,7 +234,7 @@ pub fn run_call<O: Opens, W: Write + Drop, E: Write + Drop, P: Audience, R: Thre
             by_deadline,
         } => match open_both(inputs, first, second) {
             Ok((mut first, mut second)) => {
-                let status = run_two(
+                let status = carry_out_on_both(
                     alloc,
                     command,
                     preference_of(by_deadline),

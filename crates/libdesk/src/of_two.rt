@@ -4,43 +4,12 @@ ghost use Rattle.desk_cli.specs.Check.{SaysChecked};
 ghost use Rattle.desk_cli.specs.Draw.{SaysDrawn};
 ghost use Rattle.desk_cli.specs.Judge.{SaysJudged};
 ghost use Rattle.desk_cli.specs.Simulate.{SaysSimulated};
-ghost use Rattle.desk_cli.specs.Commands.{TwoSay};
 ghost use Rattle.preferences.specs.declared.preferred.Preference.TheVariants.{Weights};
 ghost use Rattle.libdesk.specs.Answers.{AnswersCall};
 
-use crate::hand_out::hand_out;
+use crate::asked::{Asked, answer};
 use command_line::OfTwo;
-use desk_cli::Nobody;
-use dispatch::run_two;
-use preferences::Preference;
 use std::alloc::Global;
-use streams::Watched;
-
-// What a command prints of its two inputs.
-fn answer<'a>(
-    alloc: Global,
-    command: OfTwo,
-    first: &'a [u8],
-    second: &'a [u8],
-    room: &mut [u8],
-    status: &mut u8,
-) -> usize
-    ensures room { length room.new ≡ length room.old }
-    ensures answer { AnswersCall (TwoSay command Weights (Some first.now)
-        (Some second.now)) room.old room.new result status.new }
-{
-    let mut output = Watched::new(Vec::new(alloc));
-    let ended = run_two(
-        alloc,
-        command,
-        Preference::Weights,
-        &mut Watched::new(first),
-        &mut Watched::new(second),
-        &mut output,
-        &mut Nobody,
-    );
-    hand_out(ended, output, room, status)
-}
 
 /// What `desk check` prints of a task set and a certificate.
 #[unsafe(no_mangle)]
@@ -55,7 +24,12 @@ pub extern "C" fn desk_check(
     ensures answer { AnswersCall (SaysChecked Weights (Some set.now)
         (Some certificate.now)) room.old room.new result status.new }
 {
-    answer(alloc, OfTwo::Check, set, certificate, room, status)
+    answer(
+        alloc,
+        Asked::Two(OfTwo::Check, set, certificate),
+        room,
+        status,
+    )
 }
 
 /// What `desk judge` prints of a task set and settings.
@@ -71,7 +45,7 @@ pub extern "C" fn desk_judge(
     ensures answer { AnswersCall (SaysJudged Weights (Some set.now)
         (Some settings.now)) room.old room.new result status.new }
 {
-    answer(alloc, OfTwo::Judge, set, settings, room, status)
+    answer(alloc, Asked::Two(OfTwo::Judge, set, settings), room, status)
 }
 
 /// What `desk simulate` prints of a task set and a release list.
@@ -87,7 +61,12 @@ pub extern "C" fn desk_simulate(
     ensures answer { AnswersCall (SaysSimulated Weights (Some set.now)
         (Some releases.now)) room.old room.new result status.new }
 {
-    answer(alloc, OfTwo::Simulate, set, releases, room, status)
+    answer(
+        alloc,
+        Asked::Two(OfTwo::Simulate, set, releases),
+        room,
+        status,
+    )
 }
 
 /// What `desk draw` prints of a task set and a release list.
@@ -103,5 +82,5 @@ pub extern "C" fn desk_draw(
     ensures answer { AnswersCall (SaysDrawn Weights (Some set.now)
         (Some releases.now)) room.old room.new result status.new }
 {
-    answer(alloc, OfTwo::Draw, set, releases, room, status)
+    answer(alloc, Asked::Two(OfTwo::Draw, set, releases), room, status)
 }

@@ -1,0 +1,56 @@
+//! A command with what it is given, and what it answers.
+ghost use Rattle.std.specs.Prelude.{◌≡◌, length, Some, true, false};
+ghost use Rattle.libdesk.specs.Answers.{AnswersCall};
+ghost use Rattle.libdesk.specs.Asked.{AskedSays};
+
+use crate::hand_out::hand_out;
+use command_line::{OfOne, OfTwo};
+use desk_cli::{Nobody, Status, carry_out, carry_out_on_both, run_releases};
+use preferences::Preference;
+use std::alloc::Global;
+use streams::Watched;
+
+/// A command with its inputs. A set is preferred by its weights.
+#[derive(Clone, Copy)]
+pub enum Asked<'a> {
+    One(OfOne, &'a [u8]),
+    Two(OfTwo, &'a [u8], &'a [u8]),
+    /// The list of a set up to a time in microseconds.
+    Releases(&'a [u8], u64),
+}
+
+// Runs a command on what it is given.
+fn run<'a>(alloc: Global, asked: Asked<'a>, output: &mut Watched<Vec<u8>>) -> Status
+    ensures printed { output.new.has_failed ≡ false
+        → AskedSays asked.entry (Some output.old.inner.items) (Some output.new.inner.items) result }
+    ensures unwritten { output.old.has_failed ≡ false → output.new.has_failed ≡ true
+        → result ≡ Status.InputOrOutputFailed }
+{
+    let by = Preference::Weights;
+    match asked {
+        Asked::One(command, input) => {
+            let mut input = Watched::new(input);
+            carry_out(alloc, command, by, &mut input, output, &mut Nobody)
+        }
+        Asked::Two(command, first, second) => {
+            let mut first = Watched::new(first);
+            let mut second = Watched::new(second);
+            let people = &mut Nobody;
+            carry_out_on_both(alloc, command, by, &mut first, &mut second, output, people)
+        }
+        Asked::Releases(set, until) => {
+            let mut set = Watched::new(set);
+            run_releases(alloc, by, &mut set, until, output, &mut Nobody)
+        }
+    }
+}
+
+// What a command prints of what it is given.
+pub(crate) fn answer<'a>(alloc: Global, asked: Asked<'a>, room: &mut [u8], status: &mut u8) -> usize
+    ensures room { length room.new ≡ length room.old }
+    ensures answer { AnswersCall (AskedSays asked.entry) room.old room.new result status.new }
+{
+    let mut output = Watched::new(Vec::new(alloc));
+    let ended = run(alloc, asked, &mut output);
+    hand_out(ended, output, room, status)
+}
