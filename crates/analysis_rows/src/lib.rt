@@ -7,10 +7,6 @@ mod climbs;
 #[cfg(test)]
 mod findings;
 #[cfg(test)]
-mod naming;
-#[cfg(test)]
-mod placings;
-#[cfg(test)]
 mod responses;
 #[cfg(test)]
 mod sheets;

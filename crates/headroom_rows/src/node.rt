@@ -1,7 +1,7 @@
 //! What a node is set to.
 use assignment::{Placing, place_all};
 use ceilings::LockTable;
-use example_sets::{again, set_of};
+use example_sets::{again, match_rows, set_of};
 use settings::settings_text;
 use std::alloc::Global;
 use std::test::Fail;
@@ -18,7 +18,7 @@ fn settings_of(alloc: Global, document: &str) -> Result<String, Fail> {
 
 #[test]
 fn settings_of_the_examples(rt: HostRuntime) -> Result<(), Fail> {
-    for (document, want) in [
+    let rows = [
         ("", ""),
         (
             example_sets::SHARED_LOCK,
@@ -38,9 +38,6 @@ fn settings_of_the_examples(rt: HostRuntime) -> Result<(), Fail> {
         ),
         (example_sets::BLOCKED_OUT, "none"),
         (example_sets::C_OVER_A, "none"),
-    ] {
-        let text = settings_of(rt.alloc(), document)?;
-        assert_eq!(rt; text.as_str(), want);
-    }
-    Ok(())
+    ];
+    match_rows(rt.alloc(), &rows, settings_of)
 }

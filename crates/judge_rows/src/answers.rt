@@ -1,4 +1,6 @@
 //! What settings of a document's set come to, as text.
+use crate::orders::ORDERS;
+use crate::refusals::REFUSALS;
 use example_sets::{again, match_rows, set_of};
 use judge::{SettingsFault, judge_settings, judged_text};
 use std::alloc::{AllocError, Global};
@@ -37,8 +39,8 @@ fn answer_to(alloc: Global, document: &str, settings: &str) -> Result<String, Fa
 /// A document, and settings of its set with what they come to.
 pub type Answers = (&'static str, &'static [(&'static str, &'static str)]);
 
-/// Goes through documents with their settings: the failure tells the first settings that come to something else.
-pub fn match_answers(alloc: Global, sets: &[Answers]) -> Result<(), Fail> {
+// Goes through documents with their settings: the failure tells the first settings that come to something else.
+fn match_answers(alloc: Global, sets: &[Answers]) -> Result<(), Fail> {
     for (document, rows) in sets {
         match_rows(
             alloc,
@@ -47,4 +49,10 @@ pub fn match_answers(alloc: Global, sets: &[Answers]) -> Result<(), Fail> {
         )?;
     }
     Ok(())
+}
+
+#[test]
+fn answers_by_hand(rt: HostRuntime) -> Result<(), Fail> {
+    match_answers(rt.alloc(), &ORDERS)?;
+    match_answers(rt.alloc(), &REFUSALS)
 }

@@ -1,6 +1,5 @@
 //! Each refusal, and which comes first.
-use crate::answers::{Answers, match_answers};
-use std::test::Fail;
+use crate::answers::Answers;
 
 // x uses m and n, and y uses n.
 const TWO_LOCKS: &str = "
@@ -10,8 +9,8 @@ task = [
 ]
 ";
 
-// Settings of the shared lock that are refused, and of two locks, of which either both mutexes stand or none.
-const REFUSALS: [Answers; 2] = [
+/// Settings of the shared lock that are refused, and of two locks, of which either both mutexes stand or none.
+pub const REFUSALS: [Answers; 2] = [
     (
         example_sets::SHARED_LOCK,
         &[
@@ -75,8 +74,3 @@ const REFUSALS: [Answers; 2] = [
         ],
     ),
 ];
-
-#[test]
-fn refusals_in_order(rt: HostRuntime) -> Result<(), Fail> {
-    match_answers(rt.alloc(), &REFUSALS)
-}

@@ -29,13 +29,18 @@ const LEGEND: &str =
 <path class=\"b\" d=\"M2230 960v-195h-60v15h40v180z\"/><text x=\"2440\" y=\"920\">bound on the response</text>
 ";
 
-// Above the legend, and below it: the lock of b delays a, whose second job isn't done at the end.
-const PICTURE: (&str, &str) = (
-    "<?xml version=\"1.0\" encoding=\"UTF-8\"?>
-<svg xmlns=\"http://www.w3.org/2000/svg\" xmlns:xlink=\"http://www.w3.org/1999/xlink\" version=\"1.1\" width=\"1000\" height=\"266\" viewBox=\"0 0 10000 2660\">
-<title>tasks: 2, jobs: 3, until 1300 us</title>
-",
-    "<path class=\"g\" d=\"M160 1300V2600\"/><text class=\"s\" x=\"160\" y=\"1260\">0 us</text>
+// What differs from picture to picture: the height, the title, and what stands below the legend.
+struct Parts {
+    height: u64,
+    title: &'static str,
+    below: &'static str,
+}
+
+// The lock of b delays a, whose second job isn't done at the end.
+const PICTURE: Parts = Parts {
+    height: 266,
+    title: "tasks: 2, jobs: 3, until 1300 us",
+    below: "<path class=\"g\" d=\"M160 1300V2600\"/><text class=\"s\" x=\"160\" y=\"1260\">0 us</text>
 <path class=\"g\" d=\"M1621 1300V2600\"/><text class=\"s\" x=\"1621\" y=\"1260\">200 us</text>
 <path class=\"g\" d=\"M3083 1300V2600\"/><text class=\"s\" x=\"3083\" y=\"1260\">400 us</text>
 <path class=\"g\" d=\"M4544 1300V2600\"/><text class=\"s\" x=\"4544\" y=\"1260\">600 us</text>
@@ -79,15 +84,13 @@ M7102 1620v-100m0 100l-35-50h70z
 \"/>
 </svg>
 ",
-);
+};
 
 // No task, and no time.
-const EMPTY_PICTURE: (&str, &str) = (
-    "<?xml version=\"1.0\" encoding=\"UTF-8\"?>
-<svg xmlns=\"http://www.w3.org/2000/svg\" xmlns:xlink=\"http://www.w3.org/1999/xlink\" version=\"1.1\" width=\"1000\" height=\"140\" viewBox=\"0 0 10000 1400\">
-<title>tasks: 0, jobs: 0, until 0 us</title>
-",
-    "<path class=\"g\" d=\"M160 1300V1340\"/><text class=\"s\" x=\"160\" y=\"1260\">0 us</text>
+const EMPTY_PICTURE: Parts = Parts {
+    height: 140,
+    title: "tasks: 0, jobs: 0, until 0 us",
+    below: "<path class=\"g\" d=\"M160 1300V1340\"/><text class=\"s\" x=\"160\" y=\"1260\">0 us</text>
 <path class=\"g\" d=\"M9660 1300V1340\"/><text class=\"s\" x=\"9660\" y=\"1260\">1 us</text>
 <g id=\"n\">
 </g>
@@ -103,7 +106,7 @@ const EMPTY_PICTURE: (&str, &str) = (
 \"/>
 </svg>
 ",
-);
+};
 
 // The rows of a set, where each task has the bound beside its index.
 fn rows_of(alloc: Global, set: &TaskSet, bounds: &[(usize, u64)]) -> Result<Vec<TaskRow>, Fail> {
@@ -176,10 +179,19 @@ fn drawn(
     picture_of(alloc, &rows, until, releases, &trace)
 }
 
-// A picture of these parts, with the legend between them.
-fn whole(alloc: Global, parts: (&str, &str)) -> Result<String, Fail> {
-    let (above, below) = parts;
-    let text = format!(in alloc; "{above}{LEGEND}{below}")?;
+// The whole picture of these parts, which is ten times as fine as it is large.
+fn whole(alloc: Global, parts: &Parts) -> Result<String, Fail> {
+    let Parts {
+        height,
+        title,
+        below,
+    } = parts;
+    let text = format!(in alloc;
+        "<?xml version=\"1.0\" encoding=\"UTF-8\"?>
+<svg xmlns=\"http://www.w3.org/2000/svg\" xmlns:xlink=\"http://www.w3.org/1999/xlink\" version=\"1.1\" width=\"1000\" height=\"{height}\" viewBox=\"0 0 10000 {height}0\">
+<title>{title}</title>
+{LEGEND}{below}"
+    )?;
     Ok(text)
 }
 
@@ -191,7 +203,7 @@ fn late_and_not_done(rt: HostRuntime) -> Result<(), Fail> {
     let releases = [first, second, released(1050, "a", 0)?];
     let bounds = [(0, 550), (1, 1600)];
     let text = drawn(alloc, &set, &bounds, &[1, 0], 1300, &releases)?;
-    assert_eq!(rt; text.as_str(), whole(alloc, PICTURE)?.as_str());
+    assert_eq!(rt; text.as_str(), whole(alloc, &PICTURE)?.as_str());
     Ok(())
 }
 
@@ -199,6 +211,6 @@ fn late_and_not_done(rt: HostRuntime) -> Result<(), Fail> {
 fn no_task(rt: HostRuntime) -> Result<(), Fail> {
     let set = set_of(rt.alloc(), "")?;
     let text = drawn(rt.alloc(), &set, &[], &[], 0, &[])?;
-    assert_eq!(rt; text.as_str(), whole(rt.alloc(), EMPTY_PICTURE)?.as_str());
+    assert_eq!(rt; text.as_str(), whole(rt.alloc(), &EMPTY_PICTURE)?.as_str());
     Ok(())
 }
