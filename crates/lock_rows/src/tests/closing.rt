@@ -1,7 +1,7 @@
 //! Opening and closing desks.
 ghost use Rattle.std.specs.Prelude.{◌≡◌};
 
-use crate::desks::{Pair, close, committed, drafted, two_teams, with};
+use crate::tests::desks::{Pair, close, committed, drafted, two_teams, with};
 use book_lock::{CloseCause, Desk, NewFault, Pass};
 use example_sets::again;
 use std::alloc::Global;

@@ -1,9 +1,9 @@
 //! What a commit refuses, a refused receipt, and a commit during an analysis.
 ghost use Rattle.std.specs.Prelude.{◌≡◌};
 
-use crate::desks::{Pair, answer_to, closed, commit_both, draft_both, said, two_teams};
-use crate::gates::{CrowdGate, ShutGate};
-use crate::workers::commit_at_once;
+use crate::tests::desks::{Pair, answer_to, closed, commit_both, draft_both, said, two_teams};
+use crate::tests::gates::{CrowdGate, ShutGate};
+use crate::tests::workers::commit_at_once;
 use book_lock::{CommitCause, Pass};
 use candidate_workers::OpenGate;
 use drafts::Draft;

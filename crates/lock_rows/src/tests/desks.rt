@@ -90,10 +90,8 @@ pub fn opened<L: Ledger, R: Wait>(
     desk: &Desk<L>,
     pass: &Pass<L>,
 ) -> Result<Draft, Fail> {
-    match again!(desk.open(rt, alloc, pass), OpenFault::OutOfMemory) {
-        Ok(draft) => Ok(draft),
-        Err(_) => Err("a draft")?,
-    }
+    let answer = again!(desk.open(rt, alloc, pass), OpenFault::OutOfMemory);
+    Ok(answer.ok().ok_or("a draft")?)
 }
 
 /// A draft of the pass's team that puts one task of this cost, with a deadline of 10,000, its period.
@@ -151,10 +149,8 @@ pub fn committed<L: Ledger, R: Threads + Wait>(
     pass: &mut Pass<L>,
     draft: Draft,
 ) -> Result<usize, Fail> {
-    match answer_to(rt, alloc, desk, pass, draft, 1, &OpenGate) {
-        Ok(place) => Ok(place),
-        Err(_) => Err("a decision")?,
-    }
+    let answer = answer_to(rt, alloc, desk, pass, draft, 1, &OpenGate);
+    Ok(answer.ok().ok_or("a decision")?)
 }
 
 /// Drafts of both teams on the present state, of which each puts one task of this name and cost.

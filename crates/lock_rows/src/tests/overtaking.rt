@@ -1,8 +1,8 @@
 //! A commit that is overtaken three times.
 ghost use Rattle.std.specs.Prelude.{◌≡◌};
 
-use crate::desks::{Pair, closed, committed, drafted, placed, response, said, two_teams};
-use crate::gates::CountingGate;
+use crate::tests::desks::{Pair, closed, committed, drafted, placed, response, said, two_teams};
+use crate::tests::gates::CountingGate;
 use book_lock::{Desk, Pass};
 use drafts::Draft;
 use example_sets::{name, wait_until};

@@ -1,7 +1,7 @@
 //! Two teams collide, and two teams fit.
 ghost use Rattle.std.specs.Prelude.{◌≡◌};
 
-use crate::desks::{
+use crate::tests::desks::{
     Pair, closed, commit_both, committed, draft_both, drafted, opened, response, said, two_teams,
 };
 use book_lock::{Closing, Desk, DeskFault, Pass, Settlement};
@@ -65,21 +65,15 @@ fn both<R: Threads + Wait>(
     both_on::<Brand, R>(rt, alloc, Blank::new(8), cost)
 }
 
+// At cost 6000 the second commit is infeasible, at cost 4000 both fit.
 #[test]
-fn two_teams_collide(rt: HostRuntime) -> Result<(), Fail> {
-    let (places, told) = both(&rt, rt.alloc(), 6000)?;
-    assert!(rt; places == (1, 2) && told.entries == 2);
-    assert!(rt; told.first == (1, 1) && told.second == (2, 200));
-    assert!(rt; told.a == 6000 && told.b == 0);
-    Ok(())
-}
-
-#[test]
-fn two_teams_fit(rt: HostRuntime) -> Result<(), Fail> {
-    let (places, told) = both(&rt, rt.alloc(), 4000)?;
-    assert!(rt; places == (1, 2) && told.entries == 2);
-    assert!(rt; told.first == (1, 1) && told.second == (2, 2));
-    assert!(rt; told.a == 8000 && told.b == 4000);
+fn two_teams_collide_or_fit(rt: HostRuntime) -> Result<(), Fail> {
+    for (cost, second, a, b) in [(6000, (2, 200), 6000, 0), (4000, (2, 2), 8000, 4000)] {
+        let (places, told) = both(&rt, rt.alloc(), cost)?;
+        assert!(rt; places == (1, 2) && told.entries == 2);
+        assert!(rt; told.first == (1, 1) && told.second == second);
+        assert!(rt; told.a == a && told.b == b);
+    }
     Ok(())
 }
 
@@ -202,8 +196,7 @@ fn settle_both<L: Ledger, R: Threads + Wait>(
     rt: &R,
     alloc: Global,
     two: &mut Pair<L>,
-    first: Proposal,
-    second: Proposal,
+    (first, second): (Proposal, Proposal),
 ) -> Result<(Option<usize>, Option<(u64, u64)>), Fail> {
     let one = outcome_of(rt, alloc, &two.desk, &mut two.first, first)?;
     let place = place_of(&one);
@@ -220,8 +213,8 @@ fn settled_on<L: Ledger, R: Threads + Wait>(
     requires { (blank.name ≡ L.name) × (blank.parts ≡ L.parts) × (L.parts ≡ 8) }
 {
     let mut two = two_teams::<L>(alloc, blank)?;
-    let (first, second) = proposals(rt, alloc, &two)?;
-    let (place, fresh) = settle_both(rt, alloc, &mut two, first, second)?;
+    let proposals = proposals(rt, alloc, &two)?;
+    let (place, fresh) = settle_both(rt, alloc, &mut two, proposals)?;
     Ok((place, fresh, closed(alloc, two)?.log.len()))
 }
 

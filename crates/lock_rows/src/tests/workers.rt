@@ -1,8 +1,8 @@
 //! A commit is tested by as many workers as are asked for, in its first round and in a later one.
 ghost use Rattle.std.specs.Prelude.{◌≡◌};
 
-use crate::desks::{Pair, closed, drafted, opened, placed, put, two_teams};
-use crate::gates::CrowdGate;
+use crate::tests::desks::{Pair, closed, drafted, opened, placed, put, two_teams};
+use crate::tests::gates::CrowdGate;
 use book_lock::{Desk, Pass};
 use candidate_workers::OpenGate;
 use drafts::Draft;
