@@ -7,14 +7,26 @@ use std::alloc::Global;
 use std::test::Fail;
 use streams::Watched;
 
+/// What a call prints, and its status.
+pub fn printed_by<F: FnOnce(&mut Watched<Vec<u8>>) -> Status>(
+    alloc: Global,
+    call: F,
+) -> Result<(String, Status), Fail>
+    requires { F.IsAlwaysCallable call }
+{
+    let mut output = Watched::new(Vec::new(alloc));
+    let status = call(&mut output);
+    Ok((String::from_utf8(output.into_inner())?, status))
+}
+
 // What a command prints of a text, and its status.
 fn printed_of_one(alloc: Global, command: OfOne, text: &[u8]) -> Result<(String, Status), Fail> {
-    let mut printed = Vec::new(alloc);
-    let mut reader = Watched::new(text);
-    let mut writer = Watched::new(&mut printed);
     let by = Preference::Weights;
-    let status = carry_out(alloc, command, by, &mut reader, &mut writer, &mut Nobody);
-    Ok((String::from_utf8(printed)?, status))
+    let mut input = Watched::new(text);
+    printed_by(
+        alloc,
+        |output| carry_out(alloc, command, by, &mut input, output, &mut Nobody),
+    )
 }
 
 // What a command prints of two texts, and its status.
@@ -24,18 +36,19 @@ fn printed_of_two<'a>(
     set: &'a [u8],
     other: &'a [u8],
 ) -> Result<(String, Status), Fail> {
-    let mut printed = Vec::new(alloc);
-    let mut writer = Watched::new(&mut printed);
-    let status = carry_out_on_both(
-        alloc,
-        command,
-        Preference::Weights,
-        &mut Watched::new(set),
-        &mut Watched::new(other),
-        &mut writer,
-        &mut Nobody,
-    );
-    Ok((String::from_utf8(printed)?, status))
+    let by = Preference::Weights;
+    let (mut set, mut other) = (Watched::new(set), Watched::new(other));
+    printed_by(alloc, |output| {
+        carry_out_on_both(
+            alloc,
+            command,
+            by,
+            &mut set,
+            &mut other,
+            output,
+            &mut Nobody,
+        )
+    })
 }
 
 #[test]

@@ -2,7 +2,7 @@
 ghost use Rattle.std.specs.Prelude.{◌≡◌, false, IfErr};
 ghost use Rattle.candidate_workers.specs.Faults.{is_shut};
 
-use crate::gates::{CrowdGate, OnceGate, ShutOne};
+use crate::gates::{CountingGate, Rule, ShutOne};
 use crate::sets::{lowest_level, three_levels};
 use assignment::Verdict;
 use candidate_workers::{AssayFault, Crew, OpenGate, assay, share_out};
@@ -140,8 +140,8 @@ fn crowd<R: Threads + Wait>(
     workers: usize,
     wanted: u64,
 ) -> Result<Verdict, AssayFault> {
-    let came = AtomicU64::new(0);
-    assay(rt, alloc, set, workers, &CrowdGate { wanted, came })
+    let gate = CountingGate::new(Rule::Crowd { wanted });
+    assay(rt, alloc, set, workers, &gate)
 }
 
 // The order by so many workers of such a crowd.
@@ -183,12 +183,10 @@ fn asked_by<R: Threads + Wait>(
     set: Arc<TaskSet>,
     workers: usize,
 ) -> Result<u64, AssayFault> {
-    let gate = OnceGate {
-        asked: AtomicU64::new(0),
-        each: AtomicU64::new(0),
-    };
+    let each = AtomicU64::new(0);
+    let gate = CountingGate::new(Rule::Once { each });
     match assay(rt, alloc, set, workers, &gate) {
-        Ok(_) => Ok(gate.asked.load(Ordering::SeqCst)),
+        Ok(_) => Ok(gate.came.load(Ordering::SeqCst)),
         Err(fault) => Err(fault),
     }
 }

@@ -1,0 +1,233 @@
+//! Two teams collide, and two teams fit.
+ghost use Rattle.std.specs.Prelude.{◌≡◌};
+
+use crate::tests::desks::{
+    Pair, closed, commit_both, committed, draft_both, drafted, opened, response, said, two_teams,
+};
+use book_lock::{Closing, Desk, DeskFault, Pass, Settlement};
+use drafts::{Draft, EditCause, Proposal, ProposeFault, propose};
+use example_sets::{again, name};
+use std::alloc::Global;
+use std::marker::Brand;
+use std::sync::Wait;
+use std::sync::ledger::{Blank, Ledger};
+use std::test::*;
+use std::thread::Threads;
+
+/// What two entries of a log say, their number, and the responses of a and b.
+#[derive(Drop)]
+struct Told {
+    first: (u64, u64),
+    second: (u64, u64),
+    entries: usize,
+    a: u64,
+    b: u64,
+}
+
+// What a place of the log says; zeros where there is no entry.
+fn said_at(closing: &Closing, place: usize) -> (u64, u64) {
+    match closing.log.get(place) {
+        Some(entry) => said(entry),
+        None => (0, 0),
+    }
+}
+
+fn told_by(closing: &Closing) -> Result<Told, Fail> {
+    Ok(Told {
+        first: said_at(closing, 0),
+        second: said_at(closing, 1),
+        entries: closing.log.len(),
+        a: response(&closing.state, "a")?,
+        b: response(&closing.state, "b")?,
+    })
+}
+
+// Both teams open on version 0, and put a and b of this cost: the places of both commits, and what the closed desk says.
+fn both_on<L: Ledger, R: Threads + Wait>(
+    rt: &R,
+    alloc: Global,
+    blank: Blank,
+    cost: u64,
+) -> Result<((usize, usize), Told), Fail>
+    requires { (blank.name ≡ L.name) × (blank.parts ≡ L.parts) × (L.parts ≡ 8) }
+{
+    let mut two = two_teams::<L>(alloc, blank)?;
+    let places = commit_both(rt, alloc, &mut two, ("a", cost), ("b", cost))?;
+    let closing = closed(alloc, two)?;
+    Ok((places, told_by(&closing)?))
+}
+
+fn both<R: Threads + Wait>(
+    rt: &R,
+    alloc: Global,
+    cost: u64,
+) -> Result<((usize, usize), Told), Fail> {
+    both_on::<Brand, R>(rt, alloc, Blank::new(8), cost)
+}
+
+// At cost 6000 the second commit is infeasible, at cost 4000 both fit.
+#[test]
+fn two_teams_collide_or_fit(rt: HostRuntime) -> Result<(), Fail> {
+    for (cost, second, a, b) in [(6000, (2, 200), 6000, 0), (4000, (2, 2), 8000, 4000)] {
+        let (places, told) = both(&rt, rt.alloc(), cost)?;
+        assert!(rt; places == (1, 2) && told.entries == 2);
+        assert!(rt; told.first == (1, 1) && told.second == second);
+        assert!(rt; told.a == a && told.b == b);
+    }
+    Ok(())
+}
+
+// The cost of a task as the draft shows it; 0 where it shows none.
+fn cost_in(draft: &Draft, text: &str) -> Result<u64, Fail> {
+    match draft.view(name(text)?) {
+        Some(sheet) => Ok(sheet.cost()),
+        None => Ok(0),
+    }
+}
+
+// After two teams fit, team 1 opens again: the base's version, the cost of a as the draft shows it, and whether a can
+// be removed.
+fn opened_again<L: Ledger, R: Threads + Wait>(
+    rt: &R,
+    alloc: Global,
+    blank: Blank,
+) -> Result<(u64, u64, bool), Fail>
+    requires { (blank.name ≡ L.name) × (blank.parts ≡ L.parts) × (L.parts ≡ 8) }
+{
+    let mut two = two_teams::<L>(alloc, blank)?;
+    let _ = commit_both(rt, alloc, &mut two, ("a", 4000), ("b", 4000))?;
+    let mut draft = opened(rt, alloc, &two.desk, &two.first)?;
+    let cost = cost_in(&draft, "a")?;
+    let version = draft.base_version();
+    let name = name("a")?;
+    let removed = again!(draft.remove(name), EditCause::OutOfMemory);
+    Ok((version, cost, removed.is_ok()))
+}
+
+fn again<R: Threads + Wait>(rt: &R, alloc: Global) -> Result<(u64, u64, bool), Fail> {
+    opened_again::<Brand, R>(rt, alloc, Blank::new(8))
+}
+
+#[test]
+fn a_team_opens_again(rt: HostRuntime) -> Result<(), Fail> {
+    let found = again(&rt, rt.alloc())?;
+    assert!(rt; found == (2, 4000, true));
+    Ok(())
+}
+
+// After team 1's commit team 2, which has no task yet, opens: the base's version.
+fn opened_late<L: Ledger, R: Threads + Wait>(
+    rt: &R,
+    alloc: Global,
+    blank: Blank,
+) -> Result<u64, Fail>
+    requires { (blank.name ≡ L.name) × (blank.parts ≡ L.parts) × (L.parts ≡ 8) }
+{
+    let mut two = two_teams::<L>(alloc, blank)?;
+    let first = drafted(rt, alloc, &two.desk, &two.first, "a", 4000)?;
+    let _ = committed(rt, alloc, &two.desk, &mut two.first, first)?;
+    Ok(opened(rt, alloc, &two.desk, &two.second)?.base_version())
+}
+
+fn late<R: Threads + Wait>(rt: &R, alloc: Global) -> Result<u64, Fail> {
+    opened_late::<Brand, R>(rt, alloc, Blank::new(8))
+}
+
+#[test]
+fn a_team_opens_late(rt: HostRuntime) -> Result<(), Fail> {
+    let version = late(&rt, rt.alloc())?;
+    assert!(rt; version == 1);
+    Ok(())
+}
+
+fn proposed(alloc: Global, draft: Draft) -> Result<Proposal, Fail> {
+    match again!(propose(alloc, draft), ProposeFault { draft }) {
+        Ok(proposal) => Ok(proposal),
+        Err(_) => Err("a proposal")?,
+    }
+}
+
+// Proposals of both teams on version 0, of a and b.
+fn proposals<L: Ledger, R: Threads + Wait>(
+    rt: &R,
+    alloc: Global,
+    two: &Pair<L>,
+) -> Result<(Proposal, Proposal), Fail> {
+    let (first, second) = draft_both(rt, alloc, two, ("a", 6000), ("b", 6000))?;
+    Ok((proposed(alloc, first)?, proposed(alloc, second)?))
+}
+
+// What becomes of a proposal.
+fn outcome_of<L: Ledger, R: Wait>(
+    rt: &R,
+    alloc: Global,
+    desk: &Desk<L>,
+    pass: &mut Pass<L>,
+    proposal: Proposal,
+) -> Result<Settlement, Fail> {
+    let answer = again!(
+        desk.settle(rt, alloc, pass, proposal),
+        DeskFault::OutOfMemory { proposal }
+    );
+    match answer {
+        Ok(outcome) => Ok(outcome),
+        Err(_) => Err("an outcome")?,
+    }
+}
+
+// The place of a proposal that is decided.
+fn place_of(outcome: &Settlement) -> Option<usize> {
+    match outcome {
+        Settlement::Decided { place } => Some(*place),
+        Settlement::Stale { .. } => None,
+    }
+}
+
+// The version of the fresh state, where a proposal is stale, and the response of a in it.
+fn fresh_in(outcome: &Settlement) -> Result<Option<(u64, u64)>, Fail> {
+    match outcome {
+        Settlement::Decided { .. } => Ok(None),
+        Settlement::Stale { fresh, .. } => Ok(Some((fresh.version(), response(fresh, "a")?))),
+    }
+}
+
+// The place of the first, where it is decided, and what the fresh state of the second says, where it is stale.
+fn settle_both<L: Ledger, R: Threads + Wait>(
+    rt: &R,
+    alloc: Global,
+    two: &mut Pair<L>,
+    (first, second): (Proposal, Proposal),
+) -> Result<(Option<usize>, Option<(u64, u64)>), Fail> {
+    let one = outcome_of(rt, alloc, &two.desk, &mut two.first, first)?;
+    let place = place_of(&one);
+    let other = outcome_of(rt, alloc, &two.desk, &mut two.second, second)?;
+    Ok((place, fresh_in(&other)?))
+}
+
+// What both settle, and the length of the log.
+fn settled_on<L: Ledger, R: Threads + Wait>(
+    rt: &R,
+    alloc: Global,
+    blank: Blank,
+) -> Result<(Option<usize>, Option<(u64, u64)>, usize), Fail>
+    requires { (blank.name ≡ L.name) × (blank.parts ≡ L.parts) × (L.parts ≡ 8) }
+{
+    let mut two = two_teams::<L>(alloc, blank)?;
+    let proposals = proposals(rt, alloc, &two)?;
+    let (place, fresh) = settle_both(rt, alloc, &mut two, proposals)?;
+    Ok((place, fresh, closed(alloc, two)?.log.len()))
+}
+
+fn settled<R: Threads + Wait>(
+    rt: &R,
+    alloc: Global,
+) -> Result<(Option<usize>, Option<(u64, u64)>, usize), Fail> {
+    settled_on::<Brand, R>(rt, alloc, Blank::new(8))
+}
+
+#[test]
+fn a_stale_proposal(rt: HostRuntime) -> Result<(), Fail> {
+    let found = settled(&rt, rt.alloc())?;
+    assert!(rt; found == (Some(1), Some((1, 6000)), 1));
+    Ok(())
+}
