@@ -20,7 +20,8 @@ use Rattle.assignment.proofs.VerdictPlacings.{some_verdict_says}
 use Rattle.settings.specs.Settings.{settings_lines}
 use Rattle.desk_cli.specs.Admit.{Places, Says, admit_lines, placing_status, verdict_status}
 use Rattle.desk_cli.specs.Headroom.{first_line, placing_first}
-use Rattle.desk_cli.specs.Lines.{admitted_lines, infeasible_line, placing_said}
+use Rattle.desk_cli.specs.Lines.{admitted_lines, infeasible_line}
+use Rattle.desk_cli.specs.OrderParts.{placing_said}
 use Rattle.desk_cli.specs.Printed.{IsPrinted}
 use Rattle.desk_cli.specs.Sets.{HasSet}
 use Rattle.desk_cli.specs.Settings.{settings_of}

@@ -16,7 +16,8 @@ use Rattle.ceilings.specs.IsTableOf.{IsTableOf}
 use Rattle.headroom.specs.Costs.{AnswersHeadroom, IsHeadroomIn}
 use Rattle.factor.specs.Factors.{AnswersFactor}
 use Rattle.desk_cli.specs.Admit.{Admits, verdict_status}
-use Rattle.desk_cli.specs.Lines.{infeasible_line, placing_said}
+use Rattle.desk_cli.specs.Lines.{infeasible_line}
+use Rattle.desk_cli.specs.OrderParts.{placing_said}
 use Rattle.desk_cli.specs.Refusals.{refusal_line, status_of}
 use Rattle.desk_cli.specs.declared.answer.OrderPart.TheVariants.{Count}
 use Rattle.desk_cli.specs.declared.headroom_lines.Listing.{Listing}

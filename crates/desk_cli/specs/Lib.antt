@@ -8,6 +8,7 @@ pub mod Found
 pub mod Headroom
 pub mod Judge
 pub mod Lines
+pub mod OrderParts
 pub mod Outcomes
 pub mod Play
 pub mod Printed

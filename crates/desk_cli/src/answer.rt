@@ -4,7 +4,8 @@ ghost use Rattle.task_sheet.specs.Indexes.{indexes_of, listed_below};
 ghost use Rattle.desk_cli.specs.Outcomes.{IsSaidOn};
 ghost use Rattle.desk_cli.specs.Printed.{IsPrinted};
 ghost use Rattle.assignment.specs.Placings.{IsPlacingOf};
-ghost use Rattle.desk_cli.specs.Lines.{admitted_lines, infeasible_line, level_line, placing_said};
+ghost use Rattle.desk_cli.specs.Lines.{admitted_lines, infeasible_line, level_line};
+ghost use Rattle.desk_cli.specs.OrderParts.{placing_said};
 
 use crate::output::print_made;
 use crate::status::Status;
