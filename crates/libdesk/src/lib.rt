@@ -2,8 +2,7 @@
 #![tactic(auto)]
 
 mod asked;
+mod exports;
 mod hand_out;
-mod of_one;
-mod of_two;
 #[cfg(test)]
 mod tests;

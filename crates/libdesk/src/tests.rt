@@ -1,8 +1,8 @@
 //! That an answer comes where there is memory, and none into a room that is too small.
-use crate::of_one::{
-    desk_admit, desk_certify, desk_explain, desk_headroom, desk_play, desk_releases, desk_settings,
+use crate::exports::{
+    desk_admit, desk_certify, desk_check, desk_draw, desk_explain, desk_headroom, desk_judge,
+    desk_play, desk_releases, desk_settings, desk_simulate,
 };
-use crate::of_two::{desk_check, desk_draw, desk_judge, desk_simulate};
 use std::alloc::Global;
 
 const SET: &[u8] = b"[[task]]\nname = \"x\"\nperiod = 1000\ndeadline = 1000\ncost = 1000\n";
