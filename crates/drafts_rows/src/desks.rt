@@ -6,7 +6,6 @@ use drafts::{
 };
 use example_sets::{again, name};
 use std::alloc::{AllocError, Global};
-use std::process::Abort;
 use std::sync::Arc;
 use std::test::Fail;
 use task_sheet::{Name, Sheet, TaskSet};
@@ -138,22 +137,6 @@ impl Story {
         push_book(&mut self.text, &self.book)?;
         Ok(self.text)
     }
-}
-
-/// Goes through a table of cases, each with what is to be told of it.
-pub fn match_stories<C: Copy, F: Fn(Global, C) -> Result<String, Fail>>(
-    rt: &impl Abort,
-    alloc: Global,
-    rows: &[(C, &str)],
-    tell: F,
-) -> Result<(), Fail>
-    requires { F.IsAlwaysCallable tell }
-{
-    for (case, want) in rows {
-        let found = tell(alloc, *case)?;
-        assert_eq!(rt; found.as_str(), *want);
-    }
-    Ok(())
 }
 
 // The word for an edit that was not made.

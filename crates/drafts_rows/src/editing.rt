@@ -1,12 +1,12 @@
 //! Edits of drafts.
-use crate::desks::{Story, match_stories, push_refusal, put, remove, team};
+use crate::desks::{Story, push_refusal, put, remove, team};
 use drafts::{Applied, Draft};
-use example_sets::{again, name};
+use example_sets::{again, match_rows, name};
 use std::alloc::Global;
 use std::test::Fail;
 
 // Which of two full drafts: the one that was opened, or its copy.
-#[derive(Clone, Copy)]
+#[derive(Clone, Copy, Debug)]
 enum Full {
     Opened,
     Copied,
@@ -37,7 +37,7 @@ fn a_full_draft_and_its_copy(rt: HostRuntime) -> Result<(), Fail> {
         (Full::Opened, "DraftFull done 64"),
         (Full::Copied, "DraftFull done 64"),
     ];
-    match_stories(&rt, rt.alloc(), &rows, two_puts)
+    match_rows(rt.alloc(), &rows, two_puts)
 }
 
 // Whether the draft shows a name, and how many changes it has.
@@ -137,7 +137,7 @@ fn both_applied(alloc: Global) -> Result<String, Fail> {
 }
 
 // What is told of drafts.
-#[derive(Clone, Copy)]
+#[derive(Clone, Copy, Debug)]
 enum Edits {
     RemovalsInTheirOrder,
     AfterARebaseOntoAForeignName,
@@ -172,5 +172,5 @@ fn edits_of_drafts(rt: HostRuntime) -> Result<(), Fail> {
             "a 1; c 2; d 1; 1 admitted 1; NotYours a",
         ),
     ];
-    match_stories(&rt, rt.alloc(), &rows, told)
+    match_rows(rt.alloc(), &rows, told)
 }

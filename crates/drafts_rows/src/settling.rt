@@ -1,7 +1,7 @@
 //! Commits: what is answered, and what the book is then.
-use crate::desks::{Story, match_stories, proposed, remove, team};
+use crate::desks::{Story, proposed, remove, team};
 use drafts::{Book, NodeState, Proposal};
-use example_sets::{again, name};
+use example_sets::{again, match_rows, name};
 use std::alloc::Global;
 use std::test::Fail;
 use task_sheet::Members;
@@ -38,7 +38,7 @@ fn two_teams_collide_or_fit(rt: HostRuntime) -> Result<(), Fail> {
             "1 admitted 1; stale 1; 2 admitted 2; version 2 of 2 a 8000 b 4000",
         ),
     ];
-    match_stories(&rt, rt.alloc(), &rows, two_teams)
+    match_rows(rt.alloc(), &rows, two_teams)
 }
 
 // Team 1 puts a (7000, 7000, 3000), with this jitter and above b; then team 2 puts b (12000, 12000, 3000).
@@ -63,7 +63,7 @@ fn a_name_that_comes_later_binds(rt: HostRuntime) -> Result<(), Fail> {
             "1 admitted 1; 2 admitted 2; version 2 of 2 b 6000 a 4000",
         ),
     ];
-    match_stories(&rt, rt.alloc(), &rows, a_over_b)
+    match_rows(rt.alloc(), &rows, a_over_b)
 }
 
 // What a copy of the state says after commits of two teams: its version, and each team's tasks by their indexes.
@@ -137,7 +137,7 @@ fn old_snapshot(story: &mut Story) -> Result<(), Fail> {
 }
 
 // What becomes of two teams on an empty book.
-#[derive(Clone, Copy)]
+#[derive(Clone, Copy, Debug)]
 enum Course {
     OneNameTwoTeams,
     ASnapshotStaysAsItWas,
@@ -165,7 +165,7 @@ fn courses_of_two_teams(rt: HostRuntime) -> Result<(), Fail> {
             "1 admitted 1; 2 admitted 2; 3 admitted 3; base 0 sees b: false; version 3 of 3 b 1200",
         ),
     ];
-    match_stories(&rt, rt.alloc(), &rows, told)
+    match_rows(rt.alloc(), &rows, told)
 }
 
 // A book whose version 1 is one put of a team.
@@ -185,7 +185,7 @@ fn settled_in(alloc: Global, book: Book, proposal: Proposal) -> Result<String, F
 }
 
 // A book with a, or an empty one.
-#[derive(Clone, Copy)]
+#[derive(Clone, Copy, Debug)]
 enum Held {
     A,
     Nothing,
@@ -208,7 +208,7 @@ fn a_proposal_from_another_book(rt: HostRuntime) -> Result<(), Fail> {
         (Held::A, "stranger; 1 back; version 1 of 1 a 1000"),
         (Held::Nothing, "stranger; 1 back; version 0 of 0"),
     ];
-    match_stories(&rt, rt.alloc(), &rows, from_another)
+    match_rows(rt.alloc(), &rows, from_another)
 }
 
 // A proposal of team 1 that puts a task of this name and cost 3000 on a book where this team holds a with this cost, settled
@@ -236,7 +236,7 @@ fn a_proposal_from_a_like_book(rt: HostRuntime) -> Result<(), Fail> {
         ),
         ((2, 1000, "a"), "stranger; 1 back; version 1 of 1 a 1000"),
     ];
-    match_stories(&rt, rt.alloc(), &rows, from_a_like_book)
+    match_rows(rt.alloc(), &rows, from_a_like_book)
 }
 
 // A draft with that many puts, committed to an empty book.
@@ -258,5 +258,5 @@ fn empty_and_full_drafts(rt: HostRuntime) -> Result<(), Fail> {
         (32, "1 admitted 1; version 1 of 1, 32 tasks"),
         (33, "1 refused TooManyTasks; version 0 of 1, 0 tasks"),
     ];
-    match_stories(&rt, rt.alloc(), &rows, commit_full)
+    match_rows(rt.alloc(), &rows, commit_full)
 }
