@@ -125,7 +125,10 @@ fn push_releases(
             if releases.len() == RELEASE_LIMIT {
                 return Err(RunFault::TooMany);
             }
-            releases.push(release_of(sheet, instant, time))?;
+            match releases.push(release_of(sheet, instant, time)) {
+                Ok(()) => {}
+                Err(_) => return Err(RunFault::OutOfMemory),
+            }
         }
     }
     Ok(())

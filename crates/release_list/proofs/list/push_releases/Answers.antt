@@ -3,7 +3,7 @@ use Rattle.std.proofs.lemmas.List.{length-append}
 use Rattle.ceiling_kernel.specs.declared.trace.Release.{Release}
 use Rattle.release_list.proofs.DensestLaws.{push_next, pass_next, too_many}
 use Rattle.release_list.proofs.list.push_releases.Goals as goal
-use Rattle.release_list.proofs.list.push_releases.Goals.{then-is_listed+else-len-eq-RELEASE_LIMIT+in_ok-push, else-is_listed}
+use Rattle.release_list.proofs.list.push_releases.Goals.{then-is_listed+else-len-eq-RELEASE_LIMIT+in-Ok, else-is_listed}
 
 pub returns-then-len-eq-RELEASE_LIMIT : goal.returns-then-len-eq-RELEASE_LIMIT
 returns-then-len-eq-RELEASE_LIMIT c =
@@ -13,8 +13,8 @@ returns-then-len-eq-RELEASE_LIMIT c =
 pub loop-sheet-preserved : goal.loop-sheet-preserved
 loop-sheet-preserved c =
     elim c.if-is_listed.branch [
-      | then-is_listed+else-len-eq-RELEASE_LIMIT+in_ok-push w ↦
-          let is : c.if-is_listed.releases.items ≡ c.loop-sheet.releases.items ++ w.release_of.result ∷ [] = ap (λ (v : Vec Release Global). v.items) w.releases-is ∙ w.in_ok-push.ensures.items in
+      | then-is_listed+else-len-eq-RELEASE_LIMIT+in-Ok w ↦
+          let is : c.if-is_listed.releases.items ≡ c.loop-sheet.releases.items ++ w.release_of.result ∷ [] = ap (λ (v : Vec Release Global). v.items) w.releases-is ∙ w.in-Ok.ensures.items in
           let long : length c.if-is_listed.releases.items ≡ length c.loop-sheet.releases.items + 1 = ap length is ∙ length-append c.loop-sheet.releases.items (w.release_of.result ∷ []) in
           let full : length c.loop-sheet.releases.items ≡ w.len.result = sym c.loop-sheet.releases.ok.0 ∙ sym w.len.ensures in (
             push_next c.args.sheets.now c.args.instant c.args.time c.args.until c.args.releases.now.items c.loop-sheet.releases.items c.loop-sheet.sheet-index c.sheet-item.result
