@@ -1,20 +1,9 @@
 //! The lines of a release list.
 ghost use Rattle.std.specs.Prelude.{◌≡◌, ◌++◌, OnOk, IfOk, string_bytes};
-ghost use Rattle.release_list.specs.Text.{late_words, list_lines, release_line, release_lines};
+ghost use Rattle.release_list.specs.Text.{list_lines, release_line, release_lines};
 
 use ceiling_kernel::Release;
 use std::alloc::{AllocError, Global};
-
-// How late a release is; nothing of one that isn't late.
-fn push_late(text: &mut String, late: u64) -> Result<(), AllocError>
-    ensures { OnOk result (string_bytes text.new ≡ string_bytes text.old ++ late_words late) }
-{
-    if late == 0 {
-        Ok(())
-    } else {
-        write!(text, " {late}")
-    }
-}
 
 // The line of a release.
 fn push_release(text: &mut String, release: Release) -> Result<(), AllocError>
@@ -22,8 +11,11 @@ fn push_release(text: &mut String, release: Release) -> Result<(), AllocError>
 {
     let time = release.time;
     let name = release.name;
+    let late = release.late;
     write!(text, "{time} {name}")?;
-    push_late(text, release.late)?;
+    if late != 0 {
+        write!(text, " {late}")?;
+    }
     text.push_str("\n")
 }
 
