@@ -21,6 +21,7 @@ pub mod ReleaseLaws
 pub mod TurnLaws
 pub mod SortLaws
 pub mod RunLaws
+pub mod StopLaws
 pub mod AcceptLaws
 pub mod EndLaws
 pub mod OrderLaws

@@ -1,17 +1,15 @@
-use Rattle.std.proofs.Common.{◌≡◌, ◌≢◌, ◌+◌, ◌-◌, ◌<◌, ◌≤◌, refl, sym, ap, ◌∙◌, arith, All, List, length, vec_len, ℕ, subst, set, drop, Option, Some, None, slice_index_or}
+use Rattle.std.proofs.Common.{◌≡◌, ◌+◌, ◌-◌, ◌<◌, ◌≤◌, refl, sym, ap, ◌∙◌, arith, All, List, length, vec_len, ℕ, subst, Option, Some, None, slice_index_or}
 use Rattle.ceilings.specs.IsTableOf.{locks_of}
-use Rattle.ceiling_kernel.specs.declared.run.Pending.{Pending}
 use Rattle.ceiling_kernel.specs.declared.tasks.NodeSection.{NodeSection}
-use Rattle.ceiling_kernel.specs.Trace.{with_run}
 use Rattle.ceiling_kernel.specs.NodeTasks.{IsTaskOf}
 use Rattle.ceiling_kernel.specs.States.{best_slot, next_change}
 use Rattle.task_sheet.specs.Sheet.{task_at}
 use Rattle.ceiling_kernel.specs.Lists.{listed, list_at, Queues}
-use Rattle.ceiling_kernel.specs.Owners.{owner_of, with_owners, AreOwners}
 use Rattle.ceiling_kernel.proofs.OwnerLaws.{with_owners-length, locks_within}
-use Rattle.ceiling_kernel.proofs.ListsLaws.{count_kept, count_moved, listed_length}
+use Rattle.ceiling_kernel.proofs.ListsLaws.{listed_length}
 use Rattle.ceiling_kernel.proofs.PriorityLaws.{active_within}
-use Rattle.ceiling_kernel.proofs.RunLaws.{list_is, finish_lists, finish_alone, run_lists, run_alone, few_tasks, idle_kept, idle_slices, idle_finishes, leave_owners, run_owners, job_in, task_in, task_in_slots, small, ahead, run_slices, run_kept, finish_kept, run_finishes, finish_finishes}
+use Rattle.ceiling_kernel.proofs.StopLaws.{done, runs_on}
+use Rattle.ceiling_kernel.proofs.RunLaws.{list_is, few_tasks, idle_kept, idle_slices, idle_finishes, job_in, task_in, task_in_slots, small, ahead}
 use Rattle.ceiling_kernel.proofs.run.Simulation.advance.Goals.{After-index-tasks-picked}
 use Rattle.ceiling_kernel.proofs.run.Simulation.advance.Goals as goal
 
@@ -105,84 +103,26 @@ index_mut-requires-then-executed-task c =
 
 pub returns-then-executed-task : goal.returns-then-executed-task
 returns-then-executed-task c =
-    let node = c.args.kernel.now in
-    let rs = c.args.agenda.now.releases.now in
-    let s = c.args.self.now in
-    let p = c.in-Some.picked in
-    let lim = c.limit_of-limit.ensures in
-    let st = c.stop_at-stop.ensures in
     let known = (goal.at.returns-then-executed-task c).After-index-tasks-picked in
-    let task = task known in
-    let full : c.in-Some.picked.executed + (c.stop_at-stop.result - c.args.self.now.now) ≡ (task_at c.args.kernel.now.tasks c.in-Some.picked.task).cost = c.if-executed-task.true ∙ task.cost in
-    let slices = run_slices node rs c.args.agenda.now.turns.now c.requires.runnable s.now s.next s.slots.items c.requires.running.kept c.limit_of-limit.result lim.after lim.next p (best known) c.index-tasks-picked.result task c.stop_at-stop.result st.after st.limit st.within in
-    let gives : c.set_owners.new.owners.items ≡ with_owners s.owners.items c.index-tasks-picked.result.sections.items p.executed None =
-    rw c.deref-3.ensures.value at c.set_owners.ensures in
+    let st = c.stop_at-stop.ensures in
     record {
-      ok = record {
-        running = record {
-          kept = finish_kept node rs c.args.agenda.now.turns.now c.requires.runnable s.now s.next s.slots.items c.requires.running.kept c.limit_of-limit.result lim.after lim.next p (best known) c.index-tasks-picked.result task c.stop_at-stop.result st.after st.limit st.within full;
-          list_count = count_kept s.lists.items c.drop_first.new.lists.items p.active (drop 1 (list_at (listed s.lists.items) p.active)) c.drop_first.ensures ∙ c.requires.running.list_count;
-          queues = subst (λ x. Queues (λ k. slice_index_or (set s.slots.items p.task None) k None) (list_at x)) (sym c.drop_first.ensures)
-              (finish_lists node rs c.args.agenda.now.turns.now c.requires.runnable s.now s.next s.slots.items c.requires.running.kept c.limit_of-limit.result lim.after lim.next p (best known) (listed s.lists.items) c.requires.running.queues);
-          lock_count = ap (λ (xs : List (Option ℕ)). length xs) gives ∙ (with_owners-length s.owners.items c.index-tasks-picked.result.sections.items p.executed None ∙ c.requires.running.lock_count);
-          owners = subst (λ x. AreOwners node.tasks (λ k. slice_index_or (set s.slots.items p.task None) k None) (owner_of node.tasks x)) (sym gives)
-              (leave_owners node rs c.args.agenda.now.turns.now c.requires.runnable s.now s.next s.slots.items c.requires.running.kept c.limit_of-limit.result lim.after lim.next p (best known) c.index-tasks-picked.result task s.owners.items c.requires.running.lock_count c.requires.running.owners);
-          alone = finish_alone node rs c.args.agenda.now.turns.now c.requires.runnable s.now s.next s.slots.items c.requires.running.kept c.limit_of-limit.result lim.after lim.next p (best known) (listed s.lists.items) c.requires.running.queues c.requires.running.alone;
-          slices = c.in_ok-add.ensures.run ∙ (ap (λ y. with_run y c.in-Some.picked.job c.args.self.now.now c.stop_at-stop.result) c.requires.running.slices ∙ sym slices);
-          tidy = c.in_ok-add.ensures.tidy;
-          finishes = finish_finishes node rs c.args.agenda.now.turns.now c.requires.runnable s.now s.next s.slots.items c.requires.running.kept c.limit_of-limit.result lim.after lim.next p (best known) c.index-tasks-picked.result task c.stop_at-stop.result st.after st.limit st.within full s.finishes.items c.requires.running.finishes;
-        };
-        bounded = omega (arith, st.limit, lim.until);
-        less = omega (arith, st.limit, lim.until, st.after);
-      };
+      ok = done c.args.kernel.now c.args.agenda.now.releases.now c.args.agenda.now.turns.now c.requires.runnable c.args.self.now c.requires.running c.limit_of-limit.result c.limit_of-limit.ensures.after c.limit_of-limit.ensures.next
+          c.in-Some.picked (best known) c.index-tasks-picked.result (task known) c.stop_at-stop.result st.after st.limit st.within c.args.until c.limit_of-limit.ensures.until
+          _ refl refl c.in_ok-add.ensures.run c.in_ok-add.ensures.tidy
+          c.if-executed-task.true refl c.drop_first.ensures (rw c.deref-3.ensures.value at c.set_owners.ensures) refl;
     }
 
 pub returns : goal.returns
 returns c =
-    let node = c.args.kernel.now in
-    let rs = c.args.agenda.now.releases.now in
-    let s = c.args.self.now in
-    let p = c.in-Some.picked in
-    let lim = c.limit_of-limit.ensures in
-    let st = c.stop_at-stop.ensures in
     let known = (goal.at.returns c).After-index-tasks-picked in
-    let task = task known in
-    let most = (runs known).1 in
-    let differ : c.in-Some.picked.executed + (c.stop_at-stop.result - c.args.self.now.now) ≢ c.index-tasks-picked.result.cost = c.if-executed-task.false in
-    let open_ : c.in-Some.picked.executed + (c.stop_at-stop.result - c.args.self.now.now) < (task_at c.args.kernel.now.tasks c.in-Some.picked.task).cost = omega (arith, most, task.cost, st.within) in
-    let slices = run_slices node rs c.args.agenda.now.turns.now c.requires.runnable s.now s.next s.slots.items c.requires.running.kept c.limit_of-limit.result lim.after lim.next p (best known) c.index-tasks-picked.result task c.stop_at-stop.result st.after st.limit st.within in
-    let next : Pending = record {
-      job = c.in-Some.picked.job;
-      task = c.in-Some.picked.task;
-      level = c.in-Some.picked.level;
-      executed = c.in-Some.picked.executed + (c.stop_at-stop.result - c.args.self.now.now);
-      active = c.active-active.result;
-    } in
-    let gives : c.set_owners.new.owners.items ≡ with_owners s.owners.items c.index-tasks-picked.result.sections.items p.executed None =
-    rw c.deref-3.ensures.value at c.set_owners.ensures in
-    let takes : c.set_owners-2.new.owners.items ≡ with_owners (with_owners s.owners.items c.index-tasks-picked.result.sections.items p.executed None) c.index-tasks-picked.result.sections.items next.executed (Some p.task) =
-    rw (c.deref-4.ensures.value, gives) at c.set_owners-2.ensures in
+    let st = c.stop_at-stop.ensures in
+    let gives = rw c.deref-3.ensures.value at c.set_owners.ensures in
     record {
-      ok = record {
-        running = record {
-          kept = run_kept node rs c.args.agenda.now.turns.now c.requires.runnable s.now s.next s.slots.items c.requires.running.kept c.limit_of-limit.result lim.after lim.next p (best known) c.index-tasks-picked.result task c.stop_at-stop.result st.after st.limit st.within
-              next refl refl refl refl (c.active-active.ensures node c.in-Some.picked.task task) open_;
-          list_count = count_moved s.lists.items c.move_first.new.lists.items p.active next.active p.task c.in_ok-move_first.ensures ∙ c.requires.running.list_count;
-          queues = subst (λ x. Queues (λ k. slice_index_or (set s.slots.items p.task (Some next)) k None) (list_at x)) (sym c.in_ok-move_first.ensures)
-              (run_lists node rs c.args.agenda.now.turns.now c.requires.runnable s.now s.next s.slots.items c.requires.running.kept c.limit_of-limit.result lim.after lim.next p (best known) c.index-tasks-picked.result task c.stop_at-stop.result st.after st.limit st.within (listed s.lists.items) c.requires.running.queues c.requires.running.alone (listed_length s.lists.items ∙ c.requires.running.list_count)
-              next refl (c.active-active.ensures node c.in-Some.picked.task task));
-          lock_count = ap (λ (xs : List (Option ℕ)). length xs) takes ∙ (with_owners-length (with_owners s.owners.items c.index-tasks-picked.result.sections.items p.executed None) c.index-tasks-picked.result.sections.items next.executed (Some p.task)
-              ∙ (with_owners-length s.owners.items c.index-tasks-picked.result.sections.items p.executed None ∙ c.requires.running.lock_count));
-          owners = subst (λ x. AreOwners node.tasks (λ k. slice_index_or (set s.slots.items p.task (Some next)) k None) (owner_of node.tasks x)) (sym takes)
-              (run_owners node rs c.args.agenda.now.turns.now c.requires.runnable s.now s.next s.slots.items c.requires.running.kept c.limit_of-limit.result lim.after lim.next p (best known) c.index-tasks-picked.result task c.stop_at-stop.result st.after st.limit st.within next refl s.owners.items c.requires.running.lock_count c.requires.running.owners);
-          alone = run_alone node rs c.args.agenda.now.turns.now c.requires.runnable s.now s.next s.slots.items c.requires.running.kept c.limit_of-limit.result lim.after lim.next p (best known) c.index-tasks-picked.result task c.stop_at-stop.result st.after st.limit st.within (listed s.lists.items) c.requires.running.queues c.requires.running.alone next refl (c.active-active.ensures node c.in-Some.picked.task task);
-          slices = c.in_ok-add.ensures.run ∙ (ap (λ y. with_run y c.in-Some.picked.job c.args.self.now.now c.stop_at-stop.result) c.requires.running.slices ∙ sym slices);
-          tidy = c.in_ok-add.ensures.tidy;
-          finishes = run_finishes node rs c.args.agenda.now.turns.now c.requires.runnable s.now s.next s.slots.items c.requires.running.kept c.limit_of-limit.result lim.after lim.next p (best known) c.index-tasks-picked.result task c.stop_at-stop.result st.after st.limit st.within open_ s.finishes.items c.requires.running.finishes;
-        };
-        bounded = omega (arith, st.limit, lim.until);
-        less = omega (arith, st.limit, lim.until, st.after);
-      };
+      ok = runs_on c.args.kernel.now c.args.agenda.now.releases.now c.args.agenda.now.turns.now c.requires.runnable c.args.self.now c.requires.running c.limit_of-limit.result c.limit_of-limit.ensures.after c.limit_of-limit.ensures.next
+          c.in-Some.picked (best known) c.index-tasks-picked.result (task known) c.stop_at-stop.result st.after st.limit st.within c.args.until c.limit_of-limit.ensures.until
+          _ refl refl c.in_ok-add.ensures.run c.in_ok-add.ensures.tidy
+          _ refl refl refl refl (c.active-active.ensures c.args.kernel.now c.in-Some.picked.task (task known)) c.if-executed-task.false
+          refl c.in_ok-move_first.ensures (rw (c.deref-4.ensures.value, gives) at c.set_owners-2.ensures) refl;
     }
 
 pub pick-requires-clause-few : goal.pick-requires-clause-few
