@@ -3,7 +3,7 @@
 ghost use Rattle.std.specs.Prelude.{◌≡◌, ◌<◌, ◌≤◌, ℕ, length, vec_len, slice_index_or, replicate, IfOk, None, []};
 ghost use Rattle.task_sheet.specs.declared.set.TheConstants.{TASK_LIMIT};
 ghost use Rattle.ceiling_kernel.specs.States.{best_slot};
-ghost use Rattle.ceiling_kernel.specs.Lists.{listed, list_at, Queues, with_tail, with_head, without_head, moved_to, head_of_highest};
+ghost use Rattle.ceiling_kernel.specs.Lists.{listed, list_at, Queues, with_tail, without_head, moved_to, head_of_highest};
 
 use crate::run::Pending;
 use std::alloc::{AllocError, Global};
@@ -34,20 +34,6 @@ pub(crate) fn enqueue(
     Ok(())
 }
 
-// The task becomes the head of the list of its job's priority.
-pub(crate) fn put_first(
-    lists: &mut Vec<VecDeque<usize>>,
-    priority: u32,
-    task: usize,
-) -> Result<(), AllocError>
-    requires { priority < vec_len lists.old }
-    ensures { IfOk result (λ _. listed lists.new.items
-        ≡ with_head (listed lists.old.items) priority task) }
-{
-    lists[priority as usize].push_front(task)?;
-    Ok(())
-}
-
 // The head leaves its list.
 pub(crate) fn drop_first(lists: &mut Vec<VecDeque<usize>>, priority: u32)
     requires { priority < vec_len lists.old }
@@ -74,7 +60,8 @@ pub(crate) fn move_first(
     }
     drop_first(lists, old);
     if new < old {
-        return put_first(lists, new, task);
+        lists[new as usize].push_front(task)?;
+        return Ok(());
     }
     enqueue(lists, new, task)
 }
