@@ -8,7 +8,7 @@ use Rattle.ceiling_kernel.specs.declared.trace.JobRecord.{JobRecord}
 use Rattle.ceiling_kernel.specs.declared.trace.Slice.{Slice}
 use Rattle.picture.specs.Frame.{Frame}
 use Rattle.picture.specs.declared.rows.TaskRow.{TaskRow}
-use Rattle.picture.specs.Sections.{slice_at, executed_in, executed_with, counted, ticks_of}
+use Rattle.picture.specs.Sections.{slice_at, executed_in, executed_with, counted, ticks_of, AreUncounted}
 use Rattle.picture.specs.Rows.{on_row}
 use Rattle.picture.specs.Elements.{slice_text}
 use Rattle.picture.specs.Document.{slice_by, slice_in, of_job}
@@ -51,9 +51,9 @@ pub record AreCounts (ticks : List ℕ) (jobs : List JobRecord) (slices : List S
   pub each_job : (j : ℕ) → j < length jobs → slice_index ticks j ≡ executed_in slices n j
 
 -- of none, at first
-pub none_counted : (ticks : List ℕ) (jobs : List JobRecord) (slices : List Slice) → length ticks ≡ length jobs → ((j : ℕ) → slice_index ticks j ≡ 0) → AreCounts ticks jobs slices 0
+pub none_counted : (ticks : List ℕ) (jobs : List JobRecord) (slices : List Slice) → AreUncounted ticks (length jobs) → AreCounts ticks jobs slices 0
 unfolding executed_in
-none_counted ticks jobs slices len zeros = record { count = len; each_job = λ j lt. zeros j }
+none_counted ticks jobs slices none = record { count = none.0; each_job = λ j lt. none.1 j }
 
 -- of one slice more
 pub one_counted : (ticks : List ℕ) (jobs : List JobRecord) (slices : List Slice) (n : ℕ) (s : Slice) → s ≡ slice_at slices n → AreCounts ticks jobs slices n → AreCounts (counted ticks s) jobs slices (n + 1)

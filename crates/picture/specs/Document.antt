@@ -113,12 +113,12 @@ all_marks f rows rs =
     ++ marks_text f rows Deadline rs
 
 -- the document in a frame: what stands still, the jobs, the slices over them, and the marks
-abbrev pub framed : Frame → List TaskRow → ℕ → List Release → Trace → List ℕ
-framed f rows until rs trace =
-    ground_text f rows (length trace.jobs.items) until ++ jobs_text f rows trace.jobs.items
-    ++ slices_text f rows trace.jobs.items trace.slices.items ++ all_marks f rows rs
-    ++ codes "</svg>\n"
+abbrev pub framed : Frame → List TaskRow → ℕ → List Release → List JobRecord → List Slice → List ℕ
+framed f rows until rs jobs slices =
+    ground_text f rows (length jobs) until ++ jobs_text f rows jobs
+    ++ slices_text f rows jobs slices ++ all_marks f rows rs ++ codes "</svg>\n"
 
 -- THE DOCUMENT: the picture of a trace below a time
 abbrev pub document : List TaskRow → ℕ → List Release → Trace → List ℕ
-document rows until rs trace = framed (frame_of rows until) rows until rs trace
+document rows until rs trace =
+    framed (frame_of rows until) rows until rs trace.jobs.items trace.slices.items

@@ -1,5 +1,5 @@
 -- Which ticks of a slice are darker: those that its job executes inside a section.
-use Rattle.std.specs.Prelude.{ℕ, zero, suc, ◌+◌, ◌-◌, min, Bool, true, false, nat_lt, ◌==◌, if◌then◌else◌, List, [], ◌∷◌, length, set, slice_index, slice_index_or}
+use Rattle.std.specs.Prelude.{◌≡◌, ℕ, zero, suc, ◌+◌, ◌-◌, min, Bool, true, false, nat_lt, ◌==◌, if◌then◌else◌, List, [], ◌∷◌, length, set, slice_index, slice_index_or}
 use Rattle.task_sheet.specs.Sheet.{CriticalSection}
 use Rattle.ceiling_kernel.specs.declared.trace.Slice.{Slice}
 
@@ -23,6 +23,10 @@ executed_with j e s = if s.job == j then min e s.start + ticks_of s else e
 unfoldable pub executed_in : List Slice → ℕ → ℕ → ℕ
 executed_in slices zero j = 0
 executed_in slices (suc n) j = executed_with j (executed_in slices n j) (slice_at slices n)
+
+-- a count for each of so many jobs, which is 0
+abbrev pub AreUncounted : (ticks : List ℕ) → (jobs : ℕ) → Type 0
+AreUncounted ticks jobs = (length ticks ≡ jobs) × ((j : ℕ) → slice_index ticks j ≡ 0)
 
 -- the counts of some jobs after a slice
 abbrev pub counted : List ℕ → Slice → List ℕ

@@ -1,7 +1,7 @@
 //! Slices, as bars.
-ghost use Rattle.std.specs.Prelude.{◌≡◌, ◌+◌, ◌≤◌, ◌<◌, ℕ, length, slice_index};
+ghost use Rattle.std.specs.Prelude.{◌≡◌, ◌+◌, ◌≤◌, ◌<◌, length, slice_index};
 ghost use Rattle.picture.specs.Puts.{Puts};
-ghost use Rattle.picture.specs.Sections.{counted};
+ghost use Rattle.picture.specs.Sections.{counted, AreUncounted};
 ghost use Rattle.picture.specs.Elements.{bar_text, slice_text};
 ghost use Rattle.picture.specs.Document.{slice_by, slices_text};
 
@@ -11,27 +11,21 @@ use crate::frame::x_of;
 use crate::page::Page;
 use crate::rows::find_row;
 use crate::ticks::executed_after;
-use ceiling_kernel::{JobRecord, Slice};
+use ceiling_kernel::Slice;
 use std::io::Write;
 use streams::WriteFailed;
 
-// How many ticks a job has executed; none where there is no such job.
-fn executed_by(executed: &[u64], job: usize) -> u64
-    ensures { result ≡ slice_index executed.now job }
+// Counts the ticks of a slice, and says how many its job executed before; none where there is no such job.
+fn count_slice(executed: &mut [u64], slice: Slice) -> u64
+    ensures before { result ≡ slice_index executed.old slice.job }
+    ensures counted { executed.new ≡ counted executed.old slice }
 {
-    match executed.get(job) {
-        Some(ticks) => *ticks,
-        None => 0,
+    if slice.job >= executed.len() {
+        return 0;
     }
-}
-
-// Counts the ticks of a slice, where there is such a job.
-fn count_slice(executed: &mut [u64], slice: Slice)
-    ensures { executed.new ≡ counted executed.old slice }
-{
-    if slice.job < executed.len() {
-        executed[slice.job] = executed_after(executed[slice.job], slice);
-    }
+    let before = executed[slice.job];
+    executed[slice.job] = executed_after(before, slice);
+    before
 }
 
 impl<W: Write + Drop> Page<'_, W> {
@@ -64,22 +58,24 @@ impl<W: Write + Drop> Page<'_, W> {
         Ok(())
     }
 
-    // A slice in the row of the task of its job.
+    // A slice in the row of the task of its job; its ticks are counted.
     fn put_slice(
         &mut self,
         chart: &Chart<'_>,
-        jobs: &[JobRecord],
-        executed: u64,
+        executed: &mut [u64],
         slice: Slice,
     ) -> Result<(), WriteFailed>
-        ensures { Puts W.contents self.old self.new result
-            (slice_by chart.now.frame chart.now.rows.now jobs.now executed slice) }
+        ensures put { Puts W.contents self.old self.new result
+            (slice_by chart.now.frame chart.now.rows.now chart.now.jobs.now
+            (slice_index executed.old slice.job) slice) }
+        ensures counted { executed.new ≡ counted executed.old slice }
     {
-        match jobs.get(slice.job) {
+        let before = count_slice(executed, slice);
+        match chart.jobs.get(slice.job) {
             None => Ok(()),
             Some(job) => match find_row(chart.rows, job.name) {
                 None => Ok(()),
-                Some(k) => self.put_whole(executed, slice, &chart.lane(k)),
+                Some(k) => self.put_whole(before, slice, &chart.lane(k)),
             },
         }
     }
@@ -88,19 +84,15 @@ impl<W: Write + Drop> Page<'_, W> {
     pub(crate) fn put_slices(
         &mut self,
         chart: &Chart<'_>,
-        jobs: &[JobRecord],
-        slices: &[Slice],
         executed: &mut [u64],
     ) -> Result<(), WriteFailed>
-        requires jobs { length executed.old ≡ length jobs.now }
-        requires none { (j : ℕ) → slice_index executed.old j ≡ 0 }
+        requires { AreUncounted executed.old (length chart.now.jobs.now) }
         ensures { Puts W.contents self.old self.new result
-            (slices_text chart.now.frame chart.now.rows.now jobs.now slices.now) }
+            (slices_text chart.now.frame chart.now.rows.now chart.now.jobs.now
+            chart.now.slices.now) }
     {
-        for slice in slices {
-            let before = executed_by(executed, slice.job);
-            self.put_slice(chart, jobs, before, *slice)?;
-            count_slice(executed, *slice);
+        for slice in chart.slices {
+            self.put_slice(chart, executed, *slice)?;
         }
         Ok(())
     }

@@ -1,15 +1,20 @@
-//! Rows in a frame.
+//! A run in a frame.
 ghost use Rattle.std.specs.Prelude.{◌≡◌, ◌<◌, ◌≤◌, length};
 ghost use Rattle.task_sheet.specs.declared.set.TheConstants.{TASK_LIMIT};
 
 use crate::frame::Frame;
 use crate::rows::TaskRow;
+use ceiling_kernel::{JobRecord, Release, Slice};
 
-// How time lies in a picture, and its rows, the highest level first.
+// What is drawn: how time lies, the rows, the highest level first, when the run ends, and what happened in it.
 #[derive(Drop)]
 pub(crate) struct Chart<'a> {
     pub(crate) frame: Frame,
     pub(crate) rows: &'a [TaskRow],
+    pub(crate) until: u64,
+    pub(crate) releases: &'a [Release],
+    pub(crate) jobs: &'a [JobRecord],
+    pub(crate) slices: &'a [Slice],
     ghost few: { length rows.now ≤ TASK_LIMIT },
 }
 

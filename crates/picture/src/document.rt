@@ -1,15 +1,16 @@
 //! The whole picture.
-ghost use Rattle.std.specs.Prelude.{◌≡◌, ◌+◌, ◌≤◌, ℕ, length, slice_index, OnOk, OnErr, Err, IfOk, true};
+ghost use Rattle.std.specs.Prelude.{◌≡◌, ◌+◌, ◌≤◌, length, OnOk, OnErr, Err, IfOk, true};
 ghost use Rattle.task_sheet.specs.declared.set.TheConstants.{TASK_LIMIT};
 ghost use Rattle.picture.specs.Puts.{Puts};
 ghost use Rattle.std.specs.Io.KnownBytes.{Appends};
+ghost use Rattle.picture.specs.Sections.{AreUncounted};
 ghost use Rattle.picture.specs.Document.{framed, document};
 
 use crate::chart::Chart;
 use crate::frame::frame_of;
 use crate::page::Page;
 use crate::rows::TaskRow;
-use ceiling_kernel::{JobRecord, Release, Trace};
+use ceiling_kernel::{Release, Trace};
 use std::alloc::{AllocError, Global};
 use std::io::Write;
 use streams::{Outlet, Watched, WriteFailed};
@@ -25,8 +26,7 @@ pub enum DrawFault {
 
 // A count for each of so many jobs, which is 0.
 fn no_ticks(alloc: Global, jobs: usize) -> Result<Vec<u64>, AllocError>
-    ensures { IfOk result (λ ticks. (length ticks.items ≡ jobs)
-        × ((j : ℕ) → slice_index ticks.items j ≡ 0)) }
+    ensures { IfOk result (λ ticks. AreUncounted ticks.items jobs) }
 {
     vec![in alloc; 0; jobs]
 }
@@ -35,49 +35,37 @@ fn no_ticks(alloc: Global, jobs: usize) -> Result<Vec<u64>, AllocError>
 fn put_document<W: Write + Drop>(
     page: &mut Page<'_, W>,
     chart: &Chart<'_>,
-    until: u64,
-    releases: &[Release],
-    trace: &Trace,
     executed: &mut [u64],
 ) -> Result<(), WriteFailed>
-    requires jobs { length executed.old ≡ length trace.now.jobs.items }
-    requires none { (j : ℕ) → slice_index executed.old j ≡ 0 }
+    requires { AreUncounted executed.old (length chart.now.jobs.now) }
     ensures { Puts W.contents page.old page.new result
-        (framed chart.now.frame chart.now.rows.now until releases.now trace.now) }
+        (framed chart.now.frame chart.now.rows.now chart.now.until chart.now.releases.now
+        chart.now.jobs.now chart.now.slices.now) }
 {
-    let jobs: &[JobRecord] = &trace.jobs;
-    page.put_ground(chart, jobs.len(), until)?;
-    page.put_jobs(chart, jobs)?;
-    page.put_slices(chart, jobs, &trace.slices, executed)?;
-    page.put_all_marks(chart, releases)?;
+    page.put_ground(chart)?;
+    page.put_jobs(chart)?;
+    page.put_slices(chart, executed)?;
+    page.put_all_marks(chart)?;
     page.out.put(b"</svg>\n")
 }
 
 // The document, sent whole.
 fn put_all<W: Write + Drop>(
-    rows: &[TaskRow],
-    until: u64,
-    releases: &[Release],
-    trace: &Trace,
+    chart: &Chart<'_>,
     executed: &mut [u64],
     output: &mut Watched<W>,
 ) -> Result<(), WriteFailed>
-    requires few { length rows.now ≤ TASK_LIMIT }
-    requires jobs { length executed.old ≡ length trace.now.jobs.items }
-    requires none { (j : ℕ) → slice_index executed.old j ≡ 0 }
+    requires { AreUncounted executed.old (length chart.now.jobs.now) }
     ensures sent { OnOk result (Appends (W.contents output.old.inner) (W.contents output.new.inner)
-        (document rows.now until releases.now trace.now)) }
+        (framed chart.now.frame chart.now.rows.now chart.now.until chart.now.releases.now
+        chart.now.jobs.now chart.now.slices.now)) }
     ensures ok { OnOk result (output.new.has_failed ≡ output.old.has_failed) }
     ensures failed { OnErr result (output.new.has_failed ≡ true) }
 {
-    let chart = Chart {
-        frame: frame_of(rows, until),
-        rows,
-    };
     let mut page = Page {
         out: Outlet::new(output),
     };
-    put_document(&mut page, &chart, until, releases, trace, executed)?;
+    put_document(&mut page, chart, executed)?;
     page.out.flush()
 }
 
@@ -100,7 +88,15 @@ pub fn draw<W: Write + Drop>(
     ensures memory { result ≡ Err DrawFault.OutOfMemory → output.new ≡ output.old }
 {
     let mut executed = no_ticks(alloc, trace.jobs.len()).map_err(|_| DrawFault::OutOfMemory)?;
-    match put_all(rows, until, releases, trace, &mut executed, output) {
+    let chart = Chart {
+        frame: frame_of(rows, until),
+        rows,
+        until,
+        releases,
+        jobs: &trace.jobs,
+        slices: &trace.slices,
+    };
+    match put_all(&chart, &mut executed, output) {
         Ok(()) => Ok(()),
         Err(_) => Err(DrawFault::WriteFailed),
     }

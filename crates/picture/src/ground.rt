@@ -44,16 +44,17 @@ impl<W: Write + Drop> Page<'_, W> {
     }
 
     // The first lines.
-    fn put_head(&mut self, chart: &Chart<'_>, jobs: usize, until: u64) -> Result<(), WriteFailed>
+    fn put_head(&mut self, chart: &Chart<'_>) -> Result<(), WriteFailed>
         ensures { Puts W.contents self.old self.new result
-            (document_head chart.now.frame (length chart.now.rows.now) jobs until) }
+            (document_head chart.now.frame (length chart.now.rows.now) (length chart.now.jobs.now)
+            chart.now.until) }
     {
         self.out.put(
             b"<?xml version=\"1.0\" encoding=\"UTF-8\"?>\n<svg xmlns=\"http://www.w3.org/2000/svg\" ",
         )?;
         let rows = chart.rows.len();
         self.put_measures(chart.frame, top_of(rows) + 60)?;
-        self.put_title(rows, jobs, until)
+        self.put_title(rows, chart.jobs.len(), chart.until)
     }
 
     // A line down through the rows, and its time.
@@ -181,16 +182,12 @@ impl<W: Write + Drop> Page<'_, W> {
     }
 
     // What stands still.
-    pub(crate) fn put_ground(
-        &mut self,
-        chart: &Chart<'_>,
-        jobs: usize,
-        until: u64,
-    ) -> Result<(), WriteFailed>
+    pub(crate) fn put_ground(&mut self, chart: &Chart<'_>) -> Result<(), WriteFailed>
         ensures { Puts W.contents self.old self.new result
-            (ground_text chart.now.frame chart.now.rows.now jobs until) }
+            (ground_text chart.now.frame chart.now.rows.now (length chart.now.jobs.now)
+            chart.now.until) }
     {
-        self.put_head(chart, jobs, until)?;
+        self.put_head(chart)?;
         self.put_style()?;
         self.put_rows(chart)
     }

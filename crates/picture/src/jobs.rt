@@ -97,15 +97,11 @@ impl<W: Write + Drop> Page<'_, W> {
     }
 
     // Each job.
-    pub(crate) fn put_jobs(
-        &mut self,
-        chart: &Chart<'_>,
-        jobs: &[JobRecord],
-    ) -> Result<(), WriteFailed>
+    pub(crate) fn put_jobs(&mut self, chart: &Chart<'_>) -> Result<(), WriteFailed>
         ensures { Puts W.contents self.old self.new result
-            (jobs_text chart.now.frame chart.now.rows.now jobs.now) }
+            (jobs_text chart.now.frame chart.now.rows.now chart.now.jobs.now) }
     {
-        for job in jobs {
+        for job in chart.jobs {
             self.put_job(chart, job)?;
         }
         Ok(())

@@ -130,34 +130,25 @@ impl<W: Write + Drop> Page<'_, W> {
     }
 
     // The marks of a kind, as one path.
-    fn put_marks(
-        &mut self,
-        chart: &Chart<'_>,
-        mark: Mark,
-        releases: &[Release],
-    ) -> Result<(), WriteFailed>
+    fn put_marks(&mut self, chart: &Chart<'_>, mark: Mark) -> Result<(), WriteFailed>
         ensures { Puts W.contents self.old self.new result
-            (marks_text chart.now.frame chart.now.rows.now mark releases.now) }
+            (marks_text chart.now.frame chart.now.rows.now mark chart.now.releases.now) }
     {
         self.put_mark_head(mark)?;
-        for release in releases {
+        for release in chart.releases {
             self.put_mark(chart, mark, *release)?;
         }
         self.out.put(b"\"/>\n")
     }
 
     // The marks of all kinds.
-    pub(crate) fn put_all_marks(
-        &mut self,
-        chart: &Chart<'_>,
-        releases: &[Release],
-    ) -> Result<(), WriteFailed>
+    pub(crate) fn put_all_marks(&mut self, chart: &Chart<'_>) -> Result<(), WriteFailed>
         ensures { Puts W.contents self.old self.new result
-            (all_marks chart.now.frame chart.now.rows.now releases.now) }
+            (all_marks chart.now.frame chart.now.rows.now chart.now.releases.now) }
     {
-        self.put_marks(chart, Mark::Ready, releases)?;
-        self.put_marks(chart, Mark::Arrival, releases)?;
-        self.put_marks(chart, Mark::Bound, releases)?;
-        self.put_marks(chart, Mark::Deadline, releases)
+        self.put_marks(chart, Mark::Ready)?;
+        self.put_marks(chart, Mark::Arrival)?;
+        self.put_marks(chart, Mark::Bound)?;
+        self.put_marks(chart, Mark::Deadline)
     }
 }

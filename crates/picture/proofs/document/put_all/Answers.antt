@@ -1,6 +1,6 @@
 use Rattle.std.proofs.Common.{rules, OnOk}
 use Rattle.std.specs.Io.KnownBytes.{Appends}
-use Rattle.picture.specs.Document.{document}
+use Rattle.picture.specs.Document.{framed}
 use Rattle.picture.proofs.Puts.{all_sent}
 use Rattle.picture.proofs.document.put_all.Goals as goal
 
@@ -8,8 +8,9 @@ pub returns-clause-sent : goal.returns-clause-sent
 returns-clause-sent g c =
     let first = g.W.Write.contents c.args.output.now.inner in
     let last = g.W.Write.contents c.flush.new.self.out.now.inner in
-    let text = document c.args.rows.now c.args.until c.args.releases.now c.args.trace.now in
-    let sent = rw c.frame_of.ensures at (rw c.new.ensures.empty at (rw c.new.ensures.writer at c.in_ok-put_document.ensures.writes.sent)) in
+    let chart = c.args.chart.now in
+    let text = framed chart.frame chart.rows.now chart.until chart.releases.now chart.jobs.now chart.slices.now in
+    let sent = rw c.new.ensures.empty at (rw c.new.ensures.writer at c.in_ok-put_document.ensures.writes.sent) in
     let whole : OnOk c.flush.result (Appends first last text) =
     all_sent c.flush.result first (g.W.Write.contents c.put_document.new.page.out.out.now.inner) last c.put_document.new.page.out.held text sent c.flush.ensures.sent in
     search (rules, whole)

@@ -7,4 +7,4 @@ use Rattle.picture.specs.Document.{record_at}
 use Rattle.picture.proofs.page.Page.put_jobs.Given as goal
 
 abbrev pub invariant-loop-job : goal.invariant-loop-job
-invariant-loop-job g l = Puts g.W.Write.contents l.fn.self l.self (Ok tt) (each l.job-index (λ i. on_row l.fn.chart.rows.now (record_at l.fn.jobs i).name (job_text l.fn.chart.frame (record_at l.fn.jobs i))))
+invariant-loop-job g l = Puts g.W.Write.contents l.fn.self l.self (Ok tt) (each l.job-index (λ i. on_row l.fn.chart.rows.now (record_at l.fn.chart.jobs.now i).name (job_text l.fn.chart.frame (record_at l.fn.chart.jobs.now i))))

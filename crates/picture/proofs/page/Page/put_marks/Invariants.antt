@@ -7,4 +7,4 @@ use Rattle.ceiling_kernel.specs.Releases.{release_at}
 use Rattle.picture.proofs.page.Page.put_marks.Given as goal
 
 abbrev pub invariant-loop-release : goal.invariant-loop-release
-invariant-loop-release g l = Puts g.W.Write.contents l.fn.self l.self (Ok tt) (mark_head l.fn.mark ++ each l.release-index (λ i. on_row l.fn.chart.rows.now (release_at l.fn.releases i).name (mark_text l.fn.chart.frame l.fn.mark (release_at l.fn.releases i))))
+invariant-loop-release g l = Puts g.W.Write.contents l.fn.self l.self (Ok tt) (mark_head l.fn.mark ++ each l.release-index (λ i. on_row l.fn.chart.rows.now (release_at l.fn.chart.releases.now i).name (mark_text l.fn.chart.frame l.fn.mark (release_at l.fn.chart.releases.now i))))
