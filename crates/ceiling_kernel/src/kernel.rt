@@ -1,5 +1,6 @@
 //! Kernels: a set's tasks at the levels of an order.
-ghost use Rattle.std.specs.Prelude.{◌≡◌, length, IfOk, IfErr};
+ghost use Rattle.std.specs.Prelude.{◌≡◌, ◌≤◌, length, IfOk, IfErr};
+ghost use Rattle.task_sheet.specs.declared.set.TheConstants.{TASK_LIMIT};
 ghost use Rattle.task_sheet.specs.Orders.{IsOrder};
 ghost use Rattle.ceilings.specs.IsTableOf.{locks_of};
 ghost use Rattle.ceiling_kernel.specs.Tick.{node_in};
@@ -20,17 +21,6 @@ pub enum KernelFault {
     WrongOrder,
     /// Want of memory.
     OutOfMemory,
-}
-
-impl From<AllocError> for KernelFault {
-    ghost use Rattle.std.specs.Prelude.{◌≡◌};
-    ghost use Rattle.ceiling_kernel.specs.declared.kernel.KernelFault.TheVariants.{OutOfMemory};
-
-    ghost from_gives = { λ _ fault. fault ≡ OutOfMemory };
-
-    fn from(_: AllocError) -> KernelFault {
-        KernelFault::OutOfMemory
-    }
 }
 
 /// A set's tasks, each at its level in an order, and how many locks they have.
@@ -67,6 +57,15 @@ impl<'a> Kernel<'a> {
         if !is_order(order, set.len()) {
             return Err(KernelFault::WrongOrder);
         }
+        Kernel::in_order(alloc, set, order).map_err(|_| KernelFault::OutOfMemory)
+    }
+
+    // The kernel of a set in an order.
+    fn in_order(alloc: Global, set: &'a TaskSet, order: &[usize]) -> Result<Kernel<'a>, AllocError>
+        requires few { length set.now ≤ TASK_LIMIT }
+        requires order { IsOrder set.now order.now }
+        ensures { IfOk result (λ kernel. kernel ≡ node_in set.now order.now) }
+    {
         let table = LockTable::new(alloc, set)?;
         let tasks = tasks_of(alloc, &table, order, set)?;
         let order = order.to_vec(alloc)?;
