@@ -136,28 +136,18 @@ levels_at v (suc n) k a = do
   others ← levels_at v n (k + 1) first.1
   Ok (first.0 ∷ others.0, others.1)
 
--- the next lines as n levels
-unfoldable pub best_of : CertVersion → ℕ → At → Result Body CertFault
-best_of v n a = do
-  ls ← levels_at v n 1 a
-  end ← end_at ls.1
-  Ok (Best ls.0)
-
--- the next lines as n members
-unfoldable pub members_read : CertVersion → ℕ → At → Result Body CertFault
-members_read v n a = do
-  ms ← members_at v n a
-  end ← end_at ms.1
-  Ok (NoOrder ms.0)
-
--- the rest as levels or as members, by the count that was read
-abbrev pub body_case : CertVersion → Option ℕ → Option ℕ → At → Result Body CertFault
-body_case v (Some n) other a = best_of v n a
-body_case v None (Some n) a = members_read v n a
+-- the next lines as levels or as members, by the count that was read
+abbrev pub body_case : CertVersion → Option ℕ → Option ℕ → At → Result (Body × At) CertFault
+body_case v (Some n) other a = do
+  levels ← levels_at v n 1 a
+  Ok (Best levels.0, levels.1)
+body_case v None (Some n) a = do
+  members ← members_at v n a
+  Ok (NoOrder members.0, members.1)
 body_case v None None a = Err (BadLine 2)
 
--- what follows the first line
-unfoldable pub body_at : CertVersion → At → Result Body CertFault
+-- what stands between the first line and the last one
+unfoldable pub body_at : CertVersion → At → Result (Body × At) CertFault
 body_at v a = do
   second ← line_at a
   body_case v (count_in (codes "best") (words second.0))
@@ -175,7 +165,8 @@ abbrev pub versioned : Option CertVersion → At → Result Cert CertFault
 versioned None a = Err BadHead
 versioned (Some v) a = do
   body ← body_at v a
-  Ok (record { version = v; body = body })
+  end ← end_at body.1
+  Ok (record { version = v; body = body.0 })
 
 -- the certificate that the bytes are, or the first fault
 unfoldable pub certificate_in : List ℕ → Result Cert CertFault

@@ -1,9 +1,8 @@
 //! A whole certificate.
-ghost use Rattle.std.specs.Prelude.{◌≡◌, ◌≤◌, ℕ, Option, Ok};
-ghost use Rattle.task_sheet.specs.declared.set.TheConstants.{TASK_LIMIT};
-ghost use Rattle.certificate.specs.Body.{Body, Cert};
+ghost use Rattle.std.specs.Prelude.{◌≡◌};
+ghost use Rattle.certificate.specs.Body.{Cert};
 ghost use Rattle.certificate.specs.BodyOf.{body_of};
-ghost use Rattle.certificate.specs.Lines.{Gives, at_place, best_of, members_read, body_case, body_at, version_in, certificate_in};
+ghost use Rattle.certificate.specs.Lines.{Gives, at_place, body_at, version_in, certificate_in};
 
 use crate::fault::CertFault;
 use crate::levels::levels;
@@ -22,52 +21,23 @@ pub enum CertBody {
     NoOrder(Vec<CertFail>),
 }
 
-// The rest as levels, and the last line.
-#[tactic(auto, unfolding(crate::specs::Lines::best_of))]
-fn best_of<'a>(
-    alloc: Global,
-    version: CertVersion,
-    count: u64,
-    at: TextPlace<'a>,
-) -> Result<CertBody, CertFault>
-    requires { count ≤ TASK_LIMIT }
-    ensures { Gives body_of result (best_of version count (at_place at.entry)) }
-{
-    let (levels, after) = levels(alloc, version, count, at)?;
-    end(after)?;
-    Ok(CertBody::Best(levels))
-}
-
-// The rest as members, and the last line.
-#[tactic(auto, unfolding(crate::specs::Lines::members_read))]
-fn members_of<'a>(
-    alloc: Global,
-    version: CertVersion,
-    count: u64,
-    at: TextPlace<'a>,
-) -> Result<CertBody, CertFault>
-    ensures { Gives body_of result (members_read version count (at_place at.entry)) }
-{
-    let (members, after) = members(alloc, version, count, at)?;
-    end(after)?;
-    Ok(CertBody::NoOrder(members))
-}
-
-// What follows the first line.
+// What stands between the first line and the last one, and the place behind it.
 #[tactic(auto, unfolding(crate::specs::Lines::body_at))]
 fn body_at<'a>(
     alloc: Global,
     version: CertVersion,
     at: TextPlace<'a>,
-) -> Result<CertBody, CertFault>
-    ensures { Gives body_of result (body_at version (at_place at.entry)) }
+) -> Result<(CertBody, TextPlace<'a>), CertFault>
+    ensures { Gives (λ x. (body_of x.0, at_place x.1)) result (body_at version (at_place at.entry)) }
 {
     let (second, after) = next_line(at)?;
     if let Some(count) = count_of(b"best", second) {
-        return best_of(alloc, version, count, after);
+        let (levels, after) = levels(alloc, version, count, after)?;
+        return Ok((CertBody::Best(levels), after));
     }
     if let Some(count) = count_of(b"none", second) {
-        return members_of(alloc, version, count, after);
+        let (members, after) = members(alloc, version, count, after)?;
+        return Ok((CertBody::NoOrder(members), after));
     }
     Err(CertFault::BadLine { line: 2 })
 }
@@ -95,6 +65,7 @@ pub fn certificate_in(alloc: Global, bytes: &[u8]) -> Result<(CertVersion, CertB
     let Some(version) = version_in(head) else {
         return Err(CertFault::BadHead);
     };
-    let body = body_at(alloc, version, after)?;
+    let (body, after) = body_at(alloc, version, after)?;
+    end(after)?;
     Ok((version, body))
 }

@@ -1,7 +1,6 @@
 //! Reading levels.
-ghost use Rattle.std.specs.Prelude.{◌≡◌, ◌+◌, ◌<◌, ◌≤◌, ◌^◌, ℕ, Ok, IfOk, length};
+ghost use Rattle.std.specs.Prelude.{◌≡◌, ◌≤◌, IfOk};
 ghost use Rattle.task_sheet.specs.declared.set.TheConstants.{TASK_LIMIT};
-ghost use Rattle.certificate.specs.Body.{Fail, CertLevelData, Body};
 ghost use Rattle.lines.specs.Words.{words};
 ghost use Rattle.certificate.specs.Lines.{Gives, at_place, level_in, level_head, fails_from, level_read, levels_at};
 

@@ -1,5 +1,5 @@
 //! The words of a line with a failure.
-ghost use Rattle.std.specs.Prelude.{◌≡◌, IfOk, option_map};
+ghost use Rattle.std.specs.Prelude.{◌≡◌, IfOk};
 ghost use Rattle.lines.specs.Words.{words};
 ghost use Rattle.certificate.specs.Words.{numbers_in, over_in, later_in, reason_in, fail_in, found, reason_told};
 
