@@ -5,8 +5,7 @@ ghost use Rattle.certificate.specs.BodyOf.{body_of};
 ghost use Rattle.certificate.specs.Lines.{Gives, at_place, body_at, version_in, certificate_in};
 
 use crate::fault::CertFault;
-use crate::levels::levels;
-use crate::reading::{count_of, end, is_word, members, next_line};
+use crate::reading::{Reader, count_of, end, is_word, next_line};
 use crate::value::{CertFail, CertLevel};
 use crate::version::CertVersion;
 use lines::TextPlace;
@@ -21,25 +20,22 @@ pub enum CertBody {
     NoOrder(Vec<CertFail>),
 }
 
-// What stands between the first line and the last one, and the place behind it.
-#[tactic(auto, unfolding(crate::specs::Lines::body_at))]
-fn body_at<'a>(
-    alloc: Global,
-    version: CertVersion,
-    at: TextPlace<'a>,
-) -> Result<(CertBody, TextPlace<'a>), CertFault>
-    ensures { Gives (λ x. (body_of x.0, at_place x.1)) result (body_at version (at_place at.entry)) }
-{
-    let (second, after) = next_line(at)?;
-    if let Some(count) = count_of(b"best", second) {
-        let (levels, after) = levels(alloc, version, count, after)?;
-        return Ok((CertBody::Best(levels), after));
+impl Reader {
+    // What stands between the first line and the last one.
+    #[tactic(auto, unfolding(crate::specs::Lines::body_at))]
+    fn body(self, at: &mut TextPlace<'_>) -> Result<CertBody, CertFault>
+        ensures { Gives (λ body. (body_of body, at_place at.new)) result
+            (body_at self.version (at_place at.old)) }
+    {
+        let second = next_line(at)?;
+        if let Some(count) = count_of(b"best", second) {
+            return Ok(CertBody::Best(self.levels(count, at)?));
+        }
+        if let Some(count) = count_of(b"none", second) {
+            return Ok(CertBody::NoOrder(self.members(count, at)?));
+        }
+        Err(CertFault::BadLine { line: 2 })
     }
-    if let Some(count) = count_of(b"none", second) {
-        let (members, after) = members(alloc, version, count, after)?;
-        return Ok((CertBody::NoOrder(members), after));
-    }
-    Err(CertFault::BadLine { line: 2 })
 }
 
 // The version that a first line names.
@@ -61,11 +57,11 @@ pub fn certificate_in(alloc: Global, bytes: &[u8]) -> Result<(CertVersion, CertB
     ensures { Gives (λ x. let c : Cert = record { version = x.0; body = body_of x.1 } in c)
         result (certificate_in bytes.now) }
 {
-    let (head, after) = next_line(TextPlace::start(bytes))?;
-    let Some(version) = version_in(head) else {
+    let mut at = TextPlace::start(bytes);
+    let Some(version) = version_in(next_line(&mut at)?) else {
         return Err(CertFault::BadHead);
     };
-    let (body, after) = body_at(alloc, version, after)?;
-    end(after)?;
+    let body = Reader { alloc, version }.body(&mut at)?;
+    end(&mut at)?;
     Ok((version, body))
 }
