@@ -35,8 +35,8 @@ module _ (v : CertVersion) where
       → (second ++ 10 ∷ left a ≡ body_text x.0 ++ left x.1) × IsBodyText v x.0
   case_takes second (Some n) p a x best none e =
       let count = count_takes (codes "best") second n best in
-      let l = bind_ok (levels_at v n 1 a) (λ levels. Ok (Best levels.0, levels.1)) x e in
-      let t = levels_take v n 1 a l.0 l.1 in
+      let l = bind_ok (levels_at v n a) (λ levels. Ok (Best levels.0, levels.1)) x e in
+      let t = levels_take v n a l.0 l.1 in
       let line : List ℕ = count_line (codes "best") (length l.0.0) in
       let made : Body × At = (Best l.0.0, l.0.1) in
       subst (λ (y : Body × At). (second ++ 10 ∷ left a ≡ body_text y.0 ++ left y.1) × IsBodyText v y.0) (ok_is made x l.2)
@@ -151,7 +151,7 @@ module _ (v : CertVersion) where
       let count : List ℕ = codes "none" ++ 32 ∷ decimal (length ms) in
       ap (λ (y : List ℕ). body_at v (record { parts = parts y; line = n })) (regroup (codes "none") (decimal (length ms)) (fail_lines (codes "member") ms) rest)
       ∙ counted_again count (fail_lines (codes "member") ms ++ rest) n (none_plain (length ms) fits.0)
-      ∙ rw (other_word (length ms) fits.0, count_again (codes "none") (length ms) none_word fits.0, members_again v ms rest (n + 1) fits.1) refl
+      ∙ rw (other_word (length ms) fits.0, count_again (codes "none") (length ms) none_word fits.0, members_again v ms rest 1 (n + 1) fits.1) refl
 
 head_plain : (v : CertVersion) → All (λ x. (x == 10) ≡ false) (head_text v)
 head_plain First = All-from_recursion (λ x. (x == 10) ≡ false) (head_text First) (refl, (refl, (refl, (refl, (refl, (refl, (refl, (refl, (refl, (refl, (refl, (refl, (refl, (refl, (refl, (refl, (refl, (refl, tt))))))))))))))))))

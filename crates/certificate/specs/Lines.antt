@@ -49,6 +49,15 @@ line_from (l ∷ x ∷ xs) line = Ok (l, record { parts = x ∷ xs; line = line 
 abbrev pub line_at : At → Result (List ℕ × At) CertFault
 line_at a = line_from a.parts a.line
 
+-- n items, of which the first has the number k
+unfoldable pub items_at : {X : Type 0} → (ℕ → At → Result (X × At) CertFault)
+    → ℕ → ℕ → At → Result (List X × At) CertFault
+items_at item zero k a = Ok ([], a)
+items_at item (suc n) k a = do
+  first ← item k a
+  others ← items_at item n (k + 1) first.1
+  Ok (first.0 ∷ others.0, others.1)
+
 -- the next line as a member
 unfoldable pub member_at : CertVersion → At → Result (Fail × At) CertFault
 member_at v a = do
@@ -57,12 +66,8 @@ member_at v a = do
   Ok (c, x.1)
 
 -- the next n lines as members
-unfoldable pub members_at : CertVersion → ℕ → At → Result (List Fail × At) CertFault
-members_at v zero a = Ok ([], a)
-members_at v (suc n) a = do
-  first ← member_at v a
-  others ← members_at v n first.1
-  Ok (first.0 ∷ others.0, others.1)
+abbrev pub members_at : CertVersion → ℕ → At → Result (List Fail × At) CertFault
+members_at v n a = items_at (λ k. member_at v) n 1 a
 
 -- no byte is left
 abbrev pub is_at_end : List (List ℕ) → Bool
@@ -128,18 +133,14 @@ level_read v k a = do
   h ← wanted a.line (level_in k (words x.0))
   Ok (record { name = h.0; time = h.1; fails = (fails_from v x.1.parts x.1.line).0 }, (fails_from v x.1.parts x.1.line).1)
 
--- n levels, of which the first has the number k
-unfoldable pub levels_at : CertVersion → ℕ → ℕ → At → Result (List CertLevelData × At) CertFault
-levels_at v zero k a = Ok ([], a)
-levels_at v (suc n) k a = do
-  first ← level_read v k a
-  others ← levels_at v n (k + 1) first.1
-  Ok (first.0 ∷ others.0, others.1)
+-- the next lines as n levels
+abbrev pub levels_at : CertVersion → ℕ → At → Result (List CertLevelData × At) CertFault
+levels_at v n a = items_at (level_read v) n 1 a
 
 -- the next lines as levels or as members, by the count that was read
 abbrev pub body_case : CertVersion → Option ℕ → Option ℕ → At → Result (Body × At) CertFault
 body_case v (Some n) other a = do
-  levels ← levels_at v n 1 a
+  levels ← levels_at v n a
   Ok (Best levels.0, levels.1)
 body_case v None (Some n) a = do
   members ← members_at v n a

@@ -76,7 +76,7 @@ impl Reader {
     pub fn levels(self, count: u64, at: &mut TextPlace<'_>) -> Result<Vec<CertLevel>, CertFault>
         requires { count ≤ TASK_LIMIT }
         ensures { Gives (λ levels. (levels.items, at_place at.new)) result
-            (levels_at self.version count 1 (at_place at.old)) }
+            (levels_at self.version count (at_place at.old)) }
     {
         let mut levels = Vec::new(self.alloc);
         for i in 0..count {

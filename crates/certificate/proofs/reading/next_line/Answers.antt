@@ -1,5 +1,5 @@
 use Rattle.std.proofs.Common.{None, Some}
-use Rattle.certificate.proofs.MemberLoops.{line_at_given}
+use Rattle.certificate.proofs.ItemLoops.{line_at_given}
 use Rattle.certificate.proofs.reading.next_line.Goals as goal
 
 pub returns-in_default-clause-line : goal.returns-in_default-clause-line
