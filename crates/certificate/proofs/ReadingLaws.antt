@@ -1,6 +1,7 @@
 -- A whole certificate: what is read is spelled so, and what is spelled so is read.
 use Rattle.std.proofs.Common.{◌≡◌, ℕ, suc, ◌+◌, ◌≤◌, ◌==◌, Bool, true, false, cond, List, [], ◌∷◌, ◌++◌, length, All, Option, Some, None, Result, Ok, Err, refl, sym, ap, ◌∙◌, subst, append_assoc, arith}
 use Rattle.std.specs.Prelude.{bytes_eq, codes}
+use Rattle.std.specs.List.{AllByRecursion}
 use Rattle.std.specs.Fmt.{decimal}
 use Rattle.std.proofs.lemmas.Bool.Decides.{nat_tests}
 use Rattle.std.proofs.lemmas.Option.{same_Some}
@@ -10,7 +11,7 @@ use Rattle.std.proofs.lemmas.List.Elements.{All-append, All-from_recursion}
 use Rattle.std.proofs.lemmas.List.Splits.{slice_split_at, slice_split_none, join_with_byte-slice_split}
 use Rattle.certificate.specs.declared.version.CertVersion.{CertVersion}
 use Rattle.certificate.specs.declared.version.CertVersion.TheVariants.{First, Second}
-use Rattle.certificate.specs.Body.{IsBodyText, HasSpelling, Body, Best, NoOrder, Cert}
+use Rattle.certificate.specs.Body.{IsFailText, IsLevelText, IsBodyText, HasSpelling, Body, Best, NoOrder, Cert}
 use Rattle.certificate.specs.Spelling.{fail_lines, count_line, head_text, head_line, level_spellings, body_text, spelling}
 use Rattle.lines.specs.Lines.{parts}
 use Rattle.lines.specs.Words.{words}
@@ -31,24 +32,28 @@ counted word line rest m n e same =
     ap (λ (y : List ℕ). y ++ 10 ∷ rest) e ∙ regrouped ∙ ap (λ (k : ℕ). count_line word k ++ rest) same
 
 module _ (v : CertVersion) where
+  -- a line with a count, and as many items
+  counted_items : {X : Type 0} (word second : List ℕ) (n : ℕ) (a : At) (read : Result (List X × At) CertFault) (body : List X → Body) (text : List X → List ℕ) (Fits : X → Type 0) (x : Body × At)
+      → ((xs : List X) → count_line word (length xs) ++ text xs ≡ body_text (body xs)) → ((xs : List X) → length xs ≤ 32 → AllByRecursion Fits xs → IsBodyText v (body xs))
+      → count_in word (words second) ≡ Some n → ((xs : List X × At) → read ≡ Ok xs → (left a ≡ text xs.0 ++ left xs.1) × (length xs.0 ≡ n) × AllByRecursion Fits xs.0)
+      → (read >>= λ xs. Ok (body xs.0, xs.1)) ≡ Ok x → (second ++ 10 ∷ left a ≡ body_text x.0 ++ left x.1) × IsBodyText v x.0
+  counted_items word second n a read body text Fits x texts fits number takes e =
+      let count = count_takes word second n number in
+      let r = bind_ok read (λ xs. Ok (body xs.0, xs.1)) x e in
+      let t = takes r.0 r.1 in
+      let line : List ℕ = count_line word (length r.0.0) in
+      let whole : second ++ 10 ∷ left a ≡ body_text (body r.0.0) ++ left r.0.1 =
+      counted word second (left a) n (length r.0.0) count.0 (sym t.1) ∙ ap (λ (y : List ℕ). line ++ y) t.0
+      ∙ sym (append_assoc line (text r.0.0) (left r.0.1)) ∙ ap (λ (y : List ℕ). y ++ left r.0.1) (texts r.0.0) in
+      let made : Body × At = (body r.0.0, r.0.1) in
+      subst (λ (y : Body × At). (second ++ 10 ∷ left a ≡ body_text y.0 ++ left y.1) × IsBodyText v y.0) (ok_is made x r.2) (whole, fits r.0.0 (omega (arith, t.1, count.1)) t.2)
+
   case_takes : (second : List ℕ) (o p : Option ℕ) (a : At) (x : Body × At) → count_in (codes "best") (words second) ≡ o → count_in (codes "none") (words second) ≡ p → body_case v o p a ≡ Ok x
       → (second ++ 10 ∷ left a ≡ body_text x.0 ++ left x.1) × IsBodyText v x.0
   case_takes second (Some n) p a x best none e =
-      let count = count_takes (codes "best") second n best in
-      let l = bind_ok (levels_at v n a) (λ levels. Ok (Best levels.0, levels.1)) x e in
-      let t = levels_take v n a l.0 l.1 in
-      let line : List ℕ = count_line (codes "best") (length l.0.0) in
-      let made : Body × At = (Best l.0.0, l.0.1) in
-      subst (λ (y : Body × At). (second ++ 10 ∷ left a ≡ body_text y.0 ++ left y.1) × IsBodyText v y.0) (ok_is made x l.2)
-      (counted (codes "best") second (left a) n (length l.0.0) count.0 (sym t.1) ∙ ap (λ (y : List ℕ). line ++ y) t.0 ∙ sym (append_assoc line (level_spellings 1 l.0.0) (left l.0.1)), (omega (arith, t.1, count.1), t.2))
+      counted_items (codes "best") second n a (levels_at v n a) (λ ls. Best ls) (level_spellings 1) (IsLevelText v) x (λ ls. refl) (λ ls few fits. (few, fits)) best (levels_take v n a) e
   case_takes second None (Some n) a x best none e =
-      let count = count_takes (codes "none") second n none in
-      let m = bind_ok (members_at v n a) (λ members. Ok (NoOrder members.0, members.1)) x e in
-      let t = members_take v n a m.0 m.1 in
-      let line : List ℕ = count_line (codes "none") (length m.0.0) in
-      let made : Body × At = (NoOrder m.0.0, m.0.1) in
-      subst (λ (y : Body × At). (second ++ 10 ∷ left a ≡ body_text y.0 ++ left y.1) × IsBodyText v y.0) (ok_is made x m.2)
-      (counted (codes "none") second (left a) n (length m.0.0) count.0 (sym t.1) ∙ ap (λ (y : List ℕ). line ++ y) t.0 ∙ sym (append_assoc line (fail_lines (codes "member") m.0.0) (left m.0.1)), (omega (arith, t.1, count.1), t.2))
+      counted_items (codes "none") second n a (members_at v n a) (λ ms. NoOrder ms) (fail_lines (codes "member")) (IsFailText v) x (λ ms. refl) (λ ms few fits. (few, fits)) none (members_take v n a) e
   case_takes second None None a x best none e = absurd cc
 
   pub body_takes : (a : At) (x : Body × At) → body_at v a ≡ Ok x → (left a ≡ body_text x.0 ++ left x.1) × IsBodyText v x.0
