@@ -1,15 +1,14 @@
 //! What shows that a task fails, or may stand.
-ghost use Rattle.std.specs.Prelude.{◌≡◌, ◌<◌, ◌≤◌, ◌+◌, ◌&&◌, ℕ, nat_le, length};
+ghost use Rattle.std.specs.Prelude.{◌≡◌, ◌<◌, ◌≤◌, length};
 ghost use Rattle.task_sheet.specs.Sheet.{task_at};
 ghost use Rattle.task_sheet.specs.declared.sheet.TheConstants.{PERIOD_TO};
-ghost use Rattle.task_sheet.specs.Indexes.{indexes_of, without_index};
+ghost use Rattle.task_sheet.specs.Indexes.{indexes_of};
 ghost use Rattle.task_sheet.specs.Demand.{demand_of, limit_of};
 ghost use Rattle.cert_checker.specs.Naming.{task_by_name};
 ghost use Rattle.cert_checker.specs.Work.{demand_from};
 ghost use Rattle.cert_checker.specs.Chains.{may_follow, goes_past, are_chain};
 ghost use Rattle.certificate.specs.ReasonOf.{reason_seen};
-ghost use Rattle.cert_checker.specs.Faults.{covers, time_stands, is_outranked, refutes, is_refuted};
-ghost use Rattle.cert_checker.specs.Faults.{bad_fail};
+ghost use Rattle.cert_checker.specs.Faults.{covers, time_stands, is_outranked, refutes, is_refuted, bad_fail};
 
 use crate::fault::CheckFault;
 use crate::naming::task_by_name;

@@ -1,5 +1,5 @@
 //! The whole check.
-ghost use Rattle.std.specs.Prelude.{◌≡◌, ◌↔◌, Ok, Some, None, IfOk, IfErr, IsOk, MatchResult};
+ghost use Rattle.std.specs.Prelude.{◌≡◌, ◌↔◌, IfOk, IfErr, IsOk, MatchResult};
 ghost use Rattle.task_sheet.specs.Orders.{IsBest, IsFeasible};
 ghost use Rattle.cert_checker.specs.Naming.{may_serve, IsReady};
 ghost use Rattle.cert_checker.specs.Answers.{kind_of, order_in};

@@ -1,14 +1,12 @@
 //! The checks of the levels.
-ghost use Rattle.std.specs.Prelude.{◌≡◌, ◌<◌, ◌≤◌, ◌&&◌, ◌+◌, nat_le, nat_lt, length, All, IfSome};
-ghost use Rattle.task_sheet.specs.Sheet.{task_at};
-ghost use Rattle.task_sheet.specs.Indexes.{indexes_of, without_index, among};
+ghost use Rattle.std.specs.Prelude.{◌≡◌, ◌<◌, ◌≤◌, ◌&&◌, nat_le, nat_lt, length, All, IfSome};
+ghost use Rattle.task_sheet.specs.Indexes.{indexes_of, among};
 ghost use Rattle.task_sheet.specs.Orders.{all_of};
 ghost use Rattle.task_sheet.specs.declared.set.TheConstants.{TASK_LIMIT};
 ghost use Rattle.task_sheet.specs.Verdicts.{tasks_of};
 ghost use Rattle.certificate.specs.Body.{CertLevelData};
 ghost use Rattle.cert_checker.specs.Naming.{task_by_name, failures_of};
-ghost use Rattle.cert_checker.specs.Faults.{fault_unless, are_lesser, first_unnamed, missing_at};
-ghost use Rattle.cert_checker.specs.Faults.{level_fault, levels_fault};
+ghost use Rattle.cert_checker.specs.Faults.{fault_unless, are_lesser, first_unnamed, missing_at, level_fault, levels_fault};
 
 use crate::chains::{bad_fail, time_stands};
 use crate::fault::CheckFault;

@@ -1,6 +1,5 @@
 //! The tasks that names are.
-ghost use Rattle.std.specs.Prelude.{◌≡◌, ℕ, ◌<◌, ◌≤◌, ◌&&◌, not, nat_lt, true, false, List, length, map};
-ghost use Rattle.std.specs.Prelude.{MatchOption};
+ghost use Rattle.std.specs.Prelude.{◌≡◌, ℕ, ◌<◌, ◌≤◌, ◌&&◌, not, nat_lt, true, false, List, length, map, MatchOption};
 ghost use Rattle.std.specs.Fn.{FnReturnsAt};
 ghost use Rattle.task_sheet.specs.Indexes.{indexes_of, no_index, with_index, among};
 ghost use Rattle.task_sheet.specs.declared.set.TheConstants.{TASK_LIMIT};

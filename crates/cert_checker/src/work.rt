@@ -1,12 +1,10 @@
 //! The work requested of a task and of those above it in a window, in microseconds.
-ghost use Rattle.std.specs.Prelude.{◌≡◌, ◌+◌, ◌*◌, ◌<◌, ◌≤◌, ℕ, length};
+ghost use Rattle.std.specs.Prelude.{◌≡◌, ◌+◌, ◌*◌, ◌<◌, ◌≤◌, length};
 ghost use Rattle.task_sheet.specs.Sheet.{IsValidSheet, task_at};
 ghost use Rattle.task_sheet.specs.declared.sheet.TheConstants.{PERIOD_TO};
-ghost use Rattle.task_sheet.specs.TaskSet.{IsTaskSet};
 ghost use Rattle.task_sheet.specs.Indexes.{indexes_of};
 ghost use Rattle.task_sheet.specs.Locks.{names_lock, uses, shares_lock, reaches};
-ghost use Rattle.task_sheet.specs.Demand.{interference_within, releases_within, limit_of};
-ghost use Rattle.task_sheet.specs.Demand.{longest_reached, blocking_of, interference_of};
+ghost use Rattle.task_sheet.specs.Demand.{interference_within, releases_within, limit_of, longest_reached, blocking_of};
 ghost use Rattle.cert_checker.specs.Work.{demand_from};
 
 use task_sheet::{Members, Name, Section, Sheet, TaskSet};

@@ -1,5 +1,5 @@
 -- Levels: what is read, and what is read of what is spelled.
-use Rattle.std.proofs.Common.{◌≡◌, ℕ, zero, suc, ◌+◌, ◌^◌, ◌<◌, ◌==◌, eq-eqb, true, false, ◌&&◌, List, [], ◌∷◌, ◌++◌, length, All, Option, Some, None, Ok, refl, sym, ap, ◌∙◌, subst, append_assoc, arith, add-zero}
+use Rattle.std.proofs.Common.{◌≡◌, ℕ, suc, ◌+◌, ◌^◌, ◌<◌, ◌==◌, eq-eqb, true, false, ◌&&◌, List, [], ◌∷◌, ◌++◌, length, All, Option, Some, None, Ok, refl, sym, ap, ◌∙◌, subst, append_assoc, arith, add-zero}
 use Rattle.std.specs.Prelude.{bytes_eq, codes}
 use Rattle.std.specs.List.{AllByRecursion, join_with_byte}
 use Rattle.std.specs.Fmt.{decimal}
@@ -17,13 +17,13 @@ use Rattle.lines.specs.Lines.{parts}
 use Rattle.lines.specs.Words.{words, number_in}
 use Rattle.certificate.specs.Words.{fail_in}
 use Rattle.lines.specs.Steps.{◌>>=◌}
-use Rattle.certificate.specs.Lines.{At, line_from, wanted, level_head, level_in, fails_case, fails_from, level_read, levels_at}
+use Rattle.certificate.specs.Lines.{At, line_from, wanted, level_head, level_in, fails_case, fails_from, items_at, level_read, levels_at}
 use Rattle.lines.proofs.NumberLaws.{number_takes, number_again}
 use Rattle.certificate.proofs.WordLaws.{cond_given}
 use Rattle.lines.proofs.Parts.{parts_some}
 use Rattle.certificate.proofs.LevelLoops.{fails_line}
 use Rattle.certificate.proofs.FailLaws.{fail_text, fail_takes, fail_again, decimal_lacks, name_lacks}
-use Rattle.certificate.proofs.LineLaws.{left, bind_ok, ok_is, wanted_ok, line_takes, line_end, line_again}
+use Rattle.certificate.proofs.LineLaws.{left, bind_ok, ok_is, wanted_ok, items_take, line_takes, line_end, line_again}
 use Rattle.certificate.proofs.MemberLaws.{fail_lacks}
 use Rattle.certificate.specs.declared.version.CertVersion.{CertVersion}
 
@@ -182,23 +182,18 @@ module _ (v : CertVersion) where
       rw (line, level_line_again k l.name l.time short fits.name fits.short, fails_again l.fails rest (n + 1) fits.fails none) refl
 
   -- ---- levels
-  pub levels_take : (n k : ℕ) (a : At) (x : List CertLevelData × At) → levels_at v n k a ≡ Ok x → (left a ≡ level_spellings k x.0 ++ left x.1) × (length x.0 ≡ n) × AllByRecursion (IsLevelText v) x.0
-  unfolding levels_at
-  levels_take zero k a x e =
-      let made : List CertLevelData × At = ([], a) in
-      subst (λ (y : List CertLevelData × At). (left a ≡ level_spellings k y.0 ++ left y.1) × (length y.0 ≡ 0) × AllByRecursion (IsLevelText v) y.0) (ok_is made x e) (refl, refl, tt)
-  levels_take (suc n) k a x e =
-      let f = bind_ok (level_read v k a) (λ first. levels_at v n (k + 1) first.1 >>= λ others. Ok (first.0 ∷ others.0, others.1)) x e in
-      let o = bind_ok (levels_at v n (k + 1) f.0.1) (λ others. Ok (f.0.0 ∷ others.0, others.1)) x f.2 in
-      let first = level_takes k a f.0 f.1 in
-      let rest = levels_take n (k + 1) f.0.1 o.0 o.1 in
-      let fails : List ℕ = fail_lines (codes "fails") f.0.0.fails in
-      let whole : left a ≡ level_spellings k (f.0.0 ∷ o.0.0) ++ left o.0.1 =
-      first.0 ∙ ap (λ (y : List ℕ). level_spelling k f.0.0 ++ (fails ++ y)) rest.0
-      ∙ ap (λ (y : List ℕ). level_spelling k f.0.0 ++ y) (sym (append_assoc fails (level_spellings (k + 1) o.0.0) (left o.0.1)))
-      ∙ sym (append_assoc (level_spelling k f.0.0) (fails ++ level_spellings (k + 1) o.0.0) (left o.0.1)) in
-      let made : List CertLevelData × At = (f.0.0 ∷ o.0.0, o.0.1) in
-      subst (λ (y : List CertLevelData × At). (left a ≡ level_spellings k y.0 ++ left y.1) × (length y.0 ≡ suc n) × AllByRecursion (IsLevelText v) y.0) (ok_is made x o.2) (whole, ap suc rest.1, (first.1, rest.2))
+  one_more : (k : ℕ) (a : At) (x : CertLevelData × At) (xs : List CertLevelData) (rest : List ℕ) → level_read v k a ≡ Ok x → left x.1 ≡ level_spellings (k + 1) xs ++ rest → (left a ≡ level_spellings k (x.0 ∷ xs) ++ rest) × IsLevelText v x.0
+  one_more k a x xs rest e others =
+      let first = level_takes k a x e in
+      let fails : List ℕ = fail_lines (codes "fails") x.0.fails in
+      let whole : left a ≡ level_spellings k (x.0 ∷ xs) ++ rest =
+      first.0 ∙ ap (λ (y : List ℕ). level_spelling k x.0 ++ (fails ++ y)) others
+      ∙ ap (λ (y : List ℕ). level_spelling k x.0 ++ y) (sym (append_assoc fails (level_spellings (k + 1) xs) rest))
+      ∙ sym (append_assoc (level_spelling k x.0) (fails ++ level_spellings (k + 1) xs) rest) in
+      (whole, first.1)
+
+  pub levels_take : (n : ℕ) (a : At) (x : List CertLevelData × At) → levels_at v n a ≡ Ok x → (left a ≡ level_spellings 1 x.0 ++ left x.1) × (length x.0 ≡ n) × AllByRecursion (IsLevelText v) x.0
+  levels_take n a x e = items_take (level_read v) level_spellings (IsLevelText v) (λ k. refl) one_more n 1 a x e
 
   level_word : (k : ℕ) (name : List ℕ) (t : ℕ) → IsShort k → IsName name → IsShort t → fail_in v (codes "fails") (words (level_text k name t)) ≡ None
   unfolding fail_in
@@ -216,8 +211,8 @@ module _ (v : CertVersion) where
       subst (BeginsNoFailure v) regrouped (no_failure v (level_text k l.name l.time) (fails ++ (level_spellings (k + 1) ls ++ rest)) (level_lacks k l.name l.time short fits.0.name fits.0.short) (level_word k l.name l.time short fits.0.name fits.0.short))
 
   pub levels_again : (ls : List CertLevelData) (rest : List ℕ) (k n : ℕ) → k + length ls < 10 ^ 10 → AllByRecursion (IsLevelText v) ls → BeginsNoFailure v rest
-      → levels_at v (length ls) k (record { parts = parts (level_spellings k ls ++ rest); line = n }) ≡ Ok (ls, record { parts = parts rest; line = line_after n ls })
-  unfolding levels_at
+      → items_at (level_read v) (length ls) k (record { parts = parts (level_spellings k ls ++ rest); line = n }) ≡ Ok (ls, record { parts = parts rest; line = line_after n ls })
+  unfolding items_at
   levels_again [] rest k n small fits none = refl
   levels_again (l ∷ ls) rest k n small fits none =
       let short : IsShort k = omega arith in
@@ -226,5 +221,5 @@ module _ (v : CertVersion) where
       let more : List ℕ = level_spellings (k + 1) ls ++ rest in
       let regrouped : level_spellings k (l ∷ ls) ++ rest ≡ level_spelling k l ++ (fails ++ more) =
       append_assoc (level_spelling k l) (fails ++ level_spellings (k + 1) ls) rest ∙ ap (λ (y : List ℕ). level_spelling k l ++ y) (append_assoc fails (level_spellings (k + 1) ls) rest) in
-      ap (λ (y : List ℕ). levels_at v (suc (length ls)) k (record { parts = parts y; line = n })) regrouped
+      ap (λ (y : List ℕ). items_at (level_read v) (suc (length ls)) k (record { parts = parts y; line = n })) regrouped
       ∙ rw (level_again k l more n short fits.0 (levels_begin (k + 1) ls rest fewer fits.1 none), levels_again ls rest (k + 1) (n + 1 + length l.fails) fewer fits.1 none) refl

@@ -2,9 +2,8 @@ pub mod NumberLoops
 pub mod FailCases
 pub mod WordLaws
 pub mod FailLaws
-pub mod MemberLoops
+pub mod ItemLoops
 pub mod LevelLoops
-pub mod LevelSteps
 pub mod LineLaws
 pub mod MemberLaws
 pub mod LevelLaws

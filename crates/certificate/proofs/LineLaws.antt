@@ -1,7 +1,7 @@
 -- Lines: what is read, and what is read of what is spelled.
-use Rattle.std.proofs.Common.{◌≡◌, ℕ, ◌+◌, ◌≤◌, ◌==◌, Bool, true, false, cond, List, [], ◌∷◌, ◌++◌, length, All, Option, Some, None, Result, Ok, Err, refl, sym, ap, ◌∙◌, subst, append_assoc, arith}
+use Rattle.std.proofs.Common.{◌≡◌, ℕ, zero, suc, ◌+◌, ◌≤◌, ◌==◌, Bool, true, false, cond, List, [], ◌∷◌, ◌++◌, length, All, Option, Some, None, Result, Ok, Err, refl, sym, ap, ◌∙◌, subst, append_assoc, arith}
 use Rattle.std.specs.Prelude.{bytes_eq, codes, nat_le}
-use Rattle.std.specs.List.{join_with_byte}
+use Rattle.std.specs.List.{AllByRecursion, join_with_byte}
 use Rattle.std.specs.Fmt.{decimal}
 use Rattle.std.proofs.lemmas.Bool.{le-leb, leb-true, eqb-true}
 use Rattle.std.proofs.lemmas.Option.{cond_some}
@@ -14,13 +14,13 @@ use Rattle.certificate.specs.Spelling.{fail_line}
 use Rattle.lines.specs.Lines.{parts}
 use Rattle.lines.specs.Words.{words, number_in}
 use Rattle.lines.specs.Steps.{◌>>=◌}
-use Rattle.certificate.specs.Lines.{At, line_from, wanted, count_in, few, at_most_limit, end_at, is_at_end}
+use Rattle.certificate.specs.Lines.{At, line_from, items_at, wanted, count_in, few, at_most_limit, end_at, is_at_end}
 use Rattle.certificate.specs.declared.fault.CertFault.{CertFault}
 use Rattle.certificate.specs.declared.fault.CertFault.TheVariants.{BadLine, Trailing}
 use Rattle.lines.proofs.NumberLaws.{number_takes, number_again}
 use Rattle.certificate.proofs.WordLaws.{cond_given}
 use Rattle.lines.proofs.Parts.{parts_some}
-use Rattle.certificate.proofs.MemberLoops.{line_is, over_is}
+use Rattle.certificate.proofs.ItemLoops.{line_is, over_is}
 use Rattle.certificate.proofs.FailLaws.{fail_text, decimal_lacks}
 
 -- the bytes that are left
@@ -55,6 +55,22 @@ line_end word c rest = simp append_assoc
 
 pub line_again : (l rest : List ℕ) (n : ℕ) → All (λ x. (x == 10) ≡ false) l → line_from (parts (l ++ 10 ∷ rest)) n ≡ Ok (l, record { parts = parts rest; line = n + 1 })
 line_again l rest n plain = rw (slice_split_at (λ b. b == 10) l 10 rest plain refl) (line_is l (parts rest) n (parts_some rest))
+
+-- items that are read, where one more item in front stands in front of their text
+pub items_take : {X : Type 0} (item : ℕ → At → Result (X × At) CertFault) (text : ℕ → List X → List ℕ) (Fits : X → Type 0) → ((k : ℕ) → text k [] ≡ [])
+    → ((k : ℕ) (a : At) (x : X × At) (xs : List X) (rest : List ℕ) → item k a ≡ Ok x → left x.1 ≡ text (k + 1) xs ++ rest → (left a ≡ text k (x.0 ∷ xs) ++ rest) × Fits x.0)
+    → (n k : ℕ) (a : At) (x : List X × At) → items_at item n k a ≡ Ok x → (left a ≡ text k x.0 ++ left x.1) × (length x.0 ≡ n) × AllByRecursion Fits x.0
+unfolding items_at
+items_take {X} item text Fits none more zero k a x e =
+    let made : List X × At = ([], a) in
+    subst (λ (y : List X × At). (left a ≡ text k y.0 ++ left y.1) × (length y.0 ≡ 0) × AllByRecursion Fits y.0) (ok_is made x e) (ap (λ (y : List ℕ). y ++ left a) (sym (none k)), refl, tt)
+items_take {X} item text Fits none more (suc n) k a x e =
+    let f = bind_ok (item k a) (λ first. items_at item n (k + 1) first.1 >>= λ others. Ok (first.0 ∷ others.0, others.1)) x e in
+    let o = bind_ok (items_at item n (k + 1) f.0.1) (λ others. Ok (f.0.0 ∷ others.0, others.1)) x f.2 in
+    let rest = items_take item text Fits none more n (k + 1) f.0.1 o.0 o.1 in
+    let first = more k a f.0 o.0.0 (left o.0.1) f.1 rest.0 in
+    let made : List X × At = (f.0.0 ∷ o.0.0, o.0.1) in
+    subst (λ (y : List X × At). (left a ≡ text k y.0 ++ left y.1) × (length y.0 ≡ suc n) × AllByRecursion Fits y.0) (ok_is made x o.2) (first.0, ap suc rest.1, (first.1, rest.2))
 
 -- ---- the line with the count
 few_takes : (o : Option ℕ) (n : ℕ) → at_most_limit o ≡ Some n → (o ≡ Some n) × (n ≤ 32)

@@ -1,5 +1,5 @@
 -- Lines with chains: what is read, and what is read of what is spelled.
-use Rattle.std.proofs.Common.{◌≡◌, ℕ, zero, suc, ◌+◌, ◌<◌, ◌==◌, false, List, [], ◌∷◌, ◌++◌, length, All, Ok, refl, sym, ap, ◌∙◌, subst, append_assoc, arith, add-zero}
+use Rattle.std.proofs.Common.{◌≡◌, ℕ, suc, ◌+◌, ◌<◌, ◌==◌, false, List, [], ◌∷◌, ◌++◌, length, All, Ok, refl, sym, ap, ◌∙◌, subst, append_assoc, arith, add-zero}
 use Rattle.std.specs.Prelude.{codes}
 use Rattle.std.specs.List.{AllByRecursion}
 use Rattle.std.specs.Fmt.{decimal}
@@ -12,9 +12,9 @@ use Rattle.lines.specs.Lines.{parts}
 use Rattle.lines.specs.Words.{words}
 use Rattle.certificate.specs.Words.{fail_in}
 use Rattle.lines.specs.Steps.{◌>>=◌}
-use Rattle.certificate.specs.Lines.{At, line_from, wanted, member_at, members_at}
+use Rattle.certificate.specs.Lines.{At, line_from, wanted, items_at, member_at, members_at}
 use Rattle.certificate.proofs.FailLaws.{over_named, numbers_text-cons, fail_text, fail_takes, fail_again, decimal_lacks, name_lacks}
-use Rattle.certificate.proofs.LineLaws.{left, bind_ok, ok_is, wanted_ok, line_takes, line_end, line_again}
+use Rattle.certificate.proofs.LineLaws.{left, bind_ok, ok_is, wanted_ok, items_take, line_takes, line_end, line_again}
 use Rattle.certificate.specs.declared.version.CertVersion.{CertVersion}
 
 module _ (v : CertVersion) where
@@ -28,22 +28,17 @@ module _ (v : CertVersion) where
       let made : Fail × At = (c.0, l.0.1) in
       subst (λ (y : Fail × At). (left a ≡ fail_line (codes "member") y.0 ++ left y.1) × IsFailText v y.0) (ok_is made x c.2) (whole, t.1)
 
+  one_more : (k : ℕ) (a : At) (x : Fail × At) (xs : List Fail) (rest : List ℕ) → member_at v a ≡ Ok x → left x.1 ≡ fail_lines (codes "member") xs ++ rest → (left a ≡ fail_lines (codes "member") (x.0 ∷ xs) ++ rest) × IsFailText v x.0
+  one_more k a x xs rest e others =
+      let first = member_takes a x e in
+      let whole : left a ≡ fail_lines (codes "member") (x.0 ∷ xs) ++ rest =
+      first.0 ∙ ap (λ (y : List ℕ). fail_line (codes "member") x.0 ++ y) others
+      ∙ sym (append_assoc (fail_line (codes "member") x.0) (fail_lines (codes "member") xs) rest)
+      ∙ ap (λ (y : List ℕ). y ++ rest) (sym (flat_map-cons (fail_line (codes "member")) x.0 xs)) in
+      (whole, first.1)
+
   pub members_take : (n : ℕ) (a : At) (x : List Fail × At) → members_at v n a ≡ Ok x → (left a ≡ fail_lines (codes "member") x.0 ++ left x.1) × (length x.0 ≡ n) × AllByRecursion (IsFailText v) x.0
-  unfolding members_at
-  members_take zero a x e =
-      let made : List Fail × At = ([], a) in
-      subst (λ (y : List Fail × At). (left a ≡ fail_lines (codes "member") y.0 ++ left y.1) × (length y.0 ≡ 0) × AllByRecursion (IsFailText v) y.0) (ok_is made x e) (refl, refl, tt)
-  members_take (suc n) a x e =
-      let f = bind_ok (member_at v a) (λ first. members_at v n first.1 >>= λ others. Ok (first.0 ∷ others.0, others.1)) x e in
-      let o = bind_ok (members_at v n f.0.1) (λ others. Ok (f.0.0 ∷ others.0, others.1)) x f.2 in
-      let first = member_takes a f.0 f.1 in
-      let rest = members_take n f.0.1 o.0 o.1 in
-      let whole : left a ≡ fail_lines (codes "member") (f.0.0 ∷ o.0.0) ++ left o.0.1 =
-      first.0 ∙ ap (λ (y : List ℕ). fail_line (codes "member") f.0.0 ++ y) rest.0
-      ∙ sym (append_assoc (fail_line (codes "member") f.0.0) (fail_lines (codes "member") o.0.0) (left o.0.1))
-      ∙ ap (λ (y : List ℕ). y ++ left o.0.1) (sym (flat_map-cons (fail_line (codes "member")) f.0.0 o.0.0)) in
-      let made : List Fail × At = (f.0.0 ∷ o.0.0, o.0.1) in
-      subst (λ (y : List Fail × At). (left a ≡ fail_lines (codes "member") y.0 ++ left y.1) × (length y.0 ≡ suc n) × AllByRecursion (IsFailText v) y.0) (ok_is made x o.2) (whole, ap suc rest.1, (first.1, rest.2))
+  members_take n a x e = items_take (λ k. member_at v) (λ k ms. fail_lines (codes "member") ms) (IsFailText v) (λ k. refl) one_more n 1 a x e
 
 -- ---- and back
 numbers_lack : (ns : List ℕ) → AllByRecursion IsShort ns → All (λ x. (x == 10) ≡ false) (numbers_text ns)
@@ -79,12 +74,12 @@ module _ (v : CertVersion) where
       ap (λ (y : List ℕ). line_from (parts y) n) (sym (line_end (codes "member") c rest)) ∙ line_again (fail_text (codes "member") c) rest n (fail_lacks (codes "member") c (member_plain 10 (omega arith)) fits) in
       rw (lines, fail_again v (codes "member") c (member_plain 32 (omega arith)) fits) refl
 
-  pub members_again : (cs : List Fail) (rest : List ℕ) (n : ℕ) → AllByRecursion (IsFailText v) cs → members_at v (length cs) (record { parts = parts (fail_lines (codes "member") cs ++ rest); line = n }) ≡ Ok (cs, record { parts = parts rest; line = n + length cs })
-  unfolding members_at
-  members_again [] rest n fits = rw (add-zero n) refl
-  members_again (c ∷ cs) rest n fits =
+  pub members_again : (cs : List Fail) (rest : List ℕ) (k n : ℕ) → AllByRecursion (IsFailText v) cs → items_at (λ k. member_at v) (length cs) k (record { parts = parts (fail_lines (codes "member") cs ++ rest); line = n }) ≡ Ok (cs, record { parts = parts rest; line = n + length cs })
+  unfolding items_at
+  members_again [] rest k n fits = rw (add-zero n) refl
+  members_again (c ∷ cs) rest k n fits =
       let regrouped : fail_lines (codes "member") (c ∷ cs) ++ rest ≡ fail_line (codes "member") c ++ (fail_lines (codes "member") cs ++ rest) =
       ap (λ (y : List ℕ). y ++ rest) (flat_map-cons (fail_line (codes "member")) c cs) ∙ append_assoc (fail_line (codes "member") c) (fail_lines (codes "member") cs) rest in
       let same : n + 1 + length cs ≡ n + suc (length cs) = omega arith in
-      ap (λ (y : List ℕ). members_at v (suc (length cs)) (record { parts = parts y; line = n })) regrouped
-      ∙ rw (member_again c (fail_lines (codes "member") cs ++ rest) n fits.0, members_again cs rest (n + 1) fits.1, same) refl
+      ap (λ (y : List ℕ). items_at (λ k. member_at v) (suc (length cs)) k (record { parts = parts y; line = n })) regrouped
+      ∙ rw (member_again c (fail_lines (codes "member") cs ++ rest) n fits.0, members_again cs rest (k + 1) (n + 1) fits.1, same) refl

@@ -1,6 +1,7 @@
 -- A whole certificate: what is read is spelled so, and what is spelled so is read.
 use Rattle.std.proofs.Common.{◌≡◌, ℕ, suc, ◌+◌, ◌≤◌, ◌==◌, Bool, true, false, cond, List, [], ◌∷◌, ◌++◌, length, All, Option, Some, None, Result, Ok, Err, refl, sym, ap, ◌∙◌, subst, append_assoc, arith}
 use Rattle.std.specs.Prelude.{bytes_eq, codes}
+use Rattle.std.specs.List.{AllByRecursion}
 use Rattle.std.specs.Fmt.{decimal}
 use Rattle.std.proofs.lemmas.Bool.Decides.{nat_tests}
 use Rattle.std.proofs.lemmas.Option.{same_Some}
@@ -10,13 +11,13 @@ use Rattle.std.proofs.lemmas.List.Elements.{All-append, All-from_recursion}
 use Rattle.std.proofs.lemmas.List.Splits.{slice_split_at, slice_split_none, join_with_byte-slice_split}
 use Rattle.certificate.specs.declared.version.CertVersion.{CertVersion}
 use Rattle.certificate.specs.declared.version.CertVersion.TheVariants.{First, Second}
-use Rattle.certificate.specs.Body.{Fail, CertLevelData, IsBodyText, HasSpelling, Body, Best, NoOrder, Cert}
+use Rattle.certificate.specs.Body.{IsFailText, IsLevelText, IsBodyText, HasSpelling, Body, Best, NoOrder, Cert}
 use Rattle.certificate.specs.Spelling.{fail_lines, count_line, head_text, head_line, level_spellings, body_text, spelling}
 use Rattle.lines.specs.Lines.{parts}
 use Rattle.lines.specs.Words.{words}
 use Rattle.certificate.specs.Words.{fail_in}
 use Rattle.lines.specs.Steps.{◌>>=◌}
-use Rattle.certificate.specs.Lines.{At, line_from, certificate_in, count_in, end_at, members_at, levels_at, best_of, members_read, body_case, body_at, version_in, versioned, Gives}
+use Rattle.certificate.specs.Lines.{At, line_from, certificate_in, count_in, end_at, members_at, levels_at, body_case, body_at, version_in, versioned, Gives}
 use Rattle.certificate.specs.declared.fault.CertFault.{CertFault}
 use Rattle.certificate.specs.declared.fault.CertFault.TheVariants.{Trailing}
 use Rattle.certificate.proofs.FailLaws.{decimal_lacks}
@@ -31,45 +32,35 @@ counted word line rest m n e same =
     ap (λ (y : List ℕ). y ++ 10 ∷ rest) e ∙ regrouped ∙ ap (λ (k : ℕ). count_line word k ++ rest) same
 
 module _ (v : CertVersion) where
-  best_takes : (n : ℕ) (a : At) (b : Body) → best_of v n a ≡ Ok b → n ≤ 32
-      → (ls : List CertLevelData) × (Best ls ≡ b) × (left a ≡ level_spellings 1 ls ++ codes "end\n") × (length ls ≡ n) × IsBodyText v (Best ls)
-  unfolding best_of
-  best_takes n a b e small =
-      let l = bind_ok (levels_at v n 1 a) (λ ls. end_at ls.1 >>= λ end. Ok (Best ls.0)) b e in
-      let o = bind_ok (end_at l.0.1) (λ end. Ok (Best l.0.0)) b l.2 in
-      let t = levels_take v n 1 a l.0 l.1 in
-      let ended : left l.0.1 ≡ codes "end\n" = end_takes l.0.1 o.1 in
-      (l.0.0, ok_is (Best l.0.0) b o.2, t.0 ∙ ap (λ (y : List ℕ). level_spellings 1 l.0.0 ++ y) ended, t.1, (omega (arith, t.1), t.2))
+  -- a line with a count, and as many items
+  counted_items : {X : Type 0} (word second : List ℕ) (n : ℕ) (a : At) (read : Result (List X × At) CertFault) (body : List X → Body) (text : List X → List ℕ) (Fits : X → Type 0) (x : Body × At)
+      → ((xs : List X) → count_line word (length xs) ++ text xs ≡ body_text (body xs)) → ((xs : List X) → length xs ≤ 32 → AllByRecursion Fits xs → IsBodyText v (body xs))
+      → count_in word (words second) ≡ Some n → ((xs : List X × At) → read ≡ Ok xs → (left a ≡ text xs.0 ++ left xs.1) × (length xs.0 ≡ n) × AllByRecursion Fits xs.0)
+      → (read >>= λ xs. Ok (body xs.0, xs.1)) ≡ Ok x → (second ++ 10 ∷ left a ≡ body_text x.0 ++ left x.1) × IsBodyText v x.0
+  counted_items word second n a read body text Fits x texts fits number takes e =
+      let count = count_takes word second n number in
+      let r = bind_ok read (λ xs. Ok (body xs.0, xs.1)) x e in
+      let t = takes r.0 r.1 in
+      let line : List ℕ = count_line word (length r.0.0) in
+      let whole : second ++ 10 ∷ left a ≡ body_text (body r.0.0) ++ left r.0.1 =
+      counted word second (left a) n (length r.0.0) count.0 (sym t.1) ∙ ap (λ (y : List ℕ). line ++ y) t.0
+      ∙ sym (append_assoc line (text r.0.0) (left r.0.1)) ∙ ap (λ (y : List ℕ). y ++ left r.0.1) (texts r.0.0) in
+      let made : Body × At = (body r.0.0, r.0.1) in
+      subst (λ (y : Body × At). (second ++ 10 ∷ left a ≡ body_text y.0 ++ left y.1) × IsBodyText v y.0) (ok_is made x r.2) (whole, fits r.0.0 (omega (arith, t.1, count.1)) t.2)
 
-  none_takes : (n : ℕ) (a : At) (b : Body) → members_read v n a ≡ Ok b → n ≤ 32
-      → (ms : List Fail) × (NoOrder ms ≡ b) × (left a ≡ fail_lines (codes "member") ms ++ codes "end\n") × (length ms ≡ n) × IsBodyText v (NoOrder ms)
-  unfolding members_read
-  none_takes n a b e small =
-      let l = bind_ok (members_at v n a) (λ ms. end_at ms.1 >>= λ end. Ok (NoOrder ms.0)) b e in
-      let o = bind_ok (end_at l.0.1) (λ end. Ok (NoOrder l.0.0)) b l.2 in
-      let t = members_take v n a l.0 l.1 in
-      let ended : left l.0.1 ≡ codes "end\n" = end_takes l.0.1 o.1 in
-      (l.0.0, ok_is (NoOrder l.0.0) b o.2, t.0 ∙ ap (λ (y : List ℕ). fail_lines (codes "member") l.0.0 ++ y) ended, t.1, (omega (arith, t.1), t.2))
+  case_takes : (second : List ℕ) (o p : Option ℕ) (a : At) (x : Body × At) → count_in (codes "best") (words second) ≡ o → count_in (codes "none") (words second) ≡ p → body_case v o p a ≡ Ok x
+      → (second ++ 10 ∷ left a ≡ body_text x.0 ++ left x.1) × IsBodyText v x.0
+  case_takes second (Some n) p a x best none e =
+      counted_items (codes "best") second n a (levels_at v n a) (λ ls. Best ls) (level_spellings 1) (IsLevelText v) x (λ ls. refl) (λ ls few fits. (few, fits)) best (levels_take v n a) e
+  case_takes second None (Some n) a x best none e =
+      counted_items (codes "none") second n a (members_at v n a) (λ ms. NoOrder ms) (fail_lines (codes "member")) (IsFailText v) x (λ ms. refl) (λ ms few fits. (few, fits)) none (members_take v n a) e
+  case_takes second None None a x best none e = absurd cc
 
-  cases_take : (second : List ℕ) (o p : Option ℕ) (a : At) (b : Body) → count_in (codes "best") (words second) ≡ o → count_in (codes "none") (words second) ≡ p → body_case v o p a ≡ Ok b
-      → (second ++ 10 ∷ left a ≡ body_text b) × IsBodyText v b
-  cases_take second (Some n) p a b best none e =
-      let count = count_takes (codes "best") second n best in
-      let t = best_takes n a b e count.1 in
-      subst (λ (y : Body). (second ++ 10 ∷ left a ≡ body_text y) × IsBodyText v y) t.1
-      (counted (codes "best") second (left a) n (length t.0) count.0 (sym t.3) ∙ ap (λ (y : List ℕ). count_line (codes "best") (length t.0) ++ y) t.2, t.4)
-  cases_take second None (Some n) a b best none e =
-      let count = count_takes (codes "none") second n none in
-      let t = none_takes n a b e count.1 in
-      subst (λ (y : Body). (second ++ 10 ∷ left a ≡ body_text y) × IsBodyText v y) t.1
-      (counted (codes "none") second (left a) n (length t.0) count.0 (sym t.3) ∙ ap (λ (y : List ℕ). count_line (codes "none") (length t.0) ++ y) t.2, t.4)
-  cases_take second None None a b best none e = absurd cc
-
-  pub body_takes : (a : At) (b : Body) → body_at v a ≡ Ok b → (left a ≡ body_text b) × IsBodyText v b
+  pub body_takes : (a : At) (x : Body × At) → body_at v a ≡ Ok x → (left a ≡ body_text x.0 ++ left x.1) × IsBodyText v x.0
   unfolding body_at
-  body_takes a b e =
-      let s = bind_ok (line_from a.parts a.line) (λ second. body_case v (count_in (codes "best") (words second.0)) (count_in (codes "none") (words second.0)) second.1) b e in
-      let t = cases_take s.0.0 (count_in (codes "best") (words s.0.0)) (count_in (codes "none") (words s.0.0)) s.0.1 b refl refl s.2 in
+  body_takes a x e =
+      let s = bind_ok (line_from a.parts a.line) (λ second. body_case v (count_in (codes "best") (words second.0)) (count_in (codes "none") (words second.0)) second.1) x e in
+      let t = case_takes s.0.0 (count_in (codes "best") (words s.0.0)) (count_in (codes "none") (words s.0.0)) s.0.1 x refl refl s.2 in
       (line_takes a.parts a.line s.0 s.1 ∙ t.0, t.1)
 
 head_ends : (v : CertVersion) (rest : List ℕ) → head_text v ++ 10 ∷ rest ≡ head_line v ++ rest
@@ -86,13 +77,15 @@ version_takes head v = by (bytes_eq head (head_text First)) refl
     by true is e = (bytes_eq-Decides head (head_text First)).0 is ∙ ap head_text (same_Some First v e)
     by false is e = second (bytes_eq head (head_text Second)) refl e
 
-versioned_takes : (o : Option CertVersion) (a : At) (c : Cert) → versioned o a ≡ Ok c → (o ≡ Some c.version) × (left a ≡ body_text c.body) × HasSpelling c
+versioned_takes : (o : Option CertVersion) (a : At) (c : Cert) → versioned o a ≡ Ok c → (o ≡ Some c.version) × (left a ≡ body_text c.body ++ codes "end\n") × HasSpelling c
 versioned_takes None a c e = absurd cc
 versioned_takes (Some v) a c e =
-    let b = bind_ok (body_at v a) (λ body. Ok (record { version = v; body = body })) c e in
+    let b = bind_ok (body_at v a) (λ body. end_at body.1 >>= λ end. Ok (record { version = v; body = body.0 })) c e in
+    let made : Cert = record { version = v; body = b.0.0 } in
+    let o = bind_ok (end_at b.0.1) (λ end. Ok made) c b.2 in
     let t = body_takes v a b.0 b.1 in
-    let made : Cert = record { version = v; body = b.0 } in
-    subst (λ (x : Cert). (Some v ≡ Some x.version) × (left a ≡ body_text x.body) × HasSpelling x) (ok_is made c b.2) (refl, t.0, t.1)
+    let ended : left b.0.1 ≡ codes "end\n" = end_takes b.0.1 o.1 in
+    subst (λ (x : Cert). (Some v ≡ Some x.version) × (left a ≡ body_text x.body ++ codes "end\n") × HasSpelling x) (ok_is made c o.2) (refl, t.0 ∙ ap (λ (y : List ℕ). body_text b.0.0 ++ y) ended, t.1)
 
 pub certificate_takes : (bytes : List ℕ) (c : Cert) → certificate_in bytes ≡ Ok c → (bytes ≡ spelling c) × HasSpelling c
 unfolding certificate_in
@@ -103,7 +96,8 @@ certificate_takes bytes c e =
           ∙ line_takes (parts bytes) 1 h.0 h.1
           ∙ ap (λ (y : List ℕ). y ++ 10 ∷ left h.0.1) (version_takes h.0.0 c.version t.0)
           ∙ ap (λ (y : List ℕ). head_text c.version ++ 10 ∷ y) t.1
-          ∙ head_ends c.version (body_text c.body),
+          ∙ head_ends c.version (body_text c.body ++ codes "end\n")
+          ∙ sym (append_assoc (head_line c.version) (body_text c.body) (codes "end\n")),
       t.2,
     )
 
@@ -127,8 +121,13 @@ other_word n small =
     ∙ ap (λ (y : List (List ℕ)). codes "none" ∷ y) (slice_split_none (λ b. b == 32) (decimal n) (decimal_lacks 32 n (omega arith) (omega arith))))
     ∙ refl
 
-regroup : (word digits lines rest : List ℕ) → (word ++ 32 ∷ digits ++ 10 ∷ [] ++ (lines ++ codes "end\n")) ++ rest ≡ (word ++ 32 ∷ digits) ++ 10 ∷ (lines ++ (codes "end\n" ++ rest))
+regroup : (word digits lines rest : List ℕ) → ((word ++ 32 ∷ digits ++ 10 ∷ []) ++ lines) ++ rest ≡ (word ++ 32 ∷ digits) ++ 10 ∷ (lines ++ rest)
 regroup word digits lines rest = simp append_assoc
+
+-- the number of the line behind a body, of which the first line has the number n
+abbrev line_behind : ℕ → Body → ℕ
+line_behind n (Best ls) = line_after (n + 1) ls
+line_behind n (NoOrder ms) = n + 1 + length ms
 
 module _ (v : CertVersion) where
   no_chain : fail_in v (codes "fails") (words (codes "end")) ≡ None
@@ -140,36 +139,24 @@ module _ (v : CertVersion) where
       let plain : All (λ x. (x == 10) ≡ false) (codes "end") = All-from_recursion (λ x. (x == 10) ≡ false) (codes "end") (refl, (refl, (refl, tt))) in
       no_failure v (codes "end") rest plain no_chain
 
-  best_again : (ls : List CertLevelData) (rest : List ℕ) (n : ℕ) → IsBodyText v (Best ls) → best_of v (length ls) (record { parts = parts (level_spellings 1 ls ++ (codes "end\n" ++ rest)); line = n }) ≡ closed (length rest == 0) (Best ls)
-  unfolding best_of
-  best_again ls rest n fits =
-      rw (levels_again v ls (codes "end\n" ++ rest) 1 n (omega (arith, fits.0)) fits.1 (end_begins rest), end_again rest (line_after n ls)) (closed_bind (length rest == 0) tt (Best ls))
-
-  none_again : (ms : List Fail) (rest : List ℕ) (n : ℕ) → IsBodyText v (NoOrder ms) → members_read v (length ms) (record { parts = parts (fail_lines (codes "member") ms ++ (codes "end\n" ++ rest)); line = n }) ≡ closed (length rest == 0) (NoOrder ms)
-  unfolding members_read
-  none_again ms rest n fits =
-      rw (members_again v ms (codes "end\n" ++ rest) n fits.1, end_again rest (n + length ms)) (closed_bind (length rest == 0) tt (NoOrder ms))
-
   counted_again : (count rest : List ℕ) (n : ℕ) → All (λ x. (x == 10) ≡ false) count
       → body_at v (record { parts = parts (count ++ 10 ∷ rest); line = n }) ≡ body_case v (count_in (codes "best") (words count)) (count_in (codes "none") (words count)) (record { parts = parts rest; line = n + 1 })
   unfolding body_at
   counted_again count rest n plain = rw (line_again count rest n plain) refl
 
-  -- what follows the first line, and what follows that
-  pub body_again : (b : Body) (rest : List ℕ) (n : ℕ) → IsBodyText v b → body_at v (record { parts = parts (body_text b ++ rest); line = n }) ≡ closed (length rest == 0) b
-  body_again (Best ls) rest n fits =
+  -- a body, and what follows it
+  pub body_again : (b : Body) (rest : List ℕ) (n : ℕ) → IsBodyText v b → BeginsNoFailure v rest
+      → body_at v (record { parts = parts (body_text b ++ rest); line = n }) ≡ Ok (b, record { parts = parts rest; line = line_behind n b })
+  body_again (Best ls) rest n fits none =
       let count : List ℕ = codes "best" ++ 32 ∷ decimal (length ls) in
       ap (λ (y : List ℕ). body_at v (record { parts = parts y; line = n })) (regroup (codes "best") (decimal (length ls)) (level_spellings 1 ls) rest)
-      ∙ counted_again count (level_spellings 1 ls ++ (codes "end\n" ++ rest)) n (best_plain (length ls) fits.0)
-      ∙ ap (λ (o : Option ℕ). body_case v o (count_in (codes "none") (words count)) (record { parts = parts (level_spellings 1 ls ++ (codes "end\n" ++ rest)); line = n + 1 })) (count_again (codes "best") (length ls) best_word fits.0)
-      ∙ best_again ls rest (n + 1) fits
-  body_again (NoOrder ms) rest n fits =
+      ∙ counted_again count (level_spellings 1 ls ++ rest) n (best_plain (length ls) fits.0)
+      ∙ rw (count_again (codes "best") (length ls) best_word fits.0, levels_again v ls rest 1 (n + 1) (omega (arith, fits.0)) fits.1 none) refl
+  body_again (NoOrder ms) rest n fits none =
       let count : List ℕ = codes "none" ++ 32 ∷ decimal (length ms) in
       ap (λ (y : List ℕ). body_at v (record { parts = parts y; line = n })) (regroup (codes "none") (decimal (length ms)) (fail_lines (codes "member") ms) rest)
-      ∙ counted_again count (fail_lines (codes "member") ms ++ (codes "end\n" ++ rest)) n (none_plain (length ms) fits.0)
-      ∙ ap (λ (o : Option ℕ). body_case v o (count_in (codes "none") (words count)) (record { parts = parts (fail_lines (codes "member") ms ++ (codes "end\n" ++ rest)); line = n + 1 })) (other_word (length ms) fits.0)
-      ∙ ap (λ (o : Option ℕ). body_case v None o (record { parts = parts (fail_lines (codes "member") ms ++ (codes "end\n" ++ rest)); line = n + 1 })) (count_again (codes "none") (length ms) none_word fits.0)
-      ∙ none_again ms rest (n + 1) fits
+      ∙ counted_again count (fail_lines (codes "member") ms ++ rest) n (none_plain (length ms) fits.0)
+      ∙ rw (other_word (length ms) fits.0, count_again (codes "none") (length ms) none_word fits.0, members_again v ms rest 1 (n + 1) fits.1) refl
 
 head_plain : (v : CertVersion) → All (λ x. (x == 10) ≡ false) (head_text v)
 head_plain First = All-from_recursion (λ x. (x == 10) ≡ false) (head_text First) (refl, (refl, (refl, (refl, (refl, (refl, (refl, (refl, (refl, (refl, (refl, (refl, (refl, (refl, (refl, (refl, (refl, (refl, tt))))))))))))))))))
@@ -179,21 +166,18 @@ version_again : (v : CertVersion) → version_in (head_text v) ≡ Some v
 version_again First = refl
 version_again Second = refl
 
-abbrev with_version : CertVersion → Body → Cert
-with_version v b = record { version = v; body = b }
-
-closed_versioned : (over : Bool) (v : CertVersion) (b : Body) → (closed over b >>= λ body. Ok (with_version v body)) ≡ closed over (with_version v b)
-closed_versioned true v b = refl
-closed_versioned false v b = refl
-
 -- a spelling and what follows it: the certificate where nothing follows, and else the bytes that trail
 pub certificate_again : (c : Cert) (rest : List ℕ) → HasSpelling c → certificate_in (spelling c ++ rest) ≡ closed (length rest == 0) c
 unfolding certificate_in
 certificate_again c rest fits =
-    let text : List ℕ = body_text c.body ++ rest in
-    let regrouped : spelling c ++ rest ≡ head_text c.version ++ 10 ∷ text = append_assoc (head_line c.version) (body_text c.body) rest ∙ sym (head_ends c.version text) in
+    let behind : List ℕ = codes "end\n" ++ rest in
+    let text : List ℕ = body_text c.body ++ behind in
+    let regrouped : spelling c ++ rest ≡ head_text c.version ++ 10 ∷ text =
+    append_assoc (head_line c.version ++ body_text c.body) (codes "end\n") rest
+    ∙ append_assoc (head_line c.version) (body_text c.body) behind
+    ∙ sym (head_ends c.version text) in
     ap certificate_in regrouped
-    ∙ rw (line_again (head_text c.version) text 1 (head_plain c.version), version_again c.version, body_again c.version c.body rest 2 fits) (closed_versioned (length rest == 0) c.version c.body)
+    ∙ rw (line_again (head_text c.version) text 1 (head_plain c.version), version_again c.version, body_again c.version c.body behind 2 fits (end_begins c.version rest), end_again rest (line_behind 2 c.body)) (closed_bind (length rest == 0) tt c)
 
 -- ---- what follows from it
 pub reads_back : (b : Cert) → HasSpelling b → certificate_in (spelling b) ≡ Ok b

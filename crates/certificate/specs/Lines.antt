@@ -49,6 +49,15 @@ line_from (l ∷ x ∷ xs) line = Ok (l, record { parts = x ∷ xs; line = line 
 abbrev pub line_at : At → Result (List ℕ × At) CertFault
 line_at a = line_from a.parts a.line
 
+-- n items, of which the first has the number k
+unfoldable pub items_at : {X : Type 0} → (ℕ → At → Result (X × At) CertFault)
+    → ℕ → ℕ → At → Result (List X × At) CertFault
+items_at item zero k a = Ok ([], a)
+items_at item (suc n) k a = do
+  first ← item k a
+  others ← items_at item n (k + 1) first.1
+  Ok (first.0 ∷ others.0, others.1)
+
 -- the next line as a member
 unfoldable pub member_at : CertVersion → At → Result (Fail × At) CertFault
 member_at v a = do
@@ -57,12 +66,8 @@ member_at v a = do
   Ok (c, x.1)
 
 -- the next n lines as members
-unfoldable pub members_at : CertVersion → ℕ → At → Result (List Fail × At) CertFault
-members_at v zero a = Ok ([], a)
-members_at v (suc n) a = do
-  first ← member_at v a
-  others ← members_at v n first.1
-  Ok (first.0 ∷ others.0, others.1)
+abbrev pub members_at : CertVersion → ℕ → At → Result (List Fail × At) CertFault
+members_at v n a = items_at (λ k. member_at v) n 1 a
 
 -- no byte is left
 abbrev pub is_at_end : List (List ℕ) → Bool
@@ -128,36 +133,22 @@ level_read v k a = do
   h ← wanted a.line (level_in k (words x.0))
   Ok (record { name = h.0; time = h.1; fails = (fails_from v x.1.parts x.1.line).0 }, (fails_from v x.1.parts x.1.line).1)
 
--- n levels, of which the first has the number k
-unfoldable pub levels_at : CertVersion → ℕ → ℕ → At → Result (List CertLevelData × At) CertFault
-levels_at v zero k a = Ok ([], a)
-levels_at v (suc n) k a = do
-  first ← level_read v k a
-  others ← levels_at v n (k + 1) first.1
-  Ok (first.0 ∷ others.0, others.1)
-
 -- the next lines as n levels
-unfoldable pub best_of : CertVersion → ℕ → At → Result Body CertFault
-best_of v n a = do
-  ls ← levels_at v n 1 a
-  end ← end_at ls.1
-  Ok (Best ls.0)
+abbrev pub levels_at : CertVersion → ℕ → At → Result (List CertLevelData × At) CertFault
+levels_at v n a = items_at (level_read v) n 1 a
 
--- the next lines as n members
-unfoldable pub members_read : CertVersion → ℕ → At → Result Body CertFault
-members_read v n a = do
-  ms ← members_at v n a
-  end ← end_at ms.1
-  Ok (NoOrder ms.0)
-
--- the rest as levels or as members, by the count that was read
-abbrev pub body_case : CertVersion → Option ℕ → Option ℕ → At → Result Body CertFault
-body_case v (Some n) other a = best_of v n a
-body_case v None (Some n) a = members_read v n a
+-- the next lines as levels or as members, by the count that was read
+abbrev pub body_case : CertVersion → Option ℕ → Option ℕ → At → Result (Body × At) CertFault
+body_case v (Some n) other a = do
+  levels ← levels_at v n a
+  Ok (Best levels.0, levels.1)
+body_case v None (Some n) a = do
+  members ← members_at v n a
+  Ok (NoOrder members.0, members.1)
 body_case v None None a = Err (BadLine 2)
 
--- what follows the first line
-unfoldable pub body_at : CertVersion → At → Result Body CertFault
+-- what stands between the first line and the last one
+unfoldable pub body_at : CertVersion → At → Result (Body × At) CertFault
 body_at v a = do
   second ← line_at a
   body_case v (count_in (codes "best") (words second.0))
@@ -175,7 +166,8 @@ abbrev pub versioned : Option CertVersion → At → Result Cert CertFault
 versioned None a = Err BadHead
 versioned (Some v) a = do
   body ← body_at v a
-  Ok (record { version = v; body = body })
+  end ← end_at body.1
+  Ok (record { version = v; body = body.0 })
 
 -- the certificate that the bytes are, or the first fault
 unfoldable pub certificate_in : List ℕ → Result Cert CertFault

@@ -46,14 +46,12 @@ head_line v = head_text v ++ 10 ∷ []
 abbrev pub count_line : List ℕ → ℕ → List ℕ
 count_line word n = word ++ 32 ∷ decimal n ++ 10 ∷ []
 
--- what follows the first line
+-- what stands between the first line and the last one
 abbrev pub body_text : Body → List ℕ
-body_text (Best levels) =
-    count_line (codes "best") (length levels) ++ (level_spellings 1 levels ++ codes "end\n")
+body_text (Best levels) = count_line (codes "best") (length levels) ++ level_spellings 1 levels
 body_text (NoOrder members) =
-    count_line (codes "none") (length members)
-    ++ (fail_lines (codes "member") members ++ codes "end\n")
+    count_line (codes "none") (length members) ++ fail_lines (codes "member") members
 
 -- the bytes of a certificate
 abbrev pub spelling : Cert → List ℕ
-spelling c = head_line c.version ++ body_text c.body
+spelling c = head_line c.version ++ body_text c.body ++ codes "end\n"

@@ -1,13 +1,11 @@
 //! A whole certificate.
-ghost use Rattle.std.specs.Prelude.{◌≡◌, ◌≤◌, ℕ, Option, Ok};
-ghost use Rattle.task_sheet.specs.declared.set.TheConstants.{TASK_LIMIT};
-ghost use Rattle.certificate.specs.Body.{Body, Cert};
+ghost use Rattle.std.specs.Prelude.{◌≡◌};
+ghost use Rattle.certificate.specs.Body.{Cert};
 ghost use Rattle.certificate.specs.BodyOf.{body_of};
-ghost use Rattle.certificate.specs.Lines.{Gives, at_place, best_of, members_read, body_case, body_at, version_in, certificate_in};
+ghost use Rattle.certificate.specs.Lines.{Gives, at_place, body_at, version_in, certificate_in};
 
 use crate::fault::CertFault;
-use crate::levels::levels;
-use crate::reading::{count_of, end, is_word, members, next_line};
+use crate::reading::{Reader, count_of, end, is_word, next_line};
 use crate::value::{CertFail, CertLevel};
 use crate::version::CertVersion;
 use lines::TextPlace;
@@ -22,54 +20,22 @@ pub enum CertBody {
     NoOrder(Vec<CertFail>),
 }
 
-// The rest as levels, and the last line.
-#[tactic(auto, unfolding(crate::specs::Lines::best_of))]
-fn best_of<'a>(
-    alloc: Global,
-    version: CertVersion,
-    count: u64,
-    at: TextPlace<'a>,
-) -> Result<CertBody, CertFault>
-    requires { count ≤ TASK_LIMIT }
-    ensures { Gives body_of result (best_of version count (at_place at.entry)) }
-{
-    let (levels, after) = levels(alloc, version, count, at)?;
-    end(after)?;
-    Ok(CertBody::Best(levels))
-}
-
-// The rest as members, and the last line.
-#[tactic(auto, unfolding(crate::specs::Lines::members_read))]
-fn members_of<'a>(
-    alloc: Global,
-    version: CertVersion,
-    count: u64,
-    at: TextPlace<'a>,
-) -> Result<CertBody, CertFault>
-    ensures { Gives body_of result (members_read version count (at_place at.entry)) }
-{
-    let (members, after) = members(alloc, version, count, at)?;
-    end(after)?;
-    Ok(CertBody::NoOrder(members))
-}
-
-// What follows the first line.
-#[tactic(auto, unfolding(crate::specs::Lines::body_at))]
-fn body_at<'a>(
-    alloc: Global,
-    version: CertVersion,
-    at: TextPlace<'a>,
-) -> Result<CertBody, CertFault>
-    ensures { Gives body_of result (body_at version (at_place at.entry)) }
-{
-    let (second, after) = next_line(at)?;
-    if let Some(count) = count_of(b"best", second) {
-        return best_of(alloc, version, count, after);
+impl Reader {
+    // What stands between the first line and the last one.
+    #[tactic(auto, unfolding(crate::specs::Lines::body_at))]
+    fn body(self, at: &mut TextPlace<'_>) -> Result<CertBody, CertFault>
+        ensures { Gives (λ body. (body_of body, at_place at.new)) result
+            (body_at self.version (at_place at.old)) }
+    {
+        let second = next_line(at)?;
+        if let Some(count) = count_of(b"best", second) {
+            return Ok(CertBody::Best(self.levels(count, at)?));
+        }
+        if let Some(count) = count_of(b"none", second) {
+            return Ok(CertBody::NoOrder(self.members(count, at)?));
+        }
+        Err(CertFault::BadLine { line: 2 })
     }
-    if let Some(count) = count_of(b"none", second) {
-        return members_of(alloc, version, count, after);
-    }
-    Err(CertFault::BadLine { line: 2 })
 }
 
 // The version that a first line names.
@@ -91,10 +57,11 @@ pub fn certificate_in(alloc: Global, bytes: &[u8]) -> Result<(CertVersion, CertB
     ensures { Gives (λ x. let c : Cert = record { version = x.0; body = body_of x.1 } in c)
         result (certificate_in bytes.now) }
 {
-    let (head, after) = next_line(TextPlace::start(bytes))?;
-    let Some(version) = version_in(head) else {
+    let mut at = TextPlace::start(bytes);
+    let Some(version) = version_in(next_line(&mut at)?) else {
         return Err(CertFault::BadHead);
     };
-    let body = body_at(alloc, version, after)?;
+    let body = Reader { alloc, version }.body(&mut at)?;
+    end(&mut at)?;
     Ok((version, body))
 }

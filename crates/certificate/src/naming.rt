@@ -1,6 +1,5 @@
 //! The certificate of a verdict.
-ghost use Rattle.std.specs.Prelude.{◌≡◌, ◌<◌, length, All, IfOk};
-ghost use Rattle.task_sheet.specs.Verdicts.{FailureData};
+ghost use Rattle.std.specs.Prelude.{◌≡◌, length, All, IfOk};
 ghost use Rattle.assignment.specs.Outcomes.{reason_of};
 ghost use Rattle.certificate.specs.ReasonOf as cert;
 ghost use Rattle.assignment.specs.Verdict.{verdict_set, verdict_of};
@@ -65,34 +64,22 @@ fn level_named(alloc: Global, set: &TaskSet, level: &LevelRecord) -> Result<Cert
     Ok(CertLevel { name, t, fails })
 }
 
-// Levels' numbers, with the names of their tasks.
-fn levels_named(
-    alloc: Global,
-    set: &TaskSet,
-    levels: &[LevelRecord],
-) -> Result<Vec<CertLevel>, AllocError>
-    requires { All (IsKnownLevel set.now) levels.now }
-    ensures { IfOk result (λ v. v.items ≡ levels_named set.now levels.now) }
-{
-    let mut named = Vec::new(alloc);
-    for level in levels {
-        let level = level_named(alloc, set, level)?;
-        named.push(level)?;
-    }
-    Ok(named)
-}
-
-// The levels of the best order.
+// The levels of the best order, with the names of their tasks.
 fn best_named(alloc: Global, best: &Assignment) -> Result<Vec<CertLevel>, AllocError>
     ensures { IfOk result (λ v. v.items ≡ levels_named best.now.set best.now.levels) }
 {
     let set = best.set();
     // Its contract says that the set is one of at most 32 valid sheets.
     let _sheets = set.sheets();
-    levels_named(alloc, set, best.levels())
+    let mut named = Vec::new(alloc);
+    for level in best.levels() {
+        let level = level_named(alloc, set, level)?;
+        named.push(level)?;
+    }
+    Ok(named)
 }
 
-// The members of the greatest obstruction.
+// The members of the greatest obstruction, with the names of their tasks.
 fn stuck_named(alloc: Global, stuck: &Obstruction) -> Result<Vec<CertFail>, AllocError>
     ensures { IfOk result (λ v. v.items ≡ fails_named stuck.now.set stuck.now.members) }
 {

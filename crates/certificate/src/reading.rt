@@ -1,72 +1,75 @@
 //! Reading line after line.
 ghost use Rattle.std.specs.Prelude.{◌≡◌, ◌<◌, ◌≤◌, IfOk, IfSome, length, bytes_eq};
 ghost use Rattle.task_sheet.specs.declared.set.TheConstants.{TASK_LIMIT};
-ghost use Rattle.certificate.specs.Body.{Fail};
 ghost use Rattle.lines.specs.Words.{words};
 ghost use Rattle.certificate.specs.Lines.{Gives, at_place, line_at, member_at, members_at, end_at, count_in, few};
 
 use crate::fault::CertFault;
 use crate::value::CertFail;
 use crate::version::CertVersion;
-use crate::words::fail_of;
 use lines::{TextPlace, complete_line, cut, number_of};
 use std::alloc::Global;
 use task_sheet::TASK_LIMIT;
 
-/// The next complete line, and the place behind it; `Truncated` where there is none.
-pub fn next_line<'a>(at: TextPlace<'a>) -> Result<(&'a [u8], TextPlace<'a>), CertFault>
-    ensures line { Gives (λ x. (x.0.now, at_place x.1)) result (line_at (at_place at.entry)) }
-    ensures less { IfOk result (λ x. length x.1.rest.now < length at.entry.rest.now) }
-{
-    complete_line(at).ok_or(CertFault::Truncated)
+/// How lines are read: what allocates, and the version of the certificate whose lines they are.
+#[derive(Clone, Copy)]
+pub struct Reader {
+    pub alloc: Global,
+    pub version: CertVersion,
 }
 
-// The next line as a member, and the place behind it.
-#[tactic(auto, unfolding(crate::specs::Lines::member_at))]
-fn member<'a>(
-    alloc: Global,
-    version: CertVersion,
-    at: TextPlace<'a>,
-) -> Result<(CertFail, TextPlace<'a>), CertFault>
-    ensures { Gives (λ x. (x.0, at_place x.1)) result (member_at version (at_place at.entry)) }
+/// The next complete line, behind which the place is then; `Truncated` where there is none.
+pub fn next_line<'a>(at: &mut TextPlace<'a>) -> Result<&'a [u8], CertFault>
+    ensures line { Gives (λ line. (line.now, at_place at.new)) result (line_at (at_place at.old)) }
+    ensures less { IfOk result (λ _. length at.new.rest.now < length at.old.rest.now) }
 {
-    let (line, after) = next_line(at)?;
-    match fail_of(alloc, version, b"member", line)? {
-        None => Err(CertFault::BadLine { line: at.line }),
-        Some(fail) => Ok((fail, after)),
-    }
+    let Some((line, after)) = complete_line(*at) else {
+        return Err(CertFault::Truncated);
+    };
+    *at = after;
+    Ok(line)
 }
 
-/// The next `count` lines as members, and the place behind them.
-pub fn members<'a>(
-    alloc: Global,
-    version: CertVersion,
-    count: u64,
-    at: TextPlace<'a>,
-) -> Result<(Vec<CertFail>, TextPlace<'a>), CertFault>
-    ensures { Gives (λ x. (x.0.items, at_place x.1)) result
-        (members_at version count (at_place at.entry)) }
-{
-    let mut members = Vec::new(alloc);
-    let mut at = at;
-    for _ in 0..count {
-        let (fail, after) = member(alloc, version, at)?;
-        members.push(fail)?;
-        at = after;
+impl Reader {
+    // The next line as a member.
+    #[tactic(auto, unfolding(crate::specs::Lines::member_at))]
+    fn member(self, at: &mut TextPlace<'_>) -> Result<CertFail, CertFault>
+        ensures { Gives (λ fail. (fail, at_place at.new)) result
+            (member_at self.version (at_place at.old)) }
+    {
+        let number = at.line;
+        let line = next_line(at)?;
+        match self.fail_of(b"member", line)? {
+            None => Err(CertFault::BadLine { line: number }),
+            Some(fail) => Ok(fail),
+        }
     }
-    Ok((members, at))
+
+    /// The next `count` lines as members.
+    pub fn members(self, count: u64, at: &mut TextPlace<'_>) -> Result<Vec<CertFail>, CertFault>
+        ensures { Gives (λ members. (members.items, at_place at.new)) result
+            (members_at self.version count (at_place at.old)) }
+    {
+        let mut members = Vec::new(self.alloc);
+        for _ in 0..count {
+            let fail = self.member(at)?;
+            members.push(fail)?;
+        }
+        Ok(members)
+    }
 }
 
 /// The last line is next, and nothing follows it: else `Truncated`, `BadLine` or `Trailing`.
-#[tactic(auto, using(crate::proofs::MemberLoops::over_is), unfolding(crate::specs::Lines::end_at))]
-pub fn end<'a>(at: TextPlace<'a>) -> Result<(), CertFault>
-    ensures { Gives (λ x. x) result (end_at (at_place at.entry)) }
+#[tactic(auto, using(crate::proofs::ItemLoops::over_is), unfolding(crate::specs::Lines::end_at))]
+pub fn end(at: &mut TextPlace<'_>) -> Result<(), CertFault>
+    ensures { Gives (λ x. x) result (end_at (at_place at.old)) }
 {
-    let (line, after) = next_line(at)?;
+    let number = at.line;
+    let line = next_line(at)?;
     if line != b"end".as_slice() {
-        return Err(CertFault::BadLine { line: at.line });
+        return Err(CertFault::BadLine { line: number });
     }
-    if !after.rest.is_empty() {
+    if !at.rest.is_empty() {
         return Err(CertFault::Trailing);
     }
     Ok(())

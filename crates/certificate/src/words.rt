@@ -1,9 +1,9 @@
 //! The words of a line with a failure.
-ghost use Rattle.std.specs.Prelude.{◌≡◌, IfOk, option_map};
+ghost use Rattle.std.specs.Prelude.{◌≡◌, IfOk};
 ghost use Rattle.lines.specs.Words.{words};
 ghost use Rattle.certificate.specs.Words.{numbers_in, over_in, later_in, reason_in, fail_in, found, reason_told};
 
-use crate::reading::is_word;
+use crate::reading::{Reader, is_word};
 use crate::value::{CertFail, CertReason};
 use crate::version::CertVersion;
 use lines::{cut, number_of};
@@ -55,44 +55,37 @@ fn later_of(version: CertVersion, text: &[u8]) -> Option<CertReason>
     }
 }
 
-// The reason that words are.
-#[tactic(auto, unfolding(crate::specs::Words::reason_in))]
-fn reason_of(
-    alloc: Global,
-    version: CertVersion,
-    text: &[u8],
-) -> Result<Option<CertReason>, AllocError>
-    ensures { IfOk result (λ o. reason_told o ≡ reason_in version (words text.now)) }
-{
-    match numbers_of(alloc, text)? {
-        Some(numbers) => Ok(Some(CertReason::Chain(numbers))),
-        None => Ok(later_of(version, text)),
+impl Reader {
+    // The reason that words are.
+    #[tactic(auto, unfolding(crate::specs::Words::reason_in))]
+    fn reason_of(self, text: &[u8]) -> Result<Option<CertReason>, AllocError>
+        ensures { IfOk result (λ o. reason_told o ≡ reason_in self.version (words text.now)) }
+    {
+        match numbers_of(self.alloc, text)? {
+            Some(numbers) => Ok(Some(CertReason::Chain(numbers))),
+            None => Ok(later_of(self.version, text)),
+        }
     }
-}
 
-/// The failure of a line of this word, a name and a reason.
-pub fn fail_of(
-    alloc: Global,
-    version: CertVersion,
-    word: &[u8],
-    line: &[u8],
-) -> Result<Option<CertFail>, AllocError>
-    ensures { IfOk result (λ o. o ≡ fail_in version word.now (words line.now)) }
-{
-    let Some((first, rest)) = cut(line, b' ') else {
-        return Ok(None);
-    };
-    let Some((name, rest)) = cut(rest, b' ') else {
-        return Ok(None);
-    };
-    if first != word {
-        return Ok(None);
-    }
-    let Ok(name) = Name::read(name) else {
-        return Ok(None);
-    };
-    match reason_of(alloc, version, rest)? {
-        None => Ok(None),
-        Some(reason) => Ok(Some(CertFail { name, reason })),
+    /// The failure of a line of this word, a name and a reason.
+    pub fn fail_of(self, word: &[u8], line: &[u8]) -> Result<Option<CertFail>, AllocError>
+        ensures { IfOk result (λ o. o ≡ fail_in self.version word.now (words line.now)) }
+    {
+        let Some((first, rest)) = cut(line, b' ') else {
+            return Ok(None);
+        };
+        let Some((name, rest)) = cut(rest, b' ') else {
+            return Ok(None);
+        };
+        if first != word {
+            return Ok(None);
+        }
+        let Ok(name) = Name::read(name) else {
+            return Ok(None);
+        };
+        match self.reason_of(rest)? {
+            None => Ok(None),
+            Some(reason) => Ok(Some(CertFail { name, reason })),
+        }
     }
 }

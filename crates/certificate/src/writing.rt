@@ -1,7 +1,5 @@
 //! Writing, piece after piece.
-ghost use Rattle.std.specs.Prelude.{◌++◌, ◌∷◌, [], length, codes};
 ghost use Rattle.std.specs.Fmt.{decimal};
-ghost use Rattle.certificate.specs.Body.{Fail, CertLevelData, Body};
 ghost use Rattle.certificate.specs.Body.{Cert};
 ghost use Rattle.certificate.specs.ReasonOf.{reason_seen};
 ghost use Rattle.certificate.specs.BodyOf.{body_of};
@@ -121,41 +119,19 @@ fn put_levels<W: Write + Drop>(
     Ok(())
 }
 
-// What follows the head of a `best` certificate.
-fn put_best<W: Write + Drop>(
-    levels: &[CertLevel],
-    out: &mut Outlet<'_, W>,
-) -> Result<(), WriteFailed>
-    ensures { Puts W.contents out.old out.new result
-        (count_line (codes "best") (length levels.now)
-        ++ (level_spellings 1 levels.now ++ codes "end\n")) }
-{
-    put_line(b"best", levels.len() as u64, out)?;
-    put_levels(levels, out)?;
-    out.put(b"end\n")
-}
-
-// What follows the head of a `none` certificate.
-fn put_none<W: Write + Drop>(
-    members: &[CertFail],
-    out: &mut Outlet<'_, W>,
-) -> Result<(), WriteFailed>
-    ensures { Puts W.contents out.old out.new result
-        (count_line (codes "none") (length members.now)
-        ++ (fail_lines (codes "member") members.now ++ codes "end\n")) }
-{
-    put_line(b"none", members.len() as u64, out)?;
-    put_fails(b"member", members, out)?;
-    out.put(b"end\n")
-}
-
-// What follows the first line.
+// What stands between the first line and the last one.
 fn put_body<W: Write + Drop>(body: &CertBody, out: &mut Outlet<'_, W>) -> Result<(), WriteFailed>
     ensures { Puts W.contents out.old out.new result (body_text (body_of body.now)) }
 {
     match body {
-        CertBody::Best(levels) => put_best(levels, out),
-        CertBody::NoOrder(members) => put_none(members, out),
+        CertBody::Best(levels) => {
+            put_line(b"best", levels.len() as u64, out)?;
+            put_levels(levels, out)
+        }
+        CertBody::NoOrder(members) => {
+            put_line(b"none", members.len() as u64, out)?;
+            put_fails(b"member", members, out)
+        }
     }
 }
 
@@ -182,5 +158,6 @@ pub fn put_certificate<W: Write + Drop>(
         Puts W.contents out.old out.new result (spelling c) }
 {
     put_head(version, out)?;
-    put_body(body, out)
+    put_body(body, out)?;
+    out.put(b"end\n")
 }

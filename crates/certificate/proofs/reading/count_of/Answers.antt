@@ -1,6 +1,6 @@
 use Rattle.lines.specs.Words.{words}
 use Rattle.lines.proofs.Parts.{words_some}
-use Rattle.certificate.proofs.MemberLoops.{too_many}
+use Rattle.certificate.proofs.ItemLoops.{too_many}
 use Rattle.certificate.proofs.reading.count_of.Goals as goal
 
 pub returns-in-Some-clause-is : goal.returns-in-Some-clause-is

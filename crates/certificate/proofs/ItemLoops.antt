@@ -1,4 +1,4 @@
--- Reading members one after the other, as a loop does.
+-- Reading items one after the other, as a loop does.
 use Rattle.std.proofs.Common.{◌≡◌, ℕ, suc, ◌-◌, ◌+◌, ◌≤◌, ◌<◌, ◌==◌, length, Bor, Option, None, Some, MatchOption, List, [], ◌∷◌, ◌++◌, Result, Ok, Err, refl, sym, ap, ◌∙◌, append_assoc, arith}
 use Rattle.std.proofs.lemmas.List.{append-nil}
 use Rattle.certificate.specs.declared.fault.CertFault.{CertFault}
@@ -6,51 +6,49 @@ use Rattle.certificate.specs.declared.fault.CertFault.TheVariants.{BadHead, BadL
 use Rattle.std.specs.Option.{ok_or}
 use Rattle.lines.specs.declared.place.TextPlace.{TextPlace}
 use Rattle.lines.proofs.Parts.{parts_some}
-use Rattle.certificate.specs.Body.{Fail}
 use Rattle.std.proofs.lemmas.List.Splits.{join_with_byte-slice_split}
 use Rattle.lines.specs.Lines.{parts}
 use Rattle.lines.specs.Steps.{◌>>=◌}
-use Rattle.certificate.specs.Lines.{At, Fails, Gives, at_place, line_at, line_from, is_at_end, count_in, member_at, members_at}
-use Rattle.certificate.specs.declared.version.CertVersion.{CertVersion}
+use Rattle.certificate.specs.Lines.{At, Fails, Gives, at_place, line_at, line_from, is_at_end, count_in, items_at}
 
 -- what was read before, and what is still read
 abbrev pub with_front : {X : Type 0} → List X → Result (List X × At) CertFault → Result (List X × At) CertFault
 with_front front read = read >>= λ x. Ok (front ++ x.0, x.1)
 
-pub with_front-bind : {X : Type 0} (front : List X) (n : X) (read : Result (List X × At) CertFault) → with_front front (read >>= λ x. Ok (n ∷ x.0, x.1)) ≡ with_front (front ++ n ∷ []) read
+with_front-bind : {X : Type 0} (front : List X) (n : X) (read : Result (List X × At) CertFault) → with_front front (read >>= λ x. Ok (n ∷ x.0, x.1)) ≡ with_front (front ++ n ∷ []) read
 with_front-bind {X} front n (Ok x) = ap (λ (ns : List X). Ok (ns, x.1)) (simp append_assoc)
 with_front-bind front n (Err f) = refl
 
-module _ (v : CertVersion) where
-  pub with_front_next : (front : List Fail) (count i : ℕ) (at : At) (n : Fail) (after : At) (total : Result (List Fail × At) CertFault) → i < count → member_at v at ≡ Ok (n, after)
-      → with_front front (members_at v (count - i) at) ≡ total → with_front (front ++ n ∷ []) (members_at v (count - (i + 1)) after) ≡ total
-  unfolding members_at
-  with_front_next front count i at n after total lt h so_far =
+module _ {X : Type 0} (item : ℕ → At → Result (X × At) CertFault) where
+  pub with_front_next : (front : List X) (count i : ℕ) (at : At) (x : X) (after : At) (total : Result (List X × At) CertFault) → i < count → item (i + 1) at ≡ Ok (x, after)
+      → with_front front (items_at item (count - i) (i + 1) at) ≡ total → with_front (front ++ x ∷ []) (items_at item (count - (i + 1)) (i + 1 + 1) after) ≡ total
+  unfolding items_at
+  with_front_next front count i at x after total lt h so_far =
       let k : count - i ≡ suc (count - (i + 1)) = omega arith in
-      let one : with_front front (members_at v (count - i) at) ≡ with_front (front ++ n ∷ []) (members_at v (count - (i + 1)) after) = rw (k, h) (with_front-bind front n (members_at v (count - (i + 1)) after)) in
+      let one : with_front front (items_at item (count - i) (i + 1) at) ≡ with_front (front ++ x ∷ []) (items_at item (count - (i + 1)) (i + 1 + 1) after) = rw (k, h) (with_front-bind front x (items_at item (count - (i + 1)) (i + 1 + 1) after)) in
       sym one ∙ so_far
 
-  with_front_stops : (front : List Fail) (count i : ℕ) (at : At) (e : CertFault) (total : Result (List Fail × At) CertFault) → i < count → member_at v at ≡ Err e
-      → with_front front (members_at v (count - i) at) ≡ total → total ≡ Err e
-  unfolding members_at
+  with_front_stops : (front : List X) (count i : ℕ) (at : At) (e : CertFault) (total : Result (List X × At) CertFault) → i < count → item (i + 1) at ≡ Err e
+      → with_front front (items_at item (count - i) (i + 1) at) ≡ total → total ≡ Err e
+  unfolding items_at
   with_front_stops front count i at e total lt h so_far =
       let k : count - i ≡ suc (count - (i + 1)) = omega arith in
-      let one : with_front front (members_at v (count - i) at) ≡ Err e = rw (k, h) refl in
+      let one : with_front front (items_at item (count - i) (i + 1) at) ≡ Err e = rw (k, h) refl in
       sym so_far ∙ one
 
-  pub Fails-with_front : (e : CertFault) (front : List Fail) (count i : ℕ) (at : At) (total : Result (List Fail × At) CertFault) → i < count → Fails e (member_at v at)
-      → with_front front (members_at v (count - i) at) ≡ total → Fails e total
+  pub Fails-with_front : (e : CertFault) (front : List X) (count i : ℕ) (at : At) (total : Result (List X × At) CertFault) → i < count → Fails e (item (i + 1) at)
+      → with_front front (items_at item (count - i) (i + 1) at) ≡ total → Fails e total
   Fails-with_front OutOfMemory front count i at total lt h so_far = tt
   Fails-with_front BadHead front count i at total lt h so_far = with_front_stops front count i at BadHead total lt h so_far
   Fails-with_front (BadLine line) front count i at total lt h so_far = with_front_stops front count i at (BadLine line) total lt h so_far
   Fails-with_front Truncated front count i at total lt h so_far = with_front_stops front count i at Truncated total lt h so_far
   Fails-with_front Trailing front count i at total lt h so_far = with_front_stops front count i at Trailing total lt h so_far
 
-  pub with_front_last : (front : List Fail) (count i : ℕ) (at : At) (total : Result (List Fail × At) CertFault) → count ≤ i → with_front front (members_at v (count - i) at) ≡ total → total ≡ Ok (front, at)
-  unfolding members_at
+  pub with_front_last : (front : List X) (count i : ℕ) (at : At) (total : Result (List X × At) CertFault) → count ≤ i → with_front front (items_at item (count - i) (i + 1) at) ≡ total → total ≡ Ok (front, at)
+  unfolding items_at
   with_front_last front count i at total le so_far =
       let k : count - i ≡ 0 = omega arith in
-      let one : with_front front (members_at v (count - i) at) ≡ Ok (front, at) = rw k (ap (λ (ns : List Fail). Ok (ns, at)) (append-nil front)) in
+      let one : with_front front (items_at item (count - i) (i + 1) at) ≡ Ok (front, at) = rw k (ap (λ (xs : List X). Ok (xs, at)) (append-nil front)) in
       sym so_far ∙ one
 
 -- ---- a line and the place behind it

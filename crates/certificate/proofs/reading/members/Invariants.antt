@@ -1,7 +1,0 @@
-use Rattle.std.proofs.Common.{◌≡◌, ◌-◌}
-use Rattle.certificate.specs.Lines.{members_at, at_place}
-use Rattle.certificate.proofs.MemberLoops.{with_front}
-use Rattle.certificate.proofs.reading.members.Given as goal
-
-abbrev pub invariant-loop : goal.invariant-loop
-invariant-loop l = with_front l.members.items (members_at l.version (l.count - l.counter) (at_place l.at)) ≡ members_at l.version l.count (at_place l.fn.at)
