@@ -1,9 +1,11 @@
 //! The commands as `clap` takes them.
-ghost use Rattle.std.specs.Prelude.{◌≡◌, IfOk, false};
+ghost use Rattle.std.specs.Prelude.{◌≡◌, IfOk, false, map, option_map};
+ghost use Rattle.std.specs.List.{find};
+ghost use Rattle.std.specs.Str.{bytes_eq};
 ghost use Rattle.clap.specs.Words.{app_of, rule_of, with_rule, with_subcommand};
 ghost use Rattle.clap.specs.declared.builder.command.Command.TheViews.{out-Command as fields_of};
-ghost use Rattle.command_line.specs.App.{app_of_verb, bare_app, desk_app, input_app, input_rule, number_rule, preference_rule};
-ghost use Rattle.command_line.specs.Commands.{first_input_of, least_of, most_of, number_name, word_of};
+ghost use Rattle.command_line.specs.App.{bare_app, command_app, desk_app, input_app, input_rule, number_rule, preference_rule};
+ghost use Rattle.command_line.specs.Commands.{commands, input_of, least_of, most_of, number_name, verb_of};
 
 use crate::calls::{LATEST_END, MOST_WORKERS, OfNumber, OfOne, OfTwo, Verb};
 use clap::builder::ValueParser;
@@ -13,29 +15,124 @@ use std::alloc::{AllocError, Global};
 // The program's version.
 const VERSION: &str = "0.5.0";
 
+// A command as help lists it: its word, what it does, and how it is called, with what its statuses say.
+#[derive(Clone, Copy)]
+struct Listed {
+    verb: Verb,
+    word: &'static str,
+    about: &'static str,
+    example: &'static str,
+}
+
 // The commands, as help lists them: those that answer on a task set, those for certificates and runs, those for scripts.
-const VERBS: [Verb; 12] = [
-    Verb::One(OfOne::Admit),
-    Verb::One(OfOne::Explain),
-    Verb::One(OfOne::Headroom),
-    Verb::One(OfOne::Settings),
-    Verb::Two(OfTwo::Judge),
-    Verb::One(OfOne::Certify),
-    Verb::Two(OfTwo::Check),
-    Verb::Number(OfNumber::Releases),
-    Verb::Two(OfTwo::Simulate),
-    Verb::Two(OfTwo::Draw),
-    Verb::One(OfOne::Play),
-    Verb::Number(OfNumber::Rush),
+const COMMANDS: [Listed; 12] = [
+    Listed {
+        verb: Verb::One(OfOne::Admit),
+        word: "admit",
+        about: "Prints the best order with its responses, or the tasks that stand in the way of all",
+        example: "Example: desk admit examples/shared-lock.toml\nStatus: 0 admitted, 3 infeasible, 4 the set is refused, 6 memory ran out, 7 an input or the output failed",
+    },
+    Listed {
+        verb: Verb::One(OfOne::Explain),
+        word: "explain",
+        about: "Prints what each response is made of, or a least set of tasks that collide",
+        example: "Example: desk explain examples/shared-lock.toml\nStatus: 0 admitted, 3 infeasible, 4 the set is refused, 6 memory ran out, 7 an input or the output failed",
+    },
+    Listed {
+        verb: Verb::One(OfOne::Headroom),
+        word: "headroom",
+        about: "Prints the greatest cost of each task with which some order passes, all else equal",
+        example: "Example: desk headroom examples/shared-lock.toml\nStatus: 0 admitted, 3 infeasible, 4 the set is refused, 6 memory ran out, 7 an input or the output failed",
+    },
+    Listed {
+        verb: Verb::One(OfOne::Settings),
+        word: "settings",
+        about: "Prints the level of each thread and the ceiling of each mutex in the best order",
+        example: "Example: desk settings examples/shared-lock.toml\nStatus: 0 admitted, 3 infeasible, 4 the set is refused, 6 memory ran out, 7 an input or the output failed",
+    },
+    Listed {
+        verb: Verb::Two(OfTwo::Judge),
+        word: "judge",
+        about: "Prints which tasks meet their deadlines at priorities that are given",
+        example: "Example: desk settings examples/shared-lock.toml | desk judge examples/shared-lock.toml -\nStatus: 0 all meet, 3 some miss, 4 the set or the settings are refused, 6 memory ran out, 7 an input or the output failed",
+    },
+    Listed {
+        verb: Verb::One(OfOne::Certify),
+        word: "certify",
+        about: "Prints a certificate of what admit answers",
+        example: "Example: desk certify examples/shared-lock.toml\nStatus: 0 admitted, 3 infeasible, 4 the set is refused, 6 memory ran out, 7 an input or the output failed",
+    },
+    Listed {
+        verb: Verb::Two(OfTwo::Check),
+        word: "check",
+        about: "Checks a certificate against a task set, whoever wrote it",
+        example: "Example: desk check examples/three-tasks.toml examples/three-tasks.cert\nStatus: 0 best or no order, 4 the set is refused, 5 the certificate is refused, 6 memory ran out, 7 an input or the output failed",
+    },
+    Listed {
+        verb: Verb::Number(OfNumber::Releases),
+        word: "releases",
+        about: "Prints the densest release list that a set allows, for simulate and draw",
+        example: "Example: desk releases examples/shared-lock.toml 100000\nStatus: 0 printed, 4 the set is refused or the list too long, 6 memory ran out, 7 an input or the output failed",
+    },
+    Listed {
+        verb: Verb::Two(OfTwo::Simulate),
+        word: "simulate",
+        about: "Runs a release list in a simulated kernel, at the levels of the best order",
+        example: "Example: desk simulate examples/shared-lock.toml examples/shared-lock.releases\nStatus: 0 run, 3 infeasible, 4 the set or the list is refused, 6 memory ran out, 7 an input or the output failed",
+    },
+    Listed {
+        verb: Verb::Two(OfTwo::Draw),
+        word: "draw",
+        about: "Draws the run that simulate prints, as an SVG document",
+        example: "Example: desk draw examples/shared-lock.toml examples/shared-lock.releases > run.svg\nStatus: 0 drawn, 3 infeasible, 4 the set or the list is refused, 6 memory ran out, 7 an input or the output failed",
+    },
+    Listed {
+        verb: Verb::One(OfOne::Play),
+        word: "play",
+        about: "Plays a script of drafts, findings and commits, and prints what each line comes to",
+        example: "Example: desk play examples/two-teams-fit.script\nStatus: 0 played, 4 the script is refused, 6 memory ran out, 7 an input or the output failed",
+    },
+    Listed {
+        verb: Verb::Number(OfNumber::Rush),
+        word: "rush",
+        about: "Runs the lines of each team of a script on a thread of its own, and prints the log and the book",
+        example: "Example: desk rush examples/two-teams-fit.script 4\nStatus: 0 run, 4 the script is refused, 6 memory ran out or the desk found a fault of its own, 7 an input or the output failed",
+    },
 ];
 
-// What an input is.
-fn input_help<'a>(name: &str) -> &'a str {
+// The list of the commands.
+fn listed_commands<'a>() -> &'a [Listed]
+    ensures { map (λ l. (l.word.now, l.verb)) result.now ≡ commands }
+{
+    &COMMANDS
+}
+
+// The command of the first row that has the word.
+fn first_named(rows: &[Listed], word: &str) -> Option<Verb>
+    ensures { result ≡ option_map (λ l. l.verb) (find (λ l. bytes_eq l.word.now word.now)
+        rows.now) }
+{
+    rows.iter()
+        .find(|listed| listed.word == word)
+        .map(|listed| listed.verb)
+}
+
+// The command that has the word.
+pub(crate) fn verb_named(word: &str) -> Option<Verb>
+    ensures { result ≡ verb_of word.now }
+{
+    first_named(listed_commands(), word)
+}
+
+// What an input or a number is.
+fn help_of<'a>(name: &str) -> &'a str {
     match name {
         "CERT" => "A certificate: a path, or - for standard input",
         "RELEASES" => "A release list: a path, or - for standard input",
         "SCRIPT" => "A script: a path, or - for standard input",
         "SETTINGS" => "Lines as settings prints them: a path, or - for standard input",
+        "UNTIL" => "Where the list ends, in microseconds, up to 60000000",
+        "WORKERS" => "How many threads may test the set of a commit, from 1 to 8",
         _ => "A task set in TOML: a path, or - for standard input",
     }
 }
@@ -48,7 +145,7 @@ fn input_arg<'a>(alloc: Global, name: &'a str) -> Arg<'a>
     Arg::new(alloc, name)
         .required(true)
         .action(ArgAction::Set)
-        .help(input_help(name))
+        .help(help_of(name))
 }
 
 // The option `--prefer`.
@@ -79,22 +176,23 @@ fn number_arg<'a>(alloc: Global, command: OfNumber) -> Arg<'a>
         (most_of command) }
     ensures local { result.global ≡ false }
 {
-    Arg::new(alloc, command.number())
+    let name = command.number();
+    Arg::new(alloc, name)
         .required(true)
         .action(ArgAction::Set)
-        .help(command.number_help())
+        .help(help_of(name))
         .value_parser(number_parser(command))
 }
 
 // A command with its first input, and with `--prefer` where that is a task set.
-fn input_command<'a>(alloc: Global, verb: Verb) -> Result<Command<'a>, AllocError>
-    ensures app { IfOk result (λ c. app_of c ≡ input_app (word_of verb) (first_input_of verb)) }
+fn input_command<'a>(alloc: Global, listed: Listed) -> Result<Command<'a>, AllocError>
+    ensures app { IfOk result (λ c. app_of c ≡ input_app listed.word.now (input_of listed.verb)) }
     ensures local { IfOk result (λ c. (fields_of c).has_globals ≡ false) }
 {
-    let bare = Command::new(alloc, verb.word())
-        .about(verb.about())
-        .after_help(verb.example());
-    let input = verb.input();
+    let bare = Command::new(alloc, listed.word)
+        .about(listed.about)
+        .after_help(listed.example);
+    let input = listed.verb.input();
     let command = with_arg(bare, input_arg(alloc, input))?;
     if input == "SET" {
         with_arg(command, preference_arg(alloc))
@@ -116,12 +214,12 @@ fn with_arg<'a>(command: Command<'a>, arg: Arg<'a>) -> Result<Command<'a>, Alloc
 }
 
 // A command with all that it takes.
-fn command_of<'a>(alloc: Global, verb: Verb) -> Result<Command<'a>, AllocError>
-    ensures app { IfOk result (λ c. app_of c ≡ app_of_verb verb) }
+fn command_of<'a>(alloc: Global, listed: Listed) -> Result<Command<'a>, AllocError>
+    ensures app { IfOk result (λ c. app_of c ≡ command_app listed.word.now listed.verb) }
     ensures local { IfOk result (λ c. (fields_of c).has_globals ≡ false) }
 {
-    let first = input_command(alloc, verb)?;
-    match verb {
+    let first = input_command(alloc, listed)?;
+    match listed.verb {
         Verb::One(_) => Ok(first),
         Verb::Two(command) => with_arg(first, input_arg(alloc, command.second())),
         Verb::Number(command) => with_arg(first, number_arg(alloc, command)),
@@ -162,8 +260,8 @@ pub(crate) fn desk_command<'a>(alloc: Global) -> Result<Command<'a>, AllocError>
     ensures local { IfOk result (λ c. (fields_of c).has_globals ≡ false) }
 {
     let mut desk = bare_command(alloc)?;
-    for verb in VERBS {
-        desk = with_command(desk, command_of(alloc, verb)?)?;
+    for listed in listed_commands() {
+        desk = with_command(desk, command_of(alloc, *listed)?)?;
     }
     Ok(desk)
 }
