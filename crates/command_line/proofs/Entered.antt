@@ -5,7 +5,7 @@ use Rattle.std.proofs.lemmas.Slice.Eq.{bytes_eq-Decides}
 use Rattle.clap.specs.Words.{FailsBy, Shape, Text, built, fault_of, subcommand_of, subcommand_rows_of}
 use Rattle.clap.specs.declared.parser.matches.ArgMatches.{ArgMatches}
 use Rattle.clap.specs.declared.error.Error.{Error}
-use Rattle.clap.specs.Walk.{Held, Names, answers_to, finished, nothing_held, Row, rows_after, settled, stop_after, walk, walk_from}
+use Rattle.clap.specs.Walk.{Held, Names, answers_to, finished, nothing_held, Row, settled, stop_after, walk, walk_from}
 use Rattle.clap.specs.Simple.{built_leaf, entered, help_shape, inherited, label_of, marked_built, names_of, new_app, rows_at, with_filled_rules, with_help_flag, with_leaf_noted, with_rule, with_version_flag}
 use Rattle.std.specs.Option.{option_map_or}
 use Rattle.std.specs.List.{find, list_any}
@@ -16,7 +16,7 @@ use Rattle.clap.specs.Faults.{check_fault, defaults_fault, entered_fault, level_
 use Rattle.clap.proofs.OnLiterals.{clap_on_literals}
 use Rattle.command_line.specs.App.{command_app, desk_app, input_app, input_rule, preference_rule}
 use Rattle.command_line.specs.Calls.{IsCommand, SaysNumber}
-use Rattle.command_line.specs.Commands.{commands, input_of, named_in, takes_preference, verb_of}
+use Rattle.command_line.specs.Commands.{commands, input_of, takes_preference, verb_of}
 use Rattle.command_line.specs.declared.calls.Verb.{Verb}
 use Rattle.command_line.specs.declared.calls.Verb.TheVariants.{One, Two, Number}
 use Rattle.command_line.proofs.Help.{NotHelp, first_empty, second_empty, walk_keeps}
@@ -53,6 +53,10 @@ label_is : (word : Text) (v : Verb) → label_of (shape word v) ≡ (word, [])
 label_is word v = built_label (inherited (with_leaf_noted (marked_built desk_app.top)) (command_app word v).top) ∙ command_label word v
 
 module _ (p : Text × List Text) where
+  -- the command of a list that has the word
+  abbrev named_in : List (Text × Verb) → Option Verb
+  named_in cs = option_map (λ c. c.1) (find (λ c. bytes_eq c.0 p.0) cs)
+
   -- the command that has the word is found
   abbrev IsFound : Option Verb → Option (Text × List Row) → Type 0
   IsFound named None = ⊥
@@ -74,7 +78,7 @@ module _ (p : Text × List Text) where
   says_number word (Number c) fine = number_taken word c p.1 fine
 
   first_found : p.0 ≢ codes "help" → (cs : List (Text × Verb))
-      → Finds (named_in cs p.0) (find (λ s. answers_to p.0 (label_of s)) (map (λ c. shape c.0 c.1) cs ++ built_leaf help_shape ∷ []))
+      → Finds (named_in cs) (find (λ s. answers_to p.0 (label_of s)) (map (λ c. shape c.0 c.1) cs ++ built_leaf help_shape ∷ []))
   first_found other [] = go (answers_to p.0 (codes "help", [])) refl
     where
       go : (b : Bool) → answers_to p.0 (codes "help", []) ≡ b → Finds None (cond b (Some (built_leaf help_shape)) None)
@@ -82,12 +86,12 @@ module _ (p : Text × List Text) where
       go false is fine some = cc
   first_found other (c ∷ cs) =
       let later = find (λ s. answers_to p.0 (label_of s)) (map (λ c. shape c.0 c.1) cs ++ built_leaf help_shape ∷ []) in
-      subst (λ b. Finds (named_in (c ∷ cs) p.0) (cond b (Some (shape c.0 c.1)) later))
+      subst (λ b. Finds (named_in (c ∷ cs)) (cond b (Some (shape c.0 c.1)) later))
       (sym (ap (answers_to p.0) (label_is c.0 c.1) ∙ or_false (bytes_eq c.0 p.0)))
       (go later (first_found other cs) (bytes_eq c.0 p.0) refl)
     where
-      go : (later : Option Shape) → Finds (named_in cs p.0) later → (b : Bool) → bytes_eq c.0 p.0 ≡ b
-          → Finds (option_map (λ row. row.1) (cond b (Some c) (find (λ row. bytes_eq row.0 p.0) cs))) (cond b (Some (shape c.0 c.1)) later)
+      go : (later : Option Shape) → Finds (named_in cs) later → (b : Bool) → bytes_eq c.0 p.0 ≡ b
+          → Finds (option_map (λ c. c.1) (cond b (Some c) (find (λ c. bytes_eq c.0 p.0) cs))) (cond b (Some (shape c.0 c.1)) later)
       go later rest true is fine some =
           (ap (λ l. l.0) (label_is c.0 c.1) ∙ (bytes_eq-Decides c.0 p.0).0 is, c.1, refl, says_number c.0 c.1 fine)
       go later rest false is fine some = rest fine some

@@ -23,13 +23,9 @@ commands =
     ∷ (codes "draw", Two Draw)
     ∷ (codes "play", One Play) ∷ (codes "rush", Number Rush) ∷ []
 
--- the command that has the word, in a list of commands
-abbrev pub named_in : List (Text × Verb) → Text → Option Verb
-named_in rows word = option_map (λ row. row.1) (find (λ row. bytes_eq row.0 word) rows)
-
--- the command of the program that has the word
+-- the command that has the word
 unfoldable pub verb_of : Text → Option Verb
-verb_of word = named_in commands word
+verb_of word = option_map (λ row. row.1) (find (λ row. bytes_eq row.0 word) commands)
 
 -- the name of the first input of a command
 abbrev pub input_of : Verb → Text

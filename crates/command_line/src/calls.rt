@@ -1,7 +1,7 @@
 //! The calls of `desk`.
-ghost use Rattle.std.specs.Prelude.{◌≡◌};
+ghost use Rattle.std.specs.Prelude.{◌≡◌, pos};
 ghost use Rattle.command_line.specs.Calls.{is_standard, is_twice};
-ghost use Rattle.command_line.specs.Commands.{input_of, number_name, second_of};
+ghost use Rattle.command_line.specs.Commands.{input_of, least_of, most_of, number_name, second_of};
 
 /// The most threads that test the set of a commit.
 pub const MOST_WORKERS: usize = 8;
@@ -57,6 +57,15 @@ pub enum OfNumber {
     Rush,
 }
 
+// A number that a command takes, from the least to the most.
+#[derive(Clone, Copy)]
+pub(crate) struct Number<'a> {
+    pub name: &'a str,
+    pub help: &'a str,
+    pub least: i64,
+    pub most: i64,
+}
+
 // A command of the program, by what it takes.
 #[derive(Clone, Copy)]
 pub(crate) enum Verb {
@@ -110,13 +119,25 @@ impl OfTwo {
 }
 
 impl OfNumber {
-    // The name of its number.
-    pub(crate) fn number<'a>(self) -> &'a str
-        ensures { result.now ≡ number_name self }
+    // The number that it takes.
+    pub(crate) fn number<'a>(self) -> Number<'a>
+        ensures name { result.name.now ≡ number_name self }
+        ensures least { result.least ≡ pos (least_of self) }
+        ensures most { result.most ≡ pos (most_of self) }
     {
         match self {
-            OfNumber::Releases => "UNTIL",
-            OfNumber::Rush => "WORKERS",
+            OfNumber::Releases => Number {
+                name: "UNTIL",
+                help: "Where the list ends, in microseconds, up to 60000000",
+                least: 0,
+                most: LATEST_END as i64,
+            },
+            OfNumber::Rush => Number {
+                name: "WORKERS",
+                help: "How many threads may test the set of a commit, from 1 to 8",
+                least: 1,
+                most: MOST_WORKERS as i64,
+            },
         }
     }
 }

@@ -7,8 +7,7 @@ ghost use Rattle.clap.specs.declared.builder.command.Command.TheViews.{out-Comma
 ghost use Rattle.command_line.specs.App.{bare_app, command_app, desk_app, input_app, input_rule, number_rule, preference_rule};
 ghost use Rattle.command_line.specs.Commands.{commands, input_of, least_of, most_of, number_name, verb_of};
 
-use crate::calls::{LATEST_END, MOST_WORKERS, OfNumber, OfOne, OfTwo, Verb};
-use clap::builder::ValueParser;
+use crate::calls::{OfNumber, OfOne, OfTwo, Verb};
 use clap::{Arg, ArgAction, Command, value_parser};
 use std::alloc::{AllocError, Global};
 
@@ -124,15 +123,13 @@ pub(crate) fn verb_named(word: &str) -> Option<Verb>
     first_named(listed_commands(), word)
 }
 
-// What an input or a number is.
-fn help_of<'a>(name: &str) -> &'a str {
+// What an input is.
+fn input_help<'a>(name: &str) -> &'a str {
     match name {
         "CERT" => "A certificate: a path, or - for standard input",
         "RELEASES" => "A release list: a path, or - for standard input",
         "SCRIPT" => "A script: a path, or - for standard input",
         "SETTINGS" => "Lines as settings prints them: a path, or - for standard input",
-        "UNTIL" => "Where the list ends, in microseconds, up to 60000000",
-        "WORKERS" => "How many threads may test the set of a commit, from 1 to 8",
         _ => "A task set in TOML: a path, or - for standard input",
     }
 }
@@ -145,7 +142,7 @@ fn input_arg<'a>(alloc: Global, name: &'a str) -> Arg<'a>
     Arg::new(alloc, name)
         .required(true)
         .action(ArgAction::Set)
-        .help(help_of(name))
+        .help(input_help(name))
 }
 
 // The option `--prefer`.
@@ -160,28 +157,18 @@ fn preference_arg<'a>(alloc: Global) -> Arg<'a>
         .help("What decides among the orders that pass in place of the weights: deadline")
 }
 
-// What reads the number of a command.
-fn number_parser<'a>(command: OfNumber) -> ValueParser<'a>
-    ensures { result ≡ ValueParser.Unsigned (least_of command) (most_of command) }
-{
-    match command {
-        OfNumber::Releases => value_parser!(usize).range(0..=LATEST_END as i64),
-        OfNumber::Rush => value_parser!(usize).range(1..=MOST_WORKERS as i64),
-    }
-}
-
 // The number that a command takes.
 fn number_arg<'a>(alloc: Global, command: OfNumber) -> Arg<'a>
     ensures rule { rule_of result ≡ number_rule (number_name command) (least_of command)
         (most_of command) }
     ensures local { result.global ≡ false }
 {
-    let name = command.number();
-    Arg::new(alloc, name)
+    let number = command.number();
+    Arg::new(alloc, number.name)
         .required(true)
         .action(ArgAction::Set)
-        .help(help_of(name))
-        .value_parser(number_parser(command))
+        .help(number.help)
+        .value_parser(value_parser!(usize).range(number.least..=number.most))
 }
 
 // A command with its first input, and with `--prefer` where that is a task set.

@@ -63,7 +63,7 @@ fn number_at(matches: &ArgMatches<'_>, command: OfNumber) -> usize
     ensures { Counts command (first_of (number_name command)
         (rows_of (found_of matches.now))) result }
 {
-    match matches.get_one::<usize>(command.number()) {
+    match matches.get_one::<usize>(command.number().name) {
         Some(number) => number,
         None => unreachable!(),
     }
