@@ -23,79 +23,131 @@ struct Listed {
     example: &'static str,
 }
 
+// How a command is called, and what its statuses say. Those from 6 on are the same for all, but for what one adds to 6.
+macro_rules! example {
+    ($call:literal, $statuses:literal $(, $also:literal)?) => {
+        concat!(
+            "Example: desk ",
+            $call,
+            "\nStatus: ",
+            $statuses,
+            ", 6 memory ran out",
+            $($also,)?
+            ", 7 an input or the output failed"
+        )
+    };
+}
+
 // The commands, as help lists them: those that answer on a task set, those for certificates and runs, those for scripts.
 const COMMANDS: [Listed; 12] = [
     Listed {
         verb: Verb::One(OfOne::Admit),
         word: "admit",
         about: "Prints the best order with its responses, or the tasks that stand in the way of all",
-        example: "Example: desk admit examples/shared-lock.toml\nStatus: 0 admitted, 3 infeasible, 4 the set is refused, 6 memory ran out, 7 an input or the output failed",
+        example: example!(
+            "admit examples/shared-lock.toml",
+            "0 admitted, 3 infeasible, 4 the set is refused"
+        ),
     },
     Listed {
         verb: Verb::One(OfOne::Explain),
         word: "explain",
         about: "Prints what each response is made of, or a least set of tasks that collide",
-        example: "Example: desk explain examples/shared-lock.toml\nStatus: 0 admitted, 3 infeasible, 4 the set is refused, 6 memory ran out, 7 an input or the output failed",
+        example: example!(
+            "explain examples/shared-lock.toml",
+            "0 admitted, 3 infeasible, 4 the set is refused"
+        ),
     },
     Listed {
         verb: Verb::One(OfOne::Headroom),
         word: "headroom",
         about: "Prints the greatest cost of each task with which some order passes, all else equal",
-        example: "Example: desk headroom examples/shared-lock.toml\nStatus: 0 admitted, 3 infeasible, 4 the set is refused, 6 memory ran out, 7 an input or the output failed",
+        example: example!(
+            "headroom examples/shared-lock.toml",
+            "0 admitted, 3 infeasible, 4 the set is refused"
+        ),
     },
     Listed {
         verb: Verb::One(OfOne::Settings),
         word: "settings",
         about: "Prints the level of each thread and the ceiling of each mutex in the best order",
-        example: "Example: desk settings examples/shared-lock.toml\nStatus: 0 admitted, 3 infeasible, 4 the set is refused, 6 memory ran out, 7 an input or the output failed",
+        example: example!(
+            "settings examples/shared-lock.toml",
+            "0 admitted, 3 infeasible, 4 the set is refused"
+        ),
     },
     Listed {
         verb: Verb::Two(OfTwo::Judge),
         word: "judge",
         about: "Prints which tasks meet their deadlines at priorities that are given",
-        example: "Example: desk settings examples/shared-lock.toml | desk judge examples/shared-lock.toml -\nStatus: 0 all meet, 3 some miss, 4 the set or the settings are refused, 6 memory ran out, 7 an input or the output failed",
+        example: example!(
+            "settings examples/shared-lock.toml | desk judge examples/shared-lock.toml -",
+            "0 all meet, 3 some miss, 4 the set or the settings are refused"
+        ),
     },
     Listed {
         verb: Verb::One(OfOne::Certify),
         word: "certify",
         about: "Prints a certificate of what admit answers",
-        example: "Example: desk certify examples/shared-lock.toml\nStatus: 0 admitted, 3 infeasible, 4 the set is refused, 6 memory ran out, 7 an input or the output failed",
+        example: example!(
+            "certify examples/shared-lock.toml",
+            "0 admitted, 3 infeasible, 4 the set is refused"
+        ),
     },
     Listed {
         verb: Verb::Two(OfTwo::Check),
         word: "check",
         about: "Checks a certificate against a task set, whoever wrote it",
-        example: "Example: desk check examples/three-tasks.toml examples/three-tasks.cert\nStatus: 0 best or no order, 4 the set is refused, 5 the certificate is refused, 6 memory ran out, 7 an input or the output failed",
+        example: example!(
+            "check examples/three-tasks.toml examples/three-tasks.cert",
+            "0 best or no order, 4 the set is refused, 5 the certificate is refused"
+        ),
     },
     Listed {
         verb: Verb::Number(OfNumber::Releases),
         word: "releases",
         about: "Prints the densest release list that a set allows, for simulate and draw",
-        example: "Example: desk releases examples/shared-lock.toml 100000\nStatus: 0 printed, 4 the set is refused or the list too long, 6 memory ran out, 7 an input or the output failed",
+        example: example!(
+            "releases examples/shared-lock.toml 100000",
+            "0 printed, 4 the set is refused or the list too long"
+        ),
     },
     Listed {
         verb: Verb::Two(OfTwo::Simulate),
         word: "simulate",
         about: "Runs a release list in a simulated kernel, at the levels of the best order",
-        example: "Example: desk simulate examples/shared-lock.toml examples/shared-lock.releases\nStatus: 0 run, 3 infeasible, 4 the set or the list is refused, 6 memory ran out, 7 an input or the output failed",
+        example: example!(
+            "simulate examples/shared-lock.toml examples/shared-lock.releases",
+            "0 run, 3 infeasible, 4 the set or the list is refused"
+        ),
     },
     Listed {
         verb: Verb::Two(OfTwo::Draw),
         word: "draw",
         about: "Draws the run that simulate prints, as an SVG document",
-        example: "Example: desk draw examples/shared-lock.toml examples/shared-lock.releases > run.svg\nStatus: 0 drawn, 3 infeasible, 4 the set or the list is refused, 6 memory ran out, 7 an input or the output failed",
+        example: example!(
+            "draw examples/shared-lock.toml examples/shared-lock.releases > run.svg",
+            "0 drawn, 3 infeasible, 4 the set or the list is refused"
+        ),
     },
     Listed {
         verb: Verb::One(OfOne::Play),
         word: "play",
         about: "Plays a script of drafts, findings and commits, and prints what each line comes to",
-        example: "Example: desk play examples/two-teams-fit.script\nStatus: 0 played, 4 the script is refused, 6 memory ran out, 7 an input or the output failed",
+        example: example!(
+            "play examples/two-teams-fit.script",
+            "0 played, 4 the script is refused"
+        ),
     },
     Listed {
         verb: Verb::Number(OfNumber::Rush),
         word: "rush",
         about: "Runs the lines of each team of a script on a thread of its own, and prints the log and the book",
-        example: "Example: desk rush examples/two-teams-fit.script 4\nStatus: 0 run, 4 the script is refused, 6 memory ran out or the desk found a fault of its own, 7 an input or the output failed",
+        example: example!(
+            "rush examples/two-teams-fit.script 4",
+            "0 run, 4 the script is refused",
+            " or the desk found a fault of its own"
+        ),
     },
 ];
 
