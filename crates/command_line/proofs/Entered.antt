@@ -1,12 +1,12 @@
 -- The commands that `clap` hands out.
-use Rattle.std.proofs.Common.{◌≡◌, List, [], ◌∷◌, Option, Some, None, is_some, Bool, not, ◌&&◌, true, false, ◌||◌, cond, refl, sym, subst, inl, inr, codes, option_map, Result, Ok, Err, IfOk}
+use Rattle.std.proofs.Common.{◌≡◌, ◌≢◌, ◌∙◌, ap, List, [], ◌∷◌, ◌++◌, map, Option, Some, None, is_some, Bool, not, ◌&&◌, true, false, ◌||◌, cond, if◌then◌else◌, refl, sym, subst, codes, option_map, Result, Ok, Err, IfOk}
 use Rattle.std.specs.Str.{bytes_eq}
 use Rattle.std.proofs.lemmas.Slice.Eq.{bytes_eq-Decides}
 use Rattle.clap.specs.Words.{FailsBy, Shape, Text, built, fault_of, subcommand_of, subcommand_rows_of}
 use Rattle.clap.specs.declared.parser.matches.ArgMatches.{ArgMatches}
 use Rattle.clap.specs.declared.error.Error.{Error}
-use Rattle.clap.specs.Walk.{Held, Names, answers_to, finished, nothing_held, Row, rows_after, settled, stop_after, walk, walk_from}
-use Rattle.clap.specs.Simple.{entered, label_of, names_of, rows_at}
+use Rattle.clap.specs.Walk.{Held, Names, answers_to, finished, nothing_held, Row, settled, stop_after, walk, walk_from}
+use Rattle.clap.specs.Simple.{built_leaf, entered, help_shape, inherited, label_of, marked_built, names_of, new_app, rows_at, with_filled_rules, with_help_flag, with_leaf_noted, with_rule, with_version_flag}
 use Rattle.std.specs.Option.{option_map_or}
 use Rattle.std.specs.List.{find, list_any}
 use Rattle.clap.specs.Facts.{explicit_source}
@@ -14,56 +14,97 @@ use Rattle.clap.specs.Takes.{is_given}
 use Rattle.clap.specs.Kinds.{Kinds, check_kinds, or_else}
 use Rattle.clap.specs.Faults.{check_fault, defaults_fault, entered_fault, level_fault, settle_fault, walk_fault}
 use Rattle.clap.proofs.OnLiterals.{clap_on_literals}
-use Rattle.command_line.specs.App.{desk_app}
-use Rattle.command_line.specs.Calls.{IsCommand}
-use Rattle.command_line.specs.Commands.{word_of_number, word_of_one, word_of_two}
-use Rattle.command_line.specs.declared.calls.OfOne.{OfOne}
-use Rattle.command_line.specs.declared.calls.OfOne.TheVariants.{Admit, Certify, Headroom, Settings, Explain, Play}
-use Rattle.command_line.specs.declared.calls.OfTwo.{OfTwo}
-use Rattle.command_line.specs.declared.calls.OfTwo.TheVariants.{Check, Judge, Simulate, Draw}
-use Rattle.command_line.specs.declared.calls.OfNumber.{OfNumber}
-use Rattle.command_line.specs.declared.calls.OfNumber.TheVariants.{Releases, Rush}
+use Rattle.command_line.specs.App.{command_app, desk_app, input_app, input_rule, preference_rule}
+use Rattle.command_line.specs.Calls.{IsCommand, SaysNumber}
+use Rattle.command_line.specs.Commands.{commands, input_of, takes_preference, verb_of}
+use Rattle.command_line.specs.declared.calls.Verb.{Verb}
+use Rattle.command_line.specs.declared.calls.Verb.TheVariants.{One, Two, Number}
 use Rattle.command_line.proofs.Help.{NotHelp, first_empty, second_empty, walk_keeps}
 use Rattle.command_line.proofs.Numbers.{number_taken, shape}
 
-help_is : (word : Text) → answers_to word (codes "help", []) ≡ true → word ≡ codes "help"
-help_is word h = sym ((bytes_eq-Decides (codes "help") word).0 (or_false (bytes_eq (codes "help") word) h))
+or_false : (b : Bool) → (b || false) ≡ b
+or_false true = refl
+or_false false = refl
+
+answered : (word name : Text) → answers_to word (name, []) ≡ true → word ≡ name
+answered word name h = sym ((bytes_eq-Decides name word).0 (sym (or_false (bytes_eq name word)) ∙ h))
+
+built_label : (s : Shape) → label_of (built_leaf s) ≡ label_of s
+built_label s = go s.is_built
   where
-    or_false : (b : Bool) → (b || false) ≡ true → b ≡ true
-    or_false true e = refl
-    or_false false e = e
+    go : (b : Bool) → label_of (if b then s else with_filled_rules (with_version_flag (with_help_flag (with_leaf_noted (marked_built s))))) ≡ label_of s
+    go true = refl
+    go false = refl
 
-module _ (p : Text × List Text) (asked : Shape → Bool) where
-  -- each shape that is asked for names a command
-  abbrev AllName : List Shape → Type 0
-  AllName [] = Unit {0}
-  AllName (s ∷ ss) =
-      (asked s ≡ true → level_fault s [] nothing_held p.1 false [] ≡ [] → IsCommand (Some (rows_at s p.1))) × AllName ss
+input_label : (word input : Text) → label_of (input_app word input).top ≡ (word, [])
+input_label word input = go (takes_preference input)
+  where
+    go : (b : Bool) → (let app = with_rule (new_app word) (input_rule input) in label_of (if b then with_rule app preference_rule else app).top ≡ (word, []))
+    go true = refl
+    go false = refl
 
-  first_named : (ss : List Shape) → AllName ss → option_map_or (λ s. level_fault s [] nothing_held p.1 false []) (find asked ss) [] ≡ []
-      → is_some (option_map (λ s. rows_at s p.1) (find asked ss)) ≡ true → IsCommand (option_map (λ s. rows_at s p.1) (find asked ss))
-  first_named [] all fine some = cc
-  first_named (s ∷ ss) all fine some = go (first_named ss all.1) (asked s) refl fine some
+command_label : (word : Text) (v : Verb) → label_of (command_app word v).top ≡ (word, [])
+command_label word (One c) = input_label word (input_of (One c))
+command_label word (Two c) = input_label word (input_of (Two c))
+command_label word (Number c) = input_label word (input_of (Number c))
+
+-- a command answers to its word alone
+label_is : (word : Text) (v : Verb) → label_of (shape word v) ≡ (word, [])
+label_is word v = built_label (inherited (with_leaf_noted (marked_built desk_app.top)) (command_app word v).top) ∙ command_label word v
+
+module _ (p : Text × List Text) where
+  -- the command of a list that has the word
+  abbrev named_in : List (Text × Verb) → Option Verb
+  named_in cs = option_map (λ c. c.1) (find (λ c. bytes_eq c.0 p.0) cs)
+
+  -- the command that has the word is found
+  abbrev IsFound : Option Verb → Option (Text × List Row) → Type 0
+  IsFound named None = ⊥
+  IsFound named (Some found) = (found.0 ≡ p.0) × (v : Verb) × (named ≡ Some v) × SaysNumber v found.1
+
+  abbrev fault : Option Shape → Kinds
+  fault found = option_map_or (λ s. level_fault s [] nothing_held p.1 false []) found []
+
+  abbrev rows : Option Shape → Option (Text × List Row)
+  rows found = option_map (λ s. rows_at s p.1) found
+
+  -- where a shape is found, it is the one of the command that has the word
+  abbrev Finds : Option Verb → Option Shape → Type 0
+  Finds named found = fault found ≡ [] → is_some (rows found) ≡ true → IsFound named (rows found)
+
+  says_number : (word : Text) (v : Verb) → fault (Some (shape word v)) ≡ [] → SaysNumber v (rows_at (shape word v) p.1).1
+  says_number word (One c) fine = tt
+  says_number word (Two c) fine = tt
+  says_number word (Number c) fine = number_taken word c p.1 fine
+
+  first_found : p.0 ≢ codes "help" → (cs : List (Text × Verb))
+      → Finds (named_in cs) (find (λ s. answers_to p.0 (label_of s)) (map (λ c. shape c.0 c.1) cs ++ built_leaf help_shape ∷ []))
+  first_found other [] = go (answers_to p.0 (codes "help", [])) refl
     where
-      go : (option_map_or (λ s. level_fault s [] nothing_held p.1 false []) (find asked ss) [] ≡ []
-          → is_some (option_map (λ s. rows_at s p.1) (find asked ss)) ≡ true → IsCommand (option_map (λ s. rows_at s p.1) (find asked ss)))
-          → (b : Bool) → b ≡ asked s → option_map_or (λ s. level_fault s [] nothing_held p.1 false []) (cond b (Some s) (find asked ss)) [] ≡ []
-          → is_some (option_map (λ s. rows_at s p.1) (cond b (Some s) (find asked ss))) ≡ true
-          → IsCommand (option_map (λ s. rows_at s p.1) (cond b (Some s) (find asked ss)))
-      go later true is fine some = all.0 (sym is) fine
-      go later false is fine some = later fine some
+      go : (b : Bool) → answers_to p.0 (codes "help", []) ≡ b → Finds None (cond b (Some (built_leaf help_shape)) None)
+      go true is fine some = absurd (other (answered p.0 (codes "help") is))
+      go false is fine some = cc
+  first_found other (c ∷ cs) =
+      let later = find (λ s. answers_to p.0 (label_of s)) (map (λ c. shape c.0 c.1) cs ++ built_leaf help_shape ∷ []) in
+      subst (λ b. Finds (named_in (c ∷ cs)) (cond b (Some (shape c.0 c.1)) later))
+      (sym (ap (answers_to p.0) (label_is c.0 c.1) ∙ or_false (bytes_eq c.0 p.0)))
+      (go later (first_found other cs) (bytes_eq c.0 p.0) refl)
+    where
+      go : (later : Option Shape) → Finds (named_in cs) later → (b : Bool) → bytes_eq c.0 p.0 ≡ b
+          → Finds (option_map (λ c. c.1) (cond b (Some c) (find (λ c. bytes_eq c.0 p.0) cs))) (cond b (Some (shape c.0 c.1)) later)
+      go later rest true is fine some =
+          (ap (λ l. l.0) (label_is c.0 c.1) ∙ (bytes_eq-Decides c.0 p.0).0 is, c.1, refl, says_number c.0 c.1 fine)
+      go later rest false is fine some = rest fine some
+
+  found_command : (found : Option (Text × List Row)) → IsFound (verb_of p.0) found → IsCommand found
+  found_command None is = absurd is
+  found_command (Some found) is = (is.1, ap verb_of is.0 ∙ is.2, is.3)
 
 entered_is : (stop : Option (Text × List Text)) → NotHelp stop → entered_fault (built desk_app) stop ≡ []
     → is_some (entered (built desk_app) stop) ≡ true → IsCommand (entered (built desk_app) stop)
-unfolding clap_on_literals
+unfolding clap_on_literals verb_of
 entered_is None n fine some = cc
-entered_is (Some p) n fine some =
-    let one : (c : OfOne) (rows : List Row) → IsCommand (Some (word_of_one c, rows)) = λ c rows. inl (c, refl) in
-    let two : (c : OfTwo) (rows : List Row) → IsCommand (Some (word_of_two c, rows)) = λ c rows. inr (inl (c, refl)) in
-    let number : (c : OfNumber) → level_fault (shape c) [] nothing_held p.1 false [] ≡ []
-    → IsCommand (Some (word_of_number c, rows_after (shape c).rules [] p.1)) = λ c fine. inr (inr (c, refl, number_taken c p.1 fine)) in
-    first_named p (λ s. answers_to p.0 (label_of s)) (built desk_app).subs
-    ((λ is fine. one Admit _), ((λ is fine. one Explain _), ((λ is fine. one Headroom _), ((λ is fine. one Settings _), ((λ is fine. two Judge _), ((λ is fine. one Certify _), ((λ is fine. two Check _), ((λ is fine. number Releases fine), ((λ is fine. two Simulate _), ((λ is fine. two Draw _), ((λ is fine. one Play _), ((λ is fine. number Rush fine), ((λ is fine. absurd (n (help_is p.0 is))), tt))))))))))))) fine some
+entered_is (Some p) n fine some = found_command p _ (first_found p n commands fine some)
 
 last_empty : (a b c d e : Kinds) → or_else a (or_else b (or_else c (or_else d e))) ≡ [] → e ≡ []
 last_empty a b c d e none = second_empty d e (second_empty c _ (second_empty b _ (second_empty a _ none)))

@@ -3,3 +3,4 @@ pub mod Help
 pub mod Walks
 pub mod Numbers
 pub mod Entered
+pub mod Listed

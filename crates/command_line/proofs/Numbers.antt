@@ -18,13 +18,19 @@ use Rattle.clap.specs.declared.builder.value_parser.ValueParser.TheVariants as v
 use Rattle.clap.specs.declared.error.kind.ErrorKind.{ErrorKind}
 use Rattle.clap.specs.declared.parser.matches.ValueSource.TheVariants.{CommandLine}
 use Rattle.clap.proofs.ValueTestLemmas.{accepts-Accepts}
-use Rattle.command_line.specs.App.{app_of_number, desk_app, input_rule, number_rule, preference_rule}
-use Rattle.command_line.specs.Commands.{input_of_number, least_of, most_of, number_name}
+use Rattle.command_line.specs.App.{command_app, desk_app, input_rule, number_rule, preference_rule}
+use Rattle.command_line.specs.Commands.{input_of, least_of, most_of, number_name}
 use Rattle.command_line.specs.declared.calls.OfNumber.{OfNumber}
 use Rattle.command_line.specs.declared.calls.OfNumber.TheVariants.{Releases, Rush}
+use Rattle.command_line.specs.declared.calls.Verb.{Verb}
+use Rattle.command_line.specs.declared.calls.Verb.TheVariants.{Number}
 use Rattle.command_line.specs.Calls.{TakesNumber}
 use Rattle.command_line.proofs.Help.{first_empty, second_empty}
 use Rattle.command_line.proofs.Walks.{Keeps, settled_keeps, walk_keeps}
+
+-- a command with the word, as `clap` builds it
+abbrev pub shape : Text → Verb → Shape
+shape word v = built_leaf (inherited (with_leaf_noted (marked_built desk_app.top)) (command_app word v).top)
 
 -- ---- rows
 
@@ -102,11 +108,8 @@ module _ (c : OfNumber) where
 
   -- ---- the rules of the command
 
-  abbrev pub shape : Shape
-  shape = built_leaf (inherited (with_leaf_noted (marked_built desk_app.top)) (app_of_number c).top)
-
   abbrev first_rule : Rule
-  first_rule = with_index 1 (filled (input_rule (input_of_number c)))
+  first_rule = with_index 1 (filled (input_rule (input_of (Number c))))
 
   abbrev second_rule : Rule
   second_rule = with_index 2 (filled (number_rule (number_name c) (least_of c) (most_of c)))
@@ -118,7 +121,7 @@ is_accepted : (b : Bool) (k : ErrorKind) → (if b then [] else k ∷ []) ≡ []
 is_accepted true k e = refl
 is_accepted false k e = cc
 
-other_name : (c : OfNumber) → bytes_eq (input_of_number c) (number_name c) ≡ true → ⊥
+other_name : (c : OfNumber) → bytes_eq (input_of (Number c)) (number_name c) ≡ true → ⊥
 other_name Releases same = cc
 other_name Rush same = cc
 
@@ -128,7 +131,7 @@ no_preference Rush same = cc
 
 keeps_first : (c : OfNumber) → Keeps false (AllSay c) (first_rule c)
 keeps_first c values rows fine all =
-    set_says c (input_of_number c) AsWritten (values_or_missing (first_rule c) values) (λ same. absurd (other_name c same)) rows all
+    set_says c (input_of (Number c)) AsWritten (values_or_missing (first_rule c) values) (λ same. absurd (other_name c same)) rows all
 
 keeps_second : (c : OfNumber) → Keeps false (AllSay c) (second_rule c)
 keeps_second c [] rows fine all = cc
@@ -190,12 +193,12 @@ level_says c s keep words fine =
     (defaults_say c again s.rules keep _ (settled_keeps s (AllSay c) each end settles held), checked)
 
 -- where `clap` takes the words after the command, they say its number
-pub number_taken : (c : OfNumber) (words : List Text) → level_fault (shape c) [] nothing_held words false [] ≡ []
-    → TakesNumber c (rows_after (shape c).rules [] words)
-number_taken Releases words fine =
-    let says = level_says Releases (shape Releases)
+pub number_taken : (word : Text) (c : OfNumber) (words : List Text) → level_fault (shape word (Number c)) [] nothing_held words false [] ≡ []
+    → TakesNumber c (rows_after (shape word (Number c)).rules [] words)
+number_taken word Releases words fine =
+    let says = level_says Releases (shape word (Number Releases))
     (keeps_first Releases, refl, (keeps_preference Releases, refl, (keeps_second Releases, refl, (keeps_third Releases, refl, tt)))) words fine in
     given_says Releases _ says.0 (wanted _ _ says.1)
-number_taken Rush words fine =
-    let says = level_says Rush (shape Rush) (keeps_first Rush, refl, (keeps_second Rush, refl, (keeps_third Rush, refl, tt))) words fine in
+number_taken word Rush words fine =
+    let says = level_says Rush (shape word (Number Rush)) (keeps_first Rush, refl, (keeps_second Rush, refl, (keeps_third Rush, refl, tt))) words fine in
     given_says Rush _ says.0 (wanted _ _ says.1)

@@ -3,13 +3,13 @@ use Rattle.std.specs.Prelude.{◌≡◌, ◌≢◌, ◌⊎◌, ◌≤◌, ℕ, L
 use Rattle.std.specs.Str.Parse.{digits_value, without_leading_plus}
 use Rattle.clap.specs.Words.{HasKind, IsUnsignedIn, Row, Text, fault_of, first_of, one_of, subcommand_of}
 use Rattle.command_line.specs.App.{desk_app}
-use Rattle.command_line.specs.Commands.{input_of, input_of_number, least_of, most_of, number_name, second_of, word_of_number, word_of_one, word_of_two}
+use Rattle.command_line.specs.Commands.{input_of, least_of, most_of, number_name, second_of, verb_of}
 use Rattle.command_line.specs.declared.calls.Input.{Input}
 use Rattle.command_line.specs.declared.calls.Input.TheVariants.{Standard, File}
-use Rattle.command_line.specs.declared.calls.OfOne.{OfOne}
 use Rattle.command_line.specs.declared.calls.OfOne.TheVariants.{Admit}
-use Rattle.command_line.specs.declared.calls.OfTwo.{OfTwo}
 use Rattle.command_line.specs.declared.calls.OfNumber.{OfNumber}
+use Rattle.command_line.specs.declared.calls.Verb.{Verb}
+use Rattle.command_line.specs.declared.calls.Verb.TheVariants as verb
 use Rattle.command_line.specs.declared.calls.Call.{Call}
 use Rattle.command_line.specs.declared.calls.Call.TheVariants.{One, Two, Number}
 use Rattle.command_line.specs.declared.words.WordsFault.{WordsFault}
@@ -35,13 +35,15 @@ TakesNumber c rows =
     × (one_of (number_name c) rows ≡ Some text)
     × IsUnsignedIn (least_of c) (most_of c) text
 
+-- the words of the command say its number, where it takes one
+abbrev pub SaysNumber : Verb → List Row → Type 0
+SaysNumber (verb.Number c) rows = TakesNumber c rows
+SaysNumber _ rows = Unit {0}
+
 -- a command of the program is named
 abbrev pub IsCommand : Option (Text × List Row) → Type 0
 IsCommand None = ⊥
-IsCommand (Some found) =
-    ((c : OfOne) × (found.0 ≡ word_of_one c))
-    ⊎ (((c : OfTwo) × (found.0 ≡ word_of_two c))
-    ⊎ ((c : OfNumber) × (found.0 ≡ word_of_number c) × TakesNumber c found.1))
+IsCommand (Some found) = (v : Verb) × (verb_of found.0 ≡ Some v) × SaysNumber v found.1
 
 -- the word of `--prefer`, where it is given, is `deadline`; and whether it is given
 abbrev pub Prefers : List Row → Bool → Type 0
@@ -58,13 +60,14 @@ PrefersOther (Some found) =
 abbrev pub IsCall : Option (Text × List Row) → Call → Type 0
 IsCall None call = ⊥
 IsCall (Some found) (One c input by_deadline) =
-    (found.0 ≡ word_of_one c) × Names (first_of (input_of c) found.1) input
+    (verb_of found.0 ≡ Some (verb.One c)) × Names (first_of (input_of (verb.One c)) found.1) input
     × Prefers found.1 by_deadline
 IsCall (Some found) (Two c first second by_deadline) =
-    (found.0 ≡ word_of_two c) × Names (first_of (codes "SET") found.1) first
+    (verb_of found.0 ≡ Some (verb.Two c)) × Names (first_of (codes "SET") found.1) first
     × Names (first_of (second_of c) found.1) second × Prefers found.1 by_deadline
 IsCall (Some found) (Number c input number by_deadline) =
-    (found.0 ≡ word_of_number c) × Names (first_of (input_of_number c) found.1) input
+    (verb_of found.0 ≡ Some (verb.Number c))
+    × Names (first_of (input_of (verb.Number c)) found.1) input
     × Counts c (first_of (number_name c) found.1) number × Prefers found.1 by_deadline
 
 -- no words call `admit` of standard input; else they call what `clap`'s matches of them name

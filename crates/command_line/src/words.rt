@@ -2,11 +2,11 @@
 ghost use Rattle.std.specs.Prelude.{◌≡◌, ◌≢◌, map, Ok, Some, None, Err, IfOk, IfErr, IfSome, true, false, codes};
 ghost use Rattle.clap.specs.Words.{FailsBy, fault_of, first_of, found_of, rows_of, subcommand_of, subcommand_rows_of};
 ghost use Rattle.command_line.specs.App.{desk_app};
-ghost use Rattle.command_line.specs.Commands.{number_name, word_of};
+ghost use Rattle.command_line.specs.Commands.{number_name};
 ghost use Rattle.command_line.specs.Calls.{Calls, Counts, HasNumber, IsCall, IsCommand, AreTakenWords, IsWordsFault, Names, Prefers, PrefersOther, TakesNumber, is_twice};
 
-use crate::calls::{Call, Input, OfNumber, OfOne, OfTwo, Verb};
-use crate::commands::desk_command;
+use crate::calls::{Call, Input, OfNumber, OfOne, Verb};
+use crate::commands::{desk_command, verb_named};
 use clap::{ArgMatches, Error};
 use std::alloc::Global;
 
@@ -63,31 +63,9 @@ fn number_at(matches: &ArgMatches<'_>, command: OfNumber) -> usize
     ensures { Counts command (first_of (number_name command)
         (rows_of (found_of matches.now))) result }
 {
-    match matches.get_one::<usize>(command.number()) {
+    match matches.get_one::<usize>(command.number().name) {
         Some(number) => number,
         None => unreachable!(),
-    }
-}
-
-// The command that has the word.
-fn verb_named(word: &str) -> Option<Verb>
-    ensures some { IfSome result (λ verb. word.now ≡ word_of verb) }
-    ensures none { result ≡ None → (verb : Verb) → word.now ≢ word_of verb }
-{
-    match word {
-        "admit" => Some(Verb::One(OfOne::Admit)),
-        "certify" => Some(Verb::One(OfOne::Certify)),
-        "headroom" => Some(Verb::One(OfOne::Headroom)),
-        "settings" => Some(Verb::One(OfOne::Settings)),
-        "explain" => Some(Verb::One(OfOne::Explain)),
-        "play" => Some(Verb::One(OfOne::Play)),
-        "check" => Some(Verb::Two(OfTwo::Check)),
-        "judge" => Some(Verb::Two(OfTwo::Judge)),
-        "simulate" => Some(Verb::Two(OfTwo::Simulate)),
-        "draw" => Some(Verb::Two(OfTwo::Draw)),
-        "releases" => Some(Verb::Number(OfNumber::Releases)),
-        "rush" => Some(Verb::Number(OfNumber::Rush)),
-        _ => None,
     }
 }
 
@@ -97,25 +75,29 @@ fn call_named<'a>(name: &str, found: &ArgMatches<'a>, by_deadline: bool) -> Call
     requires preference { Prefers (rows_of (found_of found.now)) by_deadline }
     ensures { IsCall (Some (name.now, rows_of (found_of found.now))) result }
 {
-    match verb_named(name) {
-        Some(Verb::One(command)) => Call::One {
+    let verb = match verb_named(name) {
+        Some(verb) => verb,
+        None => unreachable!(),
+    };
+    let input = input_at(found, verb.input());
+    match verb {
+        Verb::One(command) => Call::One {
             command,
-            input: input_at(found, command.input()),
+            input,
             by_deadline,
         },
-        Some(Verb::Two(command)) => Call::Two {
+        Verb::Two(command) => Call::Two {
             command,
-            first: input_at(found, "SET"),
+            first: input,
             second: input_at(found, command.second()),
             by_deadline,
         },
-        Some(Verb::Number(command)) => Call::Number {
+        Verb::Number(command) => Call::Number {
             command,
-            input: input_at(found, command.input()),
+            input,
             number: number_at(found, command),
             by_deadline,
         },
-        None => unreachable!(),
     }
 }
 
