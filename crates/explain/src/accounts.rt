@@ -4,13 +4,12 @@ ghost use Rattle.task_sheet.specs.declared.set.TheConstants.{TASK_LIMIT};
 ghost use Rattle.task_sheet.specs.Indexes.{indexes_of, among};
 ghost use Rattle.ceilings.specs.IsTableOf.{IsTableOf};
 ghost use Rattle.assignment.specs.Placings.{tasks_of_places};
-ghost use Rattle.explain.specs.Accounts.{AreInTime, AreResponseAccounts, IsInTime, IsResponseAccount, AccountData};
+ghost use Rattle.explain.specs.Accounts.{AreInTime, AreResponseAccounts, IsInTime, IsResponseAccount};
 
 use crate::parts::{Parts, parts_of};
 use assignment::Place;
 use ceilings::LockTable;
 use std::alloc::{AllocError, Global};
-use std::marker::Model;
 use task_sheet::{Members, TaskSet};
 
 /// A time of a task, by its index, in microseconds from its arrival, the task's deadline, and the parts of the time.
@@ -20,12 +19,6 @@ pub struct Account {
     pub time: u64,
     pub deadline: u64,
     pub parts: Parts,
-}
-
-impl Model for Account {
-    ghost Value = { AccountData };
-
-    ghost view = { λ a. record { task = a.task; time = a.time; deadline = a.deadline; parts = a.parts } };
 }
 
 // The tasks of some places.
