@@ -13,7 +13,8 @@ use Rattle.task_sheet.proofs.PassingLaws.{IsResponseOf-one, Passes-iff_response}
 use Rattle.task_sheet.proofs.TaskLaws.{AllTasks-from_set}
 use Rattle.assignment.specs.Places.{PlaceData}
 use Rattle.assignment.specs.Placings.{tasks_of_places, AllRespond, IsBestPlacing}
-use Rattle.explain.specs.Accounts.{AccountData, AreInTime, IsResponseAccount, AreResponseAccounts}
+use Rattle.explain.specs.Accounts.{AreInTime, IsResponseAccount, AreResponseAccounts}
+use Rattle.explain.specs.declared.accounts.Account.{Account}
 
 -- each response of an order that passes is in time
 module _ (U : List Task) (valid : AllTasks U) where
@@ -73,9 +74,9 @@ places-within n m places le all k d lt =
     omega (arith, all k d.task (omega (arith, lt, length-map places (λ (p : PlaceData). p.task))), same)
 
 -- ---- one account after the other
-pub AreResponseAccounts-next : (U : List Task) (places rest after : List PlaceData) (p : PlaceData) (before now : List AccountData) (a : AccountData) → rest ≡ p ∷ after → now ≡ before ++ a ∷ []
-    → IsResponseAccount U (tasks_of_places after) p a → ((accounts : List AccountData) → AreResponseAccounts U rest accounts → AreResponseAccounts U places (before ++ accounts))
-    → (accounts : List AccountData) → AreResponseAccounts U after accounts → AreResponseAccounts U places (now ++ accounts)
+pub AreResponseAccounts-next : (U : List Task) (places rest after : List PlaceData) (p : PlaceData) (before now : List Account) (a : Account) → rest ≡ p ∷ after → now ≡ before ++ a ∷ []
+    → IsResponseAccount U (tasks_of_places after) p a → ((accounts : List Account) → AreResponseAccounts U rest accounts → AreResponseAccounts U places (before ++ accounts))
+    → (accounts : List Account) → AreResponseAccounts U after accounts → AreResponseAccounts U places (now ++ accounts)
 AreResponseAccounts-next U places rest after p before now a split pushed is whole accounts are =
     let one_more = whole (a ∷ accounts) (subst (λ (ps : List PlaceData). AreResponseAccounts U ps (a ∷ accounts)) (sym split) (is, are)) in
-    subst (λ (all : List AccountData). AreResponseAccounts U places all) (sym (ap (λ (some : List AccountData). some ++ accounts) pushed ∙ append_assoc before (a ∷ []) accounts)) one_more
+    subst (λ (all : List Account). AreResponseAccounts U places all) (sym (ap (λ (some : List Account). some ++ accounts) pushed ∙ append_assoc before (a ∷ []) accounts)) one_more

@@ -12,20 +12,21 @@ use Rattle.assignment.specs.Placings.{tasks_of_places, IsPlacingOf}
 use Rattle.assignment.specs.declared.placing.Placing.{Placing}
 use Rattle.assignment.specs.declared.placing.Placing.TheVariants.{Best, Stuck}
 use Rattle.explain.specs.Parts.{total_of}
-use Rattle.explain.specs.Accounts.{AccountData, AreInTime, AreResponseAccounts}
+use Rattle.explain.specs.Accounts.{AreInTime, AreResponseAccounts}
 use Rattle.explain.specs.Needs.{IsNeedsAccount, AreNeedsOf}
 use Rattle.explain.specs.Explanations.{Explains, NeedAddsUp, AddsUp}
 use Rattle.explain.specs.declared.needs.Need.{Need}
 use Rattle.explain.specs.declared.needs.Need.TheVariants.{Needs, MustBeAbove}
 use Rattle.explain.specs.declared.explanation.Explanation.{Explanation}
 use Rattle.explain.specs.declared.explanation.Explanation.TheVariants.{Responses, Conflict}
+use Rattle.explain.specs.declared.accounts.Account.{Account}
 use Rattle.explain.proofs.PartLaws.{parts-demand, parts-response}
 use Rattle.explain.proofs.NeedLaws.{order-reverse, ends-step}
 use Rattle.explain.proofs.AccountLaws.{best-in_time}
 use Rattle.explain.proofs.ConflictLaws.{left-least}
 
-responses-add_up : (U : List Task) (L : Indexes) (places : List PlaceData) (accounts : List AccountData) → IsOrderOf L (tasks_of_places places) → IsPart L (all_of U) → AreInTime U places
-    → AreResponseAccounts U places accounts → AllByRecursion (λ (a : AccountData). a.time ≡ total_of a.parts) accounts
+responses-add_up : (U : List Task) (L : Indexes) (places : List PlaceData) (accounts : List Account) → IsOrderOf L (tasks_of_places places) → IsPart L (all_of U) → AreInTime U places
+    → AreResponseAccounts U places accounts → AllByRecursion (λ (a : Account). a.time ≡ total_of a.parts) accounts
 responses-add_up U L [] [] each part times are = tt
 responses-add_up U L [] (a ∷ accounts) each part times are = absurd are
 responses-add_up U L (p ∷ places) [] each part times are = absurd are
@@ -40,7 +41,7 @@ responses-add_up U L (p ∷ places) (a ∷ accounts) each part times are =
       responses-add_up U (without_index L p.task) places accounts rest part' times.1 are.1,
     )
 
-need-adds_up : (U : List Task) (i : ℕ) (H : Indexes) (a : AccountData) → IsPart H (all_of U) → IsNeedsAccount U i H a → a.time ≡ total_of a.parts
+need-adds_up : (U : List Task) (i : ℕ) (H : Indexes) (a : Account) → IsPart H (all_of U) → IsNeedsAccount U i H a → a.time ≡ total_of a.parts
 need-adds_up U i H a part is =
     let step = ends-step (demand_of U i H) (limit_of (task_at U i)) is.before is.last is.chain is.full is.ends in
     let listed = listed_below (length U) H in

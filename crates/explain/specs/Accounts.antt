@@ -5,17 +5,11 @@ use Rattle.task_sheet.specs.Indexes.{among}
 use Rattle.task_sheet.specs.Demand.{past_jitter, IsResponseOf}
 use Rattle.assignment.specs.Places.{PlaceData}
 use Rattle.assignment.specs.Placings.{tasks_of_places}
-use Rattle.explain.specs.Parts.{PartsData, IsPartsOf}
-
--- a time of a task from its arrival, the task's deadline, and the parts of the time
-pub record AccountData : Type 0 where
-  pub task : ℕ
-  pub time : ℕ
-  pub deadline : ℕ
-  pub parts : PartsData
+use Rattle.explain.specs.Parts.{IsPartsOf}
+use Rattle.explain.specs.declared.accounts.Account.{Account}
 
 -- the response of a place below these tasks, the lowest first: its parts are listed from the highest level down
-pub record IsResponseAccount (U : List Task) (above : List ℕ) (p : PlaceData) (a : AccountData) : Type 0 where
+pub record IsResponseAccount (U : List Task) (above : List ℕ) (p : PlaceData) (a : Account) : Type 0 where
   pub task : a.task ≡ p.task
   pub time : a.time ≡ p.response
   pub deadline : a.deadline ≡ (task_at U p.task).deadline
@@ -23,7 +17,7 @@ pub record IsResponseAccount (U : List Task) (above : List ℕ) (p : PlaceData) 
       (past_jitter (task_at U p.task) p.response) a.parts
 
 -- the response of each place, below those after it
-abbrev pub AreResponseAccounts : List Task → List PlaceData → List AccountData → Type 0
+abbrev pub AreResponseAccounts : List Task → List PlaceData → List Account → Type 0
 AreResponseAccounts U [] [] = Unit {0}
 AreResponseAccounts U (p ∷ places) (a ∷ accounts) =
     IsResponseAccount U (tasks_of_places places) p a × AreResponseAccounts U places accounts

@@ -5,8 +5,8 @@ use Rattle.task_sheet.specs.Sheet.{Task}
 use Rattle.task_sheet.specs.Indexes.{indexes_of, listed_below}
 use Rattle.lines.specs.Naming.{name_at, named}
 use Rattle.explain.specs.Parts.{AboveData, BlockerData, PartsData}
-use Rattle.explain.specs.Accounts.{AccountData}
 use Rattle.explain.specs.Load.{load_of}
+use Rattle.explain.specs.declared.accounts.Account.{Account}
 use Rattle.explain.specs.declared.needs.Need.{Need}
 use Rattle.explain.specs.declared.needs.Need.TheVariants.{Needs, MustBeAbove}
 use Rattle.explain.specs.declared.explanation.Explanation.{Explanation}
@@ -52,18 +52,18 @@ parts_lines U parts =
 
 -- ---- times
 -- a task, its time and its deadline, and then the parts of the time
-abbrev pub account_lines : List Task → AccountData → List ℕ
+abbrev pub account_lines : List Task → Account → List ℕ
 account_lines U a =
     name_at U a.task ++ codes " " ++ decimal a.time ++ codes " of " ++ decimal a.deadline
     ++ codes "\n"
     ++ parts_lines U a.parts
 
 -- those of a level, which has a number
-abbrev pub level_account_lines : List Task → ℕ → AccountData → List ℕ
+abbrev pub level_account_lines : List Task → ℕ → Account → List ℕ
 level_account_lines U number a = decimal number ++ codes " " ++ account_lines U a
 
 -- those of each level, of which the first has a number
-abbrev pub response_lines : List Task → ℕ → List AccountData → List ℕ
+abbrev pub response_lines : List Task → ℕ → List Account → List ℕ
 response_lines U number [] = []
 response_lines U number (a ∷ accounts) =
     level_account_lines U number a ++ response_lines U (number + 1) accounts

@@ -7,7 +7,7 @@ use Rattle.task_sheet.specs.Demand.{demand_of, limit_of}
 use Rattle.task_sheet.specs.Orders.{is_bound}
 use Rattle.task_sheet.specs.Verdicts.{IsLeastOver}
 use Rattle.explain.specs.Parts.{IsPartsOf}
-use Rattle.explain.specs.Accounts.{AccountData}
+use Rattle.explain.specs.declared.accounts.Account.{Account}
 use Rattle.explain.specs.declared.needs.Need.{Need}
 use Rattle.explain.specs.declared.needs.Need.TheVariants.{Needs, MustBeAbove}
 
@@ -17,7 +17,7 @@ EndsWith numbers before last = (rest : List ℕ) × (numbers ≡ rest ++ before 
 
 -- the last number of the full chain of task i with the tasks H above it, with its jitter: its parts at the number
 -- before, those above by rank, the last first
-pub record IsNeedsAccount (U : List Task) (i : ℕ) (H : Indexes) (a : AccountData) : Type 0 where
+pub record IsNeedsAccount (U : List Task) (i : ℕ) (H : Indexes) (a : Account) : Type 0 where
   pub chain : List ℕ
   pub before : ℕ
   pub last : ℕ

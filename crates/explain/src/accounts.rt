@@ -2,16 +2,14 @@
 ghost use Rattle.std.specs.Prelude.{◌≡◌, ◌<◌, length, reverse, All, IfOk};
 ghost use Rattle.task_sheet.specs.declared.set.TheConstants.{TASK_LIMIT};
 ghost use Rattle.task_sheet.specs.Indexes.{indexes_of, among};
-ghost use Rattle.ceilings.specs.IsTableOf.{IsTableOf};
 ghost use Rattle.assignment.specs.Placings.{tasks_of_places};
-ghost use Rattle.explain.specs.Accounts.{AreInTime, AreResponseAccounts, IsInTime, IsResponseAccount, AccountData};
+ghost use Rattle.explain.specs.Accounts.{AreInTime, AreResponseAccounts, IsInTime, IsResponseAccount};
 
 use crate::parts::{Parts, parts_of};
+use crate::tabled::TabledSet;
 use assignment::Place;
-use ceilings::LockTable;
 use std::alloc::{AllocError, Global};
-use std::marker::Model;
-use task_sheet::{Members, TaskSet};
+use task_sheet::Members;
 
 /// A time of a task, by its index, in microseconds from its arrival, the task's deadline, and the parts of the time.
 #[derive(Drop)]
@@ -20,12 +18,6 @@ pub struct Account {
     pub time: u64,
     pub deadline: u64,
     pub parts: Parts,
-}
-
-impl Model for Account {
-    ghost Value = { AccountData };
-
-    ghost view = { λ a. record { task = a.task; time = a.time; deadline = a.deadline; parts = a.parts } };
 }
 
 // The tasks of some places.
@@ -55,23 +47,21 @@ fn falling_tasks(alloc: Global, places: &[Place]) -> Result<Vec<usize>, AllocErr
 // The account of a response, below these places.
 fn response_account(
     alloc: Global,
-    set: &TaskSet,
-    table: &LockTable,
+    tabled: TabledSet<'_>,
     place: &Place,
     above: &[Place],
 ) -> Result<Account, AllocError>
-    requires table { IsTableOf set.now table.now }
-    requires in_time { IsInTime set.now (tasks_of_places above.now) place.now }
-    ensures { IfOk result (λ account. IsResponseAccount set.now
+    requires { IsInTime tabled.set.now (tasks_of_places above.now) place.now }
+    ensures { IfOk result (λ account. IsResponseAccount tabled.entry.set.now
         (tasks_of_places above.now) place.now account) }
 {
     let order = falling_tasks(alloc, above)?;
-    let sheet = &set.sheets()[place.task];
+    let sheet = &tabled.set.sheets()[place.task];
     let window = place.response - sheet.jitter();
     let parts = parts_of(
         alloc,
-        set,
-        table,
+        tabled.set,
+        tabled.table,
         place.task,
         members_of(above),
         &order,
@@ -85,22 +75,20 @@ fn response_account(
     })
 }
 
-/// The account of each response of an order of a set, the lowest level first. The table is that of the set. The error is
-/// want of memory.
+/// The account of each response of an order of a set, the lowest level first. The error is want of memory.
 pub(crate) fn response_accounts(
     alloc: Global,
-    set: &TaskSet,
-    table: &LockTable,
+    tabled: TabledSet<'_>,
     places: &[Place],
 ) -> Result<Vec<Account>, AllocError>
-    requires table { IsTableOf set.now table.now }
-    requires in_time { AreInTime set.now places.now }
-    ensures { IfOk result (λ accounts. AreResponseAccounts set.now places.now accounts.items) }
+    requires { AreInTime tabled.set.now places.now }
+    ensures { IfOk result (λ accounts.
+        AreResponseAccounts tabled.entry.set.now places.now accounts.items) }
 {
     let mut accounts = Vec::with_capacity(alloc, places.len())?;
     let mut rest = places;
     while let Some((place, above)) = rest.split_first() {
-        accounts.push(response_account(alloc, set, table, place, above)?)?;
+        accounts.push(response_account(alloc, tabled, place, above)?)?;
         rest = above;
     }
     Ok(accounts)

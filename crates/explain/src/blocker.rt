@@ -6,6 +6,7 @@ ghost use Rattle.ceilings.specs.IsTableOf.{IsTableOf};
 ghost use Rattle.explain.specs.Parts.{IsBlockerOf, has_user, reached_lock, BlockerData};
 ghost use Rattle.explain.specs.Blockers.{HasNoneBefore, IsFirstOf};
 
+use crate::tabled::TabledSet;
 use blocking::blocking;
 use ceilings::LockTable;
 use std::marker::Model;
@@ -28,20 +29,18 @@ impl Model for Blocker {
 }
 
 // Some member uses a lock.
-fn has_user(set: &TaskSet, table: &LockTable, lock: Name, members: Members) -> bool
-    requires { IsTableOf set.now table.now }
-    ensures { result ≡ has_user set.now (indexes_of members) lock }
+fn has_user(tabled: TabledSet<'_>, lock: Name, members: Members) -> bool
+    ensures { result ≡ has_user tabled.entry.set.now (indexes_of members) lock }
 {
-    table.users(lock).meets(members)
+    tabled.table.users(lock).meets(members)
 }
 
 // The first of some locks that some member uses.
-fn first_used(set: &TaskSet, table: &LockTable, locks: &[Name], members: Members) -> Option<Name>
-    requires { IsTableOf set.now table.now }
-    ensures { result ≡ find (has_user set.now (indexes_of members)) locks.now }
+fn first_used(tabled: TabledSet<'_>, locks: &[Name], members: Members) -> Option<Name>
+    ensures { result ≡ find (has_user tabled.entry.set.now (indexes_of members)) locks.now }
 {
     for lock in locks {
-        if has_user(set, table, *lock, members) {
+        if has_user(tabled, *lock, members) {
             return Some(*lock);
         }
     }
@@ -49,36 +48,24 @@ fn first_used(set: &TaskSet, table: &LockTable, locks: &[Name], members: Members
 }
 
 // Of a section's locks the first as written that some member uses.
-fn reached_lock(
-    set: &TaskSet,
-    table: &LockTable,
-    section: &Section,
-    members: Members,
-) -> Option<Name>
-    requires { IsTableOf set.now table.now }
-    ensures { result ≡ reached_lock set.now (indexes_of members) section.now }
+fn reached_lock(tabled: TabledSet<'_>, section: &Section, members: Members) -> Option<Name>
+    ensures { result ≡ reached_lock tabled.entry.set.now (indexes_of members) section.now }
 {
-    first_used(set, table, &section.locks, members)
+    first_used(tabled, &section.locks, members)
 }
 
 // Of a task's sections that are this long the first that the members reach.
-fn first_of(
-    set: &TaskSet,
-    table: &LockTable,
-    task: usize,
-    members: Members,
-    len: u64,
-) -> Option<Blocker>
-    requires table { IsTableOf set.now table.now }
-    requires task { task < length set.now }
-    ensures some { IfSome result (λ b. IsFirstOf set.now (indexes_of members) task len b) }
+fn first_of(tabled: TabledSet<'_>, task: usize, members: Members, len: u64) -> Option<Blocker>
+    requires { task < length tabled.set.now }
+    ensures some { IfSome result (λ b.
+        IsFirstOf tabled.entry.set.now (indexes_of members) task len b) }
     ensures none { IfNone result
-        (HasNoneBefore set.now (indexes_of members) task len
-        (length (task_at set.now task).sections)) }
+        (HasNoneBefore tabled.entry.set.now (indexes_of members) task len
+        (length (task_at tabled.entry.set.now task).sections)) }
 {
-    for (place, section) in set.sheets()[task].sections().iter().enumerate() {
+    for (place, section) in tabled.set.sheets()[task].sections().iter().enumerate() {
         if section.len == len {
-            if let Some(lock) = reached_lock(set, table, section, members) {
+            if let Some(lock) = reached_lock(tabled, section, members) {
                 return Some(Blocker {
                     task,
                     place: place as u32,
@@ -107,10 +94,11 @@ pub fn first_blocker(
     if longest == 0 {
         return None;
     }
+    let tabled = TabledSet { set, table };
     let members = above.with(task);
     for owner in 0..set.len() {
         if !members.has(owner) {
-            if let Some(found) = first_of(set, table, owner, members, longest) {
+            if let Some(found) = first_of(tabled, owner, members, longest) {
                 return Some(found);
             }
         }

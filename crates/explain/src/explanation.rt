@@ -7,6 +7,7 @@ ghost use Rattle.explain.specs.Explanations.{Explains};
 use crate::accounts::{Account, response_accounts};
 use crate::conflict::least_conflict;
 use crate::needs::{Need, needs_of};
+use crate::tabled::TabledSet;
 use assignment::Placing;
 use ceilings::LockTable;
 use std::alloc::{AllocError, Global};
@@ -35,14 +36,15 @@ pub fn explain(
 {
     // The set is valid: the proof has it from its sheets.
     let _sheets = set.sheets();
+    let tabled = TabledSet { set, table };
     match placing {
         Placing::Best(places) => {
-            let accounts = response_accounts(alloc, set, table, places)?;
+            let accounts = response_accounts(alloc, tabled, places)?;
             Ok(Explanation::Responses(accounts))
         }
         Placing::Stuck(greatest) => {
             let left = least_conflict(set, table, *greatest);
-            let needs = needs_of(alloc, set, table, left)?;
+            let needs = needs_of(alloc, tabled, left)?;
             Ok(Explanation::Conflict { left, needs })
         }
     }

@@ -9,6 +9,7 @@ pub mod laws;
 mod needs;
 mod parts;
 mod shares;
+mod tabled;
 mod text;
 
 pub use crate::accounts::Account;

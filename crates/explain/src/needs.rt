@@ -6,13 +6,12 @@ ghost use Rattle.task_sheet.specs.Responses.{IsFullChain};
 ghost use Rattle.task_sheet.specs.Demand.{demand_of, limit_of};
 ghost use Rattle.task_sheet.specs.Orders.{all_of};
 ghost use Rattle.task_sheet.specs.Levels.{IsObstruction};
-ghost use Rattle.ceilings.specs.IsTableOf.{IsTableOf};
 ghost use Rattle.explain.specs.Needs.{AreNeedsOf, EndsWith, IsNeedOf, IsNeedsAccount};
 
 use crate::accounts::Account;
 use crate::parts::parts_of;
+use crate::tabled::TabledSet;
 use assignment::least_over;
-use ceilings::LockTable;
 use response_time::{Answer, respond};
 use std::alloc::{AllocError, Global};
 use task_sheet::{Members, TaskSet};
@@ -53,22 +52,22 @@ fn falling(alloc: Global, set: &TaskSet, tasks: Members) -> Result<Vec<usize>, A
 // The account of the last number of a task's full chain.
 fn needs_account(
     alloc: Global,
-    set: &TaskSet,
-    table: &LockTable,
+    tabled: TabledSet<'_>,
     task: usize,
     above: Members,
     chain: &[u64],
 ) -> Result<Account, AllocError>
-    requires table { IsTableOf set.now table.now }
-    requires task { task < length set.now }
-    requires chain { IsFullChain (demand_of set.now task (indexes_of above))
-        (limit_of (task_at set.now task)) chain.now }
-    ensures { IfOk result (λ account. IsNeedsAccount set.now task (indexes_of above) account) }
+    requires task { task < length tabled.set.now }
+    requires chain { IsFullChain (demand_of tabled.set.now task (indexes_of above))
+        (limit_of (task_at tabled.set.now task)) chain.now }
+    ensures { IfOk result (λ account.
+        IsNeedsAccount tabled.entry.set.now task (indexes_of above) account) }
 {
+    let set = tabled.set;
     let sheet = &set.sheets()[task];
     let (before, last) = last_two(chain);
     let order = falling(alloc, set, above)?;
-    let parts = parts_of(alloc, set, table, task, above, &order, before)?;
+    let parts = parts_of(alloc, set, tabled.table, task, above, &order, before)?;
     Ok(Account {
         task,
         time: last + sheet.jitter(),
@@ -80,48 +79,44 @@ fn needs_account(
 // Why a task of a conflict may not stand below the others.
 fn need_of(
     alloc: Global,
-    set: &TaskSet,
-    table: &LockTable,
+    tabled: TabledSet<'_>,
     conflict: Members,
     task: usize,
 ) -> Result<Need, AllocError>
-    requires table { IsTableOf set.now table.now }
-    requires obstruction { IsObstruction set.now (indexes_of conflict) }
-    requires in_set { task < length set.now }
+    requires obstruction { IsObstruction tabled.set.now (indexes_of conflict) }
+    requires in_set { task < length tabled.set.now }
     requires member { IsTrue (indexes_of conflict task) }
-    ensures { IfOk result (λ need. IsNeedOf set.now (indexes_of conflict) task need) }
+    ensures { IfOk result (λ need.
+        IsNeedOf tabled.entry.set.now (indexes_of conflict) task need) }
 {
     let above = conflict.without(task);
-    if let Some(other) = least_over(set, table, task, above) {
+    if let Some(other) = least_over(tabled.set, tabled.table, task, above) {
         return Ok(Need::MustBeAbove { task, other });
     }
-    match respond(alloc, set, table, task, above)?.answer {
+    match respond(alloc, tabled.set, tabled.table, task, above)?.answer {
         Answer::Fail { chain } => {
-            let account = needs_account(alloc, set, table, task, above, &chain)?;
+            let account = needs_account(alloc, tabled, task, above, &chain)?;
             Ok(Need::Needs(account))
         }
         Answer::Pass { .. } => unreachable!(),
     }
 }
 
-/// Why each task of a conflict may not stand below the others, by rank. The table is that of the set. The error is want
-/// of memory.
+/// Why each task of a conflict may not stand below the others, by rank. The error is want of memory.
 pub(crate) fn needs_of(
     alloc: Global,
-    set: &TaskSet,
-    table: &LockTable,
+    tabled: TabledSet<'_>,
     conflict: Members,
 ) -> Result<Vec<Need>, AllocError>
-    requires table { IsTableOf set.now table.now }
-    requires obstruction { IsObstruction set.now (indexes_of conflict) }
+    requires { IsObstruction tabled.set.now (indexes_of conflict) }
     ensures { IfOk result (λ needs.
-        AreNeedsOf set.now (indexes_of conflict)
-        (listed_below (length set.now) (indexes_of conflict)) needs.items) }
+        AreNeedsOf tabled.entry.set.now (indexes_of conflict)
+        (listed_below (length tabled.entry.set.now) (indexes_of conflict)) needs.items) }
 {
     let mut needs = Vec::new(alloc);
-    for task in 0..set.len() {
+    for task in 0..tabled.set.len() {
         if conflict.has(task) {
-            needs.push(need_of(alloc, set, table, conflict, task)?)?;
+            needs.push(need_of(alloc, tabled, conflict, task)?)?;
         }
     }
     Ok(needs)

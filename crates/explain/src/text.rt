@@ -149,24 +149,6 @@ fn push_load(text: &mut String, set: &TaskSet) -> Result<(), AllocError>
     writeln!(text, "load {load}")
 }
 
-// The lines of an explanation, before the load.
-fn push_explanation(
-    text: &mut String,
-    set: &TaskSet,
-    explanation: &Explanation,
-) -> Result<(), AllocError>
-    ensures { OnOk result (string_bytes text.new ≡ string_bytes text.old
-        ++ explained_lines set.now explanation.now) }
-{
-    match explanation {
-        Explanation::Responses(accounts) => push_responses(text, set, accounts),
-        Explanation::Conflict { left, needs } => {
-            push_conflict(text, set, *left)?;
-            push_needs(text, set, needs)
-        }
-    }
-}
-
 /// The lines that explain a placing of a set, after the first line of the verdict: the levels with the parts of their
 /// responses, or a least conflict with what its tasks need; and the load. The error is want of memory.
 pub fn explanation_text(
@@ -177,7 +159,13 @@ pub fn explanation_text(
     ensures { IfOk result (λ text. string_bytes text ≡ explanation_lines set.now explanation.now) }
 {
     let mut text = String::new(alloc);
-    push_explanation(&mut text, set, explanation)?;
+    match explanation {
+        Explanation::Responses(accounts) => push_responses(&mut text, set, accounts)?,
+        Explanation::Conflict { left, needs } => {
+            push_conflict(&mut text, set, *left)?;
+            push_needs(&mut text, set, needs)?;
+        }
+    }
     push_load(&mut text, set)?;
     Ok(text)
 }

@@ -32,17 +32,17 @@ judgement_words U deadline (Meets response) = decimal response ++ codes " of " +
 judgement_words U deadline Misses = codes "misses " ++ decimal deadline
 judgement_words U deadline (Below other) = codes "below " ++ name_at U other
 
--- the line of a level
-abbrev pub judged_line : List Task → ℕ → JudgedTask → List ℕ
-judged_line U level j =
-    decimal level ++ codes " " ++ name_at U j.task ++ codes " "
+-- the line of a level after its number: the task, and what becomes of it
+abbrev pub judged_words : List Task → JudgedTask → List ℕ
+judged_words U j =
+    name_at U j.task ++ codes " "
     ++ judgement_words U (task_at U j.task).deadline j.judgement ++ codes "\n"
 
 -- a line for each level, of which the first has a number
 abbrev pub judged_level_lines : List Task → ℕ → List JudgedTask → List ℕ
 judged_level_lines U level [] = []
 judged_level_lines U level (j ∷ judged) =
-    judged_line U level j ++ judged_level_lines U (level + 1) judged
+    decimal level ++ codes " " ++ judged_words U j ++ judged_level_lines U (level + 1) judged
 
 -- whether all tasks meet their deadlines, and then each, the lowest first
 abbrev pub judged_lines : List Task → List JudgedTask → List ℕ

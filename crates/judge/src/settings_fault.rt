@@ -2,7 +2,7 @@
 ghost use Rattle.std.specs.Prelude.{◌≡◌, ℕ, Bool, not, ◌==◌, List, [], find};
 ghost use Rattle.std.specs.List.{list_any};
 ghost use Rattle.ceilings.specs.IsTableOf.{IsTableOf, locks_of};
-ghost use Rattle.judge.specs.Faults.{is_no_lock, is_no_task, is_set, line_again, line_fault, line_where, mutexless, name_fault, setting_number, setting_fault, share, threadless, top_number, wrong_lock};
+ghost use Rattle.judge.specs.Faults.{is_no_lock, is_no_task, is_set, line_again, line_where, mutexless, setting_number, setting_fault, share, threadless, top_number, wrong_lock};
 
 use crate::fault::SettingsFault;
 use crate::rows::{NodeSettings, Setting};
@@ -175,10 +175,15 @@ fn wrong_lock(set: &TaskSet, table: &LockTable, settings: &NodeSettings) -> Opti
     first_lock(set, table, |lock| is_wrong(set, table, settings, lock))
 }
 
-// The first reason that the lines give.
-fn line_fault(set: &TaskSet, table: &LockTable, settings: &NodeSettings) -> Option<SettingsFault>
+/// The first reason why threads and mutexes are no settings of a set. The table is that of the set.
+pub(crate) fn setting_fault(
+    set: &TaskSet,
+    table: &LockTable,
+    settings: &NodeSettings,
+) -> Option<SettingsFault>
     requires { IsTableOf set.now table.now }
-    ensures { result ≡ line_fault set.now settings.now.threads.items settings.now.mutexes.items }
+    ensures { result ≡ setting_fault set.now
+        settings.now.threads.items settings.now.mutexes.items }
 {
     if let Some(line) = unknown_task(set, &settings.threads) {
         return Some(SettingsFault::UnknownTask { line });
@@ -192,17 +197,9 @@ fn line_fault(set: &TaskSet, table: &LockTable, settings: &NodeSettings) -> Opti
     if let Some(line) = first_again(&settings.mutexes, SettingField::Name) {
         return Some(SettingsFault::SameLock { line });
     }
-    match first_again(&settings.threads, SettingField::Number) {
-        Some(line) => Some(SettingsFault::SameNumber { line }),
-        None => None,
+    if let Some(line) = first_again(&settings.threads, SettingField::Number) {
+        return Some(SettingsFault::SameNumber { line });
     }
-}
-
-// The first reason that a task or a lock gives.
-fn name_fault(set: &TaskSet, table: &LockTable, settings: &NodeSettings) -> Option<SettingsFault>
-    requires { IsTableOf set.now table.now }
-    ensures { result ≡ name_fault set.now settings.now.threads.items settings.now.mutexes.items }
-{
     if let Some(name) = threadless(set, &settings.threads) {
         return Some(SettingsFault::MissingTask { name });
     }
@@ -212,21 +209,5 @@ fn name_fault(set: &TaskSet, table: &LockTable, settings: &NodeSettings) -> Opti
     match wrong_lock(set, table, settings) {
         Some(name) => Some(SettingsFault::WrongCeiling { name }),
         None => None,
-    }
-}
-
-/// The first reason why threads and mutexes are no settings of a set. The table is that of the set.
-pub(crate) fn setting_fault(
-    set: &TaskSet,
-    table: &LockTable,
-    settings: &NodeSettings,
-) -> Option<SettingsFault>
-    requires { IsTableOf set.now table.now }
-    ensures { result ≡ setting_fault set.now
-        settings.now.threads.items settings.now.mutexes.items }
-{
-    match line_fault(set, table, settings) {
-        Some(fault) => Some(fault),
-        None => name_fault(set, table, settings),
     }
 }

@@ -3,7 +3,7 @@ ghost use Rattle.std.specs.Prelude.{◌≡◌, ◌++◌, ◌<◌, All, OnOk, IfO
 ghost use Rattle.task_sheet.specs.declared.set.TheConstants.{TASK_LIMIT};
 ghost use Rattle.task_sheet.specs.Sheet.{task_at};
 ghost use Rattle.task_sheet.specs.Indexes.{indexes_of};
-ghost use Rattle.judge.specs.Lines.{meets_line, judged_line, judged_lines, judgement_words, judged_level_lines, missed_line, missed_of};
+ghost use Rattle.judge.specs.Lines.{judged_words, meets_line, judged_lines, judged_level_lines, missed_line, missed_of};
 
 use crate::judging::{JudgedTask, Judgement, all_meet, does_meet};
 use lines::{push_name, push_names};
@@ -57,41 +57,22 @@ fn push_first(text: &mut String, set: &TaskSet, judged: &[JudgedTask]) -> Result
     push_missed(text, set, missed_of(judged))
 }
 
-// What becomes of a task with this deadline.
-fn push_judgement(
-    text: &mut String,
-    set: &TaskSet,
-    deadline: u64,
-    judgement: Judgement,
-) -> Result<(), AllocError>
+// The line of a level after its number: the task, and what becomes of it.
+fn push_judged(text: &mut String, set: &TaskSet, judged: &JudgedTask) -> Result<(), AllocError>
     ensures { OnOk result (string_bytes text.new
-        ≡ string_bytes text.old ++ judgement_words set.now deadline judgement) }
+        ≡ string_bytes text.old ++ judged_words set.now judged.now) }
 {
-    match judgement {
-        Judgement::Meets { response } => write!(text, "{response} of {deadline}"),
-        Judgement::Misses => write!(text, "misses {deadline}"),
+    let deadline = deadline_of(set, judged.task);
+    push_name(text, set, judged.task)?;
+    match judged.judgement {
+        Judgement::Meets { response } => writeln!(text, " {response} of {deadline}"),
+        Judgement::Misses => writeln!(text, " misses {deadline}"),
         Judgement::Below { other } => {
-            text.push_str("below ")?;
-            push_name(text, set, other)
+            text.push_str(" below ")?;
+            push_name(text, set, other)?;
+            text.push_str("\n")
         }
     }
-}
-
-// The line of a level.
-fn push_judged(
-    text: &mut String,
-    set: &TaskSet,
-    level: usize,
-    judged: &JudgedTask,
-) -> Result<(), AllocError>
-    ensures { OnOk result (string_bytes text.new
-        ≡ string_bytes text.old ++ judged_line set.now level judged.now) }
-{
-    write!(text, "{level} ")?;
-    push_name(text, set, judged.task)?;
-    text.push_str(" ")?;
-    push_judgement(text, set, deadline_of(set, judged.task), judged.judgement)?;
-    text.push_str("\n")
 }
 
 /// The lines that say what becomes of the tasks of an order, the lowest first: whether all meet their deadlines, and then
@@ -107,7 +88,9 @@ pub fn judged_text(
     let mut text = String::new(alloc);
     push_first(&mut text, set, judged)?;
     for (place, entry) in judged.iter().enumerate() {
-        push_judged(&mut text, set, place + 1, entry)?;
+        let level = place + 1;
+        write!(text, "{level} ")?;
+        push_judged(&mut text, set, entry)?;
     }
     Ok(text)
 }

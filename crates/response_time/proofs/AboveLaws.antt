@@ -1,10 +1,12 @@
 -- What the tasks above execute within a window, of the set's first ones.
-use Rattle.std.proofs.Common.{◌≡◌, ℕ, ◌+◌, true, false, cond, List, length, refl, sym, arith}
+use Rattle.std.proofs.Common.{◌≡◌, ℕ, ◌+◌, ◌≤◌, true, false, cond, List, length, refl, sym, arith}
 use Rattle.std.proofs.lemmas.Bool.{cond-true, cond-false}
-use Rattle.task_sheet.specs.Sheet.{Task, task_at}
+use Rattle.task_sheet.specs.Sheet.{Task, task_at, IsValidSheet}
 use Rattle.task_sheet.specs.Indexes.{Indexes, sum_below}
 use Rattle.task_sheet.specs.Demand.{interference_of, blocking_of, demand_of}
 use Rattle.task_sheet.proofs.Below.{sum_step}
+use Rattle.task_sheet.proofs.Releases.{cost-le-interference}
+use Rattle.task_sheet.proofs.TaskLaws.{IsTask-from_valid}
 
 -- of the first n tasks of U those among H
 abbrev pub interference_first : List Task → Indexes → ℕ → ℕ → ℕ
@@ -17,6 +19,10 @@ module _ (U : List Task) (H : Indexes) (time n : ℕ) where
   -- one task more, which is above
   pub first-with : H n ≡ true → interference_first U H time (n + 1) ≡ interference_first U H time n + interference_of (task_at U n) time
   first-with above = sym (sum_step n term (sum_below n term) (interference_of (task_at U n) time) (sum_below n term + interference_of (task_at U n) time) refl (cond-true {A = ℕ} (H n) (interference_of (task_at U n) time) 0 above) refl)
+
+  -- it executes its cost once at least
+  pub first-once : IsValidSheet (task_at U n) → H n ≡ true → 1 ≤ time → interference_first U H time n + (task_at U n).cost ≤ interference_first U H time (n + 1)
+  first-once valid above some = omega (arith, first-with above, cost-le-interference (task_at U n) time (IsTask-from_valid (task_at U n) valid) some)
 
   -- one task more, which isn't
   pub first-without : H n ≡ false → interference_first U H time (n + 1) ≡ interference_first U H time n

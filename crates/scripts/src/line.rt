@@ -130,13 +130,3 @@ impl<T: Drop> From<AllocFailed<T>> for RowFault {
         RowFault::OutOfMemory
     }
 }
-
-impl<T: Drop> From<AllocFailed<T>> for ScriptFault {
-    ghost use Rattle.scripts.specs.declared.line.ScriptFault.TheVariants.{OutOfMemory};
-
-    ghost from_gives = { λ _ fault. fault ≡ OutOfMemory };
-
-    fn from(_e: AllocFailed<T>) -> ScriptFault {
-        ScriptFault::OutOfMemory
-    }
-}

@@ -54,8 +54,10 @@ pub fn read_script(alloc: Global, text: &[u8]) -> Result<Vec<Line>, ScriptFault>
         };
         opened = opened_after(opened, &row);
         let number = line.number;
-        lines.push(Line { number, row })?;
-        at = after;
+        match lines.push(Line { number, row }) {
+            Ok(()) => at = after,
+            Err(_) => return Err(ScriptFault::OutOfMemory),
+        }
     }
     Ok(lines)
 }

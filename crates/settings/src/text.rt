@@ -12,7 +12,7 @@ use assignment::{Place, tasks_of_places};
 use ceilings::LockTable;
 use lines::push_name;
 use std::alloc::{AllocError, Global};
-use task_sheet::{Name, TaskSet};
+use task_sheet::TaskSet;
 
 // The line of a task's thread.
 fn push_thread(
@@ -41,18 +41,7 @@ fn push_threads(text: &mut String, set: &TaskSet, order: &[usize]) -> Result<(),
     Ok(())
 }
 
-// The line of a lock's mutex.
-fn push_mutex(text: &mut String, lock: Name, ceiling: Option<u32>) -> Result<(), AllocError>
-    ensures { OnOk result (string_bytes text.new ≡ string_bytes text.old
-        ++ mutex_line lock ceiling) }
-{
-    match ceiling {
-        Some(level) => writeln!(text, "mutex {lock} {level}"),
-        None => Ok(()),
-    }
-}
-
-// The line of the lock at a place, with its ceiling in an order.
+// The line of the mutex of the lock at a place, with its ceiling in an order.
 fn push_lock(
     text: &mut String,
     table: &LockTable,
@@ -66,8 +55,11 @@ fn push_lock(
         → string_bytes text.new ≡ string_bytes text.old
         ++ mutex_line lock (ceiling_of U order.now lock)) }
 {
-    match table.lock_at(place) {
-        Some(lock) => push_mutex(text, lock, table.ceiling(lock, order)),
+    let Some(lock) = table.lock_at(place) else {
+        return Ok(());
+    };
+    match table.ceiling(lock, order) {
+        Some(level) => writeln!(text, "mutex {lock} {level}"),
         None => Ok(()),
     }
 }

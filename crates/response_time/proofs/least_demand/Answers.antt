@@ -1,10 +1,9 @@
 use Rattle.std.proofs.Common.{◌≤◌, ◌+◌, ◌∙◌, length, ap, sym, arith}
 use Rattle.std.proofs.lemmas.List.{get_or_read}
-use Rattle.task_sheet.specs.Sheet.{no_task, task_at}
+use Rattle.task_sheet.specs.Sheet.{no_task}
 use Rattle.task_sheet.specs.Indexes.{indexes_of}
-use Rattle.task_sheet.proofs.Releases.{cost-le-interference}
-use Rattle.task_sheet.proofs.TaskLaws.{IsTask-from_valid, task_read, valid_at}
-use Rattle.response_time.proofs.AboveLaws.{first-with, first-without, first-all}
+use Rattle.task_sheet.proofs.TaskLaws.{task_read, valid_at}
+use Rattle.response_time.proofs.AboveLaws.{first-once, first-without, first-all}
 use Rattle.response_time.proofs.least_demand.Goals as goal
 use Rattle.response_time.proofs.least_demand.Goals.{then-has, else-has}
 
@@ -31,6 +30,7 @@ overflow_add-least c =
 pub loop-index-preserved : goal.loop-index-preserved
 loop-index-preserved c =
     let U = c.sheets-sheets.result.now in
+    let H = indexes_of c.args.above in
     let n = c.loop-index.index in
     let inv = c.loop-index.invariant in
     elim c.if-has.branch [
@@ -40,13 +40,12 @@ loop-index-preserved c =
           record {
             fits = omega (arith, inv.fits, w.least-is, w.cost-least-then-has.ensures, cost, valid.cost_to, valid.period_to);
             sum = λ time some.
-                let once = cost-le-interference (task_at U n) time (IsTask-from_valid (task_at U n) valid) some in
-                let step = first-with U (indexes_of c.args.above) time n (sym c.has.ensures ∙ w.if-has.true) in
-                omega (arith, inv.sum time some, w.least-is, w.cost-least-then-has.ensures, cost, once, step);
+                let once = first-once U H time n valid (sym c.has.ensures ∙ w.if-has.true) some in
+                omega (arith, inv.sum time some, w.least-is, w.cost-least-then-has.ensures, cost, once);
           }
       | else-has w ↦ record {
         fits = omega (arith, inv.fits, w.least-is);
-        sum = λ time some. omega (arith, inv.sum time some, w.least-is, first-without U (indexes_of c.args.above) time n (sym c.has.ensures ∙ w.if-has.false));
+        sum = λ time some. omega (arith, inv.sum time some, w.least-is, first-without U H time n (sym c.has.ensures ∙ w.if-has.false));
       }
     ]
 

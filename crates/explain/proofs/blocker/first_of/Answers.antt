@@ -9,12 +9,12 @@ use Rattle.explain.proofs.blocker.first_of.Goals.{then-section-len+in_default, e
 
 pub loop-place-preserved : goal.loop-place-preserved
 loop-place-preserved c =
-    let U = c.args.set.now in
+    let U = c.args.tabled.set.now in
     let X = indexes_of c.args.members in
     let task = c.args.task in
     let place = c.loop-place.place in
     let s = c.section-item.result in
-    let read = task_read U c.sheets.result.now task c.index-sheets-task.result c.sheets.ensures.same c.requires.task c.index-sheets-task.is in
+    let read = task_read U c.sheets.result.now task c.index-sheets-task.result c.sheets.ensures.same c.requires c.index-sheets-task.is in
     let sections = c.sections-section-items.ensures ∙ ap (λ (t : Task). t.sections) read in
     let at : slice_get (task_at U task).sections place ≡ Some s =
     ap (λ (xs : List CriticalSection). slice_get xs place) (sym sections) ∙ slice_get_read c.sections-section-items.result.now _ place s refl c.loop-place-test.true c.section-item.is in

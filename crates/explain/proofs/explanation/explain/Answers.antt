@@ -8,8 +8,8 @@ use Rattle.explain.specs.declared.explanation.Explanation.TheVariants.{Conflict}
 use Rattle.explain.proofs.AccountLaws.{best-in_time}
 use Rattle.explain.proofs.explanation.explain.Goals as goal
 
-pub response_accounts-requires-clause-in_time : goal.response_accounts-requires-clause-in_time
-response_accounts-requires-clause-in_time c =
+pub response_accounts-requires : goal.response_accounts-requires
+response_accounts-requires c =
     let U = c.args.set.now in
     let best = subst (λ (p : Placing). IsPlacingOf U p) c.in-Best.is c.requires.placing in
     subst (λ (places : List PlaceData). AreInTime U places) (sym c.deref.ensures.value) (best-in_time U c.in-Best.places.items c.sheets-sheets.ensures.kept best)

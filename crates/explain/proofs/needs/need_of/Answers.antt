@@ -13,11 +13,11 @@ use Rattle.explain.proofs.needs.need_of.Goals as goal
 pub returns-in-Some : goal.returns-in-Some
 returns-in-Some c =
     let rest = ap indexes_of c.without-above.ensures ∙ indexes_of-remove c.args.conflict c.args.task in
-    (refl, subst (λ (X : Indexes). IsLeastOver c.args.set.now c.args.task X c.in-Some.other) rest c.in-Some.ensures.some)
+    (refl, subst (λ (X : Indexes). IsLeastOver c.args.tabled.set.now c.args.task X c.in-Some.other) rest c.in-Some.ensures.some)
 
 pub unreachable-requires : goal.unreachable-requires
 unreachable-requires c =
-    let U = c.args.set.now in
+    let U = c.args.tabled.set.now in
     let i = c.args.task in
     let H = indexes_of c.without-above.result in
     let rest = ap indexes_of c.without-above.ensures ∙ indexes_of-remove c.args.conflict i in
@@ -27,7 +27,7 @@ unreachable-requires c =
 
 pub returns : goal.returns
 returns c =
-    let U = c.args.set.now in
+    let U = c.args.tabled.set.now in
     let i = c.args.task in
     let rest = ap indexes_of c.without-above.ensures ∙ indexes_of-remove c.args.conflict i in (
       subst (λ (X : Indexes). IsFalse (is_bound U i X)) rest c.in_default.ensures.none,

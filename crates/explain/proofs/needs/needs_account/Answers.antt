@@ -9,19 +9,19 @@ use Rattle.explain.proofs.needs.needs_account.Goals as goal
 
 pub parts_of-requires-clause-within : goal.parts_of-requires-clause-within
 parts_of-requires-clause-within c =
-    subst (λ (ns : List ℕ). All (λ k. k < length c.args.set.now) ns) (sym (c.deref.ensures.value ∙ c.in_ok-order.ensures))
-    (falling-within (length c.args.set.now) (indexes_of c.args.above))
+    subst (λ (ns : List ℕ). All (λ k. k < length c.args.tabled.set.now) ns) (sym (c.deref.ensures.value ∙ c.in_ok-order.ensures))
+    (falling-within (length c.args.tabled.set.now) (indexes_of c.args.above))
 
 pub parts_of-requires-clause-time : goal.parts_of-requires-clause-time
 parts_of-requires-clause-time c =
-    let U = c.args.set.now in
+    let U = c.args.tabled.set.now in
     let i = c.args.task in
     let step = ends-step (demand_of U i (indexes_of c.args.above)) (limit_of (task_at U i)) c.last_two-before.result.0 c.last_two-before.result.1 c.args.chain.now c.requires.chain c.last_two-before.ensures in
     omega (arith, step.within, limit-fits U c.sheets.ensures.kept i c.requires.task)
 
 pub overflow_add-result : goal.overflow_add-result
 overflow_add-result c =
-    let U = c.args.set.now in
+    let U = c.args.tabled.set.now in
     let i = c.args.task in
     let H = indexes_of c.args.above in
     let step = ends-step (demand_of U i H) (limit_of (task_at U i)) c.last_two-before.result.0 c.last_two-before.result.1 c.args.chain.now c.requires.chain c.last_two-before.ensures in
