@@ -9,8 +9,7 @@ use Rattle.assignment.specs.Placings.{tasks_of_places}
 use Rattle.picture.specs.Document.{document}
 use Rattle.picture.specs.declared.rows.TaskRow.{TaskRow}
 use Rattle.desk_cli.specs.Lines.{infeasible_line}
-use Rattle.desk_cli.specs.Printed.{Prints}
-use Rattle.desk_cli.specs.Simulate.{Simulates, simulation_status}
+use Rattle.desk_cli.specs.Simulate.{SaysRun}
 use Rattle.desk_cli.specs.declared.simulate.Run.{Run}
 use Rattle.desk_cli.specs.declared.simulate.Simulated.{Simulated}
 use Rattle.desk_cli.specs.declared.simulate.Simulated.TheVariants.{Infeasible, Ran}
@@ -39,10 +38,7 @@ abbrev pub drawing_said : List Task → Simulated → List ℕ
 drawing_said U (Ran run) = picture_of U run
 drawing_said U (Infeasible left) = infeasible_line U (listed_below (length U) (indexes_of left))
 
--- the answer on what the readers had is printed after what the writer held, and the status is the answer's
-abbrev pub SaysDrawn :
-    Preference → (set releases : Option (List ℕ)) → (before after : Option (List ℕ)) → Status
-    → Type 0
-SaysDrawn preference set releases before after s =
-    Prints (Simulates preference set releases) (λ found. drawing_said found.0 found.1)
-    (λ found. simulation_status found.1) before after s
+-- the answer of `desk simulate` is printed as a picture
+abbrev pub SaysDrawn : Preference → (set releases : Option (List ℕ))
+    → (before after : Option (List ℕ)) → Status → Type 0
+SaysDrawn = SaysRun drawing_said

@@ -69,10 +69,15 @@ abbrev pub simulation_status : Simulated → Status
 simulation_status (Ran run) = status.Done
 simulation_status (Infeasible left) = status.Infeasible
 
--- the answer on what the readers had is printed after what the writer held, and the status is the answer's
-abbrev pub SaysSimulated :
-    Preference → (set releases : Option (List ℕ)) → (before after : Option (List ℕ)) → Status
+-- the answer on what the readers had is printed by a rule after what the writer held, and the status is the answer's
+abbrev pub SaysRun : (List Task → Simulated → List ℕ)
+    → Preference → (set releases : Option (List ℕ)) → (before after : Option (List ℕ)) → Status
     → Type 0
-SaysSimulated preference set releases before after s =
-    Prints (Simulates preference set releases) (λ found. simulation_said found.0 found.1)
+SaysRun said preference set releases before after s =
+    Prints (Simulates preference set releases) (λ found. said found.0 found.1)
     (λ found. simulation_status found.1) before after s
+
+-- it is printed as the lines of a trace
+abbrev pub SaysSimulated : Preference → (set releases : Option (List ℕ))
+    → (before after : Option (List ℕ)) → Status → Type 0
+SaysSimulated = SaysRun simulation_said

@@ -1,10 +1,11 @@
 //! `desk headroom`.
-ghost use Rattle.std.specs.Prelude.{◌≡◌, ◌≢◌, ℕ, ◌<◌, List, ◌++◌, length, Err, true, IfOk, OnOk, option_map, string_bytes};
+ghost use Rattle.std.specs.Prelude.{◌≡◌, ◌≢◌, ℕ, ◌<◌, List, ◌++◌, length, Err, true, IfOk, IfSome, OnOk, string_bytes};
 ghost use Rattle.std.specs.Io.KnownBytes.{Appends};
+ghost use Rattle.task_sheet.specs.Orders.{IsPassingOrder};
 ghost use Rattle.task_sheet.specs.TaskSet.{IsTaskSet};
 ghost use Rattle.ceilings.specs.IsTableOf.{IsTableOf};
 ghost use Rattle.assignment.specs.Placings.{IsPlacingOf};
-ghost use Rattle.desk_cli.specs.Headroom.{AnswersIn, IsLast, IsListingOf, IsTaskLine, ListsAll, ListsSome, SaysPlaced, headroom_line, listing_order, most_words, placing_first, placing_order};
+ghost use Rattle.desk_cli.specs.Headroom.{AnswersIn, IsLast, IsTaskLine, ListsAll, ListsSome, SaysPlaced, headroom_line, most_words, order_in, placing_first, placing_order};
 ghost use Rattle.streams.specs.Sending.{Sends};
 ghost use Rattle.desk_cli.specs.Outcomes.{IsSaidOn};
 
@@ -24,13 +25,16 @@ use task_sheet::{Sheet, TaskSet};
 
 // What the lines of a placed set are made of, made before the first is printed.
 #[derive(Drop)]
-struct Listing {
+struct Listing<'a> {
+    set: &'a TaskSet,
     // Of the set's locks.
     table: LockTable,
     // The lowest level first; none after a no.
     order: Option<Vec<usize>>,
     // The first line.
     first: String,
+    ghost locks: { IsTableOf set.now table },
+    ghost passing: { IfSome (order_in order) (IsPassingOrder set.now) },
 }
 
 /// Why lines were not all printed.
@@ -44,7 +48,7 @@ enum ListFault {
 
 // The order of a placing, the lowest first; none after a no.
 fn order_of(alloc: Global, placing: &Placing) -> Result<Option<Vec<usize>>, AllocError>
-    ensures { IfOk result (λ order. option_map (λ o. o.items) order ≡ placing_order placing.now) }
+    ensures { IfOk result (λ order. order_in order ≡ placing_order placing.now) }
 {
     match placing {
         Placing::Best(places) => Ok(Some(tasks_of_places(alloc, places)?)),
@@ -53,19 +57,14 @@ fn order_of(alloc: Global, placing: &Placing) -> Result<Option<Vec<usize>>, Allo
 }
 
 // The greatest cost of a task with which the order passes, where there is one.
-fn in_order(
-    alloc: Global,
-    set: &TaskSet,
-    listing: &Listing,
-    task: usize,
-) -> Result<Option<u64>, AllocError>
-    requires listing { IsListingOf set.now listing.now }
-    requires task { task < length set.now }
-    ensures { IfOk result (λ own. AnswersIn set.now (listing_order listing.now) task own) }
+fn in_order(alloc: Global, listing: &Listing<'_>, task: usize) -> Result<Option<u64>, AllocError>
+    requires { task < length listing.now.set.now }
+    ensures { IfOk result (λ own. AnswersIn listing.now.set.now (order_in listing.now.order) task
+        own) }
 {
     match &listing.order {
         Some(order) => {
-            let most = headroom_in_order(alloc, set, &listing.table, order, task)?;
+            let most = headroom_in_order(alloc, listing.set, &listing.table, order, task)?;
             Ok(Some(most))
         }
         None => Ok(None),
@@ -102,20 +101,14 @@ fn line_text(
 }
 
 // The line of the task at an index.
-fn task_text(
-    alloc: Global,
-    set: &TaskSet,
-    listing: &Listing,
-    task: usize,
-) -> Result<String, AllocError>
-    requires listing { IsListingOf set.now listing.now }
-    requires task { task < length set.now }
-    ensures { IfOk result (λ text. IsTaskLine set.now (listing_order listing.now) task
+fn task_text(alloc: Global, listing: &Listing<'_>, task: usize) -> Result<String, AllocError>
+    requires { task < length listing.now.set.now }
+    ensures { IfOk result (λ text. IsTaskLine listing.now.set.now (order_in listing.now.order) task
         (string_bytes text)) }
 {
-    let own = in_order(alloc, set, listing, task)?;
-    let most = headroom(alloc, set, &listing.table, task)?;
-    line_text(alloc, &set.sheets()[task], own, most)
+    let own = in_order(alloc, listing, task)?;
+    let most = headroom(alloc, listing.set, &listing.table, task)?;
+    line_text(alloc, &listing.set.sheets()[task], own, most)
 }
 
 // The line of the factor; nothing for the empty set.
@@ -137,18 +130,16 @@ fn last_text(alloc: Global, set: &TaskSet, table: &LockTable) -> Result<String, 
 // Puts the first line, the line of each task as it is found, and the last one.
 fn put_lines<W: Write + Drop>(
     alloc: Global,
-    set: &TaskSet,
-    listing: &Listing,
+    listing: &Listing<'_>,
     held: &mut Held,
     output: &mut Watched<W>,
 ) -> Result<(), ListFault>
-    requires { IsListingOf set.now listing.now }
     ensures all { OnOk result ((text : List ℕ)
-        × ListsAll set.now (listing_order listing.now) text
+        × ListsAll listing.now.set.now (order_in listing.now.order) text
         × Sends (W.contents output.old.inner) held.old (W.contents output.new.inner) held.new
         (string_bytes listing.now.first ++ text)) }
     ensures some { result ≡ Err ListFault.OutOfMemory
-        → (text : List ℕ) × ListsSome set.now (listing_order listing.now) text
+        → (text : List ℕ) × ListsSome listing.now.set.now (order_in listing.now.order) text
         × Sends (W.contents output.old.inner) held.old (W.contents output.new.inner) held.new
         (string_bytes listing.now.first ++ text) }
     ensures ok { result ≢ Err ListFault.WriteFailed
@@ -158,15 +149,15 @@ fn put_lines<W: Write + Drop>(
     if held.put(listing.first.as_bytes(), output).is_err() {
         return Err(ListFault::WriteFailed);
     }
-    for task in 0..set.len() {
-        let Ok(text) = task_text(alloc, set, listing, task) else {
+    for task in 0..listing.set.len() {
+        let Ok(text) = task_text(alloc, listing, task) else {
             return Err(ListFault::OutOfMemory);
         };
         if held.put(text.as_bytes(), output).is_err() {
             return Err(ListFault::WriteFailed);
         }
     }
-    let Ok(text) = last_text(alloc, set, &listing.table) else {
+    let Ok(text) = last_text(alloc, listing.set, &listing.table) else {
         return Err(ListFault::OutOfMemory);
     };
     match held.put(text.as_bytes(), output) {
@@ -179,17 +170,15 @@ fn put_lines<W: Write + Drop>(
 // but that the writer failed.
 fn print_lines<W: Write + Drop>(
     alloc: Global,
-    set: &TaskSet,
-    listing: &Listing,
+    listing: &Listing<'_>,
     output: &mut Watched<W>,
 ) -> Result<(), ListFault>
-    requires { IsListingOf set.now listing.now }
     ensures all { OnOk result ((text : List ℕ)
-        × ListsAll set.now (listing_order listing.now) text
+        × ListsAll listing.now.set.now (order_in listing.now.order) text
         × Appends (W.contents output.old.inner) (W.contents output.new.inner)
         (string_bytes listing.now.first ++ text)) }
     ensures some { result ≡ Err ListFault.OutOfMemory
-        → (text : List ℕ) × ListsSome set.now (listing_order listing.now) text
+        → (text : List ℕ) × ListsSome listing.now.set.now (order_in listing.now.order) text
         × Appends (W.contents output.old.inner) (W.contents output.new.inner)
         (string_bytes listing.now.first ++ text) }
     ensures ok { result ≢ Err ListFault.WriteFailed
@@ -197,7 +186,7 @@ fn print_lines<W: Write + Drop>(
     ensures failed { result ≡ Err ListFault.WriteFailed → output.new.has_failed ≡ true }
 {
     let mut held = Held::new();
-    let listed = put_lines(alloc, set, listing, &mut held, output);
+    let listed = put_lines(alloc, listing, &mut held, output);
     if let Err(ListFault::WriteFailed) = listed {
         return listed;
     }
@@ -208,10 +197,14 @@ fn print_lines<W: Write + Drop>(
 }
 
 // What the lines of a placed set are made of.
-fn make_ready(alloc: Global, set: &TaskSet, placing: &Placing) -> Result<Listing, AllocError>
+fn make_ready<'a>(
+    alloc: Global,
+    set: &'a TaskSet,
+    placing: &Placing,
+) -> Result<Listing<'a>, AllocError>
     requires { IsPlacingOf set.now placing.now }
-    ensures table { IfOk result (λ listing. IsTableOf set.now listing.table) }
-    ensures order { IfOk result (λ listing. listing_order listing ≡ placing_order placing.now) }
+    ensures set { IfOk result (λ listing. listing.set.now ≡ set.now) }
+    ensures order { IfOk result (λ listing. order_in listing.order ≡ placing_order placing.now) }
     ensures first { IfOk result (λ listing. string_bytes listing.first
         ≡ placing_first set.now placing.now) }
 {
@@ -219,6 +212,7 @@ fn make_ready(alloc: Global, set: &TaskSet, placing: &Placing) -> Result<Listing
     let order = order_of(alloc, placing)?;
     let first = placing_text(alloc, OrderPart::Count, set, placing)?;
     Ok(Listing {
+        set,
         table,
         order,
         first,
@@ -239,7 +233,7 @@ pub(crate) fn print_placing<W: Write + Drop>(
     let Ok(listing) = make_ready(alloc, set, placing) else {
         return refuse(CommandRefusal::OutOfMemory, output);
     };
-    match print_lines(alloc, set, &listing, output) {
+    match print_lines(alloc, &listing, output) {
         Ok(()) => placing_status(placing),
         Err(ListFault::OutOfMemory) => refuse(CommandRefusal::OutOfMemory, output),
         Err(ListFault::WriteFailed) => Status::InputOrOutputFailed,

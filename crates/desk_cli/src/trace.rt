@@ -1,7 +1,7 @@
 //! The lines of a trace.
 ghost use Rattle.std.specs.Prelude.{◌≡◌, ◌++◌, slice_index_or, OnOk, IfOk, string_bytes};
 ghost use Rattle.ceiling_kernel.specs.Runs.{no_record};
-ghost use Rattle.desk_cli.specs.TraceLines.{finish_words, job_line, job_lines, slice_line, slice_lines, trace_lines};
+ghost use Rattle.desk_cli.specs.TraceLines.{job_line, job_lines, slice_line, slice_lines, trace_lines};
 
 use ceiling_kernel::{JobRecord, Slice, Trace};
 use std::alloc::{AllocError, Global};
@@ -43,23 +43,15 @@ fn push_slices(text: &mut String, trace: &Trace) -> Result<(), AllocError>
     Ok(())
 }
 
-fn push_finish(text: &mut String, finish: Option<u64>) -> Result<(), AllocError>
-    ensures { OnOk result (string_bytes text.new ≡ string_bytes text.old ++ finish_words finish) }
-{
-    match finish {
-        Some(time) => write!(text, "{time}"),
-        None => text.push_str("-"),
-    }
-}
-
 fn push_job(text: &mut String, job: JobRecord) -> Result<(), AllocError>
     ensures { OnOk result (string_bytes text.new ≡ string_bytes text.old ++ job_line job) }
 {
     let name = job.name;
     let release = job.release;
-    write!(text, "job {name} {release} ")?;
-    push_finish(text, job.finish)?;
-    text.push_str("\n")
+    match job.finish {
+        Some(finish) => writeln!(text, "job {name} {release} {finish}"),
+        None => writeln!(text, "job {name} {release} -"),
+    }
 }
 
 fn push_jobs(text: &mut String, jobs: &[JobRecord]) -> Result<(), AllocError>

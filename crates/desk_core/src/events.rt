@@ -3,9 +3,10 @@
 ghost use Rattle.std.specs.Prelude.{◌≡◌};
 ghost use Rattle.desk_core.specs.declared.events.Cause.TheVariants.{NoSuchDraft};
 ghost use Rattle.desk_core.specs.declared.events.Reply.TheVariants.{Refused};
+ghost use Rattle.desk_core.specs.World.{cause_of};
 
 use assignment::{Finding, Question};
-use drafts::{Entry, Team};
+use drafts::{EditRefusal, Entry, Team};
 use std::sync::Arc;
 use task_sheet::{Name, Sheet};
 
@@ -19,6 +20,19 @@ pub enum Cause {
     Untestable,
     Stranger,
     Twice,
+}
+
+impl Cause {
+    /// The cause of an edit that is refused.
+    pub fn of_edit(refusal: EditRefusal) -> Cause
+        ensures { result ≡ cause_of refusal }
+    {
+        match refusal {
+            EditRefusal::NotYours => Cause::NotYours,
+            EditRefusal::NoSuchTask => Cause::NoSuchTask,
+            EditRefusal::DraftFull => Cause::DraftFull,
+        }
+    }
 }
 
 /// What an actor asks of the core.

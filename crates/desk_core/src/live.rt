@@ -6,7 +6,7 @@ ghost use Rattle.desk_core.specs.Findings.{asked_of, IsTold};
 ghost use Rattle.desk_core.specs.Advances.{IsAdvancedIn, IsAdvancedOn};
 ghost use Rattle.desk_core.specs.Brought.{IsTelling, IsBrought};
 ghost use Rattle.desk_core.specs.declared.told.Told.{Told};
-ghost use Rattle.desk_core.specs.World.{opened, cause_of, rebased, IsEdited, IsToldReply, IsFound, IsBroughtTo, IsTestedDraft};
+ghost use Rattle.desk_core.specs.World.{opened, rebased, IsEdited, IsToldReply, IsFound, IsBroughtTo, IsTestedDraft};
 ghost use Rattle.desk_core.specs.Standings.{IsQuestionOn, IsStandingOn};
 ghost use Rattle.desk_core.specs.Stages.{IsStage, IsTrialOn, found_of};
 ghost use Rattle.drafts.specs.declared.roster.Owned.{Owned};
@@ -17,7 +17,7 @@ use crate::stage::{Stage, begin, is_tested, put_away, question, standing};
 use crate::told::Told;
 use crate::trial::Trial;
 use assignment::{Finding, Question};
-use drafts::{Draft, EditCause, EditRefusal, NodeState, PutFault, Team};
+use drafts::{Draft, EditCause, NodeState, PutFault, Team};
 use std::alloc::{AllocError, Global};
 use std::marker::Model;
 use std::mem;
@@ -43,17 +43,6 @@ impl Model for Live {
     ghost view = { live_of };
 
     ghost invariant = { IsLiveKept };
-}
-
-// The cause of an edit that is refused.
-fn cause_of(refusal: EditRefusal) -> Cause
-    ensures { result ≡ cause_of refusal }
-{
-    match refusal {
-        EditRefusal::NotYours => Cause::NotYours,
-        EditRefusal::NoSuchTask => Cause::NoSuchTask,
-        EditRefusal::DraftFull => Cause::DraftFull,
-    }
 }
 
 // What the core answers to a finding that a trial has answered.
@@ -202,7 +191,7 @@ impl Live {
                     sheet: _,
                 },
             ) => Ok(Reply::Refused {
-                cause: cause_of(refusal),
+                cause: Cause::of_edit(refusal),
             }),
             Err(
                 PutFault {
@@ -225,7 +214,7 @@ impl Live {
                 Ok(Reply::Done)
             }
             Err(EditCause::Refused { refusal }) => Ok(Reply::Refused {
-                cause: cause_of(refusal),
+                cause: Cause::of_edit(refusal),
             }),
             Err(EditCause::OutOfMemory) => Err(AllocError),
         }

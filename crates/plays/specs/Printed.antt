@@ -4,11 +4,13 @@ use Rattle.std.specs.Fmt.{decimal}
 use Rattle.task_sheet.specs.Sheet.{Task}
 use Rattle.task_sheet.specs.Verdicts.{LevelData, tasks_of}
 use Rattle.lines.specs.Naming.{name_at, named}
+use Rattle.drafts.specs.declared.draft.EditRefusal.{EditRefusal}
 use Rattle.drafts.specs.declared.change.Refusal.{Refusal}
 use Rattle.drafts.specs.declared.change.Refusal.TheVariants as refusal
 use Rattle.drafts.specs.declared.roster.Owned.{Owned}
 use Rattle.drafts.specs.Applied.{held, set_of}
 use Rattle.drafts.specs.Machine.{Ruling, Admitted, Refused, Infeasible}
+use Rattle.desk_core.specs.World.{cause_of}
 use Rattle.desk_core.specs.declared.events.Cause.{Cause}
 use Rattle.desk_core.specs.declared.events.Cause.TheVariants as cause
 use Rattle.desk_core.specs.declared.events.Reply.{Reply}
@@ -24,6 +26,10 @@ cause_word cause.DraftFull = codes "DraftFull"
 cause_word cause.Untestable = codes "Untestable"
 cause_word cause.Stranger = codes "Stranger"
 cause_word cause.Twice = codes "Twice"
+
+-- the name of an edit's refusal
+abbrev pub edit_word : EditRefusal → List ℕ
+edit_word refusal = cause_word (cause_of refusal)
 
 -- an event is refused
 abbrev pub refused_line : List ℕ → List ℕ

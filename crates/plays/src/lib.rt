@@ -7,4 +7,4 @@ mod playing;
 mod printing;
 
 pub use playing::{PlayFault, play_lines};
-pub use printing::{book_text, ruling_text};
+pub use printing::{book_text, edit_word, ruling_text};

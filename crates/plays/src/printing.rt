@@ -3,13 +3,13 @@ ghost use Rattle.std.specs.Prelude.{◌≡◌, ◌++◌, OnOk, IfOk, slice_get, 
 ghost use Rattle.task_sheet.specs.Verdicts.{tasks_of};
 ghost use Rattle.lines.specs.Naming.{named};
 ghost use Rattle.drafts.specs.Applied.{set_of};
-ghost use Rattle.plays.specs.Printed.{cause_word, held_line, held_lines, holder, level_done_line, names_text, opened_line, printed, refusal_words, refused_line, ruling_line, state_lines, team_text, tested_line};
+ghost use Rattle.plays.specs.Printed.{cause_word, edit_word, held_line, held_lines, holder, level_done_line, names_text, opened_line, printed, refusal_words, refused_line, ruling_line, state_lines, team_text, tested_line};
 ghost use Rattle.plays.specs.Plays.{IsBookText};
 ghost use Rattle.drafts.specs.Rulings.{ruling_of};
 
 use assignment::{LevelRecord, Obstruction};
 use desk_core::{Cause, Reply};
-use drafts::{Decision, NodeState, Refusal, Team};
+use drafts::{Decision, EditRefusal, NodeState, Refusal, Team};
 use lines::push_name;
 use std::alloc::{AllocError, Global};
 use task_sheet::Name;
@@ -27,6 +27,13 @@ fn cause_word(cause: Cause) -> &'static str
         Cause::Stranger => "Stranger",
         Cause::Twice => "Twice",
     }
+}
+
+/// The name of an edit's refusal: that of the cause for which the core refuses it.
+pub fn edit_word(refusal: EditRefusal) -> &'static str
+    ensures { result.now ≡ edit_word refusal }
+{
+    cause_word(Cause::of_edit(refusal))
 }
 
 /// The line of an event that is refused.

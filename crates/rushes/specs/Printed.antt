@@ -3,10 +3,8 @@ use Rattle.std.specs.Prelude.{◌≡◌, ℕ, ◌+◌, List, [], ◌∷◌, ◌+
 use Rattle.std.specs.Fmt.{decimal}
 use Rattle.drafts.specs.Books.{Book}
 use Rattle.drafts.specs.Machine.{Entry}
-use Rattle.drafts.specs.declared.draft.EditRefusal.{EditRefusal}
-use Rattle.drafts.specs.declared.draft.EditRefusal.TheVariants.{NotYours, NoSuchTask, DraftFull}
 use Rattle.scripts.specs.declared.line.Line.{Line}
-use Rattle.plays.specs.Printed.{ruling_line}
+use Rattle.plays.specs.Printed.{edit_word, ruling_line}
 use Rattle.plays.specs.Plays.{IsBookText}
 use Rattle.rushes.specs.Hands.{IsRushed}
 use Rattle.rushes.specs.declared.note.Missed.{Missed}
@@ -28,13 +26,7 @@ abbrev pub IsBookLog : Book → List ℕ → Type 0
 IsBookLog b text = (book : List ℕ) × IsBookText b.desk book × (text ≡ log_lines 1 b.log ++ book)
 
 -- ---- what is told of lines that did nothing
--- the name of an edit's refusal, as `play` prints it
-abbrev pub edit_word : EditRefusal → List ℕ
-edit_word NotYours = codes "NotYours"
-edit_word NoSuchTask = codes "NoSuchTask"
-edit_word DraftFull = codes "DraftFull"
-
--- why a line did nothing
+-- why a line did nothing: why an edit is refused is told as `play` tells it
 abbrev pub missed_words : Missed → List ℕ
 missed_words (PutRefused name refusal) = codes "put " ++ name ++ codes ": " ++ edit_word refusal
 missed_words (RemoveRefused name refusal) =

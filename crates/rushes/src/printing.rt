@@ -2,13 +2,13 @@
 ghost use Rattle.std.specs.Prelude.{◌≡◌, ◌≤◌, ◌++◌, OnOk, IfOk, map, string_bytes};
 ghost use Rattle.drafts.specs.declared.team.TheConstants.{TEAM_LIMIT};
 ghost use Rattle.rushes.specs.Hands.{AreOfTeams, closed_book};
-ghost use Rattle.rushes.specs.Printed.{all_note_lines, edit_word, entry_line, IsBookLog, missed_words, note_line, note_lines};
+ghost use Rattle.rushes.specs.Printed.{all_note_lines, entry_line, IsBookLog, missed_words, note_line, note_lines};
 
 use crate::hand::Hand;
 use crate::note::{Missed, Note};
 use book_lock::Closing;
-use drafts::{EditRefusal, Entry};
-use plays::{book_text, ruling_text};
+use drafts::Entry;
+use plays::{book_text, edit_word, ruling_text};
 use std::alloc::{AllocError, Global};
 use std::sync::ledger::Ledger;
 
@@ -44,17 +44,6 @@ pub(crate) fn log_text(alloc: Global, closing: &Closing) -> Result<String, Alloc
     let book = book_text(alloc, &closing.state)?;
     text.push_str(&book)?;
     Ok(text)
-}
-
-// The name of an edit's refusal.
-fn edit_word(refusal: EditRefusal) -> &'static str
-    ensures { result.now ≡ edit_word refusal }
-{
-    match refusal {
-        EditRefusal::NotYours => "NotYours",
-        EditRefusal::NoSuchTask => "NoSuchTask",
-        EditRefusal::DraftFull => "DraftFull",
-    }
 }
 
 // Why a line did nothing.

@@ -1,6 +1,6 @@
 use Rattle.std.proofs.Common.{string_bytes}
 use Rattle.plays.proofs.PlayLaws.{on_ok_map}
-use Rattle.desk_cli.specs.Headroom.{ListsAll, ListsSome, listing_order}
+use Rattle.desk_cli.specs.Headroom.{ListsAll, ListsSome, order_in}
 use Rattle.desk_cli.proofs.Headrooms.{known_after}
 use Rattle.desk_cli.proofs.headroom_lines.print_lines.Goals as goal
 
@@ -9,11 +9,11 @@ returns-in-Ok-clause-all g c =
     let before = g.W.Write.contents c.args.output.now.inner in
     let between = g.W.Write.contents c.put_lines-listed.new.output.inner in
     let after = g.W.Write.contents c.send.new.out.inner in
-    on_ok_map c.put_lines-listed.result (known_after (ListsAll c.args.set.now (listing_order c.args.listing.now)) (string_bytes c.args.listing.now.first) before between after c.new-held.result c.put_lines-listed.new.held c.new-held.ensures c.in-Ok.ensures.sent) c.put_lines-listed.ensures.all
+    on_ok_map c.put_lines-listed.result (known_after (ListsAll c.args.listing.now.set.now (order_in c.args.listing.now.order)) (string_bytes c.args.listing.now.first) before between after c.new-held.result c.put_lines-listed.new.held c.new-held.ensures c.in-Ok.ensures.sent) c.put_lines-listed.ensures.all
 
 pub returns-in-Ok-clause-some : goal.returns-in-Ok-clause-some
 returns-in-Ok-clause-some g c =
     let before = g.W.Write.contents c.args.output.now.inner in
     let between = g.W.Write.contents c.put_lines-listed.new.output.inner in
     let after = g.W.Write.contents c.send.new.out.inner in
-    λ is. known_after (ListsSome c.args.set.now (listing_order c.args.listing.now)) (string_bytes c.args.listing.now.first) before between after c.new-held.result c.put_lines-listed.new.held c.new-held.ensures c.in-Ok.ensures.sent (c.put_lines-listed.ensures.some is)
+    λ is. known_after (ListsSome c.args.listing.now.set.now (order_in c.args.listing.now.order)) (string_bytes c.args.listing.now.first) before between after c.new-held.result c.put_lines-listed.new.held c.new-held.ensures c.in-Ok.ensures.sent (c.put_lines-listed.ensures.some is)
