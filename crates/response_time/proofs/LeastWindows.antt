@@ -6,8 +6,7 @@ use Rattle.std.proofs.lemmas.List.Sums.{sum_by_push}
 use Rattle.std.proofs.lemmas.Grind.{div_ceil_times}
 use Rattle.std.proofs.Math.Nat.{mul-le-mul_left, mul-le-mul_right, div-mul-le_self, div-le_of_le-mul}
 use Rattle.std.specs.Int.{div_ceil}
-use Rattle.response_time.specs.Workload.{share_within}
-use Rattle.response_time.specs.declared.workload.Share.{Share}
+use Rattle.response_time.specs.Workload.{ShareData, share_within}
 
 -- what a share takes of each window at least, in parts of the whole
 pub parts-le : (cost period jitter time whole : ℕ) → 0 < period → time * (cost * whole / period) ≤ whole * (div_ceil (time + jitter) period * cost)
@@ -31,21 +30,20 @@ positive_count n period time up some = elim (cases_lt 0 n) [
   | inr none ↦ let nothing : n * period ≤ 0 * period = mul-le-mul_right period none in absurd (omega (arith, up, nothing, some))
 ]
 
-pub once-le : (s : Share) (time : ℕ) → 0 < s.period → 1 ≤ time → s.cost ≤ share_within time s
+pub once-le : (s : ShareData) (time : ℕ) → 0 < s.period → 1 ≤ time → s.cost ≤ share_within time s
 once-le s time pos some =
     let up : time ≤ div_ceil (time + s.jitter) s.period * s.period = omega (arith, (div_ceil_times (time + s.jitter) s.period pos).0) in
     let one = positive_count (div_ceil (time + s.jitter) s.period) s.period time up some in
     omega (arith, mul-le-mul_right s.cost one)
 
 -- one share more
-pub least_added : (whole time once once' parts parts' always i : ℕ) (shares : List Share) (d : Share) → i < length shares
+pub least_added : (whole time once once' parts parts' always i : ℕ) (shares : List ShareData) (s : ShareData) → i < length shares → s ≡ get_or shares i s
     → time * parts + whole * once ≤ whole * (always + sum_by (share_within time) (take i shares))
-    → time * parts' + whole * once' ≤ time * parts + whole * once + whole * share_within time (get_or shares i d)
+    → time * parts' + whole * once' ≤ time * parts + whole * once + whole * share_within time s
     → time * parts' + whole * once' ≤ whole * (always + sum_by (share_within time) (take (i + 1) shares))
-least_added whole time once once' parts parts' always i shares d lt before here =
-    let s = get_or shares i d in
+least_added whole time once once' parts parts' always i shares s lt is before here =
     let sum : sum_by (share_within time) (take (i + 1) shares) ≡ sum_by (share_within time) (take i shares) + share_within time s =
-    rw (take_more shares i d lt) (sum_by_push (share_within time) (take i shares) s) in
+    rw (take_more shares i s lt, ← is) (sum_by_push (share_within time) (take i shares) s) in
     rw sum (omega (arith, before, here))
 
 -- a window that covers its demand is no less than what the shares leave of it allows

@@ -3,26 +3,34 @@
 use Rattle.std.specs.Prelude.{◌≡◌, ℕ, ◌+◌, ◌-◌, ◌*◌, ◌<◌, ◌≤◌, List, All, sum_by}
 use Rattle.std.specs.Int.{div_ceil}
 use Rattle.task_sheet.specs.Demand.{jobs_within}
-use Rattle.response_time.specs.declared.workload.Share.{Share}
 use Rattle.response_time.specs.declared.workload.TheConstants.{WINDOW_LIMIT}
 
--- a share is within the limits of a sheet
-pub record IsShare (s : Share) : Type 0 where
+-- how often a task above comes, how late at most, what it takes each time, and the longest window
+-- within which no job is released but those that are counted
+pub record ShareData : Type 0 where
+  pub period : ℕ
+  pub jitter : ℕ
+  pub cost : ℕ
+  pub due : ℕ
+
+-- within the limits of a sheet, and of the windows that serve a task
+pub record IsShare (s : ShareData) : Type 0 where
   pub some : 0 < s.period
   pub short : s.period ≤ WINDOW_LIMIT
   pub late : s.jitter ≤ s.period
   pub within : s.cost ≤ s.period
+  pub reach : s.due ≤ 3 * WINDOW_LIMIT
 
 -- what is executed once, the shares of the tasks above that release more and more, and the demand
 -- in the last window
 pub record WorkloadData : Type 0 where
   pub always : ℕ
-  pub shares : List Share
+  pub shares : List ShareData
   pub time : ℕ
   pub total : ℕ
 
 -- what a share takes within a window
-abbrev pub share_within : ℕ → Share → ℕ
+abbrev pub share_within : ℕ → ShareData → ℕ
 share_within time s = jobs_within s.period s.jitter time * s.cost
 
 -- the demand in a window: what is executed once, and what the shares take
@@ -31,15 +39,15 @@ work_within time w = w.always + sum_by (share_within time) w.shares
 
 -- ---- from a window to a longer one
 -- how many jobs of a share are released within the window after those that are counted
-abbrev pub further_jobs : ℕ → Share → ℕ
+abbrev pub further_jobs : ℕ → ShareData → ℕ
 further_jobs time s = div_ceil (time - s.due) s.period
 
 -- what they take
-abbrev pub further_work : ℕ → Share → ℕ
+abbrev pub further_work : ℕ → ShareData → ℕ
 further_work time s = further_jobs time s * s.cost
 
 -- the share with these jobs counted
-abbrev pub counted_to : ℕ → Share → Share
+abbrev pub counted_to : ℕ → ShareData → ShareData
 counted_to time s = record {
   period = s.period;
   jitter = s.jitter;
@@ -47,9 +55,12 @@ counted_to time s = record {
   due = s.due + further_jobs time s * s.period;
 }
 
--- of a share the jobs within the window are counted, and no other
-pub record IsCountedTo (time : ℕ) (s : Share) : Type 0 where
-  pub share : IsShare s
+-- the jobs within the window are counted, and no other; the share is within the limits of a sheet
+pub record IsCountedTo (time : ℕ) (s : ShareData) : Type 0 where
+  pub some : 0 < s.period
+  pub short : s.period ≤ WINDOW_LIMIT
+  pub late : s.jitter ≤ s.period
+  pub within : s.cost ≤ s.period
   pub all : s.due + s.jitter ≡ jobs_within s.period s.jitter time * s.period
 
 -- the demand is that of the last window

@@ -1,12 +1,12 @@
 //! The demand of one task below others, carried from a window to a longer one.
-ghost use Rattle.std.specs.Prelude.{◌≡◌, ◌+◌, ◌*◌, ◌<◌, ◌≤◌, [], ℕ, length, map, sum_by, take, All};
+ghost use Rattle.std.specs.Prelude.{◌≡◌, ◌+◌, ◌*◌, ◌<◌, ◌≤◌, [], ℕ, length, map, sum_by, take};
 ghost use Rattle.task_sheet.specs.Sheet.{IsValidSheet};
 ghost use Rattle.task_sheet.specs.declared.set.TheConstants.{TASK_LIMIT};
 ghost use Rattle.task_sheet.specs.Indexes.{indexes_of};
 ghost use Rattle.task_sheet.specs.Demand.{interference_of, demand_of};
 ghost use Rattle.ceilings.specs.IsTableOf.{IsTableOf};
 ghost use Rattle.response_time.specs.declared.workload.TheConstants.{WHOLE, WINDOW_LIMIT};
-ghost use Rattle.response_time.specs.Workload.{share_within, work_within, further_work, counted_to, IsCountedTo, IsShare, WorkloadData, IsCarried};
+ghost use Rattle.response_time.specs.Workload.{share_within, work_within, further_work, counted_to, IsCountedTo, ShareData, IsShare, WorkloadData, IsCarried};
 
 use blocking::blocking;
 use ceilings::LockTable;
@@ -21,6 +21,31 @@ struct Share {
     jitter: u64,
     cost: u64,
     due: u64,
+}
+
+impl Model for Share {
+    ghost Value = { ShareData };
+
+    ghost view = { λ s. record {
+      period = s.period;
+      jitter = s.jitter;
+      cost = s.cost;
+      due = s.due;
+    } };
+
+    ghost invariant = { λ s. IsShare record {
+      period = s.period;
+      jitter = s.jitter;
+      cost = s.cost;
+      due = s.due;
+    } };
+
+    ghost inverse = { λ d. record {
+      period = d.period;
+      jitter = d.jitter;
+      cost = d.cost;
+      due = d.due;
+    } };
 }
 
 impl Share {
@@ -59,8 +84,7 @@ impl Share {
     // Counts the jobs within a window: what those take that were not counted. Most often there are none, or one.
     #[inline(always)]
     fn count_to(&mut self, time: u64) -> u64
-        requires share { IsShare self.old }
-        requires time { time ≤ WINDOW_LIMIT }
+        requires { time ≤ WINDOW_LIMIT }
         ensures counted { self.new ≡ counted_to time self.old }
         ensures work { result ≡ further_work time self.old }
         ensures fits { result ≤ 3 * WINDOW_LIMIT }
@@ -68,7 +92,7 @@ impl Share {
         if time <= self.due {
             return 0;
         }
-        if time - self.due <= self.period {
+        if time <= self.due + self.period {
             self.due += self.period;
             return self.cost;
         }
@@ -79,7 +103,6 @@ impl Share {
 
     // What it takes of each window at least, in parts of the whole, rounded down.
     fn parts(&self) -> u64
-        requires { IsShare self.now }
         ensures fits { result ≤ WHOLE }
         ensures least { (time : ℕ) → time * result ≤ WHOLE * share_within time self.now }
     {
@@ -97,7 +120,6 @@ const WHOLE: u64 = 1 << 32;
 #[inline(always)]
 fn count_all(shares: &mut [Share], time: u64) -> u64
     requires few { length shares.old ≤ TASK_LIMIT }
-    requires shares { All IsShare shares.old }
     requires time { time ≤ WINDOW_LIMIT }
     ensures counted { shares.new ≡ map (counted_to time) shares.old }
     ensures work { result ≡ sum_by (further_work time) shares.old }

@@ -4,6 +4,4 @@ use Rattle.response_time.proofs.workload.Share.count_to.Goals as goal
 
 pub returns-clause-fits : goal.returns-clause-fits
 returns-clause-fits c =
-    let s = c.args.self.now in
-    let share = c.requires.share in
-    rw c.div_ceil-jobs.ensures (jobs-fit s.period s.cost (c.args.time - s.due) share.some share.within share.short (omega (arith, c.requires.time)))
+    rw c.div_ceil-jobs.ensures (jobs-fit c.self.inside.period c.self.inside.cost (c.args.time - c.self.inside.due) c.self.invariant.some c.self.invariant.within c.self.invariant.short (omega (arith, c.requires)))

@@ -1,7 +1,6 @@
 use Rattle.std.proofs.Common.{List, ℕ, ◌≡◌, ◌≤◌, ◌+◌, ◌∙◌, ◌++◌, sum_by, refl, take, drop, length, ap, sym, subst, arith}
 use Rattle.std.proofs.lemmas.List.{length-take, length-take-le, take-append-le, take_all}
-use Rattle.response_time.specs.Workload.{WorkloadData, IsCarried, work_within, further_work, share_within}
-use Rattle.response_time.specs.declared.workload.Share.{Share}
+use Rattle.response_time.specs.Workload.{ShareData, WorkloadData, IsCarried, work_within, further_work, share_within}
 use Rattle.response_time.proofs.Shares.{sum-further, sum-counted, sum-fits, IsCarried-further}
 use Rattle.response_time.proofs.workload.Workload.advance.Goals as goal
 
@@ -29,7 +28,7 @@ returns-clause-is c =
     (total-is w c.args.time c.count_all-work.result c.self.invariant.3 longer c.count_all-work.ensures.work)
 
 -- the first shares of the array are those that were written
-written : (count : ℕ) (new rest : List Share) → length new ≡ count → take count (new ++ rest) ≡ new
+written : (count : ℕ) (new rest : List ShareData) → length new ≡ count → take count (new ++ rest) ≡ new
 written count new rest long = take-append-le count new rest (omega (arith, long)) ∙ take_all count new (omega (arith, long))
 
 pub invariant_of-self : goal.invariant_of-self
