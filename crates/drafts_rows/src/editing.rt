@@ -1,43 +1,27 @@
-//! Edits of drafts.
+//! Edits of drafts, and what drafts show.
 use crate::desks::{Story, push_refusal, put, remove, team};
 use drafts::{Applied, Draft};
 use example_sets::{again, match_rows, name};
 use std::alloc::Global;
 use std::test::Fail;
 
-// Which of two full drafts: the one that was opened, or its copy.
-#[derive(Clone, Copy, Debug)]
-enum Full {
-    Opened,
-    Copied,
-}
-
-// A full draft.
-fn full_draft(alloc: Global, which: Full) -> Result<Draft, Fail> {
-    let draft = Story::new(alloc)?.open_full(1, 64)?;
-    match which {
-        Full::Opened => Ok(draft),
-        Full::Copied => Ok(again!(draft.copy(alloc))?),
-    }
-}
-
-// What a full draft answers to a new name and to one that it has.
-fn two_puts(alloc: Global, which: Full) -> Result<String, Fail> {
-    let mut draft = full_draft(alloc, which)?;
-    let new = put(alloc, &mut draft, "another", 1)?;
-    let known = put(alloc, &mut draft, "t7", 2)?;
+// Adds what a draft answers to a new name and to one that it has, and how many changes it has then.
+fn push_puts(alloc: Global, text: &mut String, draft: &mut Draft) -> Result<(), Fail> {
+    let new = put(alloc, draft, "another", 1)?;
+    let known = put(alloc, draft, "t7", 2)?;
     let len = draft.len();
-    let text = format!(in alloc; "{new} {known} {len}")?;
-    Ok(text)
+    write!(text, "{new} {known} {len}; ")?;
+    Ok(())
 }
 
-#[test]
-fn a_full_draft_and_its_copy(rt: HostRuntime) -> Result<(), Fail> {
-    let rows = [
-        (Full::Opened, "DraftFull done 64"),
-        (Full::Copied, "DraftFull done 64"),
-    ];
-    match_rows(rt.alloc(), &rows, two_puts)
+// That of a full draft, and of a copy that was made of it before.
+fn full_drafts(alloc: Global) -> Result<String, Fail> {
+    let mut text = String::new(alloc);
+    let mut draft = Story::new(alloc)?.open_full(1, 64)?;
+    let mut copy = again!(draft.copy(alloc))?;
+    push_puts(alloc, &mut text, &mut draft)?;
+    push_puts(alloc, &mut text, &mut copy)?;
+    Ok(text)
 }
 
 // Whether the draft shows a name, and how many changes it has.
@@ -136,40 +120,96 @@ fn both_applied(alloc: Global) -> Result<String, Fail> {
     Ok(story.text)
 }
 
+// Two teams open at version 0 and put the same name; both commit at once.
+fn commit_one_name(story: &mut Story) -> Result<(), Fail> {
+    let first = story.open_with(1, "a", 1000)?;
+    let second = story.open_with(2, "a", 2000)?;
+    story.commit(first)?;
+    story.commit(second)
+}
+
+// That, what a new draft of team 2 answers to a remove of that name, and the book at the end.
+fn one_name(alloc: Global) -> Result<String, Fail> {
+    let mut story = Story::new(alloc)?;
+    commit_one_name(&mut story)?;
+    let mut draft = story.open(2)?;
+    let word = remove(&mut draft, "a")?;
+    write!(story.text, "{word}; ")?;
+    story.ended()
+}
+
+// Team 2 commits b three times, each time with another cost.
+fn commit_thrice(story: &mut Story) -> Result<(), Fail> {
+    for cost in [1000, 1100, 1200] {
+        story.commit_with(2, "b", cost)?;
+    }
+    Ok(())
+}
+
+// The version that a draft of version 0 is on after three commits of another team, whether it shows b, and the book at
+// the end.
+fn old_snapshot(alloc: Global) -> Result<String, Fail> {
+    let mut story = Story::new(alloc)?;
+    let old = story.open(1)?;
+    commit_thrice(&mut story)?;
+    let version = old.base_version();
+    let sees = old.view(name("b")?).is_some();
+    write!(story.text, "base {version} sees b: {sees}; ")?;
+    story.ended()
+}
+
 // What is told of drafts.
 #[derive(Clone, Copy, Debug)]
-enum Edits {
+enum Course {
+    AFullDraftAndItsCopy,
     RemovalsInTheirOrder,
     AfterARebaseOntoAForeignName,
     TasksOfEachTeam,
     WhatChangesComeTo,
+    OneNameTwoTeams,
+    ASnapshotStaysAsItWas,
 }
 
-// The story of these edits.
-fn told(alloc: Global, edits: Edits) -> Result<String, Fail> {
-    match edits {
-        Edits::RemovalsInTheirOrder => removals(alloc),
-        Edits::AfterARebaseOntoAForeignName => rebased(alloc),
-        Edits::TasksOfEachTeam => holders(alloc),
-        Edits::WhatChangesComeTo => both_applied(alloc),
+// The story of it.
+fn told(alloc: Global, course: Course) -> Result<String, Fail> {
+    match course {
+        Course::AFullDraftAndItsCopy => full_drafts(alloc),
+        Course::RemovalsInTheirOrder => removals(alloc),
+        Course::AfterARebaseOntoAForeignName => rebased(alloc),
+        Course::TasksOfEachTeam => holders(alloc),
+        Course::WhatChangesComeTo => both_applied(alloc),
+        Course::OneNameTwoTeams => one_name(alloc),
+        Course::ASnapshotStaysAsItWas => old_snapshot(alloc),
     }
 }
 
 #[test]
-fn edits_of_drafts(rt: HostRuntime) -> Result<(), Fail> {
+fn courses_of_drafts(rt: HostRuntime) -> Result<(), Fail> {
     let rows = [
         (
-            Edits::RemovalsInTheirOrder,
+            Course::AFullDraftAndItsCopy,
+            "DraftFull done 64; DraftFull done 64; ",
+        ),
+        (
+            Course::RemovalsInTheirOrder,
             "d done false 0; a done false 1; a NoSuchTask false 1; c NotYours true 1; e NoSuchTask false 1; ",
         ),
         (
-            Edits::AfterARebaseOntoAForeignName,
+            Course::AfterARebaseOntoAForeignName,
             "1 admitted 1; NotYours NotYours true 1; ",
         ),
-        (Edits::TasksOfEachTeam, "1:0 2:1 "),
+        (Course::TasksOfEachTeam, "1:0 2:1 "),
         (
-            Edits::WhatChangesComeTo,
+            Course::WhatChangesComeTo,
             "a 1; c 2; d 1; 1 admitted 1; NotYours a",
+        ),
+        (
+            Course::OneNameTwoTeams,
+            "1 admitted 1; 2 refused NotYours a; NotYours; version 1 of 2 a 1000",
+        ),
+        (
+            Course::ASnapshotStaysAsItWas,
+            "1 admitted 1; 2 admitted 2; 3 admitted 3; base 0 sees b: false; version 3 of 3 b 1200",
         ),
     ];
     match_rows(rt.alloc(), &rows, told)

@@ -1,7 +1,7 @@
 //! Commits: what is answered, and what the book is then.
-use crate::desks::{Story, proposed, remove, team};
+use crate::desks::{Story, proposed, team};
 use drafts::{Book, NodeState, Proposal};
-use example_sets::{again, match_rows, name};
+use example_sets::{again, match_rows};
 use std::alloc::Global;
 use std::test::Fail;
 use task_sheet::Members;
@@ -99,73 +99,6 @@ fn empty_copied(alloc: Global) -> Result<(u64, usize), Fail> {
 fn a_copy_of_the_empty_state(rt: HostRuntime) -> Result<(), Fail> {
     assert_eq!(rt; empty_copied(rt.alloc())?, (0, 0));
     Ok(())
-}
-
-// Two teams open at version 0 and put the same name; both commit at once.
-fn commit_one_name(story: &mut Story) -> Result<(), Fail> {
-    let first = story.open_with(1, "a", 1000)?;
-    let second = story.open_with(2, "a", 2000)?;
-    story.commit(first)?;
-    story.commit(second)
-}
-
-// That, and what a new draft of team 2 answers to a remove of that name.
-fn one_name(story: &mut Story) -> Result<(), Fail> {
-    commit_one_name(story)?;
-    let mut draft = story.open(2)?;
-    let word = remove(&mut draft, "a")?;
-    write!(story.text, "{word}; ")?;
-    Ok(())
-}
-
-// Team 2 commits b three times, each time with another cost.
-fn commit_thrice(story: &mut Story) -> Result<(), Fail> {
-    for cost in [1000, 1100, 1200] {
-        story.commit_with(2, "b", cost)?;
-    }
-    Ok(())
-}
-
-// The version that a draft of version 0 is on after three commits of another team, and whether it shows b.
-fn old_snapshot(story: &mut Story) -> Result<(), Fail> {
-    let old = story.open(1)?;
-    commit_thrice(story)?;
-    let version = old.base_version();
-    let sees = old.view(name("b")?).is_some();
-    write!(story.text, "base {version} sees b: {sees}; ")?;
-    Ok(())
-}
-
-// What becomes of two teams on an empty book.
-#[derive(Clone, Copy, Debug)]
-enum Course {
-    OneNameTwoTeams,
-    ASnapshotStaysAsItWas,
-}
-
-// What is told of it, and the book at the end.
-fn told(alloc: Global, course: Course) -> Result<String, Fail> {
-    let mut story = Story::new(alloc)?;
-    match course {
-        Course::OneNameTwoTeams => one_name(&mut story)?,
-        Course::ASnapshotStaysAsItWas => old_snapshot(&mut story)?,
-    }
-    story.ended()
-}
-
-#[test]
-fn courses_of_two_teams(rt: HostRuntime) -> Result<(), Fail> {
-    let rows = [
-        (
-            Course::OneNameTwoTeams,
-            "1 admitted 1; 2 refused NotYours a; NotYours; version 1 of 2 a 1000",
-        ),
-        (
-            Course::ASnapshotStaysAsItWas,
-            "1 admitted 1; 2 admitted 2; 3 admitted 3; base 0 sees b: false; version 3 of 3 b 1200",
-        ),
-    ];
-    match_rows(rt.alloc(), &rows, told)
 }
 
 // A book whose version 1 is one put of a team.

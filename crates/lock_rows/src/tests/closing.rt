@@ -1,7 +1,7 @@
 //! Opening and closing desks.
 ghost use Rattle.std.specs.Prelude.{◌≡◌};
 
-use crate::tests::desks::{Pair, close, committed, drafted, two_teams, with};
+use crate::tests::desks::{Pair, Start, close, two_teams, with};
 use book_lock::{CloseCause, Desk, NewFault, Pass};
 use example_sets::again;
 use std::alloc::Global;
@@ -26,27 +26,12 @@ fn passes_on<L: Ledger>(alloc: Global, blank: Blank, teams: u64) -> Option<usize
     }
 }
 
-fn passes(alloc: Global, teams: u64) -> Option<usize> {
-    passes_on::<Brand>(alloc, Blank::new(8), teams)
-}
-
 #[test]
 fn numbers_of_teams(rt: HostRuntime) -> Result<(), Fail> {
     for (teams, want) in [(0, None), (1, Some(1)), (8, Some(8)), (9, None)] {
-        assert_eq!(rt; passes(rt.alloc(), teams), want);
+        let found = passes_on::<Brand>(rt.alloc(), Blank::new(8), teams);
+        assert_eq!(rt; found, want);
     }
-    Ok(())
-}
-
-// Team 1 commits once.
-fn commit_once<L: Ledger, R: Threads + Wait>(
-    rt: &R,
-    alloc: Global,
-    desk: &Desk<L>,
-    pass: &mut Pass<L>,
-) -> Result<(), Fail> {
-    let draft = drafted(rt, alloc, desk, pass, "a", 6000)?;
-    let _ = committed(rt, alloc, desk, pass, draft)?;
     Ok(())
 }
 
@@ -68,31 +53,24 @@ fn close_alone<L: Ledger>(
 
 // A desk on which team 1 commits once: the team that is missing with its pass alone, and the length of the log with
 // both.
-fn closed_on<L: Ledger, R: Threads + Wait>(
-    rt: &R,
-    alloc: Global,
-    blank: Blank,
-) -> Result<(u64, usize), Fail>
-    requires { (blank.name ≡ L.name) × (blank.parts ≡ L.parts) × (L.parts ≡ 8) }
+fn closed_on<L: Ledger, R: Threads + Wait>(start: Start<'_, R>) -> Result<(u64, usize), Fail>
+    requires { (start.blank.name ≡ L.name) × (start.blank.parts ≡ L.parts) × (L.parts ≡ 8) }
 {
+    let mut two = two_teams::<L, R>(start)?;
+    let _ = two.commit_first("a", 6000)?;
     let Pair {
-        desk,
-        mut first,
+        site,
+        first,
         second,
-    } = two_teams::<L>(alloc, blank)?;
-    commit_once(rt, alloc, &desk, &mut first)?;
-    let (team, desk, passes) = close_alone(alloc, desk, first)?;
+    } = two;
+    let (team, desk, passes) = close_alone(site.alloc, site.desk, first)?;
     let closing = close(desk, with(passes, second)?)?;
     Ok((team, closing.log.len()))
 }
 
-fn closed<R: Threads + Wait>(rt: &R, alloc: Global) -> Result<(u64, usize), Fail> {
-    closed_on::<Brand, R>(rt, alloc, Blank::new(8))
-}
-
 #[test]
 fn opening_and_closing(rt: HostRuntime) -> Result<(), Fail> {
-    let found = closed(&rt, rt.alloc())?;
+    let found = closed_on::<Brand, _>(Start::new(&rt, rt.alloc()))?;
     assert!(rt; found == (2, 1));
     Ok(())
 }

@@ -12,18 +12,48 @@ use std::test::Fail;
 use std::thread::Threads;
 use task_sheet::Sheet;
 
+/// What a desk is made with, and what its teams run on.
+#[derive(Drop)]
+pub struct Start<'a, R> {
+    pub rt: &'a R,
+    pub alloc: Global,
+    pub blank: Blank,
+}
+
+impl<'a, R> Start<'a, R> {
+    /// With a blank of eight parts, one for each team that a desk may have.
+    pub fn new(rt: &'a R, alloc: Global) -> Start<'a, R>
+        ensures { result.blank.parts ≡ 8 }
+    {
+        Start {
+            rt,
+            alloc,
+            blank: Blank::new(8),
+        }
+    }
+}
+
+/// A desk, and what its teams run on.
+#[derive(Drop)]
+pub struct Site<'a, L: Ledger, R> {
+    pub rt: &'a R,
+    pub alloc: Global,
+    pub desk: Desk<L>,
+}
+
 /// A desk, and the passes of its two teams.
 #[derive(Drop)]
-pub struct Pair<L: Ledger> {
-    pub desk: Desk<L>,
+pub struct Pair<'a, L: Ledger, R> {
+    pub site: Site<'a, L, R>,
     pub first: Pass<L>,
     pub second: Pass<L>,
 }
 
 /// A desk of two teams.
-pub fn two_teams<L: Ledger>(alloc: Global, blank: Blank) -> Result<Pair<L>, Fail>
-    requires { (blank.name ≡ L.name) × (blank.parts ≡ L.parts) × (L.parts ≡ 8) }
+pub fn two_teams<L: Ledger, R>(start: Start<'_, R>) -> Result<Pair<'_, L, R>, Fail>
+    requires { (start.blank.name ≡ L.name) × (start.blank.parts ≡ L.parts) × (L.parts ≡ 8) }
 {
+    let Start { rt, alloc, blank } = start;
     let answer = again!(
         Desk::<L>::new(alloc, blank, 2),
         NewFault::OutOfMemory { blank }
@@ -34,7 +64,7 @@ pub fn two_teams<L: Ledger>(alloc: Global, blank: Blank) -> Result<Pair<L>, Fail
     let second = passes.pop().ok_or("the second pass")?;
     let first = passes.pop().ok_or("the first pass")?;
     Ok(Pair {
-        desk,
+        site: Site { rt, alloc, desk },
         first,
         second,
     })
@@ -54,12 +84,6 @@ pub fn close<L: Ledger>(desk: Desk<L>, passes: Vec<Pass<L>>) -> Result<Closing, 
         Ok(closing) => Ok(closing),
         Err(_) => Err("a closed desk")?,
     }
-}
-
-/// Closes the desk with both passes.
-pub fn closed<L: Ledger>(alloc: Global, two: Pair<L>) -> Result<Closing, Fail> {
-    let passes = with(with(Vec::new(alloc), two.first)?, two.second)?;
-    close(two.desk, passes)
 }
 
 /// Puts a task without sections, whose deadline is its period.
@@ -83,103 +107,103 @@ pub fn put(
     Ok(())
 }
 
-/// An empty draft of the pass's team.
-pub fn opened<L: Ledger, R: Wait>(
-    rt: &R,
-    alloc: Global,
-    desk: &Desk<L>,
-    pass: &Pass<L>,
-) -> Result<Draft, Fail> {
-    let answer = again!(desk.open(rt, alloc, pass), OpenFault::OutOfMemory);
-    Ok(answer.ok().ok_or("a draft")?)
+impl<'a, L: Ledger, R: Threads + Wait> Site<'a, L, R> {
+    /// An empty draft of the pass's team.
+    pub fn opened(&self, pass: &Pass<L>) -> Result<Draft, Fail> {
+        let answer = again!(
+            self.desk.open(self.rt, self.alloc, pass),
+            OpenFault::OutOfMemory
+        );
+        Ok(answer.ok().ok_or("a draft")?)
+    }
+
+    /// A draft of the pass's team that puts one task of this cost, with a deadline of 10,000, its period.
+    pub fn drafted(&self, pass: &Pass<L>, text: &str, cost: u64) -> Result<Draft, Fail> {
+        let mut draft = self.opened(pass)?;
+        put(self.alloc, &mut draft, text, 10000, cost)?;
+        Ok(draft)
+    }
+
+    /// What comes of a draft, tested by so many workers with a gate.
+    pub fn answer_to<G: Gate + Sync>(
+        &self,
+        pass: &mut Pass<L>,
+        draft: Draft,
+        workers: usize,
+        gate: &G,
+    ) -> Result<usize, CommitFault> {
+        again!(
+            self.desk
+                .commit(self.rt, self.alloc, pass, draft, workers, gate),
+            CommitFault {
+                cause: CommitCause::OutOfMemory | CommitCause::ThreadRefused,
+                draft
+            }
+        )
+    }
+
+    /// The place of a draft's decision, tested by so many workers with a gate, 0 where there is none.
+    pub fn placed<G: Gate + Sync>(
+        &self,
+        pass: &mut Pass<L>,
+        draft: Draft,
+        workers: usize,
+        gate: &G,
+    ) -> usize {
+        self.answer_to(pass, draft, workers, gate).unwrap_or(0)
+    }
+
+    /// The place of a draft's decision, tested by one worker with an open gate.
+    pub fn committed(&self, pass: &mut Pass<L>, draft: Draft) -> Result<usize, Fail> {
+        let answer = self.answer_to(pass, draft, 1, &OpenGate);
+        Ok(answer.ok().ok_or("a decision")?)
+    }
+
+    /// The same of a draft of the pass's team that puts one task of this cost.
+    pub fn commit_one(&self, pass: &mut Pass<L>, text: &str, cost: u64) -> Result<usize, Fail> {
+        let draft = self.drafted(pass, text, cost)?;
+        self.committed(pass, draft)
+    }
 }
 
-/// A draft of the pass's team that puts one task of this cost, with a deadline of 10,000, its period.
-pub fn drafted<L: Ledger, R: Wait>(
-    rt: &R,
-    alloc: Global,
-    desk: &Desk<L>,
-    pass: &Pass<L>,
-    text: &str,
-    cost: u64,
-) -> Result<Draft, Fail> {
-    let mut draft = opened(rt, alloc, desk, pass)?;
-    put(alloc, &mut draft, text, 10000, cost)?;
-    Ok(draft)
-}
+impl<'a, L: Ledger, R: Threads + Wait> Pair<'a, L, R> {
+    /// The place of the decision on a draft of team 1 that puts one task of this cost.
+    pub fn commit_first(&mut self, text: &str, cost: u64) -> Result<usize, Fail> {
+        self.site.commit_one(&mut self.first, text, cost)
+    }
 
-/// What comes of a draft, tested by so many workers with a gate.
-pub fn answer_to<L: Ledger, R: Threads + Wait, G: Gate + Sync>(
-    rt: &R,
-    alloc: Global,
-    desk: &Desk<L>,
-    pass: &mut Pass<L>,
-    draft: Draft,
-    workers: usize,
-    gate: &G,
-) -> Result<usize, CommitFault> {
-    again!(
-        desk.commit(rt, alloc, pass, draft, workers, gate),
-        CommitFault {
-            cause: CommitCause::OutOfMemory | CommitCause::ThreadRefused,
-            draft
-        }
-    )
-}
+    /// Drafts of both teams on the present state, of which each puts one task of this name and cost.
+    pub fn draft_both(
+        &self,
+        first: (&str, u64),
+        second: (&str, u64),
+    ) -> Result<(Draft, Draft), Fail> {
+        let one = self.site.drafted(&self.first, first.0, first.1)?;
+        let other = self.site.drafted(&self.second, second.0, second.1)?;
+        Ok((one, other))
+    }
 
-/// The place of a draft's decision, tested by so many workers with a gate, 0 where there is none; and the pass.
-pub fn placed<L: Ledger, R: Threads + Wait, G: Gate + Sync>(
-    rt: &R,
-    alloc: Global,
-    desk: &Desk<L>,
-    mut pass: Pass<L>,
-    draft: Draft,
-    workers: usize,
-    gate: &G,
-) -> (usize, Pass<L>) {
-    let answer = answer_to(rt, alloc, desk, &mut pass, draft, workers, gate);
-    (answer.unwrap_or(0), pass)
-}
+    /// The places of such drafts, once team 1 has committed, and then team 2.
+    pub fn commit_both(
+        &mut self,
+        first: (&str, u64),
+        second: (&str, u64),
+    ) -> Result<(usize, usize), Fail> {
+        let (one, other) = self.draft_both(first, second)?;
+        let place = self.site.committed(&mut self.first, one)?;
+        Ok((place, self.site.committed(&mut self.second, other)?))
+    }
 
-/// The place of a draft's decision, tested by one worker with an open gate.
-pub fn committed<L: Ledger, R: Threads + Wait>(
-    rt: &R,
-    alloc: Global,
-    desk: &Desk<L>,
-    pass: &mut Pass<L>,
-    draft: Draft,
-) -> Result<usize, Fail> {
-    let answer = answer_to(rt, alloc, desk, pass, draft, 1, &OpenGate);
-    Ok(answer.ok().ok_or("a decision")?)
-}
-
-/// Drafts of both teams on the present state, of which each puts one task of this name and cost.
-pub fn draft_both<L: Ledger, R: Wait>(
-    rt: &R,
-    alloc: Global,
-    two: &Pair<L>,
-    first: (&str, u64),
-    second: (&str, u64),
-) -> Result<(Draft, Draft), Fail> {
-    let one = drafted(rt, alloc, &two.desk, &two.first, first.0, first.1)?;
-    let other = drafted(rt, alloc, &two.desk, &two.second, second.0, second.1)?;
-    Ok((one, other))
-}
-
-/// The places of such drafts, once team 1 has committed, and then team 2.
-pub fn commit_both<L: Ledger, R: Threads + Wait>(
-    rt: &R,
-    alloc: Global,
-    two: &mut Pair<L>,
-    first: (&str, u64),
-    second: (&str, u64),
-) -> Result<(usize, usize), Fail> {
-    let (one, other) = draft_both(rt, alloc, two, first, second)?;
-    let place = committed(rt, alloc, &two.desk, &mut two.first, one)?;
-    Ok((
-        place,
-        committed(rt, alloc, &two.desk, &mut two.second, other)?,
-    ))
+    /// Closes the desk with both passes.
+    pub fn closed(self) -> Result<Closing, Fail> {
+        let Pair {
+            site,
+            first,
+            second,
+        } = self;
+        let passes = with(with(Vec::new(site.alloc), first)?, second)?;
+        close(site.desk, passes)
+    }
 }
 
 /// What an entry says: the version where it is admitted, 100 where it is refused, 200 where it is infeasible; the team

@@ -31,6 +31,18 @@ pub struct CountingGate {
     pub past: AtomicBool,
 }
 
+impl CountingGate {
+    /// The gate to which no question came yet, and the other team's task.
+    pub fn new(other: Name) -> CountingGate {
+        CountingGate {
+            other,
+            shown: AtomicU64::new(0),
+            made: AtomicU64::new(0),
+            past: AtomicBool::new(false),
+        }
+    }
+}
+
 // How many commits of the other team the question shows: its task costs 1000, then 1100, then 1200.
 fn commits_of(question: &Question, other: Name) -> u64 {
     for sheet in question.set().sheets() {

@@ -1,37 +1,33 @@
 //! A commit that is overtaken three times.
 ghost use Rattle.std.specs.Prelude.{◌≡◌};
 
-use crate::tests::desks::{Pair, closed, committed, drafted, placed, response, said, two_teams};
+use crate::tests::desks::{Pair, Site, Start, response, said, two_teams};
 use crate::tests::gates::CountingGate;
-use book_lock::{Desk, Pass};
+use book_lock::Pass;
 use drafts::Draft;
 use example_sets::{name, wait_until};
-use std::alloc::Global;
 use std::marker::Brand;
 use std::sync::Wait;
-use std::sync::atomic::{AtomicBool, AtomicU64, Ordering};
-use std::sync::ledger::{Blank, Ledger};
+use std::sync::atomic::Ordering;
+use std::sync::ledger::Ledger;
 use std::test::*;
 use std::thread;
 use std::thread::Threads;
 
-// Commits b three times, each once a question that shows the commits before has come to the gate; and the pass.
+// Commits b three times, each once a question that shows the commits before has come to the gate.
 fn commit_thrice<L: Ledger, R: Threads + Wait>(
-    rt: &R,
-    alloc: Global,
-    desk: &Desk<L>,
-    mut pass: Pass<L>,
+    site: &Site<'_, L, R>,
+    pass: &mut Pass<L>,
     gate: &CountingGate,
-) -> Result<Pass<L>, Fail> {
+) -> Result<(), Fail> {
     for (commits, cost) in [(1u64, 1000u64), (2, 1100), (3, 1200)] {
         if !wait_until(&gate.shown, commits) {
             return Err("a question in time")?;
         }
-        let draft = drafted(rt, alloc, desk, &pass, "b", cost)?;
-        let _ = committed(rt, alloc, desk, &mut pass, draft)?;
+        let _ = site.commit_one(pass, "b", cost)?;
         gate.made.store(commits, Ordering::SeqCst);
     }
-    Ok(pass)
+    Ok(())
 }
 
 /// What came of it.
@@ -49,14 +45,13 @@ struct Found {
 }
 
 // What both teams left.
-fn what_is_left<L: Ledger>(
-    alloc: Global,
-    two: Pair<L>,
+fn what_is_left<L: Ledger, R: Threads + Wait>(
+    two: Pair<'_, L, R>,
     place: usize,
     gate: &CountingGate,
 ) -> Result<Found, Fail> {
     let receipt = said(&two.first.receipts().first().ok_or("a receipt")?.entry);
-    let closing = closed(alloc, two)?;
+    let closing = two.closed()?;
     Ok(Found {
         place,
         receipt,
@@ -67,62 +62,41 @@ fn what_is_left<L: Ledger>(
     })
 }
 
-// The place of team 1's draft, 0 where there is none, which team 2's commits overtake; and both teams.
+// The place of team 1's draft, 0 where there is none, which team 2's commits overtake.
 fn commit_at_once<L: Ledger + Send + Sync, R: Threads + Wait + Sync>(
-    rt: &R,
-    alloc: Global,
-    two: Pair<L>,
+    two: &mut Pair<'_, L, R>,
     draft: Draft,
     gate: &CountingGate,
-) -> Result<(usize, Pair<L>), Fail> {
+) -> Result<usize, Fail> {
     let Pair {
-        desk,
+        site,
         first,
         second,
     } = two;
-    let lent = &desk;
-    let ((place, first), second) = thread::join(
-        rt,
-        move || placed(rt, alloc, lent, first, draft, 1, gate),
-        move || commit_thrice(rt, alloc, lent, second, gate),
+    let (place, others) = thread::join(
+        site.rt,
+        || site.placed(first, draft, 1, gate),
+        || commit_thrice(site, second, gate),
     );
-    let second = second?;
-    Ok((
-        place,
-        Pair {
-            desk,
-            first,
-            second,
-        },
-    ))
+    others?;
+    Ok(place)
 }
 
 fn overtaken_on<L: Ledger + Send + Sync, R: Threads + Wait + Sync>(
-    rt: &R,
-    alloc: Global,
-    blank: Blank,
+    start: Start<'_, R>,
 ) -> Result<Found, Fail>
-    requires { (blank.name ≡ L.name) × (blank.parts ≡ L.parts) × (L.parts ≡ 8) }
+    requires { (start.blank.name ≡ L.name) × (start.blank.parts ≡ L.parts) × (L.parts ≡ 8) }
 {
-    let two = two_teams::<L>(alloc, blank)?;
-    let draft = drafted(rt, alloc, &two.desk, &two.first, "a", 1000)?;
-    let gate = CountingGate {
-        other: name("b")?,
-        shown: AtomicU64::new(0),
-        made: AtomicU64::new(0),
-        past: AtomicBool::new(false),
-    };
-    let (place, two) = commit_at_once(rt, alloc, two, draft, &gate)?;
-    what_is_left(alloc, two, place, &gate)
-}
-
-fn overtaken<R: Threads + Wait + Sync>(rt: &R, alloc: Global) -> Result<Found, Fail> {
-    overtaken_on::<Brand, R>(rt, alloc, Blank::new(8))
+    let mut two = two_teams::<L, R>(start)?;
+    let draft = two.site.drafted(&two.first, "a", 1000)?;
+    let gate = CountingGate::new(name("b")?);
+    let place = commit_at_once(&mut two, draft, &gate)?;
+    what_is_left(two, place, &gate)
 }
 
 #[test]
 fn overtaken_three_times(rt: HostRuntime) -> Result<(), Fail> {
-    let found = overtaken(&rt, rt.alloc())?;
+    let found = overtaken_on::<Brand, _>(Start::new(&rt, rt.alloc()))?;
     assert!(rt; (found.place, found.receipt) == (4, (1, 4)));
     assert!(rt; found.shown == 3 && !found.past);
     assert!(rt; (found.a, found.b) == (2200, 1200));

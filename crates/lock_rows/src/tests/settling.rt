@@ -1,16 +1,14 @@
 //! Two teams collide, and two teams fit.
 ghost use Rattle.std.specs.Prelude.{◌≡◌};
 
-use crate::tests::desks::{
-    Pair, closed, commit_both, committed, draft_both, drafted, opened, response, said, two_teams,
-};
-use book_lock::{Closing, Desk, DeskFault, Pass, Settlement};
+use crate::tests::desks::{Pair, Site, Start, response, said, two_teams};
+use book_lock::{Closing, DeskFault, Pass, Settlement};
 use drafts::{Draft, EditCause, Proposal, ProposeFault, propose};
 use example_sets::{again, name};
 use std::alloc::Global;
 use std::marker::Brand;
 use std::sync::Wait;
-use std::sync::ledger::{Blank, Ledger};
+use std::sync::ledger::Ledger;
 use std::test::*;
 use std::thread::Threads;
 
@@ -44,32 +42,22 @@ fn told_by(closing: &Closing) -> Result<Told, Fail> {
 
 // Both teams open on version 0, and put a and b of this cost: the places of both commits, and what the closed desk says.
 fn both_on<L: Ledger, R: Threads + Wait>(
-    rt: &R,
-    alloc: Global,
-    blank: Blank,
+    start: Start<'_, R>,
     cost: u64,
 ) -> Result<((usize, usize), Told), Fail>
-    requires { (blank.name ≡ L.name) × (blank.parts ≡ L.parts) × (L.parts ≡ 8) }
+    requires { (start.blank.name ≡ L.name) × (start.blank.parts ≡ L.parts) × (L.parts ≡ 8) }
 {
-    let mut two = two_teams::<L>(alloc, blank)?;
-    let places = commit_both(rt, alloc, &mut two, ("a", cost), ("b", cost))?;
-    let closing = closed(alloc, two)?;
+    let mut two = two_teams::<L, R>(start)?;
+    let places = two.commit_both(("a", cost), ("b", cost))?;
+    let closing = two.closed()?;
     Ok((places, told_by(&closing)?))
-}
-
-fn both<R: Threads + Wait>(
-    rt: &R,
-    alloc: Global,
-    cost: u64,
-) -> Result<((usize, usize), Told), Fail> {
-    both_on::<Brand, R>(rt, alloc, Blank::new(8), cost)
 }
 
 // At cost 6000 the second commit is infeasible, at cost 4000 both fit.
 #[test]
 fn two_teams_collide_or_fit(rt: HostRuntime) -> Result<(), Fail> {
     for (cost, second, a, b) in [(6000, (2, 200), 6000, 0), (4000, (2, 2), 8000, 4000)] {
-        let (places, told) = both(&rt, rt.alloc(), cost)?;
+        let (places, told) = both_on::<Brand, _>(Start::new(&rt, rt.alloc()), cost)?;
         assert!(rt; places == (1, 2) && told.entries == 2);
         assert!(rt; told.first == (1, 1) && told.second == second);
         assert!(rt; told.a == a && told.b == b);
@@ -87,16 +75,12 @@ fn cost_in(draft: &Draft, text: &str) -> Result<u64, Fail> {
 
 // After two teams fit, team 1 opens again: the base's version, the cost of a as the draft shows it, and whether a can
 // be removed.
-fn opened_again<L: Ledger, R: Threads + Wait>(
-    rt: &R,
-    alloc: Global,
-    blank: Blank,
-) -> Result<(u64, u64, bool), Fail>
-    requires { (blank.name ≡ L.name) × (blank.parts ≡ L.parts) × (L.parts ≡ 8) }
+fn opened_again<L: Ledger, R: Threads + Wait>(start: Start<'_, R>) -> Result<(u64, u64, bool), Fail>
+    requires { (start.blank.name ≡ L.name) × (start.blank.parts ≡ L.parts) × (L.parts ≡ 8) }
 {
-    let mut two = two_teams::<L>(alloc, blank)?;
-    let _ = commit_both(rt, alloc, &mut two, ("a", 4000), ("b", 4000))?;
-    let mut draft = opened(rt, alloc, &two.desk, &two.first)?;
+    let mut two = two_teams::<L, R>(start)?;
+    let _ = two.commit_both(("a", 4000), ("b", 4000))?;
+    let mut draft = two.site.opened(&two.first)?;
     let cost = cost_in(&draft, "a")?;
     let version = draft.base_version();
     let name = name("a")?;
@@ -104,38 +88,25 @@ fn opened_again<L: Ledger, R: Threads + Wait>(
     Ok((version, cost, removed.is_ok()))
 }
 
-fn again<R: Threads + Wait>(rt: &R, alloc: Global) -> Result<(u64, u64, bool), Fail> {
-    opened_again::<Brand, R>(rt, alloc, Blank::new(8))
-}
-
 #[test]
 fn a_team_opens_again(rt: HostRuntime) -> Result<(), Fail> {
-    let found = again(&rt, rt.alloc())?;
+    let found = opened_again::<Brand, _>(Start::new(&rt, rt.alloc()))?;
     assert!(rt; found == (2, 4000, true));
     Ok(())
 }
 
 // After team 1's commit team 2, which has no task yet, opens: the base's version.
-fn opened_late<L: Ledger, R: Threads + Wait>(
-    rt: &R,
-    alloc: Global,
-    blank: Blank,
-) -> Result<u64, Fail>
-    requires { (blank.name ≡ L.name) × (blank.parts ≡ L.parts) × (L.parts ≡ 8) }
+fn opened_late<L: Ledger, R: Threads + Wait>(start: Start<'_, R>) -> Result<u64, Fail>
+    requires { (start.blank.name ≡ L.name) × (start.blank.parts ≡ L.parts) × (L.parts ≡ 8) }
 {
-    let mut two = two_teams::<L>(alloc, blank)?;
-    let first = drafted(rt, alloc, &two.desk, &two.first, "a", 4000)?;
-    let _ = committed(rt, alloc, &two.desk, &mut two.first, first)?;
-    Ok(opened(rt, alloc, &two.desk, &two.second)?.base_version())
-}
-
-fn late<R: Threads + Wait>(rt: &R, alloc: Global) -> Result<u64, Fail> {
-    opened_late::<Brand, R>(rt, alloc, Blank::new(8))
+    let mut two = two_teams::<L, R>(start)?;
+    let _ = two.commit_first("a", 4000)?;
+    Ok(two.site.opened(&two.second)?.base_version())
 }
 
 #[test]
 fn a_team_opens_late(rt: HostRuntime) -> Result<(), Fail> {
-    let version = late(&rt, rt.alloc())?;
+    let version = opened_late::<Brand, _>(Start::new(&rt, rt.alloc()))?;
     assert!(rt; version == 1);
     Ok(())
 }
@@ -149,24 +120,21 @@ fn proposed(alloc: Global, draft: Draft) -> Result<Proposal, Fail> {
 
 // Proposals of both teams on version 0, of a and b.
 fn proposals<L: Ledger, R: Threads + Wait>(
-    rt: &R,
-    alloc: Global,
-    two: &Pair<L>,
+    two: &Pair<'_, L, R>,
 ) -> Result<(Proposal, Proposal), Fail> {
-    let (first, second) = draft_both(rt, alloc, two, ("a", 6000), ("b", 6000))?;
+    let (first, second) = two.draft_both(("a", 6000), ("b", 6000))?;
+    let alloc = two.site.alloc;
     Ok((proposed(alloc, first)?, proposed(alloc, second)?))
 }
 
 // What becomes of a proposal.
 fn outcome_of<L: Ledger, R: Wait>(
-    rt: &R,
-    alloc: Global,
-    desk: &Desk<L>,
+    site: &Site<'_, L, R>,
     pass: &mut Pass<L>,
     proposal: Proposal,
 ) -> Result<Settlement, Fail> {
     let answer = again!(
-        desk.settle(rt, alloc, pass, proposal),
+        site.desk.settle(site.rt, site.alloc, pass, proposal),
         DeskFault::OutOfMemory { proposal }
     );
     match answer {
@@ -193,41 +161,30 @@ fn fresh_in(outcome: &Settlement) -> Result<Option<(u64, u64)>, Fail> {
 
 // The place of the first, where it is decided, and what the fresh state of the second says, where it is stale.
 fn settle_both<L: Ledger, R: Threads + Wait>(
-    rt: &R,
-    alloc: Global,
-    two: &mut Pair<L>,
+    two: &mut Pair<'_, L, R>,
     (first, second): (Proposal, Proposal),
 ) -> Result<(Option<usize>, Option<(u64, u64)>), Fail> {
-    let one = outcome_of(rt, alloc, &two.desk, &mut two.first, first)?;
+    let one = outcome_of(&two.site, &mut two.first, first)?;
     let place = place_of(&one);
-    let other = outcome_of(rt, alloc, &two.desk, &mut two.second, second)?;
+    let other = outcome_of(&two.site, &mut two.second, second)?;
     Ok((place, fresh_in(&other)?))
 }
 
 // What both settle, and the length of the log.
 fn settled_on<L: Ledger, R: Threads + Wait>(
-    rt: &R,
-    alloc: Global,
-    blank: Blank,
+    start: Start<'_, R>,
 ) -> Result<(Option<usize>, Option<(u64, u64)>, usize), Fail>
-    requires { (blank.name ≡ L.name) × (blank.parts ≡ L.parts) × (L.parts ≡ 8) }
+    requires { (start.blank.name ≡ L.name) × (start.blank.parts ≡ L.parts) × (L.parts ≡ 8) }
 {
-    let mut two = two_teams::<L>(alloc, blank)?;
-    let proposals = proposals(rt, alloc, &two)?;
-    let (place, fresh) = settle_both(rt, alloc, &mut two, proposals)?;
-    Ok((place, fresh, closed(alloc, two)?.log.len()))
-}
-
-fn settled<R: Threads + Wait>(
-    rt: &R,
-    alloc: Global,
-) -> Result<(Option<usize>, Option<(u64, u64)>, usize), Fail> {
-    settled_on::<Brand, R>(rt, alloc, Blank::new(8))
+    let mut two = two_teams::<L, R>(start)?;
+    let proposals = proposals(&two)?;
+    let (place, fresh) = settle_both(&mut two, proposals)?;
+    Ok((place, fresh, two.closed()?.log.len()))
 }
 
 #[test]
 fn a_stale_proposal(rt: HostRuntime) -> Result<(), Fail> {
-    let found = settled(&rt, rt.alloc())?;
+    let found = settled_on::<Brand, _>(Start::new(&rt, rt.alloc()))?;
     assert!(rt; found == (Some(1), Some((1, 6000)), 1));
     Ok(())
 }

@@ -1,9 +1,9 @@
 //! A commit is tested by as many workers as are asked for, in its first round and in a later one.
 ghost use Rattle.std.specs.Prelude.{◌≡◌};
 
-use crate::tests::desks::{Pair, closed, drafted, opened, placed, put, two_teams};
+use crate::tests::desks::{Pair, Site, Start, put, two_teams};
 use crate::tests::gates::CrowdGate;
-use book_lock::{Desk, Pass};
+use book_lock::Pass;
 use candidate_workers::OpenGate;
 use drafts::Draft;
 use example_sets::wait_until;
@@ -11,7 +11,7 @@ use std::alloc::Global;
 use std::marker::Brand;
 use std::sync::Wait;
 use std::sync::atomic::Ordering;
-use std::sync::ledger::{Blank, Ledger};
+use std::sync::ledger::Ledger;
 use std::test::*;
 use std::thread;
 use std::thread::Threads;
@@ -32,83 +32,66 @@ const TASKS: [(&str, u64); 10] = [
 ];
 
 // A draft of the pass's team that puts the ten tasks.
-fn long_draft<L: Ledger, R: Wait>(
-    rt: &R,
-    alloc: Global,
-    desk: &Desk<L>,
+fn long_draft<L: Ledger, R: Threads + Wait>(
+    site: &Site<'_, L, R>,
     pass: &Pass<L>,
 ) -> Result<Draft, Fail> {
-    let mut draft = opened(rt, alloc, desk, pass)?;
+    let mut draft = site.opened(pass)?;
     for (text, period) in TASKS {
-        put(alloc, &mut draft, text, period, 10)?;
+        put(site.alloc, &mut draft, text, period, 10)?;
     }
     Ok(draft)
 }
 
-// Commits once so many questions have come to the other's gate, and lets them go on; the place, 0 where there is none,
-// and the pass.
+// Commits once so many questions have come to the other's gate, and lets them go on; the place, 0 where there is none.
 fn commit_between<L: Ledger, R: Threads + Wait>(
-    rt: &R,
-    alloc: Global,
-    desk: &Desk<L>,
-    pass: Pass<L>,
+    site: &Site<'_, L, R>,
+    pass: &mut Pass<L>,
     draft: Draft,
     gate: &CrowdGate,
-) -> (usize, Pass<L>) {
+) -> usize {
     let came = wait_until(&gate.first, gate.wanted);
-    let (place, pass) = placed(rt, alloc, desk, pass, draft, 1, &OpenGate);
+    let place = site.placed(pass, draft, 1, &OpenGate);
     gate.goes_on.store(1, Ordering::SeqCst);
-    (if came { place } else { 0 }, pass)
+    if came { place } else { 0 }
 }
 
-/// The places of team 1's draft, by so many workers, and of team 2's, which commits during its first round; and both
-/// teams.
+/// The places of team 1's draft, by so many workers, and of team 2's, which commits during its first round.
 pub fn commit_at_once<L: Ledger + Send + Sync, R: Threads + Wait + Sync>(
-    rt: &R,
-    alloc: Global,
-    two: Pair<L>,
+    two: &mut Pair<'_, L, R>,
     one: Draft,
     other: Draft,
     workers: usize,
     gate: &CrowdGate,
-) -> (usize, usize, Pair<L>) {
+) -> (usize, usize) {
     let Pair {
-        desk,
+        site,
         first,
         second,
     } = two;
-    let lent = &desk;
-    let ((first_place, first), (second_place, second)) = thread::join(
-        rt,
-        move || placed(rt, alloc, lent, first, one, workers, gate),
-        move || commit_between(rt, alloc, lent, second, other, gate),
-    );
-    let two = Pair {
-        desk,
-        first,
-        second,
-    };
-    (first_place, second_place, two)
+    thread::join(
+        site.rt,
+        || site.placed(first, one, workers, gate),
+        || commit_between(site, second, other, gate),
+    )
 }
 
 // The places of team 1's ten tasks, by so many workers, of which so many have to be at the gate at the same time in each
 // round, and of team 2's task; 0 where there is none.
 fn counted_on<L: Ledger + Send + Sync, R: Threads + Wait + Sync>(
-    rt: &R,
-    alloc: Global,
-    blank: Blank,
+    start: Start<'_, R>,
     workers: usize,
     wanted: u64,
 ) -> Result<(usize, usize), Fail>
-    requires { (blank.name ≡ L.name) × (blank.parts ≡ L.parts) × (L.parts ≡ 8) }
+    requires { (start.blank.name ≡ L.name) × (start.blank.parts ≡ L.parts) × (L.parts ≡ 8) }
 {
-    let two = two_teams::<L>(alloc, blank)?;
-    let one = long_draft(rt, alloc, &two.desk, &two.first)?;
-    let other = drafted(rt, alloc, &two.desk, &two.second, "other", 10)?;
+    let mut two = two_teams::<L, R>(start)?;
+    let one = long_draft(&two.site, &two.first)?;
+    let other = two.site.drafted(&two.second, "other", 10)?;
     let gate = CrowdGate::new(wanted, TASKS.len());
-    let (first, second, two) = commit_at_once(rt, alloc, two, one, other, workers, &gate);
-    let _ = closed(alloc, two)?;
-    Ok((first, second))
+    let places = commit_at_once(&mut two, one, other, workers, &gate);
+    let _ = two.closed()?;
+    Ok(places)
 }
 
 fn counted<R: Threads + Wait + Sync>(
@@ -117,7 +100,7 @@ fn counted<R: Threads + Wait + Sync>(
     workers: usize,
     wanted: u64,
 ) -> Result<(usize, usize), Fail> {
-    counted_on::<Brand, R>(rt, alloc, Blank::new(8), workers, wanted)
+    counted_on::<Brand, R>(Start::new(rt, alloc), workers, wanted)
 }
 
 #[test]
