@@ -1,10 +1,11 @@
 -- What `desk headroom` prints.
-use Rattle.std.specs.Prelude.{◌≡◌, ◌⊎◌, ℕ, zero, suc, ◌<◌, ◌≤◌, List, [], ◌++◌, length, codes, Option, Some, None, option_map, Result, Ok, Err}
+use Rattle.std.specs.Prelude.{◌≡◌, ◌⊎◌, ℕ, zero, suc, ◌<◌, ◌≤◌, List, [], ◌++◌, length, codes, Option, Some, None, option_map, IfSome, Result, Ok, Err}
 use Rattle.std.specs.Global.{Vec}
 use Rattle.std.specs.Fmt.{decimal}
 use Rattle.std.specs.Io.KnownBytes.{Appends}
 use Rattle.preferences.specs.declared.preferred.Preference.{Preference}
 use Rattle.task_sheet.specs.Sheet.{Task, task_at}
+use Rattle.task_sheet.specs.Orders.{IsPassingOrder}
 use Rattle.task_sheet.specs.Verdicts.{order_of, tasks_of, IsVerdictOf}
 use Rattle.assignment.specs.Placings.{tasks_of_places}
 use Rattle.assignment.specs.Verdict.{verdict_set, verdict_of}
@@ -12,6 +13,7 @@ use Rattle.assignment.specs.declared.placing.Placing.{Placing}
 use Rattle.assignment.specs.declared.placing.Placing.TheVariants.{Best, Stuck}
 use Rattle.assignment.specs.declared.verdict.Verdict.{Verdict}
 use Rattle.assignment.specs.declared.verdict.Verdict.TheVariants.{Admitted, Infeasible}
+use Rattle.ceilings.specs.IsTableOf.{IsTableOf}
 use Rattle.headroom.specs.Costs.{AnswersHeadroom, IsHeadroomIn}
 use Rattle.factor.specs.Factors.{AnswersFactor}
 use Rattle.desk_cli.specs.Admit.{Admits, verdict_status}
@@ -19,6 +21,7 @@ use Rattle.desk_cli.specs.Lines.{infeasible_line}
 use Rattle.desk_cli.specs.OrderParts.{placing_said}
 use Rattle.desk_cli.specs.Refusals.{refusal_line, status_of}
 use Rattle.desk_cli.specs.declared.answer.OrderPart.TheVariants.{Count}
+use Rattle.desk_cli.specs.declared.headroom_lines.Listing.{Listing}
 use Rattle.desk_cli.specs.declared.refusal.CommandRefusal.{CommandRefusal}
 use Rattle.desk_cli.specs.declared.refusal.CommandRefusal.TheVariants as refusal
 use Rattle.desk_cli.specs.declared.status.Status.{Status}
@@ -86,6 +89,11 @@ Lists U order done text s =
 -- the order that lines speak of
 abbrev pub order_in : Option (Vec ℕ) → Option (List ℕ)
 order_in order = option_map (λ o. o.items) order
+
+-- lines are made of the table of their set's locks, and of an order that passes, where there is one
+pub record IsListing (listing : Listing) : Type 0 where
+  pub table : IsTableOf listing.set.now listing.table
+  pub passing : IfSome (order_in listing.order) (IsPassingOrder listing.set.now)
 
 -- the order of a verdict; none after a no
 abbrev pub verdict_order : Verdict → Option (List ℕ)

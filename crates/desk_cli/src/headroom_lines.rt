@@ -1,11 +1,10 @@
 //! `desk headroom`.
-ghost use Rattle.std.specs.Prelude.{◌≡◌, ◌≢◌, ℕ, ◌<◌, List, ◌++◌, length, Err, true, IfOk, IfSome, OnOk, string_bytes};
+ghost use Rattle.std.specs.Prelude.{◌≡◌, ◌≢◌, ℕ, ◌<◌, List, ◌++◌, length, Err, true, IfOk, OnOk, string_bytes};
 ghost use Rattle.std.specs.Io.KnownBytes.{Appends};
-ghost use Rattle.task_sheet.specs.Orders.{IsPassingOrder};
 ghost use Rattle.task_sheet.specs.TaskSet.{IsTaskSet};
 ghost use Rattle.ceilings.specs.IsTableOf.{IsTableOf};
 ghost use Rattle.assignment.specs.Placings.{IsPlacingOf};
-ghost use Rattle.desk_cli.specs.Headroom.{AnswersIn, IsLast, IsTaskLine, ListsAll, ListsSome, SaysPlaced, headroom_line, most_words, order_in, placing_first, placing_order};
+ghost use Rattle.desk_cli.specs.Headroom.{AnswersIn, IsLast, IsListing, IsTaskLine, ListsAll, ListsSome, SaysPlaced, headroom_line, most_words, order_in, placing_first, placing_order};
 ghost use Rattle.streams.specs.Sending.{Sends};
 ghost use Rattle.desk_cli.specs.Outcomes.{IsSaidOn};
 
@@ -33,8 +32,6 @@ struct Listing<'a> {
     order: Option<Vec<usize>>,
     // The first line.
     first: String,
-    ghost locks: { IsTableOf set.now table },
-    ghost passing: { IfSome (order_in order) (IsPassingOrder set.now) },
 }
 
 /// Why lines were not all printed.
@@ -58,7 +55,8 @@ fn order_of(alloc: Global, placing: &Placing) -> Result<Option<Vec<usize>>, Allo
 
 // The greatest cost of a task with which the order passes, where there is one.
 fn in_order(alloc: Global, listing: &Listing<'_>, task: usize) -> Result<Option<u64>, AllocError>
-    requires { task < length listing.now.set.now }
+    requires listing { IsListing listing.now }
+    requires task { task < length listing.now.set.now }
     ensures { IfOk result (λ own. AnswersIn listing.now.set.now (order_in listing.now.order) task
         own) }
 {
@@ -102,7 +100,8 @@ fn line_text(
 
 // The line of the task at an index.
 fn task_text(alloc: Global, listing: &Listing<'_>, task: usize) -> Result<String, AllocError>
-    requires { task < length listing.now.set.now }
+    requires listing { IsListing listing.now }
+    requires task { task < length listing.now.set.now }
     ensures { IfOk result (λ text. IsTaskLine listing.now.set.now (order_in listing.now.order) task
         (string_bytes text)) }
 {
@@ -134,6 +133,7 @@ fn put_lines<W: Write + Drop>(
     held: &mut Held,
     output: &mut Watched<W>,
 ) -> Result<(), ListFault>
+    requires { IsListing listing.now }
     ensures all { OnOk result ((text : List ℕ)
         × ListsAll listing.now.set.now (order_in listing.now.order) text
         × Sends (W.contents output.old.inner) held.old (W.contents output.new.inner) held.new
@@ -173,6 +173,7 @@ fn print_lines<W: Write + Drop>(
     listing: &Listing<'_>,
     output: &mut Watched<W>,
 ) -> Result<(), ListFault>
+    requires { IsListing listing.now }
     ensures all { OnOk result ((text : List ℕ)
         × ListsAll listing.now.set.now (order_in listing.now.order) text
         × Appends (W.contents output.old.inner) (W.contents output.new.inner)
@@ -204,6 +205,7 @@ fn make_ready<'a>(
 ) -> Result<Listing<'a>, AllocError>
     requires { IsPlacingOf set.now placing.now }
     ensures set { IfOk result (λ listing. listing.set.now ≡ set.now) }
+    ensures table { IfOk result (λ listing. IsTableOf listing.set.now listing.table) }
     ensures order { IfOk result (λ listing. order_in listing.order ≡ placing_order placing.now) }
     ensures first { IfOk result (λ listing. string_bytes listing.first
         ≡ placing_first set.now placing.now) }

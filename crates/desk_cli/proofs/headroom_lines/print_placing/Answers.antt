@@ -8,7 +8,7 @@ use Rattle.desk_cli.specs.declared.headroom_lines.ListFault.{ListFault}
 use Rattle.desk_cli.specs.declared.headroom_lines.ListFault.TheVariants as list
 use Rattle.desk_cli.specs.declared.refusal.CommandRefusal.TheVariants as refusal
 use Rattle.desk_cli.proofs.CarriedOut.{never_err, placing_ends, said_sound, wanting, wanting_after}
-use Rattle.desk_cli.proofs.Headrooms.{placed_said}
+use Rattle.desk_cli.proofs.Headrooms.{order_passes, placed_said}
 use Rattle.desk_cli.proofs.headroom_lines.print_placing.Goals as goal
 
 -- want of memory is no failed write
@@ -17,6 +17,14 @@ apart f r is memory same = cc
 
 pub returns-in_default : goal.returns-in_default
 returns-in_default g c = wanting c.refuse.ensures (λ wrote is. (Err refusal.OutOfMemory, refusal_line refusal.OutOfMemory, tt, (refl, is), wrote))
+
+pub print_lines-requires : goal.print_lines-requires
+print_lines-requires g c =
+    let passing = order_passes c.args.set.now c.args.placing.now c.requires.placing in
+    record {
+      table = c.in-Ok.ensures.table;
+      passing = rw (c.in-Ok.ensures.set, c.in-Ok.ensures.order) passing;
+    }
 
 pub returns-in-Ok-print_lines : goal.returns-in-Ok-print_lines
 returns-in-Ok-print_lines g c =
