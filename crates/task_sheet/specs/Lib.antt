@@ -11,6 +11,7 @@ pub mod SetCodes
 pub mod TaskSet
 pub mod SetFields
 pub mod SheetsFault
+pub mod Prefer
 pub mod Tree
 pub mod TreeFault
 pub mod ReadsSet

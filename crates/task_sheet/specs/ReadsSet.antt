@@ -1,11 +1,14 @@
--- What reading a task set answers.
-use Rattle.std.specs.Prelude.{◌≡◌, ℕ, List, None, Some, Result, Ok, Err, IsUtf8}
+-- What reading a task set, or a document, answers.
+use Rattle.std.specs.Prelude.{◌≡◌, ℕ, List, Option, None, Some, Result, Ok, Err, IsUtf8}
 use Rattle.toml.specs.Data.{Members}
 use Rattle.toml.specs.Parse.{parse_document}
+use Rattle.task_sheet.specs.Sheet.{Task}
 use Rattle.task_sheet.specs.TaskSet.{IsByRank}
-use Rattle.task_sheet.specs.Tree.{tree_sheets}
+use Rattle.task_sheet.specs.Tree.{tree_sheets, tree_prefers}
 use Rattle.task_sheet.specs.TreeFault.{tree_fault}
+use Rattle.task_sheet.specs.declared.prefer.Preference.{Preference}
 use Rattle.task_sheet.specs.declared.set.TaskSet.{TaskSet}
+use Rattle.task_sheet.specs.declared.read.Document.{Document}
 use Rattle.task_sheet.specs.declared.read.SetFault.{SetFault}
 use Rattle.task_sheet.specs.declared.read.SetFault.TheVariants as fault
 
@@ -25,3 +28,17 @@ ReadsSet text (Ok set) =
 ReadsSet text (Err fault.OutOfMemory) = Unit {0}
 ReadsSet text (Err fault.Syntax) = (tree : Members) → IsDocument text tree → ⊥
 ReadsSet text (Err e) = (tree : Members) × IsDocument text tree × (tree_fault tree ≡ Some e)
+
+-- the bytes are a document with this set, which prefers this
+abbrev pub SaysDocument : List ℕ → List Task → Option Preference → Type 0
+SaysDocument text U prefers =
+    (tree : Members)
+    × IsDocument text tree
+    × (tree_fault tree ≡ None)
+    × IsByRank (tree_sheets tree) U
+    × (prefers ≡ tree_prefers tree)
+
+-- a document; a refusal is that of reading the set
+abbrev pub ReadsDocument : List ℕ → Result Document SetFault → Type 0
+ReadsDocument text (Ok d) = SaysDocument text d.set d.prefers
+ReadsDocument text (Err e) = ReadsSet text (Err e)

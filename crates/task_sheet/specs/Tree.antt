@@ -3,6 +3,8 @@ use Rattle.std.specs.Prelude.{◌≡◌, ℕ, Bool, true, false, ◌&&◌, List,
 use Rattle.std.specs.List.{list_any}
 use Rattle.toml.specs.Data.{Data, string, integer, array, table, Items, no_items, item, Members, no_members, member, get_member, as_str}
 use Rattle.task_sheet.specs.Sheet.{CriticalSection, Task, same_bytes}
+use Rattle.task_sheet.specs.Prefer.{preference_of}
+use Rattle.task_sheet.specs.declared.prefer.Preference.{Preference}
 use Rattle.task_sheet.specs.declared.keys.Key.{Key}
 use Rattle.task_sheet.specs.declared.keys.Key.TheVariants as key
 
@@ -11,6 +13,7 @@ use Rattle.task_sheet.specs.declared.keys.Key.TheVariants as key
 -- how a key is written
 abbrev pub word_of : Key → List ℕ
 word_of key.Task = codes "task"
+word_of key.Prefer = codes "prefer"
 word_of key.Name = codes "name"
 word_of key.Weight = codes "weight"
 word_of key.Period = codes "period"
@@ -25,7 +28,7 @@ word_of key.Len = codes "len"
 
 -- the keys that may stand in the root
 abbrev pub root_keys : List Key
-root_keys = key.Task ∷ []
+root_keys = key.Task ∷ key.Prefer ∷ []
 
 -- the keys of a task's table
 abbrev pub task_keys : List Key
@@ -153,6 +156,10 @@ sheet_at ms = record {
 -- the sheets of a document, in its order
 abbrev pub tree_sheets : Members → List Task
 tree_sheets ms = map sheet_at (unwrap_or (tables_at key.Task ms) [])
+
+-- what a document prefers, where it says so
+abbrev pub tree_prefers : Members → Option Preference
+tree_prefers ms = option_and_then preference_of (text_at key.Prefer ms)
 
 -- a task's own values, each of the right kind
 pub record AreFields (ms : Members) (text : List ℕ) (w p d c : ℕ) (tables : List Members) (j : ℕ) (names : List (List ℕ)) : Type 0 where

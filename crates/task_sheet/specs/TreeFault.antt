@@ -2,11 +2,12 @@
 use Rattle.std.specs.Prelude.{ℕ, ◌+◌, nat_lt, Bool, List, [], ◌∷◌, Option, Some, None, is_some, unwrap_or, option_map, if◌then◌else◌}
 use Rattle.std.specs.Option.{option_or}
 use Rattle.std.specs.List.{list_all}
-use Rattle.toml.specs.Data.{Members}
+use Rattle.toml.specs.Data.{Data, Members, as_str}
 use Rattle.task_sheet.specs.Name.{is_name}
 use Rattle.task_sheet.specs.Sheet.{CriticalSection, Task}
 use Rattle.task_sheet.specs.SheetFault.{sheet_fault, outranks_fault}
 use Rattle.task_sheet.specs.SheetsFault.{sheets_fault}
+use Rattle.task_sheet.specs.Prefer.{preference_of}
 use Rattle.task_sheet.specs.Tree.{root_keys, task_keys, needed_keys, section_keys, only_keys, first_missing, value_at, number_at, number_or_zero, text_at, strings_at, strings_or_none, tables_at, sheet_at, tree_sheets}
 use Rattle.task_sheet.specs.declared.set.SetCause.{SetCause}
 use Rattle.task_sheet.specs.declared.set.SetCause.TheVariants as cause
@@ -97,11 +98,22 @@ of_set (cause.SameName task) = fault.SameName task
 of_set cause.TooManyTasks = fault.TooManyTasks
 of_set cause.OutOfMemory = fault.OutOfMemory
 
--- the root's key and its kind, each task, and then what `TaskSet::new` refuses
+-- the fault of a document's preference: a value of another kind, or a word that says none
+abbrev pub word_fault : Option (List ℕ) → Option SetFault
+word_fault None = Some (fault.WrongKind 0 0 key.Prefer)
+word_fault (Some word) = unless (is_some (preference_of word)) fault.BadPreference
+
+-- the fault of the value at `prefer`, which may be absent
+abbrev pub prefer_fault : Option Data → Option SetFault
+prefer_fault None = None
+prefer_fault (Some d) = word_fault (as_str d)
+
+-- the root's keys and the kind of `task`, its preference, each task, and then what `TaskSet::new` refuses
 abbrev pub tree_fault : Members → Option SetFault
 tree_fault ms = first (
     unless (only_keys root_keys ms) (fault.UnknownKey 0 0)
     ∷ unless (is_some (tables_at key.Task ms)) (fault.WrongKind 0 0 key.Task)
+    ∷ prefer_fault (value_at key.Prefer ms)
     ∷ tasks_fault 1 (unwrap_or (tables_at key.Task ms) [])
     ∷ option_map of_set (sheets_fault (tree_sheets ms))
     ∷ [])

@@ -10,6 +10,8 @@ use toml::{Table, Value};
 pub enum Key {
     /// `task` of the root: an array of tables.
     Task,
+    /// `prefer` of the root: a string, the word of a preference.
+    Prefer,
     /// `name` of a task: a string.
     Name,
     /// `weight` of a task: a number, 0 where it is absent.
@@ -41,6 +43,7 @@ impl Key {
     {
         match self {
             Key::Task => "task",
+            Key::Prefer => "prefer",
             Key::Name => "name",
             Key::Weight => "weight",
             Key::Period => "period",
@@ -57,7 +60,7 @@ impl Key {
 }
 
 /// The keys of the root.
-pub const ROOT_KEYS: [Key; 1] = [Key::Task];
+pub const ROOT_KEYS: [Key; 2] = [Key::Task, Key::Prefer];
 
 /// The keys of a task.
 pub const TASK_KEYS: [Key; 8] = [

@@ -1,0 +1,37 @@
+//! By what the tasks of a set are preferred for the lower levels, as a word.
+ghost use Rattle.std.specs.Prelude.{◌≡◌};
+ghost use Rattle.task_sheet.specs.Prefer.{preference_word, preference_of};
+
+/// By what the tasks of a set are preferred for the lower levels.
+#[derive(Clone, Copy, Debug, PartialEq, Eq)]
+pub enum Preference {
+    /// `weight`: by their weights, then by their names: the set as it is.
+    Weights,
+    /// `deadline`: by their limits, which are their deadlines less their jitter, the longest first, then by their names.
+    Deadline,
+}
+
+impl Preference {
+    /// The preference as it is written in a document.
+    pub fn word(self) -> &'static str
+        ensures { result.now ≡ preference_word self }
+    {
+        match self {
+            Preference::Weights => "weight",
+            Preference::Deadline => "deadline",
+        }
+    }
+}
+
+/// The preference that a word says; none where it says none.
+pub fn preference_of(word: &str) -> Option<Preference>
+    ensures { result ≡ preference_of word.now }
+{
+    if Preference::Weights.word() == word {
+        Some(Preference::Weights)
+    } else if Preference::Deadline.word() == word {
+        Some(Preference::Deadline)
+    } else {
+        None
+    }
+}
