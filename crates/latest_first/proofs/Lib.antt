@@ -1,0 +1,4 @@
+pub mod LaterLimits
+pub mod OneOrder
+pub mod WithoutOne
+pub mod BestLatest

@@ -1,0 +1,5 @@
+use Rattle.latest_first.proofs.LaterLimits.{Passes-later}
+use Rattle.latest_first.proofs.laws.later_limit_passes.Goals as goal
+
+pub returns : goal.returns
+returns c = λ U L i j prompt part. Passes-later U prompt L part i j
