@@ -3,6 +3,7 @@ pub mod Verdict
 pub mod Outcomes
 pub mod Questions
 pub mod Levels
+pub mod Longer
 pub mod Closes
 pub mod Takes
 pub mod LevelFields

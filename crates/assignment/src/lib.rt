@@ -9,6 +9,7 @@ mod level;
 mod outcome;
 mod placing;
 mod question;
+mod tried;
 mod verdict;
 
 pub use assigning::assign;

@@ -1,32 +1,26 @@
 use Rattle.std.proofs.Common.{◌∙◌, ap, sym, subst}
 use Rattle.std.proofs.lemmas.Bool.{both_ways}
 use Rattle.task_sheet.specs.Indexes.{Indexes, indexes_of}
-use Rattle.task_sheet.specs.Orders.{Stands}
-use Rattle.task_sheet.proofs.MembersIndexes.{indexes_of-remove, len-remove_member}
-use Rattle.assignment.proofs.AskLaws.{remove-part}
-use Rattle.assignment.proofs.FeasibilityLaws.{IsTrying-less}
+use Rattle.task_sheet.specs.Demand.{Passes}
+use Rattle.task_sheet.proofs.MembersIndexes.{indexes_of-remove}
+use Rattle.latest_first.proofs.OneOrder.{AllPrompt-valid, NoneStands-latest, NoneStands-bound}
 use Rattle.assignment.proofs.feasibility.standing.Goals as goal
 
-pub loop-task-init : goal.loop-task-init
-loop-task-init c = record { part = λ k h. h; fails = λ k member out. absurd (both_ways (indexes_of c.args.left k) out member) }
+pub returns-in_err-task-clause-none : goal.returns-in_err-task-clause-none
+returns-in_err-task-clause-none c = rw c.from_residual.ensures (NoneStands-bound c.args.set.now (indexes_of c.args.left) c.in_err-task.ensures.none)
 
-pub loop-task-smaller : goal.loop-task-smaller
-loop-task-smaller c = rw c.without-untried.ensures (len-remove_member c.loop-task.untried c.in-Some.task c.in-Some.ensures.member)
-
-pub loop-task-preserved : goal.loop-task-preserved
-loop-task-preserved c =
+pub returns-then-passes-clause-stands : goal.returns-then-passes-clause-stands
+returns-then-passes-clause-stands c =
     let U = c.args.set.now in
-    let L = indexes_of c.args.left in
-    let i = c.in-Some.task in
+    let i = c.in_ok-task.task in
     let rest = ap indexes_of c.without.ensures ∙ indexes_of-remove c.args.left i in
-    let less = ap indexes_of c.without-untried.ensures ∙ indexes_of-remove c.loop-task.untried i in
-    IsTrying-less U L (indexes_of c.loop-task.untried) (indexes_of c.without-untried.result) i c.loop-task.invariant less
-    (λ stands. both_ways c.may_stand.result c.if-may_stand.false (c.may_stand.ensures.1 (subst (λ (X : Indexes). Stands U i X) (sym rest) stands)))
+    (subst (λ (X : Indexes). Passes U i X) rest (c.passes.ensures.0 c.if-passes.true), c.in_ok-task.ensures.some.free.1)
 
-pub returns-then-may_stand-clause-stands : goal.returns-then-may_stand-clause-stands
-returns-then-may_stand-clause-stands c =
-    let rest = ap indexes_of c.without.ensures ∙ indexes_of-remove c.args.left c.in-Some.task in
-    subst (λ (X : Indexes). Stands c.args.set.now c.in-Some.task X) rest (c.may_stand.ensures.0 c.if-may_stand.true)
-
-pub may_stand-requires-clause-part : goal.may_stand-requires-clause-part
-may_stand-requires-clause-part c = rw c.without.ensures (remove-part c.args.set.now c.args.left c.in-Some.task c.requires.part)
+-- the task speaks for all that are left
+pub returns-else-passes-clause-none : goal.returns-else-passes-clause-none
+returns-else-passes-clause-none c =
+    let U = c.args.set.now in
+    let i = c.in_ok-task.task in
+    let rest = ap indexes_of c.without.ensures ∙ indexes_of-remove c.args.left i in
+    NoneStands-latest U (AllPrompt-valid U c.in_ok-task.ensures.kept) (indexes_of c.args.left) i c.requires.part c.in_ok-task.ensures.some
+    (λ passes. both_ways c.passes.result c.if-passes.false (c.passes.ensures.1 (subst (λ (X : Indexes). Passes U i X) (sym rest) passes)))
