@@ -163,6 +163,16 @@ impl NodeState {
         places_of(&self.teams, team)
     }
 
+    // The team of a name's task after a team's changes.
+    fn holder_after(&self, team: Team, name: Name) -> Team
+        ensures { result ≡ holder_after team self.now.tasks name }
+    {
+        match self.team_of(name) {
+            Some(holder) => holder,
+            None => team,
+        }
+    }
+
     // The teams of the tasks of a set after a team's changes: a task keeps the team that holds its name, and a new one
     // is the team's.
     pub(crate) fn teams_after(
@@ -178,11 +188,7 @@ impl NodeState {
         let sheets = set.sheets();
         let mut teams = Vec::with_capacity(alloc, sheets.len())?;
         for sheet in sheets {
-            let holder = match self.team_of(sheet.name()) {
-                Some(holder) => holder,
-                None => team,
-            };
-            teams.push(holder)?;
+            teams.push(self.holder_after(team, sheet.name()))?;
         }
         Ok(teams)
     }
