@@ -10,7 +10,7 @@ use Rattle.desk_core.specs.declared.events.Reply.{Reply}
 use Rattle.desk_core.specs.declared.events.Reply.TheVariants as reply
 use Rattle.desk_core.specs.World.{World, Live, live_at, start, IsCommitted, IfLive, Happens, IsRun}
 
-abbrev Legal : Book → Type 0
+abbrev pub Legal : Book → Type 0
 Legal b = IsLegal empty_desk b.log × (replay empty_desk b.log ≡ b.desk)
 
 -- ---- one commit
@@ -40,7 +40,7 @@ commit-there : (w v : World) (draft : ℕ) (slot : Option Live) (r : Reply) → 
 commit-there w v draft None r is legal = kept w v (ap (λ (x : World). x.book) is.1) legal
 commit-there w v draft (Some l) r is legal = commit-live w.book v.book l r is.0 is.1 legal
 
-happens-legal : (w v : World) (e : Event) (r : Reply) → Happens w e r v → Legal w.book → Legal v.book
+pub happens-legal : (w v : World) (e : Event) (r : Reply) → Happens w e r v → Legal w.book → Legal v.book
 happens-legal w v (Open team) r is = kept w v (ap (λ (x : World). x.book) is.1)
 happens-legal w v (Put draft sheet) r is = kept w v (same-book w v (live_at w.drafts draft) (v ≡ w) _ r (λ same. ap (λ (x : World). x.book) same) (λ l so. ap (λ (x : World). x.book) so.2) is)
 happens-legal w v (Remove draft name) r is = kept w v (same-book w v (live_at w.drafts draft) (v ≡ w) _ r (λ same. ap (λ (x : World). x.book) same) (λ l so. ap (λ (x : World). x.book) so.2) is)

@@ -14,3 +14,4 @@ pub mod Determined
 pub mod LevelLaws
 pub mod AdvanceLaws
 pub mod LegalLaws
+pub mod PastLaws

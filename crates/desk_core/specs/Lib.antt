@@ -13,3 +13,4 @@ pub mod Asking
 pub mod Standings
 pub mod Said
 pub mod Advances
+pub mod Bases

@@ -12,7 +12,8 @@ ghost use Rattle.task_sheet.specs.Choices.{chosen_of, level_at};
 ghost use Rattle.desk_core.specs.Findings.{AreNews, IsTold};
 ghost use Rattle.desk_core.specs.Said.{said_of};
 ghost use Rattle.drafts.specs.Books.{IsLegalBook};
-ghost use Rattle.desk_core.specs.World.{World, start, IsRun};
+ghost use Rattle.desk_core.specs.Bases.{IsPast};
+ghost use Rattle.desk_core.specs.World.{World, Live, live_at, start, IsRun};
 ghost use Rattle.desk_core.specs.declared.events.Event.{Event};
 ghost use Rattle.desk_core.specs.declared.events.Reply.{Reply};
 
@@ -60,4 +61,11 @@ pub fn replies_are_one()
 pub fn runs_are_legal()
     ensures { (events : List Event) (replies : List Reply) (v : World)
         → IsRun start events replies v → IsLegalBook v.book }
+{}
+
+/// Each live draft is on a state that the log came to, after any events: the book's, or one of before.
+pub fn bases_are_past()
+    ensures { (events : List Event) (replies : List Reply) (v : World) (draft : ℕ) (l : Live)
+        → IsRun start events replies v → live_at v.drafts draft ≡ Some l
+        → IsPast v.book.log l.draft.base }
 {}

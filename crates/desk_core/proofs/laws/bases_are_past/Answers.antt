@@ -1,0 +1,5 @@
+use Rattle.desk_core.proofs.PastLaws.{base-past}
+use Rattle.desk_core.proofs.laws.bases_are_past.Goals as goal
+
+pub returns : goal.returns
+returns c = base-past
