@@ -1,0 +1,42 @@
+-- The tasks of teams.
+use Rattle.std.specs.Prelude.{ℕ, List, [], ◌∷◌, ◌++◌, map, Option, slice_index_or, if◌then◌else◌}
+use Rattle.task_sheet.specs.Sheet.{Task, no_task, same_bytes}
+use Rattle.task_sheet.specs.declared.prefer.Preference.{Preference}
+use Rattle.teams.specs.declared.fault.TeamsFault.{TeamsFault}
+use Rattle.teams.specs.declared.fault.TeamsFault.TheVariants.{Taken}
+
+-- a team's set, and what its document prefers
+pub record TeamSetData : Type 0 where
+  pub team : List ℕ
+  pub set : List Task
+  pub prefers : Option Preference
+
+-- a team's task
+pub record OwnedData : Type 0 where
+  pub team : List ℕ
+  pub sheet : Task
+
+-- stands past the end of a list
+abbrev pub no_owned : OwnedData
+no_owned = record { team = []; sheet = no_task }
+
+-- the tasks of a team's set
+abbrev pub owned_by : List ℕ → List Task → List OwnedData
+owned_by team U = map (λ t. record { team = team; sheet = t }) U
+
+-- those of each team's, in their order
+abbrev pub owned_all : List TeamSetData → List OwnedData
+owned_all [] = []
+owned_all (s ∷ sets) = owned_by s.team s.set ++ owned_all sets
+
+-- the team of the first task with a name, or this one
+abbrev pub holder_of : List OwnedData → List ℕ → List ℕ → List ℕ
+holder_of [] name team = team
+holder_of (o ∷ tasks) name team =
+    if same_bytes o.sheet.name name then o.team else holder_of tasks name team
+
+-- the task at a place has the name of one before it
+abbrev pub taken_at : List OwnedData → ℕ → TeamsFault
+taken_at tasks place =
+    Taken (slice_index_or tasks place no_owned).team (slice_index_or tasks place no_owned).sheet.name
+    (holder_of tasks (slice_index_or tasks place no_owned).sheet.name (slice_index_or tasks place no_owned).team)

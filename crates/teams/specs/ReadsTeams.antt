@@ -1,0 +1,66 @@
+-- What reading the documents of teams answers.
+use Rattle.std.specs.Prelude.{◌≡◌, ◌⊎◌, ℕ, ◌+◌, List, [], ◌∷◌, ◌++◌, map, Some, None, Result, Ok, Err}
+use Rattle.task_sheet.specs.ReadsSet.{ReadsSet, SaysDocument}
+use Rattle.task_sheet.specs.SheetsFault.{sheets_fault}
+use Rattle.task_sheet.specs.TaskSet.{IsByRank}
+use Rattle.task_sheet.specs.declared.set.TaskSet.{TaskSet}
+use Rattle.task_sheet.specs.declared.read.Document.{Document}
+use Rattle.task_sheet.specs.declared.set.SetCause.TheVariants as cause
+use Rattle.task_sheet.specs.declared.read.SetFault.TheVariants as fault
+use Rattle.teams.specs.Agreeing.{disagreement, preferred_by}
+use Rattle.teams.specs.Owned.{OwnedData, TeamSetData, owned_all, taken_at}
+use Rattle.teams.specs.declared.reading.Part.{Part}
+use Rattle.teams.specs.declared.fault.TeamsFault.{TeamsFault}
+use Rattle.teams.specs.declared.fault.TeamsFault.TheVariants.{Of, OtherPreference, TooManyTasks, OutOfMemory}
+
+-- the answer on a team's document: its set, or why it is none
+abbrev pub ReadsPart : Part → Result TeamSetData TeamsFault → Type 0
+ReadsPart p (Ok s) = (s.team ≡ p.team) × SaysDocument p.text.now s.set s.prefers
+ReadsPart p (Err (Of team fault.OutOfMemory)) = ⊥
+ReadsPart p (Err (Of team e)) = (team ≡ p.team) × ReadsSet p.text.now (Err e)
+ReadsPart p (Err OutOfMemory) = Unit {0}
+ReadsPart p (Err _) = ⊥
+
+-- these are the sets of the documents, in their order
+abbrev pub AreRead : List Part → List TeamSetData → Type 0
+AreRead [] [] = Unit {0}
+AreRead (p ∷ parts) (s ∷ sets) = ReadsPart p (Ok s) × AreRead parts sets
+AreRead _ _ = ⊥
+
+-- the first document that is no set is refused so; or memory ran out
+abbrev pub IsFirstRefused : List Part → TeamsFault → Type 0
+IsFirstRefused parts OutOfMemory = Unit {0}
+IsFirstRefused parts e =
+    (before : List Part) × (p : Part) × (after : List Part) × (sets : List TeamSetData)
+    × (parts ≡ before ++ p ∷ after) × AreRead before sets × ReadsPart p (Err e)
+
+-- the answer on the tasks of all: the set of them; or the first that has the name of one before it, or that there are
+-- too many
+abbrev pub Unites : List OwnedData → Result TaskSet TeamsFault → Type 0
+Unites tasks (Ok set) =
+    (sheets_fault (map (λ o. o.sheet) tasks) ≡ None) × IsByRank (map (λ o. o.sheet) tasks) set
+Unites tasks (Err OutOfMemory) = Unit {0}
+Unites tasks (Err TooManyTasks) =
+    sheets_fault (map (λ o. o.sheet) tasks) ≡ Some cause.TooManyTasks
+Unites tasks (Err e) =
+    (place : ℕ) × (sheets_fault (map (λ o. o.sheet) tasks) ≡ Some (cause.SameName (place + 1)))
+    × (e ≡ taken_at tasks place)
+
+-- the answer on the sets of teams: the set of all their tasks, and what they prefer; or the first that prefers otherwise
+-- than one before it, and then why the tasks of all are no set
+abbrev pub UnitesAll : List TeamSetData → Result Document TeamsFault → Type 0
+UnitesAll sets (Ok d) =
+    (disagreement sets ≡ None) × (d.prefers ≡ preferred_by sets)
+    × Unites (owned_all sets) (Ok d.set)
+UnitesAll sets (Err OutOfMemory) = Unit {0}
+UnitesAll sets (Err (OtherPreference team other)) =
+    disagreement sets ≡ Some (OtherPreference team other)
+UnitesAll sets (Err e) = (disagreement sets ≡ None) × Unites (owned_all sets) (Err e)
+
+-- the answer on the documents of teams
+abbrev pub ReadsTeams : List Part → Result Document TeamsFault → Type 0
+ReadsTeams parts (Ok d) =
+    (sets : List TeamSetData) × AreRead parts sets × UnitesAll sets (Ok d)
+ReadsTeams parts (Err e) =
+    IsFirstRefused parts e
+    ⊎ ((sets : List TeamSetData) × AreRead parts sets × UnitesAll sets (Err e))

@@ -1,0 +1,41 @@
+//! Why documents of teams are no set.
+ghost use Rattle.std.specs.Prelude.{◌≡◌};
+ghost use Rattle.teams.specs.declared.fault.TeamsFault.TheVariants.{OutOfMemory};
+
+use std::alloc::AllocError;
+use task_sheet::{Name, SetFault};
+use thiserror::Error;
+
+/// Why a text is no set. Of documents of teams, the first reason: all are read before their tasks are put together.
+#[derive(Clone, Copy, Debug, PartialEq, Eq, Error)]
+pub enum TeamsFault {
+    /// The text is one document, which is no set.
+    #[error("{fault}")]
+    Alone { fault: SetFault },
+    /// The part, by its place from 1, doesn't begin with a line `#% TEAM COUNT`, or has fewer bytes than that.
+    #[error("part {part}: no head")]
+    BadHead { part: usize },
+    /// A team's document is no set by itself.
+    #[error("{team}: {fault}")]
+    Of { team: Name, fault: SetFault },
+    /// A task of a team has the name of a task of another, which stands before it.
+    #[error("{team}: {task} is a task of {other}")]
+    Taken { team: Name, task: Name, other: Name },
+    /// A team's document prefers otherwise than that of another, which stands before it.
+    #[error("{team}: prefers otherwise than {other}")]
+    OtherPreference { team: Name, other: Name },
+    /// There are more than 32 tasks.
+    #[error("more than 32 tasks")]
+    TooManyTasks,
+    /// A growth was refused.
+    #[error("out of memory")]
+    OutOfMemory,
+}
+
+impl From<AllocError> for TeamsFault {
+    ghost from_gives = { λ _ fault. fault ≡ OutOfMemory };
+
+    fn from(_e: AllocError) -> TeamsFault {
+        TeamsFault::OutOfMemory
+    }
+}

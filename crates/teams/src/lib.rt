@@ -1,0 +1,14 @@
+//! One set from the documents of several teams. Each document is read by itself, so that none says anything of another's
+//! tasks, and a refusal names the team.
+#![tactic(auto)]
+
+mod fault;
+mod gathering;
+mod reading;
+mod text;
+mod uniting;
+
+pub use crate::fault::TeamsFault;
+pub use crate::gathering::{first_part, read_gathered};
+pub use crate::reading::{Part, read_teams};
+pub use crate::text::read_text;
