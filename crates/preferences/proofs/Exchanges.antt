@@ -9,9 +9,10 @@ use Rattle.std.proofs.lemmas.List.Sorted.{IsPermutation-refl, IsPermutation-map,
 use Rattle.task_sheet.specs.Sheet.{Task, weighing, no_task, task_at}
 use Rattle.task_sheet.specs.Indexes.{sum_below}
 use Rattle.task_sheet.specs.Orders.{IsFeasible}
-use Rattle.preferences.specs.Preferences.{later_deadlines, reweighed_in, reweighed, unweighed, KeepsOrders, IsPreferred}
-use Rattle.preferences.specs.declared.preferred.Preference.{Preference}
-use Rattle.preferences.specs.declared.preferred.Preference.TheVariants.{Weights, Deadline}
+use Rattle.task_sheet.specs.Demand.{limit_of}
+use Rattle.preferences.specs.Preferences.{longer_limits, reweighed_in, reweighed, unweighed, KeepsOrders, IsPreferred}
+use Rattle.task_sheet.specs.declared.prefer.Preference.{Preference}
+use Rattle.task_sheet.specs.declared.prefer.Preference.TheVariants.{Weights, Deadline}
 use Rattle.preferences.proofs.Renumbering.{IsRenumbering, AreRenumbered, renumbered-back, KeepsOrders-turned, KeepsOrders-self, KeepsOrders-trans, IsFeasible-kept}
 
 -- ---- sums that differ in one term
@@ -140,7 +141,7 @@ ShareOrders-permutation U V =
 -- ---- other weights
 task-weighed : (U xs : List Task) (k : ℕ) → (weight : ℕ) × (task_at (map (reweighed_in U) xs) k ≡ weighing (task_at xs k) weight)
 task-weighed U [] k = (0, refl)
-task-weighed U (t ∷ ts) zero = (later_deadlines U t.deadline, refl)
+task-weighed U (t ∷ ts) zero = (longer_limits U (limit_of t), refl)
 task-weighed U (t ∷ ts) (suc k) = task-weighed U ts k
 
 AreRenumbered-weighed : (U : List Task) → AreRenumbered (λ k. k) U (reweighed U)

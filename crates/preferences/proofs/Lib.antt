@@ -1,6 +1,7 @@
 pub mod WeightLaws
-pub mod DeadlineLaws
+pub mod LimitLaws
 pub mod OrderLaws
 pub mod MonotonicLaws
 pub mod Renumbering
 pub mod Exchanges
+pub mod FollowLaws

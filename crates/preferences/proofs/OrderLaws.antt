@@ -1,4 +1,4 @@
--- The best order of a set by deadlines is the nearest to deadline-monotonic.
+-- The best order of a set by limits is the nearest to limit-monotonic.
 use Rattle.std.proofs.Common.{◌≡◌, ◌↔◌, ℕ, ◌<◌, ◌⊎◌, inl, inr, List, length}
 use Rattle.std.specs.List.{AllByRecursion}
 use Rattle.task_sheet.specs.Sheet.{Task}
@@ -7,8 +7,8 @@ use Rattle.task_sheet.specs.Orders.{all_of, IsOrder, IsPassingOrder, IsBetter, I
 use Rattle.task_sheet.proofs.IndexLaws.{order-below}
 use Rattle.task_sheet.proofs.LevelLaws.{compare_orders}
 use Rattle.preferences.specs.Preferences.{reweighed}
-use Rattle.preferences.specs.DeadlineOrders.{IsNearer}
-use Rattle.preferences.proofs.DeadlineLaws.{better-nearer}
+use Rattle.preferences.specs.LimitOrders.{IsNearer}
+use Rattle.preferences.proofs.LimitLaws.{better-nearer}
 
 within : (V : List Task) (order : List ℕ) → IsOrder V order → AllByRecursion (λ k. k < length V) order
 within V order each = order-below (length V) (all_of V) order each (λ k h. h)

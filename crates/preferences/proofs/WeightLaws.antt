@@ -1,5 +1,5 @@
 -- Sets whose weights are replaced.
-use Rattle.std.proofs.Common.{◌≡◌, ◌↔◌, Result, Ok, Err, refl, subst, ℕ, ◌+◌, ◌<◌, false, None, List, [], ◌∷◌, ◌++◌, length, get_or, take, sym, ◌∙◌, arith, map}
+use Rattle.std.proofs.Common.{◌≡◌, Option, Some, Ok, refl, subst, ℕ, ◌+◌, ◌<◌, false, None, List, [], ◌∷◌, ◌++◌, length, get_or, take, sym, ◌∙◌, arith, map}
 use Rattle.std.specs.List.{AllByRecursion}
 use Rattle.std.proofs.lemmas.List.{length-map, map_more}
 use Rattle.std.proofs.lemmas.List.Elements.{All-from_recursion, recursion_from_All}
@@ -8,13 +8,13 @@ use Rattle.task_sheet.specs.Sheet.{Task, IsTask, AllTasks, weighing}
 use Rattle.task_sheet.specs.TaskSet.{same_name, AreDistinct, IsTaskSet, IsByRank}
 use Rattle.task_sheet.specs.SheetsFault.{sheets_fault}
 use Rattle.task_sheet.proofs.SetLaws.{no_fault, by_rank_one}
-use Rattle.task_sheet.specs.ReadsSet.{ReadsSet}
-use Rattle.task_sheet.specs.declared.set.TaskSet.{TaskSet}
-use Rattle.task_sheet.specs.declared.read.SetFault.{SetFault}
-use Rattle.preferences.specs.ReadsPreferred.{ReadsPreferred}
-use Rattle.preferences.specs.Preferences.{later_deadlines, reweighed_in, reweighed, IsPreferred}
-use Rattle.preferences.specs.declared.preferred.Preference.{Preference}
-use Rattle.preferences.specs.declared.preferred.Preference.TheVariants.{Weights, Deadline}
+use Rattle.teams.specs.ReadsText.{ReadsText}
+use Rattle.task_sheet.specs.declared.read.Document.{Document}
+use Rattle.task_sheet.specs.Demand.{limit_of}
+use Rattle.preferences.specs.ReadsPreferred.{SaysPreferred, chosen}
+use Rattle.preferences.specs.Preferences.{longer_limits, reweighed_in, reweighed, IsPreferred}
+use Rattle.task_sheet.specs.declared.prefer.Preference.{Preference}
+use Rattle.task_sheet.specs.declared.prefer.Preference.TheVariants.{Weights, Deadline}
 
 -- one sheet more
 pub reweighed_more : (U xs ys : List Task) (i : ℕ) (x y : Task) → i < length U → x ≡ get_or U i x → y ≡ reweighed_in U x → xs ≡ map (reweighed_in U) (take i U)
@@ -39,7 +39,7 @@ module _ (weight : Task → ℕ) where
 -- the sheets with these weights are no fault
 pub no_fault-reweighed : (U : List Task) → IsTaskSet U → sheets_fault (reweighed U) ≡ None
 no_fault-reweighed U set =
-    let weight : Task → ℕ = λ t. later_deadlines U t.deadline in
+    let weight : Task → ℕ = λ t. longer_limits U (limit_of t) in
     no_fault (reweighed U) (distinct-weighed weight U set.distinct) (omega (arith, set.few, length-map U (λ (t : Task). weighing t (weight t))))
 
 -- ---- one set by each preference
@@ -51,7 +51,7 @@ IsPreferred-one Deadline U first second one other = by_rank_one (reweighed U) (r
 pub AllTasks-preferred : (U V : List Task) → AllTasks U → IsByRank (reweighed U) V → AllTasks V
 AllTasks-preferred U V valid preferred =
     let each : AllByRecursion IsTask U = recursion_from_All IsTask U valid in
-    let weighed = all-weighed (λ t. later_deadlines U t.deadline) IsTask (λ y n task. record {
+    let weighed = all-weighed (λ t. longer_limits U (limit_of t)) IsTask (λ y n task. record {
       period = task.period;
       jitter = task.jitter;
       cost = task.cost;
@@ -59,10 +59,11 @@ AllTasks-preferred U V valid preferred =
     }) U each in
     All-permutation IsTask (reweighed U) V preferred.permutation (All-from_recursion IsTask (reweighed U) weighed)
 
--- ---- by weights
-pub ReadsPreferred-weights : (text : List ℕ) (result : Result TaskSet SetFault) → ReadsPreferred Weights text result ↔ ReadsSet text result
-ReadsPreferred-weights text (Ok set) = (
-  λ h. subst (λ (xs : List Task). ReadsSet text (Ok xs)) (sym h.2) h.1,
-  λ h. (set, h, refl),
-)
-ReadsPreferred-weights text (Err e) = (λ h. h, λ h. h)
+-- ---- who prefers
+pub SaysPreferred-own : (text : List ℕ) (d : Document) (preference : Preference) (U : List Task) → ReadsText text (Ok d) → d.prefers ≡ Some preference → IsPreferred preference d.set U → SaysPreferred None text U
+SaysPreferred-own text d preference U reads is preferred =
+    (d, reads, subst (λ (o : Option Preference). IsPreferred (chosen None o) d.set U) (sym is) preferred)
+
+pub SaysPreferred-nobody : (text : List ℕ) (d : Document) → ReadsText text (Ok d) → d.prefers ≡ None → SaysPreferred None text d.set
+SaysPreferred-nobody text d reads is =
+    (d, reads, subst (λ (o : Option Preference). IsPreferred (chosen None o) d.set d.set) (sym is) refl)

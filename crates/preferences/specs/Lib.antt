@@ -1,3 +1,3 @@
 pub mod Preferences
 pub mod ReadsPreferred
-pub mod DeadlineOrders
+pub mod LimitOrders

@@ -1,19 +1,20 @@
--- Sets whose weights stand for their deadlines: of all passing orders of such a set the best is the one nearest to
--- deadline-monotonic (Leung, Whitehead 1982).
+-- Sets whose weights stand for their limits, which are their deadlines less their jitter: of all passing orders of such a
+-- set the best is the one nearest to limit-monotonic (Leung, Whitehead 1982; with jitter Zuhily, Burns 2007).
 use Rattle.std.specs.Prelude.{◌≡◌, ℕ, nat_lt, List, map, count_by}
 use Rattle.task_sheet.specs.Sheet.{Task, weighing, task_at}
 use Rattle.task_sheet.specs.TaskSet.{IsByRank}
+use Rattle.task_sheet.specs.Demand.{limit_of}
 use Rattle.task_sheet.specs.Orders.{IsPassingOrder}
-use Rattle.preferences.specs.declared.preferred.Preference.{Preference}
-use Rattle.preferences.specs.declared.preferred.Preference.TheVariants.{Weights, Deadline}
+use Rattle.task_sheet.specs.declared.prefer.Preference.{Preference}
+use Rattle.task_sheet.specs.declared.prefer.Preference.TheVariants.{Weights, Deadline}
 
--- how many tasks of a set have a later deadline than this
-abbrev pub later_deadlines : List Task → ℕ → ℕ
-later_deadlines U deadline = count_by (λ t. nat_lt deadline t.deadline) U
+-- how many tasks of a set have a longer limit than this
+abbrev pub longer_limits : List Task → ℕ → ℕ
+longer_limits U limit = count_by (λ t. nat_lt limit (limit_of t)) U
 
--- the task of a set, its weight replaced by how many tasks of the set have a later deadline
+-- the task of a set, its weight replaced by how many tasks of the set have a longer limit
 abbrev pub reweighed_in : List Task → Task → Task
-reweighed_in U t = weighing t (later_deadlines U t.deadline)
+reweighed_in U t = weighing t (longer_limits U (limit_of t))
 
 -- the set, each weight so replaced
 abbrev pub reweighed : List Task → List Task

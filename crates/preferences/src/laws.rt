@@ -1,41 +1,43 @@
 //! Laws of sets by a preference. Each is the clause of a function that does nothing, and its names are defined in
 //! `specs/`.
 
-ghost use Rattle.std.specs.Prelude.{◌≡◌, ◌<◌, ◌↔◌, ◌⊎◌, ℕ, List, length, Result};
+ghost use Rattle.std.specs.Prelude.{◌≡◌, ◌<◌, ◌≤◌, ◌↔◌, ◌⊎◌, ℕ, List, length, Some, None, Ok, IsTrue};
 ghost use Rattle.std.specs.List.Sorted.{IsPermutation};
-ghost use Rattle.task_sheet.specs.ReadsSet.{ReadsSet};
-ghost use Rattle.task_sheet.specs.declared.set.TaskSet.{TaskSet};
-ghost use Rattle.task_sheet.specs.declared.read.SetFault.{SetFault};
-ghost use Rattle.preferences.specs.ReadsPreferred.{ReadsPreferred};
+ghost use Rattle.teams.specs.ReadsText.{ReadsText};
+ghost use Rattle.task_sheet.specs.declared.read.Document.{Document};
+ghost use Rattle.preferences.specs.ReadsPreferred.{SaysPreferred};
 ghost use Rattle.task_sheet.specs.Sheet.{Task, AllTasks, task_at};
-ghost use Rattle.task_sheet.specs.Orders.{IsOrder, IsPassingOrder, IsFeasible, IsBetter, IsBest};
-ghost use Rattle.preferences.specs.Preferences.{later_deadlines, unweighed, KeepsOrders, IsPreferred};
-ghost use Rattle.preferences.specs.DeadlineOrders.{IsLower, IsNearer, IsMonotonic};
-ghost use Rattle.preferences.specs.declared.preferred.Preference.{Preference};
-ghost use Rattle.preferences.specs.declared.preferred.Preference.TheVariants.{Weights, Deadline};
+ghost use Rattle.task_sheet.specs.TaskSet.{IsTaskSet};
+ghost use Rattle.task_sheet.specs.Indexes.{Indexes, IsPart, without_index};
+ghost use Rattle.task_sheet.specs.Demand.{limit_of, Passes};
+ghost use Rattle.latest_first.specs.LatestFirst.{AllPrompt, AreAlike, FollowLimits};
+ghost use Rattle.task_sheet.specs.Orders.{all_of, IsOrder, IsPassingOrder, IsFeasible, IsBetter, IsBest};
+ghost use Rattle.preferences.specs.Preferences.{longer_limits, unweighed, KeepsOrders, IsPreferred};
+ghost use Rattle.preferences.specs.LimitOrders.{IsLower, IsNearer, IsMonotonic};
+ghost use Rattle.task_sheet.specs.declared.prefer.Preference.{Preference};
+ghost use Rattle.task_sheet.specs.declared.prefer.Preference.TheVariants.{Weights, Deadline};
 
-/// In a set by deadlines each task's weight is how many tasks of that set have a later deadline: of two tasks the one
-/// of the later deadline has less weight, and those of one deadline have one weight. By deadlines once more, the set is
-/// as it is.
-pub fn weights_follow_deadlines()
+/// In a set by deadlines each task's weight is how many tasks of that set have a longer limit: of two tasks the one of
+/// the longer limit has less weight, and those of one limit have one weight. By deadlines once more, the set is as it is.
+pub fn weights_follow_limits()
     ensures weight { (U V : List Task) (k : ℕ) → IsPreferred Deadline U V → k < length V
-        → (task_at V k).weight ≡ later_deadlines V (task_at V k).deadline }
+        → (task_at V k).weight ≡ longer_limits V (limit_of (task_at V k)) }
     ensures compare { (U V : List Task) (i j : ℕ) → IsPreferred Deadline U V → i < length V
         → j < length V
         → ((task_at V i).weight < (task_at V j).weight)
-        ↔ ((task_at V j).deadline < (task_at V i).deadline) }
+        ↔ (limit_of (task_at V j) < limit_of (task_at V i)) }
     ensures again { (U V : List Task) → IsPreferred Deadline U V → IsPreferred Deadline V V }
 {}
 
-/// The ranks of a set by deadlines: a task is before another exactly where its deadline is later, or the same and its
-/// name less.
-pub fn ranks_follow_deadlines()
+/// The ranks of a set by deadlines: a task is before another exactly where its limit is longer, or the same and its name
+/// less.
+pub fn ranks_follow_limits()
     ensures { (U V : List Task) (i j : ℕ) → IsPreferred Deadline U V → i < length V → j < length V
         → (i < j) ↔ IsLower (task_at V i) (task_at V j) }
 {}
 
-/// Of two orders of a set by deadlines the better is the one nearer to deadline-monotonic, so the best order is nearer
-/// than each other one that passes (Leung, Whitehead 1982).
+/// Of two orders of a set by deadlines the better is the one nearer to limit-monotonic, so the best order is nearer than
+/// each other one that passes (Leung, Whitehead 1982).
 pub fn best_is_nearest()
     ensures nearer { (U V : List Task) (first second : List ℕ) → IsPreferred Deadline U V
         → IsOrder V first → IsOrder V second
@@ -45,7 +47,7 @@ pub fn best_is_nearest()
         → (order ≡ other) ⊎ IsNearer V order other }
 {}
 
-/// Where some deadline-monotonic order of a set by deadlines passes, the best order is deadline-monotonic.
+/// Where some limit-monotonic order of a set by deadlines passes, the best order is limit-monotonic.
 pub fn best_is_monotonic()
     ensures { (U V : List Task) (order other : List ℕ) → AllTasks U → IsPreferred Deadline U V
         → IsBest V order → IsPassingOrder V other → IsMonotonic V other
@@ -71,8 +73,26 @@ pub fn preference_keeps_tasks()
         → IsFeasible U ↔ IsFeasible V }
 {}
 
-/// By weights nothing changes: reading a set so is reading a set.
-pub fn weights_are_plain()
-    ensures { (text : List ℕ) (result : Result TaskSet SetFault)
-        → ReadsPreferred Weights text result ↔ ReadsSet text result }
+/// What the call prefers holds, whatever the set prefers; where the call says nothing, what the set prefers; where neither
+/// does, the set is as its text says it, and so it is by weights.
+pub fn call_then_set()
+    ensures call { (text : List ℕ) (preference : Preference) (U : List Task)
+        → SaysPreferred (Some preference) text U
+        ↔ ((d : Document) × ReadsText text (Ok d) × IsPreferred preference d.set U) }
+    ensures own { (text : List ℕ) (d : Document) (preference : Preference) (U : List Task)
+        → ReadsText text (Ok d)
+        → d.prefers ≡ Some preference → IsPreferred preference d.set U
+        → SaysPreferred None text U }
+    ensures nobody { (text : List ℕ) (d : Document) → ReadsText text (Ok d) → d.prefers ≡ None
+        → SaysPreferred None text d.set }
+    ensures weights { (text : List ℕ) (U : List Task) → SaysPreferred (Some Weights) text U
+        ↔ ((d : Document) × ReadsText text (Ok d) × (U ≡ d.set)) }
+{}
+
+/// Of a set by deadlines the best order bears most.
+pub fn preferred_bears_most()
+    ensures follow { (U V : List Task) → IsPreferred Deadline U V → FollowLimits V }
+    ensures most { (U V W : List Task) (order : List ℕ) → IsPreferred Deadline U V → IsTaskSet V
+        → IsBest V order → AreAlike V W → AllTasks W → AllPrompt W
+        → IsPassingOrder W order ↔ IsFeasible W }
 {}

@@ -1,8 +1,11 @@
-//! Task sets by a preference: of all passing orders the best is the one by weights, or the one nearest to
-//! deadline-monotonic.
+//! Task sets by a preference: of all passing orders the best is the one by weights, or the one nearest to limit-monotonic,
+//! which bears most.
 #![tactic(auto)]
 
+mod choice;
 pub mod laws;
 mod preferred;
 
-pub use preferred::{Preference, prefer, read_preferred};
+pub use choice::Choice;
+pub use preferred::{Preferred, prefer, read_preferred};
+pub use task_sheet::Preference;

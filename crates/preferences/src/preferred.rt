@@ -2,40 +2,35 @@
 ghost use Rattle.std.specs.Prelude.{◌≡◌, ◌≤◌, length, IfOk, IfErr};
 ghost use Rattle.task_sheet.specs.declared.set.TheConstants.{TASK_LIMIT};
 ghost use Rattle.task_sheet.specs.TaskSet.{IsByRank};
-ghost use Rattle.preferences.specs.Preferences.{later_deadlines, reweighed_in, reweighed, IsPreferred};
+ghost use Rattle.preferences.specs.Preferences.{longer_limits, reweighed_in, reweighed, IsPreferred};
 ghost use Rattle.preferences.specs.ReadsPreferred.{ReadsPreferred};
 
+use crate::choice::Choice;
 use std::alloc::{AllocError, AllocFailed, Global};
-use task_sheet::{SetCause, SetFault, Sheet, TaskSet, read_set};
+use task_sheet::{Preference, SetCause, Sheet, TaskSet};
+use teams::{TeamsFault, read_text};
 
-/// By what the tasks of a set are preferred for the lower levels.
-#[derive(Clone, Copy, Debug, PartialEq, Eq)]
-pub enum Preference {
-    /// By their weights, then by their names: the set as it is.
-    Weights,
-    /// By their deadlines, the latest first, then by their names: each weight is replaced by how many tasks of the set
-    /// have a later deadline, which is at most 31. So the best of all passing orders is the one nearest to
-    /// deadline-monotonic (Leung, Whitehead 1982).
-    Deadline,
+/// A set as it is by a preference, and who says so.
+#[derive(Debug, Drop)]
+pub struct Preferred {
+    pub set: TaskSet,
+    pub choice: Choice,
 }
 
-// How many tasks have a later deadline.
-fn later_deadlines(sheets: &[Sheet], deadline: u64) -> u64
-    ensures value { result ≡ later_deadlines sheets.now deadline }
+// How many tasks have a longer limit.
+fn longer_limits(sheets: &[Sheet], limit: u64) -> u64
+    ensures value { result ≡ longer_limits sheets.now limit }
     ensures limit { result ≤ length sheets.now }
 {
-    sheets
-        .iter()
-        .filter(|sheet| deadline < sheet.deadline())
-        .count() as u64
+    sheets.iter().filter(|sheet| limit < sheet.limit()).count() as u64
 }
 
-// The sheet of one of these tasks, its weight replaced by how many of them have a later deadline.
+// The sheet of one of these tasks, its weight replaced by how many of them have a longer limit.
 fn reweighed_sheet(alloc: Global, sheets: &[Sheet], sheet: &Sheet) -> Result<Sheet, AllocError>
     requires few { length sheets.now ≤ TASK_LIMIT }
     ensures { IfOk result (λ other. other ≡ reweighed_in sheets.now sheet.now) }
 {
-    let weight = later_deadlines(sheets, sheet.deadline());
+    let weight = longer_limits(sheets, sheet.limit());
     Ok(sheet.copy(alloc)?.weighing(weight))
 }
 
@@ -65,7 +60,10 @@ fn reweighed(alloc: Global, set: &TaskSet) -> Result<TaskSet, AllocError>
     }
 }
 
-/// The set by a preference. The error is want of memory, and hands the set back; by weights none is taken.
+/// The set by a preference: by weights as it is; by deadlines each weight is replaced by how many tasks of the set have a
+/// longer limit, which is at most 31. So the best of all passing orders bears most: it passes with whatever costs and
+/// sections some order passes (Leung, Whitehead 1982; with jitter Zuhily, Burns 2007). The error is want of memory, and
+/// hands the set back; by weights none is taken.
 pub fn prefer(
     alloc: Global,
     set: TaskSet,
@@ -84,15 +82,21 @@ pub fn prefer(
     }
 }
 
-/// Reads a task set from a TOML document, as `task_sheet::read_set` does, and takes it by a preference. The refusals
-/// are those of `read_set`.
+/// Reads a task set from a text, one TOML document or the documents of teams, as `teams::read_text` does, and takes it by
+/// what the call prefers; where the call says nothing, by what the text prefers; else by weights. The refusals are those
+/// of `read_text`.
 pub fn read_preferred(
     alloc: Global,
     text: &[u8],
-    preference: Preference,
-) -> Result<TaskSet, SetFault>
-    ensures { ReadsPreferred preference text.now result }
+    call: Option<Preference>,
+) -> Result<Preferred, TeamsFault>
+    ensures { ReadsPreferred call text.now result }
 {
-    let set = read_set(alloc, text)?;
-    Ok(prefer(alloc, set, preference)?)
+    let document = read_text(alloc, text)?;
+    let own = document.prefers;
+    let choice = Choice { call, own };
+    match prefer(alloc, document.set, choice.preference()) {
+        Ok(set) => Ok(Preferred { set, choice }),
+        Err(_) => Err(TeamsFault::OutOfMemory),
+    }
 }

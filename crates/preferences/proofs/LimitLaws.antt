@@ -1,4 +1,4 @@
--- In a set by deadlines the ranks are by deadlines.
+-- In a set by limits the ranks are by limits.
 use Rattle.std.proofs.Common.{◌≡◌, ◌↔◌, ℕ, zero, suc, ◌+◌, ◌<◌, ◌≤◌, ◌⊎◌, inl, inr, Bool, true, false, cond, nat_lt, List, [], ◌∷◌, length, get_or, map, Ordering, Less, Equal, Greater, refl, sym, ◌∙◌, ap, subst, arith}
 use Rattle.std.specs.List.{AllByRecursion, All}
 use Rattle.std.specs.List.Sorted.{IsPermutation}
@@ -12,17 +12,18 @@ use Rattle.std.proofs.lemmas.List.Sorted.{All-permutation, sum_by-IsPermutation,
 use Rattle.std.proofs.lemmas.Map.Keys.{Less-from_sorted}
 use Rattle.task_sheet.specs.Sheet.{Task, weighing, no_task, task_at}
 use Rattle.task_sheet.specs.TaskSet.{rank_cmp, IsByRank}
+use Rattle.task_sheet.specs.Demand.{limit_of}
 use Rattle.task_sheet.specs.Orders.{IsBetter}
-use Rattle.preferences.specs.Preferences.{later_deadlines, reweighed_in, reweighed}
-use Rattle.preferences.specs.DeadlineOrders.{IsLower, IsNearer}
+use Rattle.preferences.specs.Preferences.{longer_limits, reweighed_in, reweighed}
+use Rattle.preferences.specs.LimitOrders.{IsLower, IsNearer}
 
--- ---- counts of later deadlines
+-- ---- counts of longer limits
 small-cond : (b : Bool) → cond b 1 0 ≤ 1
 small-cond true = omega arith
 small-cond false = omega arith
 
-one-more : (a b : ℕ) (t : Task) (ts : List Task) → later_deadlines (t ∷ ts) a ≡ cond (nat_lt a t.deadline) 1 0 + later_deadlines ts a
-one-more a b t ts = sum_by-cons (λ (u : Task). cond (nat_lt a u.deadline) 1 0) t ts
+one-more : (a b : ℕ) (t : Task) (ts : List Task) → longer_limits (t ∷ ts) a ≡ cond (nat_lt a (limit_of t)) 1 0 + longer_limits ts a
+one-more a b t ts = sum_by-cons (λ (u : Task). cond (nat_lt a (limit_of u)) 1 0) t ts
 
 step-le : (a b d : ℕ) → b ≤ a → cond (nat_lt a d) 1 0 ≤ cond (nat_lt b d) 1 0
 step-le a b d le = elim (cases_lt a d) [
@@ -30,35 +31,35 @@ step-le a b d le = elim (cases_lt a d) [
   | inr past ↦ rw (le-ltb a d past) (omega arith)
 ]
 
-later-le : (U : List Task) (a b : ℕ) → b ≤ a → later_deadlines U a ≤ later_deadlines U b
+later-le : (U : List Task) (a b : ℕ) → b ≤ a → longer_limits U a ≤ longer_limits U b
 later-le [] a b le = omega arith
-later-le (t ∷ ts) a b le = omega (arith, one-more a a t ts, one-more b b t ts, step-le a b t.deadline le, later-le ts a b le)
+later-le (t ∷ ts) a b le = omega (arith, one-more a a t ts, one-more b b t ts, step-le a b (limit_of t) le, later-le ts a b le)
 
--- the task of a later deadline is counted more
-later-lt : (U : List Task) (a b k : ℕ) → b < a → k < length U → (task_at U k).deadline ≡ a → later_deadlines U a < later_deadlines U b
+-- the task of a longer limit is counted more
+later-lt : (U : List Task) (a b k : ℕ) → b < a → k < length U → limit_of (task_at U k) ≡ a → longer_limits U a < longer_limits U b
 later-lt [] a b k lt within is = absurd (omega arith)
 later-lt (t ∷ ts) a b zero lt within is =
-    let here : nat_lt a t.deadline ≡ false = le-ltb a t.deadline (omega (arith, is)) in
-    let there : nat_lt b t.deadline ≡ true = lt-ltb b t.deadline (omega (arith, is)) in
-    let c : cond {A = ℕ} (nat_lt a t.deadline) 1 0 ≡ 0 = rw here in
-    let d : cond {A = ℕ} (nat_lt b t.deadline) 1 0 ≡ 1 = rw there in
+    let here : nat_lt a (limit_of t) ≡ false = le-ltb a (limit_of t) (omega (arith, is)) in
+    let there : nat_lt b (limit_of t) ≡ true = lt-ltb b (limit_of t) (omega (arith, is)) in
+    let c : cond {A = ℕ} (nat_lt a (limit_of t)) 1 0 ≡ 0 = rw here in
+    let d : cond {A = ℕ} (nat_lt b (limit_of t)) 1 0 ≡ 1 = rw there in
     omega (arith, one-more a a t ts, one-more b b t ts, c, d, later-le ts a b (omega arith))
 later-lt (t ∷ ts) a b (suc k) lt within is =
-    omega (arith, one-more a a t ts, one-more b b t ts, step-le a b t.deadline (omega arith), later-lt ts a b k lt (omega arith) is)
+    omega (arith, one-more a a t ts, one-more b b t ts, step-le a b (limit_of t) (omega arith), later-lt ts a b k lt (omega arith) is)
 
--- ---- the weights of a set by deadlines
-later-weighed : (weight : Task → ℕ) (xs : List Task) (d : ℕ) → later_deadlines (map (λ t. weighing t (weight t)) xs) d ≡ later_deadlines xs d
+-- ---- the weights of a set by limits
+later-weighed : (weight : Task → ℕ) (xs : List Task) (d : ℕ) → longer_limits (map (λ t. weighing t (weight t)) xs) d ≡ longer_limits xs d
 later-weighed weight [] d = refl
 later-weighed weight (t ∷ ts) d =
     one-more d d (weighing t (weight t)) (map (λ t. weighing t (weight t)) ts)
-    ∙ ap (λ n. cond (nat_lt d t.deadline) 1 0 + n) (later-weighed weight ts d)
+    ∙ ap (λ n. cond (nat_lt d (limit_of t)) 1 0 + n) (later-weighed weight ts d)
     ∙ sym (one-more d d t ts)
 
-weighed-all : (U xs : List Task) → AllByRecursion (λ t. t.weight ≡ later_deadlines U t.deadline) (map (reweighed_in U) xs)
+weighed-all : (U xs : List Task) → AllByRecursion (λ t. t.weight ≡ longer_limits U (limit_of t)) (map (reweighed_in U) xs)
 weighed-all U [] = tt
 weighed-all U (t ∷ ts) = (refl, weighed-all U ts)
 
-same-map : (U xs : List Task) → AllByRecursion (λ t. t.weight ≡ later_deadlines U t.deadline) xs → map (reweighed_in U) xs ≡ xs
+same-map : (U xs : List Task) → AllByRecursion (λ t. t.weight ≡ longer_limits U (limit_of t)) xs → map (reweighed_in U) xs ≡ xs
 same-map U [] h = refl
 same-map U (t ∷ ts) h =
     ap (λ n. weighing t n ∷ map (reweighed_in U) ts) (sym h.0) ∙ ap (λ (us : List Task). t ∷ us) (same-map U ts h.1)
@@ -85,35 +86,35 @@ rank-by a b o e = elim (cases_order a b) [
 ]
 
 module _ (U V : List Task) (preferred : IsByRank (reweighed U) V) where
-  later-same : (d : ℕ) → later_deadlines V d ≡ later_deadlines U d
+  later-same : (d : ℕ) → longer_limits V d ≡ longer_limits U d
   later-same d =
-      sum_by-IsPermutation (λ (t : Task). cond (nat_lt d t.deadline) 1 0) (reweighed U) V preferred.permutation
-      ∙ later-weighed (λ t. later_deadlines U t.deadline) U d
+      sum_by-IsPermutation (λ (t : Task). cond (nat_lt d (limit_of t)) 1 0) (reweighed U) V preferred.permutation
+      ∙ later-weighed (λ t. longer_limits U (limit_of t)) U d
 
-  weights : All (λ t. t.weight ≡ later_deadlines V t.deadline) V
+  weights : All (λ t. t.weight ≡ longer_limits V (limit_of t)) V
   weights k d lt =
-      let P : Task → Type 0 = λ t. t.weight ≡ later_deadlines U t.deadline in
+      let P : Task → Type 0 = λ t. t.weight ≡ longer_limits U (limit_of t) in
       All-permutation P (reweighed U) V preferred.permutation (All-from_recursion P (reweighed U) (weighed-all U U)) k d lt
-      ∙ sym (later-same (get_or V k d).deadline)
+      ∙ sym (later-same (limit_of (get_or V k d)))
 
-  pub weight-at : (k : ℕ) → k < length V → (task_at V k).weight ≡ later_deadlines V (task_at V k).deadline
+  pub weight-at : (k : ℕ) → k < length V → (task_at V k).weight ≡ longer_limits V (limit_of (task_at V k))
   weight-at k lt = weights k no_task lt
 
-  pub weight-compare : (i j : ℕ) → i < length V → j < length V → ((task_at V i).weight < (task_at V j).weight) ↔ ((task_at V j).deadline < (task_at V i).deadline)
+  pub weight-compare : (i j : ℕ) → i < length V → j < length V → ((task_at V i).weight < (task_at V j).weight) ↔ (limit_of (task_at V j) < limit_of (task_at V i))
   weight-compare i j within within' =
       let here = weight-at i within in
       let there = weight-at j within' in (
-        λ less. elim (cases_lt (task_at V j).deadline (task_at V i).deadline) [
+        λ less. elim (cases_lt (limit_of (task_at V j)) (limit_of (task_at V i))) [
           | inl lt ↦ lt
-          | inr le ↦ absurd (omega (arith, here, there, later-le V (task_at V j).deadline (task_at V i).deadline le))
+          | inr le ↦ absurd (omega (arith, here, there, later-le V (limit_of (task_at V j)) (limit_of (task_at V i)) le))
         ],
-        λ lt. omega (arith, here, there, later-lt V (task_at V i).deadline (task_at V j).deadline i lt within refl),
+        λ lt. omega (arith, here, there, later-lt V (limit_of (task_at V i)) (limit_of (task_at V j)) i lt within refl),
       )
 
   -- preferred once more, the set is as it is
   pub preferred-again : IsByRank (reweighed V) V
   preferred-again =
-      let same : reweighed V ≡ V = same-map V V (recursion_from_All (λ t. t.weight ≡ later_deadlines V t.deadline) V weights) in
+      let same : reweighed V ≡ V = same-map V V (recursion_from_All (λ t. t.weight ≡ longer_limits V (limit_of t)) V weights) in
       record { permutation = subst (λ (xs : List Task). IsPermutation xs V) (sym same) (IsPermutation-refl V); ranked = preferred.ranked }
 
   -- ---- ranks
@@ -123,7 +124,7 @@ module _ (U V : List Task) (preferred : IsByRank (reweighed U) V) where
       let less = Less-from_sorted rank_cmp V i j no_task preferred.ranked lt within in
       elim (rank-by (task_at V i).weight (task_at V j).weight (slice_cmp nat_cmp (task_at V i).name (task_at V j).name) less) [
         | inl lighter ↦ inl ((weight-compare i j within' within).0 lighter)
-        | inr tied ↦ elim (cases_order (task_at V i).deadline (task_at V j).deadline) [
+        | inr tied ↦ elim (cases_order (limit_of (task_at V i)) (limit_of (task_at V j))) [
           | inl same ↦ inr (same, tied.1)
           | inr apart ↦ elim apart [
             | inl before ↦ absurd (omega (arith, tied.0, (weight-compare j i within within').1 before))

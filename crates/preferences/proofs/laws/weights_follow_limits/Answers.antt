@@ -1,5 +1,5 @@
-use Rattle.preferences.proofs.DeadlineLaws.{weight-at, weight-compare, preferred-again}
-use Rattle.preferences.proofs.laws.weights_follow_deadlines.Goals as goal
+use Rattle.preferences.proofs.LimitLaws.{weight-at, weight-compare, preferred-again}
+use Rattle.preferences.proofs.laws.weights_follow_limits.Goals as goal
 
 pub returns : goal.returns
 returns c = record {

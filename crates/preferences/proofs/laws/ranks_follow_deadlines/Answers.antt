@@ -1,5 +1,0 @@
-use Rattle.preferences.proofs.DeadlineLaws.{rank-lower}
-use Rattle.preferences.proofs.laws.ranks_follow_deadlines.Goals as goal
-
-pub returns : goal.returns
-returns c = λ U V i j preferred. rank-lower U V preferred i j
