@@ -6,21 +6,23 @@ use Rattle.clap.specs.Words.{FailsBy, Shape, Text, built, fault_of, subcommand_o
 use Rattle.clap.specs.declared.parser.matches.ArgMatches.{ArgMatches}
 use Rattle.clap.specs.declared.error.Error.{Error}
 use Rattle.clap.specs.Walk.{Held, Names, answers_to, finished, nothing_held, Row, settled, stop_after, walk, walk_from}
-use Rattle.clap.specs.Simple.{built_leaf, entered, help_shape, inherited, label_of, marked_built, names_of, new_app, rows_at, with_filled_rules, with_help_flag, with_leaf_noted, with_rule, with_version_flag}
+use Rattle.clap.specs.Simple.{App, built_leaf, entered, help_shape, inherited, label_of, marked_built, names_of, rows_at, with_filled_rules, with_help_flag, with_leaf_noted, with_rule, with_version_flag}
 use Rattle.std.specs.Option.{option_map_or}
-use Rattle.std.specs.List.{find, list_any}
+use Rattle.std.specs.List.{find, list_all, list_any}
 use Rattle.clap.specs.Facts.{explicit_source}
 use Rattle.clap.specs.Takes.{is_given}
 use Rattle.clap.specs.Kinds.{Kinds, check_kinds, or_else}
 use Rattle.clap.specs.Faults.{check_fault, defaults_fault, entered_fault, level_fault, settle_fault, walk_fault}
 use Rattle.clap.proofs.OnLiterals.{clap_on_literals}
-use Rattle.command_line.specs.App.{command_app, desk_app, input_app, input_rule, preference_rule}
-use Rattle.command_line.specs.Calls.{IsCommand, SaysNumber}
-use Rattle.command_line.specs.Commands.{commands, input_of, takes_preference, verb_of}
+use Rattle.std.proofs.lemmas.Bool.{and_parts}
+use Rattle.command_line.specs.App.{choice_rule, command_app, desk_app, verb_app, with_choices}
+use Rattle.command_line.specs.declared.calls.Choice.{Choice}
+use Rattle.command_line.specs.Calls.{IsCommand, SayChoices, SaysNumber}
+use Rattle.command_line.specs.Commands.{commands, verb_of}
 use Rattle.command_line.specs.declared.calls.Verb.{Verb}
 use Rattle.command_line.specs.declared.calls.Verb.TheVariants.{One, Two, Number}
 use Rattle.command_line.proofs.Help.{NotHelp, first_empty, second_empty, walk_keeps}
-use Rattle.command_line.proofs.Numbers.{number_taken, shape}
+use Rattle.command_line.proofs.Taken.{all_fit, all_taken, row_fits, shape}
 
 or_false : (b : Bool) → (b || false) ≡ b
 or_false true = refl
@@ -36,31 +38,31 @@ built_label s = go s.is_built
     go true = refl
     go false = refl
 
-input_label : (word input : Text) → label_of (input_app word input).top ≡ (word, [])
-input_label word input = go (takes_preference input)
-  where
-    go : (b : Bool) → (let app = with_rule (new_app word) (input_rule input) in label_of (if b then with_rule app preference_rule else app).top ≡ (word, []))
-    go true = refl
-    go false = refl
+choices_label : (a : App) (options : List Choice) → label_of (with_choices a options).top ≡ label_of a.top
+choices_label a [] = refl
+choices_label a (c ∷ more) = choices_label (with_rule a (choice_rule c)) more
 
-command_label : (word : Text) (v : Verb) → label_of (command_app word v).top ≡ (word, [])
-command_label word (One c) = input_label word (input_of (One c))
-command_label word (Two c) = input_label word (input_of (Two c))
-command_label word (Number c) = input_label word (input_of (Number c))
+verb_label : (word : Text) (v : Verb) → label_of (verb_app word v).top ≡ (word, [])
+verb_label word (One c) = refl
+verb_label word (Two c) = refl
+verb_label word (Number c) = refl
 
 -- a command answers to its word alone
-label_is : (word : Text) (v : Verb) → label_of (shape word v) ≡ (word, [])
-label_is word v = built_label (inherited (with_leaf_noted (marked_built desk_app.top)) (command_app word v).top) ∙ command_label word v
+label_is : (row : Text × Verb × List Choice) → label_of (shape row) ≡ (row.0, [])
+label_is row =
+    built_label (inherited (with_leaf_noted (marked_built desk_app.top)) (command_app row.0 row.1 row.2).top)
+    ∙ choices_label (verb_app row.0 row.1) row.2 ∙ verb_label row.0 row.1
 
 module _ (p : Text × List Text) where
   -- the command of a list that has the word
-  abbrev named_in : List (Text × Verb) → Option Verb
+  abbrev named_in : List (Text × Verb × List Choice) → Option Verb
   named_in cs = option_map (λ c. c.1) (find (λ c. bytes_eq c.0 p.0) cs)
 
   -- the command that has the word is found
   abbrev IsFound : Option Verb → Option (Text × List Row) → Type 0
   IsFound named None = ⊥
-  IsFound named (Some found) = (found.0 ≡ p.0) × (v : Verb) × (named ≡ Some v) × SaysNumber v found.1
+  IsFound named (Some found) =
+      (found.0 ≡ p.0) × (v : Verb) × (named ≡ Some v) × SaysNumber v found.1 × SayChoices found.1
 
   abbrev fault : Option Shape → Kinds
   fault found = option_map_or (λ s. level_fault s [] nothing_held p.1 false []) found []
@@ -72,39 +74,35 @@ module _ (p : Text × List Text) where
   abbrev Finds : Option Verb → Option Shape → Type 0
   Finds named found = fault found ≡ [] → is_some (rows found) ≡ true → IsFound named (rows found)
 
-  says_number : (word : Text) (v : Verb) → fault (Some (shape word v)) ≡ [] → SaysNumber v (rows_at (shape word v) p.1).1
-  says_number word (One c) fine = tt
-  says_number word (Two c) fine = tt
-  says_number word (Number c) fine = number_taken word c p.1 fine
-
-  first_found : p.0 ≢ codes "help" → (cs : List (Text × Verb))
-      → Finds (named_in cs) (find (λ s. answers_to p.0 (label_of s)) (map (λ c. shape c.0 c.1) cs ++ built_leaf help_shape ∷ []))
-  first_found other [] = go (answers_to p.0 (codes "help", [])) refl
+  first_found : p.0 ≢ codes "help" → (cs : List (Text × Verb × List Choice)) → list_all row_fits cs ≡ true
+      → Finds (named_in cs) (find (λ s. answers_to p.0 (label_of s)) (map shape cs ++ built_leaf help_shape ∷ []))
+  first_found other [] fit = go (answers_to p.0 (codes "help", [])) refl
     where
       go : (b : Bool) → answers_to p.0 (codes "help", []) ≡ b → Finds None (cond b (Some (built_leaf help_shape)) None)
       go true is fine some = absurd (other (answered p.0 (codes "help") is))
       go false is fine some = cc
-  first_found other (c ∷ cs) =
-      let later = find (λ s. answers_to p.0 (label_of s)) (map (λ c. shape c.0 c.1) cs ++ built_leaf help_shape ∷ []) in
-      subst (λ b. Finds (named_in (c ∷ cs)) (cond b (Some (shape c.0 c.1)) later))
-      (sym (ap (answers_to p.0) (label_is c.0 c.1) ∙ or_false (bytes_eq c.0 p.0)))
-      (go later (first_found other cs) (bytes_eq c.0 p.0) refl)
+  first_found other (c ∷ cs) fit =
+      let later = find (λ s. answers_to p.0 (label_of s)) (map shape cs ++ built_leaf help_shape ∷ []) in
+      subst (λ b. Finds (named_in (c ∷ cs)) (cond b (Some (shape c)) later))
+      (sym (ap (answers_to p.0) (label_is c) ∙ or_false (bytes_eq c.0 p.0)))
+      (go later (first_found other cs (and_parts _ _ fit).1) (bytes_eq c.0 p.0) refl)
     where
       go : (later : Option Shape) → Finds (named_in cs) later → (b : Bool) → bytes_eq c.0 p.0 ≡ b
-          → Finds (option_map (λ c. c.1) (cond b (Some c) (find (λ c. bytes_eq c.0 p.0) cs))) (cond b (Some (shape c.0 c.1)) later)
+          → Finds (option_map (λ c. c.1) (cond b (Some c) (find (λ c. bytes_eq c.0 p.0) cs))) (cond b (Some (shape c)) later)
       go later rest true is fine some =
-          (ap (λ l. l.0) (label_is c.0 c.1) ∙ (bytes_eq-Decides c.0 p.0).0 is, c.1, refl, says_number c.0 c.1 fine)
+          let taken = all_taken c (and_parts _ _ fit).0 p.1 fine in
+          (ap (λ l. l.0) (label_is c) ∙ (bytes_eq-Decides c.0 p.0).0 is, c.1, refl, taken.0, taken.1)
       go later rest false is fine some = rest fine some
 
   found_command : (found : Option (Text × List Row)) → IsFound (verb_of p.0) found → IsCommand found
   found_command None is = absurd is
-  found_command (Some found) is = (is.1, ap verb_of is.0 ∙ is.2, is.3)
+  found_command (Some found) is = (is.1, ap verb_of is.0 ∙ is.2, is.3, is.4)
 
 entered_is : (stop : Option (Text × List Text)) → NotHelp stop → entered_fault (built desk_app) stop ≡ []
     → is_some (entered (built desk_app) stop) ≡ true → IsCommand (entered (built desk_app) stop)
 unfolding clap_on_literals verb_of
 entered_is None n fine some = cc
-entered_is (Some p) n fine some = found_command p _ (first_found p n commands fine some)
+entered_is (Some p) n fine some = found_command p _ (first_found p n commands all_fit fine some)
 
 last_empty : (a b c d e : Kinds) → or_else a (or_else b (or_else c (or_else d e))) ≡ [] → e ≡ []
 last_empty a b c d e none = second_empty d e (second_empty c _ (second_empty b _ (second_empty a _ none)))

@@ -1,54 +1,81 @@
--- Where `clap` takes the words of a command with a number, they say it.
-use Rattle.std.proofs.Common.{◌≡◌, ap, refl, List, [], ◌∷◌, ◌++◌, length, Some, Bool, cond, true, false, not, ◌||◌, if◌then◌else◌, codes}
-use Rattle.std.specs.List.{find, fold}
+-- Where `clap` takes the words of a command, those under the name of a number say one that is taken there.
+use Rattle.std.proofs.Common.{◌≡◌, ◌⊎◌, ◌∙◌, ap, ap₂, refl, sym, subst, List, [], ◌∷◌, ◌++◌, length, None, Some, Bool, cond, inl, inr, true, false, ◌&&◌, ◌||◌, ◌==◌, not, if◌then◌else◌, ℕ, suc, Option, arith}
+use Rattle.std.specs.List.{find, fold, list_all, list_any}
 use Rattle.std.specs.Option.{option_map_or}
 use Rattle.std.specs.Prelude.{IfSome, option_and_then, slice_get}
 use Rattle.std.specs.Str.{bytes_eq}
-use Rattle.clap.specs.Facts.{explicit_source}
+use Rattle.std.proofs.lemmas.Bool.{and_parts, eqb-true}
+use Rattle.std.proofs.lemmas.Slice.Eq.{bytes_eq-Decides}
+use Rattle.clap.specs.Facts.{explicit_source, parser_of_value, unwrap_or_range}
 use Rattle.clap.specs.Kinds.{check_kinds, range_kinds, value_kinds}
-use Rattle.clap.specs.Faults.{check_fault, defaults_fault, level_fault, repeat_fault, settle_fault, walk_fault}
-use Rattle.clap.specs.Simple.{Shape, built_leaf, filled, help_rule, inherited, marked_built, with_index, with_leaf_noted}
+use Rattle.clap.specs.Faults.{action_fault, check_fault, defaults_fault, level_fault, repeat_fault, set_fault, settle_fault, walk_fault}
+use Rattle.clap.specs.Simple.{Shape}
 use Rattle.clap.specs.Takes.{is_given}
 use Rattle.clap.specs.ValueTests.{accepts}
-use Rattle.clap.specs.Walk.{Row, Rule, Text, at_row, default_rows, has_row, more_values, nothing_held, reading_by, row_text, rows_after, settled, values_or_missing, walk, walk_from, with_default, with_values, without}
+use Rattle.clap.specs.Walk.{Row, Rule, Text, action_of, at_row, default_rows, first_of, has_row, is_empty, more_values, most_values, nothing_held, one_of, reading_by, row_text, rows_after, settled, used_as, values_or_missing, walk, walk_from, with_default, with_values, without}
+use Rattle.clap.specs.Values.{reading_of}
 use Rattle.clap.specs.Words.{IsUnsignedIn}
+use Rattle.clap.specs.declared.builder.action.ArgAction.{ArgAction}
+use Rattle.clap.specs.declared.builder.action.ArgAction.TheVariants as action
 use Rattle.clap.specs.declared.builder.value_parser.Reading.{Reading}
 use Rattle.clap.specs.declared.builder.value_parser.Reading.TheVariants.{AsWritten}
+use Rattle.clap.specs.declared.builder.value_parser.ValueParser.{ValueParser}
 use Rattle.clap.specs.declared.builder.value_parser.ValueParser.TheVariants as vp
 use Rattle.clap.specs.declared.error.kind.ErrorKind.{ErrorKind}
-use Rattle.clap.specs.declared.parser.matches.ValueSource.TheVariants.{CommandLine}
+use Rattle.clap.specs.declared.error.kind.ErrorKind.TheVariants as kind
+use Rattle.clap.specs.declared.parser.matches.ValueSource.{ValueSource}
+use Rattle.clap.specs.declared.parser.matches.ValueSource.TheVariants.{CommandLine, DefaultValue}
 use Rattle.clap.proofs.ValueTestLemmas.{accepts-Accepts}
-use Rattle.command_line.specs.App.{command_app, desk_app, input_rule, number_rule, preference_rule}
-use Rattle.command_line.specs.Commands.{input_of, least_of, most_of, number_name}
-use Rattle.command_line.specs.declared.calls.OfNumber.{OfNumber}
-use Rattle.command_line.specs.declared.calls.OfNumber.TheVariants.{Releases, Rush}
-use Rattle.command_line.specs.declared.calls.Verb.{Verb}
-use Rattle.command_line.specs.declared.calls.Verb.TheVariants.{Number}
-use Rattle.command_line.specs.Calls.{TakesNumber}
+use Rattle.command_line.specs.Calls.{MaySayWithin, SaysWithin}
 use Rattle.command_line.proofs.Help.{first_empty, second_empty}
 use Rattle.command_line.proofs.Walks.{Keeps, settled_keeps, walk_keeps}
 
--- a command with the word, as `clap` builds it
-abbrev pub shape : Text → Verb → Shape
-shape word v = built_leaf (inherited (with_leaf_noted (marked_built desk_app.top)) (command_app word v).top)
+no_fault : (k : ErrorKind) → k ∷ [] ≡ [] → ⊥
+no_fault k e = cc
+
+no_end : (n : ℕ) → suc n ≡ 0 → ⊥
+no_end n e = omega (arith, e)
+
+is_accepted : (b : Bool) (k : ErrorKind) → (if b then [] else k ∷ []) ≡ [] → b ≡ true
+is_accepted true k e = refl
+is_accepted false k e = cc
+
+-- the argument sets its value, or is a flag or help
+abbrev is_plain : ArgAction → Bool
+is_plain action.Set = true
+is_plain action.SetTrue = true
+is_plain action.Help = true
+is_plain _ = false
+
+abbrev is_set : ArgAction → Bool
+is_set action.Set = true
+is_set _ = false
+
+set_of : (a : ArgAction) → is_set a ≡ true → a ≡ action.Set
+set_of action.Set e = refl
+set_of action.Append e = cc
+set_of action.SetTrue e = cc
+set_of action.SetFalse e = cc
+set_of action.Count e = cc
+set_of action.Help e = cc
+set_of action.HelpShort e = cc
+set_of action.HelpLong e = cc
+set_of action.Version e = cc
 
 -- ---- rows
 
--- the first value is a number that the command takes, read as it was written
-record Says (c : OfNumber) (values : List Text) (how : Reading) : Type 0 where
+-- the first value is a number from the least to the most, read as it was written
+record Says (least most : ℕ) (values : List Text) (how : Reading) : Type 0 where
   first : Text
   more : List Text
   are : values ≡ first ∷ more
-  number : IsUnsignedIn (least_of c) (most_of c) first
+  number : IsUnsignedIn least most first
   written : how ≡ AsWritten
 
-module _ (c : OfNumber) where
-  abbrev id : Text
-  id = number_name c
-
+module _ (id : Text) (least most : ℕ) where
   -- a row of the number says it
   abbrev SaysIf : Row → Type 0
-  SaysIf r = bytes_eq r.id id ≡ true → Says c r.values r.reading
+  SaysIf r = bytes_eq r.id id ≡ true → Says least most r.values r.reading
 
   abbrev AllSay : List Row → Type 0
   AllSay [] = Unit {0}
@@ -70,135 +97,239 @@ module _ (c : OfNumber) where
       go later false = (all.0, later)
 
   -- more values leave the first
-  more_say : (values : List Text) (r : Row) → SaysIf r → AllSay (more_values CommandLine values r)
-  more_say values r says = (
+  more_say : (source : ValueSource) (values : List Text) (r : Row) → SaysIf r → AllSay (more_values source values r)
+  more_say source values r says = (
     (λ same. let old = says same in
         record { first = old.first; more = old.more ++ values; are = ap (λ vs. vs ++ values) old.are; number = old.number; written = old.written }),
     tt,
   )
 
-  set_says : (name : Text) (how : Reading) (values : List Text) → (bytes_eq name id ≡ true → Says c values how)
+  values_say : (name : Text) (how : Reading) (source : ValueSource) (values : List Text) → (bytes_eq name id ≡ true → Says least most values how)
+      → (rows : List Row) → AllSay rows → AllSay (with_values name how source values rows)
+  values_say name how source values says rows all =
+      at_row_says name (more_values source values) _ (more_say source values) (says, tt) rows all
+
+  set_says : (name : Text) (how : Reading) (values : List Text) → (bytes_eq name id ≡ true → Says least most values how)
       → (rows : List Row) → AllSay rows → AllSay (with_values name how CommandLine values (without name rows))
   set_says name how values says rows all =
-      at_row_says name (more_values CommandLine values) _ (more_say values) (says, tt) (without name rows)
+      values_say name how CommandLine values says (without name rows)
       (at_row_says name (λ _. []) [] (λ r h. tt) tt rows all)
 
-  default_says : (rows : List Row) (a : Rule) → a.defaults ≡ [] → AllSay rows → AllSay (with_default rows a)
-  default_says rows a none all = go (has_row a.id rows) a.defaults none
-    where
-      go : (b : Bool) (values : List Text) → values ≡ []
-          → AllSay (if b then rows else default_rows a.id (reading_by a) values rows)
-      go true values e = all
-      go false [] e = all
-      go false (v ∷ vs) e = cc
-
-  given_says : (rows : List Row) → AllSay rows → is_given id rows ≡ true → TakesNumber c rows
+  given_says : (rows : List Row) → AllSay rows → is_given id rows ≡ true → SaysWithin id least most rows
   given_says [] all given = cc
   given_says (r ∷ rs) all given = go (given_says rs all.1) (bytes_eq r.id id) all.0 given
     where
-      go : (is_given id rs ≡ true → TakesNumber c rs) → (b : Bool) → (b ≡ true → Says c r.values r.reading)
+      go : (is_given id rs ≡ true → SaysWithin id least most rs) → (b : Bool) → (b ≡ true → Says least most r.values r.reading)
           → option_map_or (λ r. explicit_source r.source) (cond b (Some r) (find (λ r. bytes_eq r.id id) rs)) false ≡ true
           → (text : Text) × (option_and_then (λ r. slice_get r.values 0) (cond b (Some r) (find (λ r. bytes_eq r.id id) rs)) ≡ Some text)
           × (option_and_then row_text (cond b (Some r) (find (λ r. bytes_eq r.id id) rs)) ≡ Some text)
-          × IsUnsignedIn (least_of c) (most_of c) text
+          × IsUnsignedIn least most text
       go later true says there =
           let s = says refl in
           (s.first, rw s.are refl, rw (s.are, s.written) refl, s.number)
       go later false says there = later there
 
-  -- ---- the rules of the command
+  -- what a row that was found says, or that none was
+  abbrev MayBeSaid : Option Row → Type 0
+  MayBeSaid found =
+      ((option_and_then (λ r. slice_get r.values 0) found ≡ None) × (option_and_then row_text found ≡ None))
+      ⊎ ((text : Text) × (option_and_then (λ r. slice_get r.values 0) found ≡ Some text)
+      × (option_and_then row_text found ≡ Some text) × IsUnsignedIn least most text)
 
-  abbrev first_rule : Rule
-  first_rule = with_index 1 (filled (input_rule (input_of (Number c))))
-
-  abbrev second_rule : Rule
-  second_rule = with_index 2 (filled (number_rule (number_name c) (least_of c) (most_of c)))
-
-  abbrev third_rule : Rule
-  third_rule = with_index 3 (filled help_rule)
-
-is_accepted : (b : Bool) (k : ErrorKind) → (if b then [] else k ∷ []) ≡ [] → b ≡ true
-is_accepted true k e = refl
-is_accepted false k e = cc
-
-other_name : (c : OfNumber) → bytes_eq (input_of (Number c)) (number_name c) ≡ true → ⊥
-other_name Releases same = cc
-other_name Rush same = cc
-
-no_preference : (c : OfNumber) → bytes_eq (codes "prefer") (number_name c) ≡ true → ⊥
-no_preference Releases same = cc
-no_preference Rush same = cc
-
-keeps_first : (c : OfNumber) → Keeps false (AllSay c) (first_rule c)
-keeps_first c values rows fine all =
-    set_says c (input_of (Number c)) AsWritten (values_or_missing (first_rule c) values) (λ same. absurd (other_name c same)) rows all
-
-keeps_second : (c : OfNumber) → Keeps false (AllSay c) (second_rule c)
-keeps_second c [] rows fine all = cc
-keeps_second c (v ∷ vs) rows fine all =
-    let parser = vp.Unsigned (least_of c) (most_of c) in
-    let used = second_empty (range_kinds 1 1 (length (v ∷ vs))) _ fine in
-    let passed = second_empty (repeat_fault false (number_name c) rows) _ used in
-    let one = first_empty (value_kinds false parser v) _ passed in
-    let accepted = is_accepted (accepts false parser v) _ one in
-    set_says c (number_name c) AsWritten (v ∷ vs)
-    (λ same. record { first = v; more = vs; are = refl; number = accepts-Accepts false parser v accepted; written = refl }) rows all
-
-keeps_preference : (c : OfNumber) → Keeps false (AllSay c) (filled preference_rule)
-keeps_preference c values rows fine all =
-    set_says c (codes "prefer") AsWritten (values_or_missing (filled preference_rule) values) (λ same. absurd (no_preference c same)) rows all
-
-keeps_third : (c : OfNumber) → Keeps false (AllSay c) (third_rule c)
-keeps_third c values rows fine all = all
-
--- each rule keeps what is said, and has no default
-abbrev AllKeep : OfNumber → Bool → List Rule → Type 0
-AllKeep c again [] = Unit {0}
-AllKeep c again (a ∷ rules) = Keeps again (AllSay c) a × (a.defaults ≡ []) × AllKeep c again rules
-
-module _ (c : OfNumber) (again : Bool) where
-  found_keeps : (p : Rule → Bool) (rules : List Rule) → AllKeep c again rules → IfSome (find p rules) (Keeps again (AllSay c))
-  found_keeps p [] all = tt
-  found_keeps p (a ∷ rules) all = go (found_keeps p rules all.2) (p a)
+  may_say : (rows : List Row) → AllSay rows → MaySayWithin id least most rows
+  may_say [] all = inl (refl, refl)
+  may_say (r ∷ rs) all = go (may_say rs all.1) (bytes_eq r.id id) all.0
     where
-      go : IfSome (find p rules) (Keeps again (AllSay c)) → (b : Bool) → IfSome (cond b (Some a) (find p rules)) (Keeps again (AllSay c))
-      go later true = all.0
-      go later false = later
+      go : MaySayWithin id least most rs → (b : Bool) → (b ≡ true → Says least most r.values r.reading)
+          → MayBeSaid (cond b (Some r) (find (λ r. bytes_eq r.id id) rs))
+      go later true says =
+          let s = says refl in
+          inr (s.first, rw s.are refl, rw (s.are, s.written) refl, s.number)
+      go later false says = later
 
-  defaults_say : (rules : List Rule) → AllKeep c again rules → (rows : List Row) → AllSay c rows → AllSay c (fold with_default rows rules)
-  defaults_say [] keep rows all = all
-  defaults_say (a ∷ rules) keep rows all = defaults_say rules keep.2 (with_default rows a) (default_says c rows a keep.1 all)
+  -- ---- rules
 
--- ---- the words of the command
+  abbrev parses : ValueParser → Bool
+  parses (vp.Unsigned low high) = (low == least) && (high == most)
+  parses _ = false
 
-wanted : (input number : Bool) → check_kinds false false (not input || (not number || false)) ≡ [] → number ≡ true
-wanted true true e = refl
-wanted true false e = cc
-wanted false number e = cc
+  parsed_of : (p : ValueParser) → parses p ≡ true → p ≡ vp.Unsigned least most
+  parsed_of vp.String e = cc
+  parsed_of vp.NonEmptyString e = cc
+  parsed_of vp.Bool e = cc
+  parsed_of vp.Boolish e = cc
+  parsed_of vp.Falsey e = cc
+  parsed_of (vp.Signed low high) e = cc
+  parsed_of (vp.Unsigned low high) e =
+      let each = and_parts _ _ e in
+      ap₂ (λ l m. vp.Unsigned l m) (eqb-true low least each.0) (eqb-true high most each.1)
+  parsed_of vp.Float e = cc
+  parsed_of vp.Char e = cc
+  parsed_of (vp.Names names) e = cc
+  parsed_of (vp.Values values) e = cc
 
--- where a level has no fault, its rows say the number, and they are what is checked
-level_says : (c : OfNumber) (s : Shape) → AllKeep c s.args_override_self s.rules → (words : List Text)
-    → level_fault s [] nothing_held words false [] ≡ []
-    → AllSay c (rows_after s.rules [] words) × (check_fault s (rows_after s.rules [] words) false ≡ [])
-level_says c s keep words fine =
-    let again = s.args_override_self in
-    let end = (walk s.rules [] nothing_held words).held in
-    let walked = first_empty (walk_fault s [] (walk_from nothing_held) words) _ fine in
-    let ends = second_empty (walk_fault s [] (walk_from nothing_held) words) _ fine in
-    let settles = first_empty (settle_fault s.rules again end) _ ends in
-    let after = second_empty (settle_fault s.rules again end) _ ends in
-    let checked = second_empty (defaults_fault (settled s.rules end).rows s.rules) _ after in
-    let each : (p : Rule → Bool) → IfSome (find p s.rules) (Keeps again (AllSay c)) = λ p. found_keeps c again p s.rules keep in
-    let held = walk_keeps s (AllSay c) each [] words (walk_from nothing_held) walked tt in
-    (defaults_say c again s.rules keep _ (settled_keeps s (AllSay c) each end settles held), checked)
+  -- the rule takes one value, a number from the least to the most
+  abbrev is_number : Rule → Bool
+  is_number a =
+      ((unwrap_or_range a.range).start_inclusive == 1)
+      && ((most_values a == 1)
+      && (is_set (action_of a) && (parses (parser_of_value a.parser) && is_empty a.defaults)))
 
--- where `clap` takes the words after the command, they say its number
-pub number_taken : (word : Text) (c : OfNumber) (words : List Text) → level_fault (shape word (Number c)) [] nothing_held words false [] ≡ []
-    → TakesNumber c (rows_after (shape word (Number c)).rules [] words)
-number_taken word Releases words fine =
-    let says = level_says Releases (shape word (Number Releases))
-    (keeps_first Releases, refl, (keeps_preference Releases, refl, (keeps_second Releases, refl, (keeps_third Releases, refl, tt)))) words fine in
-    given_says Releases _ says.0 (wanted _ _ says.1)
-number_taken word Rush words fine =
-    let says = level_says Rush (shape word (Number Rush)) (keeps_first Rush, refl, (keeps_second Rush, refl, (keeps_third Rush, refl, tt))) words fine in
-    given_says Rush _ says.0 (wanted _ _ says.1)
+  -- the rule has another name; or it is the number's
+  abbrev pub fits : Rule → Bool
+  fits a = if bytes_eq a.id id then is_number a else is_plain (action_of a)
+
+  used_says : (a : ArgAction) (name : Text) (how : Reading) (values : List Text) → is_plain a ≡ true → bytes_eq name id ≡ false
+      → (rows : List Row) → AllSay rows → AllSay (used_as a name how values rows)
+  used_says action.Set name how values plain other rows all = set_says name how values (λ same. cc) rows all
+  used_says action.SetTrue name how values plain other rows all = set_says name how values (λ same. cc) rows all
+  used_says action.Help name how values plain other rows all = all
+  used_says action.Append name how values plain other rows all = cc
+  used_says action.SetFalse name how values plain other rows all = cc
+  used_says action.Count name how values plain other rows all = cc
+  used_says action.HelpShort name how values plain other rows all = cc
+  used_says action.HelpLong name how values plain other rows all = cc
+  used_says action.Version name how values plain other rows all = cc
+
+  module _ (again : Bool) where
+    number_keeps : (a : Rule) → is_number a ≡ true → Keeps again AllSay a
+    number_keeps a is [] rows fine all =
+        let one = and_parts _ _ is in
+        let few = and_parts _ _ one.1 in
+        let least = (unwrap_or_range a.range).start_inclusive in
+        let none = first_empty (range_kinds least (most_values a) 0) (action_fault (action_of a) again a (values_or_missing a []) rows) fine in
+        let start : range_kinds 1 (most_values a) 0 ≡ [] = subst (λ (k : ℕ). range_kinds k (most_values a) 0 ≡ []) (eqb-true least 1 one.0) none in
+        let bad : range_kinds 1 1 0 ≡ [] = subst (λ (k : ℕ). range_kinds 1 k 0 ≡ []) (eqb-true (most_values a) 1 few.0) start in
+        absurd (no_fault kind.InvalidValue bad)
+    number_keeps a is (v ∷ vs) rows fine all =
+        let one = and_parts _ _ is in
+        let few = and_parts _ _ one.1 in
+        let rest = and_parts _ _ few.1 in
+        let set = set_of _ rest.0 in
+        let parser = parsed_of _ (and_parts _ _ rest.1).0 in
+        let used = second_empty (range_kinds (unwrap_or_range a.range).start_inclusive (most_values a) (length (v ∷ vs))) (action_fault (action_of a) again a (v ∷ vs) rows) fine in
+        let taken : set_fault again a (v ∷ vs) rows ≡ [] = subst (λ (x : ArgAction). action_fault x again a (v ∷ vs) rows ≡ []) set used in
+        let passed = second_empty (repeat_fault again a.id rows) _ taken in
+        let first = first_empty (value_kinds a.ignore_case (parser_of_value a.parser) v) _ passed in
+        let here : value_kinds a.ignore_case (vp.Unsigned least most) v ≡ [] = subst (λ (p : ValueParser). value_kinds a.ignore_case p v ≡ []) parser first in
+        let accepted = is_accepted (accepts a.ignore_case (vp.Unsigned least most) v) _ here in
+        subst (λ (x : ArgAction). AllSay (used_as x a.id (reading_by a) (v ∷ vs) rows)) (sym set)
+        (set_says a.id (reading_by a) (v ∷ vs)
+        (λ same. record { first = v; more = vs; are = refl; number = accepts-Accepts a.ignore_case (vp.Unsigned least most) v accepted; written = ap reading_of parser })
+        rows all)
+
+    fits_keeps : (a : Rule) → fits a ≡ true → Keeps again AllSay a
+    fits_keeps a fit = go (bytes_eq a.id id) refl fit
+      where
+        go : (b : Bool) → bytes_eq a.id id ≡ b → (if b then is_number a else is_plain (action_of a)) ≡ true → Keeps again AllSay a
+        go true same is = number_keeps a is
+        go false other plain = λ values rows fine all. used_says (action_of a) a.id (reading_by a) (values_or_missing a values) plain other rows all
+
+    found_keeps : (p : Rule → Bool) (rules : List Rule) → list_all fits rules ≡ true → IfSome (find p rules) (Keeps again AllSay)
+    found_keeps p [] all = tt
+    found_keeps p (a ∷ rules) all =
+        let each = and_parts _ _ all in
+        go (found_keeps p rules each.1) (fits_keeps a each.0) (p a)
+      where
+        go : IfSome (find p rules) (Keeps again AllSay) → Keeps again AllSay a → (b : Bool) → IfSome (cond b (Some a) (find p rules)) (Keeps again AllSay)
+        go later keeps true = keeps
+        go later keeps false = later
+
+  no_default : (a : Rule) (values : List Text) → is_empty values ≡ true → (rows : List Row) → AllSay rows → AllSay (default_rows a.id (reading_by a) values rows)
+  no_default a [] none rows all = all
+  no_default a (v ∷ vs) none rows all = absurd (no_end (length vs) (eqb-true (length (v ∷ vs)) 0 none))
+
+  has_no_default : (a : Rule) → is_number a ≡ true → is_empty a.defaults ≡ true
+  has_no_default a is =
+      let none = is_empty a.defaults in
+      let read = parses (parser_of_value a.parser) && none in
+      let sets = is_set (action_of a) && read in
+      let few = (most_values a == 1) && sets in
+      let later = (and_parts ((unwrap_or_range a.range).start_inclusive == 1) few is).1 in
+      let last = (and_parts (is_set (action_of a)) read (and_parts (most_values a == 1) sets later).1).1 in
+      (and_parts (parses (parser_of_value a.parser)) none last).1
+
+  other_default : (a : Rule) (values : List Text) → bytes_eq a.id id ≡ false → (rows : List Row) → AllSay rows → AllSay (default_rows a.id (reading_by a) values rows)
+  other_default a [] other rows all = all
+  other_default a (v ∷ vs) other rows all = values_say a.id (reading_by a) DefaultValue (v ∷ vs) (λ same. cc) rows all
+
+  default_says : (a : Rule) → fits a ≡ true → (rows : List Row) → AllSay rows → AllSay (with_default rows a)
+  default_says a fit rows all = go (has_row a.id rows) (bytes_eq a.id id) refl fit
+    where
+      go : (has b : Bool) → bytes_eq a.id id ≡ b → (if b then is_number a else is_plain (action_of a)) ≡ true
+          → AllSay (if has then rows else default_rows a.id (reading_by a) a.defaults rows)
+      go true b same is = all
+      go false true same is = no_default a a.defaults (has_no_default a is) rows all
+      go false false other plain = other_default a a.defaults other rows all
+
+  defaults_say : (rules : List Rule) → list_all fits rules ≡ true → (rows : List Row) → AllSay rows → AllSay (fold with_default rows rules)
+  defaults_say [] fit rows all = all
+  defaults_say (a ∷ rules) fit rows all =
+      let each = and_parts _ _ fit in
+      defaults_say rules each.1 (with_default rows a) (default_says a each.0 rows all)
+
+  -- ---- the words of the command
+
+  -- where a level has no fault, its rows say the number
+  level_says : (s : Shape) → list_all fits s.rules ≡ true → (words : List Text) → level_fault s [] nothing_held words false [] ≡ []
+      → AllSay (rows_after s.rules [] words)
+  level_says s fit words fine =
+      let again = s.args_override_self in
+      let end = (walk s.rules [] nothing_held words).held in
+      let walked = first_empty (walk_fault s [] (walk_from nothing_held) words) _ fine in
+      let ends = second_empty (walk_fault s [] (walk_from nothing_held) words) _ fine in
+      let settles = first_empty (settle_fault s.rules again end) _ ends in
+      let each : (p : Rule → Bool) → IfSome (find p s.rules) (Keeps again AllSay) = λ p. found_keeps again p s.rules fit in
+      let held = walk_keeps s AllSay each [] words (walk_from nothing_held) walked tt in
+      defaults_say s.rules fit _ (settled_keeps s AllSay each end settles held)
+
+  -- so they say it or nothing
+  pub level_may_say : (s : Shape) → list_all fits s.rules ≡ true → (words : List Text) → level_fault s [] nothing_held words false [] ≡ []
+      → MaySayWithin id least most (rows_after s.rules [] words)
+  level_may_say s fit words fine = may_say _ (level_says s fit words fine)
+
+  -- a rule of this name has to be used
+  abbrev pub is_wanted : Rule → Bool
+  is_wanted a = a.required && bytes_eq a.id id
+
+  nothing_wanted : (help command argument : Bool) → check_kinds help command argument ≡ [] → argument ≡ false
+  nothing_wanted true command argument none = cc
+  nothing_wanted false true argument none = cc
+  nothing_wanted false false true none = cc
+  nothing_wanted false false false none = refl
+
+  none_open : (negates some : Bool) → (not (negates && false) && some) ≡ false → some ≡ false
+  none_open true some none = none
+  none_open false some none = none
+
+  same_given : (name : Text) (rows : List Row) → bytes_eq name id ≡ true → is_given name rows ≡ is_given id rows
+  same_given name rows same = ap (λ n. is_given n rows) ((bytes_eq-Decides name id).0 same)
+
+  wanted_given : (rows : List Row) (rules : List Rule) → list_any is_wanted rules ≡ true
+      → list_any (λ a. a.required && not (is_given a.id rows)) rules ≡ false → is_given id rows ≡ true
+  wanted_given rows [] wanted left = cc
+  wanted_given rows (a ∷ rules) wanted left =
+      go (wanted_given rows rules) a.required (bytes_eq a.id id) refl (is_given a.id rows) refl wanted left
+    where
+      go : (list_any is_wanted rules ≡ true → list_any (λ a. a.required && not (is_given a.id rows)) rules ≡ false → is_given id rows ≡ true)
+          → (required same : Bool) → bytes_eq a.id id ≡ same → (given : Bool) → is_given a.id rows ≡ given
+          → ((required && same) || list_any is_wanted rules) ≡ true
+          → ((required && not given) || list_any (λ a. a.required && not (is_given a.id rows)) rules) ≡ false → is_given id rows ≡ true
+      go later true true same true given wanted left = sym (same_given a.id rows same) ∙ given
+      go later true true same false given wanted left = cc
+      go later true false same true given wanted left = later wanted left
+      go later true false same false given wanted left = cc
+      go later false same is given e wanted left = later wanted left
+
+  -- where the level wants the number, they say it
+  pub level_has_said : (s : Shape) → list_all fits s.rules ≡ true → list_any is_wanted s.rules ≡ true → (words : List Text)
+      → level_fault s [] nothing_held words false [] ≡ [] → SaysWithin id least most (rows_after s.rules [] words)
+  level_has_said s fit wanted words fine =
+      let again = s.args_override_self in
+      let end = (walk s.rules [] nothing_held words).held in
+      let rows = rows_after s.rules [] words in
+      let ends = second_empty (walk_fault s [] (walk_from nothing_held) words) _ fine in
+      let after = second_empty (settle_fault s.rules again end) _ ends in
+      let checked = second_empty (defaults_fault (settled s.rules end).rows s.rules) (check_fault s rows false) after in
+      let left = none_open s.subcommand_negates_reqs _ (nothing_wanted _ _ _ checked) in
+      given_says rows (level_says s fit words fine) (wanted_given rows s.rules wanted left)

@@ -1,9 +1,12 @@
 -- The command line of `desk`, as `clap` sees it.
-use Rattle.std.specs.Prelude.{ℕ, List, [], ◌∷◌, Some, codes, map, true, if◌then◌else◌}
+use Rattle.std.specs.Prelude.{ℕ, List, [], ◌∷◌, Some, codes, map, true}
 use Rattle.clap.specs.Words.{App, Rule, Text, new_app, new_rule, with_rule, with_subcommand}
-use Rattle.clap.specs.declared.builder.ArgAction.TheVariants.{Set}
+use Rattle.clap.specs.declared.builder.ArgAction.TheVariants.{Set, SetTrue}
 use Rattle.clap.specs.declared.builder.value_parser.ValueParser.TheVariants.{Unsigned}
-use Rattle.command_line.specs.Commands.{commands, input_of, least_of, most_of, number_name, second_of, takes_preference}
+use Rattle.command_line.specs.Commands.{choice_name, commands, input_of, least_of, most_of, number_name, second_of, takes_of}
+use Rattle.command_line.specs.declared.calls.Choice.{Choice}
+use Rattle.command_line.specs.declared.calls.Takes.{Takes}
+use Rattle.command_line.specs.declared.calls.Takes.TheVariants as takes
 use Rattle.command_line.specs.declared.calls.Verb.{Verb}
 use Rattle.command_line.specs.declared.calls.Verb.TheVariants.{One, Two, Number}
 
@@ -15,27 +18,43 @@ input_rule name = record (new_rule name) { required = true; action = Some Set }
 abbrev pub number_rule : (name : Text) (least most : ℕ) → Rule
 number_rule name least most = record (input_rule name) { parser = Some (Unsigned least most) }
 
--- `--prefer`, with a word
-abbrev pub preference_rule : Rule
-preference_rule = record (new_rule (codes "prefer")) {
-  long = Some (codes "prefer");
-  action = Some Set;
-  value_names = 1;
-}
+-- an option with a word
+abbrev pub word_rule : Text → Rule
+word_rule name =
+    record (new_rule name) { long = Some name; action = Some Set; value_names = 1 }
 
--- a command with one input, and with `--prefer` where that is a task set
+-- an option that takes this
+abbrev pub taking_rule : Text → Takes → Rule
+taking_rule name takes.Word = word_rule name
+taking_rule name (takes.Number least most) =
+    record (word_rule name) { parser = Some (Unsigned least most) }
+taking_rule name takes.Flag =
+    record (new_rule name) { long = Some name; action = Some SetTrue }
+
+-- an option
+abbrev pub choice_rule : Choice → Rule
+choice_rule c = taking_rule (choice_name c) (takes_of c)
+
+-- a command with one input
 abbrev pub input_app : (word input : Text) → App
-input_app word input =
-    let app = with_rule (new_app word) (input_rule input) in
-    if takes_preference input then with_rule app preference_rule else app
+input_app word input = with_rule (new_app word) (input_rule input)
 
 -- a command with the word: its input, and besides a second input or a number
-abbrev pub command_app : Text → Verb → App
-command_app word (One c) = input_app word (input_of (One c))
-command_app word (Two c) = with_rule (input_app word (input_of (Two c))) (input_rule (second_of c))
-command_app word (Number c) =
+abbrev pub verb_app : Text → Verb → App
+verb_app word (One c) = input_app word (input_of (One c))
+verb_app word (Two c) = with_rule (input_app word (input_of (Two c))) (input_rule (second_of c))
+verb_app word (Number c) =
     with_rule (input_app word (input_of (Number c)))
     (number_rule (number_name c) (least_of c) (most_of c))
+
+-- a command with further options
+abbrev pub with_choices : App → List Choice → App
+with_choices a [] = a
+with_choices a (c ∷ more) = with_choices (with_rule a (choice_rule c)) more
+
+-- a command with all that it takes
+abbrev pub command_app : Text → Verb → List Choice → App
+command_app word v options = with_choices (verb_app word v) options
 
 -- the program has a version, the words are all arguments, and one of them names a command
 abbrev pub made_bare : App → App
@@ -53,4 +72,4 @@ with_commands a (command ∷ more) = with_commands (with_subcommand a command.to
 
 -- the whole program
 abbrev pub desk_app : App
-desk_app = with_commands bare_app (map (λ row. command_app row.0 row.1) commands)
+desk_app = with_commands bare_app (map (λ row. command_app row.0 row.1 row.2) commands)

@@ -1,9 +1,17 @@
 -- The call that words name.
-use Rattle.std.specs.Prelude.{◌≡◌, ◌≢◌, ◌⊎◌, ◌≤◌, ℕ, List, [], ◌∷◌, Option, Some, None, Bool, true, false, ◌&&◌, codes}
+use Rattle.std.specs.Prelude.{◌≡◌, ◌≢◌, ◌⊎◌, ◌≤◌, ℕ, List, [], ◌∷◌, Option, Some, None, Bool, true, false, ◌&&◌, IfSome, codes, option_map}
 use Rattle.std.specs.Str.Parse.{digits_value, without_leading_plus}
 use Rattle.clap.specs.Words.{HasKind, IsUnsignedIn, Row, Text, fault_of, first_of, one_of, subcommand_of}
 use Rattle.command_line.specs.App.{desk_app}
-use Rattle.command_line.specs.Commands.{input_of, least_of, most_of, number_name, second_of, verb_of}
+use Rattle.command_line.specs.Commands.{choice_name, input_of, least_of, most_of, number_choices, number_name, second_of, takes_of, verb_of}
+use Rattle.command_line.specs.declared.calls.TheConstants.{MOST_PRIORITY, MOST_SEED}
+use Rattle.command_line.specs.declared.calls.Choice.{Choice}
+use Rattle.command_line.specs.declared.calls.Choice.TheVariants.{Base, LowerIsHigher, Seed, Tasks}
+use Rattle.command_line.specs.declared.calls.Takes.{Takes}
+use Rattle.command_line.specs.declared.calls.Takes.TheVariants as takes
+use Rattle.command_line.specs.declared.calls.Preferred.{Preferred}
+use Rattle.command_line.specs.declared.calls.Preferred.TheVariants.{Weight, Deadline}
+use Rattle.command_line.specs.declared.calls.Options.{Options as OptionsData}
 use Rattle.command_line.specs.declared.calls.Input.{Input}
 use Rattle.command_line.specs.declared.calls.Input.TheVariants.{Standard, File}
 use Rattle.command_line.specs.declared.calls.OfOne.TheVariants.{Admit}
@@ -21,58 +29,136 @@ Names None input = input ≡ Standard
 Names (Some word) Standard = word ≡ codes "-"
 Names (Some word) (File path) = (path.now ≡ word) × (word ≢ codes "-")
 
+-- the text of a word is a number from the least to the most, and this is the number
+abbrev pub CountsWithin : (least most : ℕ) → Option Text → ℕ → Type 0
+CountsWithin least most None number = ⊥
+CountsWithin least most (Some text) number =
+    IsUnsignedIn least most text × (number ≡ digits_value 10 (without_leading_plus text))
+
 -- the text of a word is a number that the command takes, and this is the number
 abbrev pub Counts : OfNumber → Option Text → ℕ → Type 0
-Counts c None number = ⊥
-Counts c (Some text) number =
-    IsUnsignedIn (least_of c) (most_of c) text
-    × (number ≡ digits_value 10 (without_leading_plus text))
+Counts c text number = CountsWithin (least_of c) (most_of c) text number
 
--- the words of the command say a number, and `clap` gives it as it was written
+-- the words of a command say under this name a number from the least to the most, and `clap` gives it as it was
+-- written
+abbrev pub SaysWithin : (name : Text) (least most : ℕ) → List Row → Type 0
+SaysWithin name least most rows =
+    (text : Text) × (first_of name rows ≡ Some text) × (one_of name rows ≡ Some text)
+    × IsUnsignedIn least most text
+
+-- or they say nothing
+abbrev pub MaySayWithin : (name : Text) (least most : ℕ) → List Row → Type 0
+MaySayWithin name least most rows =
+    ((first_of name rows ≡ None) × (one_of name rows ≡ None)) ⊎ SaysWithin name least most rows
+
+-- the words of the command say a number
 abbrev pub TakesNumber : OfNumber → List Row → Type 0
-TakesNumber c rows =
-    (text : Text) × (first_of (number_name c) rows ≡ Some text)
-    × (one_of (number_name c) rows ≡ Some text)
-    × IsUnsignedIn (least_of c) (most_of c) text
+TakesNumber c rows = SaysWithin (number_name c) (least_of c) (most_of c) rows
 
 -- the words of the command say its number, where it takes one
 abbrev pub SaysNumber : Verb → List Row → Type 0
 SaysNumber (verb.Number c) rows = TakesNumber c rows
 SaysNumber _ rows = Unit {0}
 
+-- what an option is given is a number that it takes, where it takes one
+abbrev pub MayTake : Text → Takes → List Row → Type 0
+MayTake name (takes.Number least most) rows = MaySayWithin name least most rows
+MayTake name _ rows = Unit {0}
+
+-- the same of an option by its name
+abbrev pub MayNumber : Choice → List Row → Type 0
+MayNumber c rows = MayTake (choice_name c) (takes_of c) rows
+
+-- the same of each option of a list
+abbrev pub AllMayNumber : List Choice → List Row → Type 0
+AllMayNumber [] rows = Unit {0}
+AllMayNumber (c ∷ more) rows = MayNumber c rows × AllMayNumber more rows
+
+-- each option with a number is given one that it takes, or none
+abbrev pub SayChoices : List Row → Type 0
+SayChoices rows = AllMayNumber number_choices rows
+
 -- a command of the program is named
 abbrev pub IsCommand : Option (Text × List Row) → Type 0
 IsCommand None = ⊥
-IsCommand (Some found) = (v : Verb) × (verb_of found.0 ≡ Some v) × SaysNumber v found.1
+IsCommand (Some found) =
+    (v : Verb) × (verb_of found.0 ≡ Some v) × SaysNumber v found.1 × SayChoices found.1
 
--- the word of `--prefer`, where it is given, is `deadline`; and whether it is given
-abbrev pub Prefers : List Row → Bool → Type 0
-Prefers rows true = first_of (codes "prefer") rows ≡ Some (codes "deadline")
-Prefers rows false = first_of (codes "prefer") rows ≡ None
+-- what `--prefer` says, where it is given
+abbrev pub Prefers : List Row → Option Preferred → Type 0
+Prefers rows None = first_of (codes "prefer") rows ≡ None
+Prefers rows (Some Weight) = first_of (codes "prefer") rows ≡ Some (codes "weight")
+Prefers rows (Some Deadline) = first_of (codes "prefer") rows ≡ Some (codes "deadline")
 
 -- the word of the command's `--prefer` is another
-abbrev pub PrefersOther : Option (Text × List Row) → Type 0
-PrefersOther None = ⊥
-PrefersOther (Some found) =
-    (word : Text) × (first_of (codes "prefer") found.1 ≡ Some word) × (word ≢ codes "deadline")
+abbrev pub PrefersOther : List Row → Type 0
+PrefersOther rows =
+    (word : Text) × (first_of (codes "prefer") rows ≡ Some word) × (word ≢ codes "weight")
+    × (word ≢ codes "deadline")
+
+-- this is the number of a text, where there is one, and it is from the least to the most
+abbrev pub IsCounted : (least most : ℕ) → Option Text → Option ℕ → Type 0
+IsCounted least most text None = text ≡ None
+IsCounted least most text (Some number) = CountsWithin least most text number
+
+-- the same, where a number is taken
+abbrev pub IsTaken : Takes → Option Text → Option ℕ → Type 0
+IsTaken (takes.Number least most) text number = IsCounted least most text number
+IsTaken _ text number = Unit {0}
+
+-- the number that an option is given
+abbrev pub IsNumberOf : Choice → List Row → Option ℕ → Type 0
+IsNumberOf c rows number = IsTaken (takes_of c) (first_of (choice_name c) rows) number
+
+-- whether a flag is given, for which `clap` notes `true`
+abbrev pub Flags : Choice → List Row → Bool → Type 0
+Flags c rows true = first_of (choice_name c) rows ≡ Some (codes "true")
+Flags c rows false = first_of (choice_name c) rows ≢ Some (codes "true")
+
+-- what the words of a command choose
+pub record AreOptions (rows : List Row) (options : OptionsData) : Type 0 where
+  pub prefer : Prefers rows options.prefer
+  pub task : option_map (λ s. s.now) options.task ≡ first_of (codes "task") rows
+  pub base : IsNumberOf Base rows options.base
+  pub lower_is_higher : Flags LowerIsHigher rows options.lower_is_higher
+  pub seed : IsNumberOf Seed rows options.seed
+  pub by_task : Flags Tasks rows options.by_task
+
+-- nothing is chosen
+abbrev pub no_options : OptionsData
+no_options =
+    record {
+      prefer = None;
+      task = None;
+      base = None;
+      lower_is_higher = false;
+      seed = None;
+      by_task = false;
+    }
+
+-- the numbers that are chosen are ones that their options take
+abbrev pub HaveNumbers : OptionsData → Type 0
+HaveNumbers options =
+    IfSome options.base (λ base. (1 ≤ base) × (base ≤ MOST_PRIORITY))
+    × IfSome options.seed (λ seed. (0 ≤ seed) × (seed ≤ MOST_SEED))
 
 -- the call that a command names, with what was found of its arguments
 abbrev pub IsCall : Option (Text × List Row) → Call → Type 0
 IsCall None call = ⊥
-IsCall (Some found) (One c input by_deadline) =
+IsCall (Some found) (One c input options) =
     (verb_of found.0 ≡ Some (verb.One c)) × Names (first_of (input_of (verb.One c)) found.1) input
-    × Prefers found.1 by_deadline
-IsCall (Some found) (Two c first second by_deadline) =
+    × AreOptions found.1 options
+IsCall (Some found) (Two c first second options) =
     (verb_of found.0 ≡ Some (verb.Two c)) × Names (first_of (codes "SET") found.1) first
-    × Names (first_of (second_of c) found.1) second × Prefers found.1 by_deadline
-IsCall (Some found) (Number c input number by_deadline) =
+    × Names (first_of (second_of c) found.1) second × AreOptions found.1 options
+IsCall (Some found) (Number c input number options) =
     (verb_of found.0 ≡ Some (verb.Number c))
     × Names (first_of (input_of (verb.Number c)) found.1) input
-    × Counts c (first_of (number_name c) found.1) number × Prefers found.1 by_deadline
+    × Counts c (first_of (number_name c) found.1) number × AreOptions found.1 options
 
 -- no words call `admit` of standard input; else they call what `clap`'s matches of them name
 abbrev pub Calls : List Text → Call → Type 0
-Calls [] call = call ≡ One Admit Standard false
+Calls [] call = call ≡ One Admit Standard no_options
 Calls (word ∷ words) call = IsCall (subcommand_of desk_app (word ∷ words)) call
 
 -- the input is standard input
@@ -82,13 +168,15 @@ is_standard (File path) = false
 
 -- two inputs of the call are standard input
 abbrev pub is_twice : Call → Bool
-is_twice (Two c first second by_deadline) = is_standard first && is_standard second
+is_twice (Two c first second options) = is_standard first && is_standard second
 is_twice _ = false
 
--- the number of a call is one that its command takes
+-- the numbers of a call are ones that its command and its options take
 abbrev pub HasNumber : Call → Type 0
-HasNumber (Number c input number by_deadline) = (least_of c ≤ number) × (number ≤ most_of c)
-HasNumber _ = Unit {0}
+HasNumber (One c input options) = HaveNumbers options
+HasNumber (Two c first second options) = HaveNumbers options
+HasNumber (Number c input number options) =
+    HaveNumbers options × (least_of c ≤ number) × (number ≤ most_of c)
 
 -- there are no words, or `clap` takes them
 abbrev pub AreTakenWords : List Text → Type 0
@@ -99,6 +187,6 @@ AreTakenWords words = (words ≡ []) ⊎ (fault_of desk_app words ≡ [])
 abbrev pub IsWordsFault : List Text → WordsFault → Type 0
 IsWordsFault words (fault.Clap error) = (words ≢ []) × HasKind (fault_of desk_app words) error
 IsWordsFault words fault.NoSuchPreference =
-    AreTakenWords words × PrefersOther (subcommand_of desk_app words)
+    AreTakenWords words × IfSome (subcommand_of desk_app words) (λ found. PrefersOther found.1)
 IsWordsFault words fault.InputTwice =
     AreTakenWords words × (call : Call) × Calls words call × (is_twice call ≡ true)

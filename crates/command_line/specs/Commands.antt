@@ -1,27 +1,40 @@
 -- The commands of `desk`: their words, and the names of what they take.
-use Rattle.std.specs.Prelude.{ℕ, Bool, List, [], ◌∷◌, Option, codes, option_map}
+use Rattle.std.specs.Prelude.{ℕ, List, [], ◌∷◌, Option, codes, option_map}
 use Rattle.std.specs.List.{find}
 use Rattle.std.specs.Str.{bytes_eq}
 use Rattle.clap.specs.Words.{Text}
-use Rattle.command_line.specs.declared.calls.OfOne.TheVariants.{Admit, Certify, Headroom, Settings, Explain, Play}
+use Rattle.command_line.specs.declared.calls.OfOne.TheVariants.{Admit, Certify, Limits, Settings, Explain, Play}
 use Rattle.command_line.specs.declared.calls.OfTwo.{OfTwo}
-use Rattle.command_line.specs.declared.calls.OfTwo.TheVariants.{Check, Judge, Simulate, Draw}
+use Rattle.command_line.specs.declared.calls.OfTwo.TheVariants.{Check, Judge, Diff, Simulate, Draw}
 use Rattle.command_line.specs.declared.calls.OfNumber.{OfNumber}
-use Rattle.command_line.specs.declared.calls.OfNumber.TheVariants.{Releases, Rush}
+use Rattle.command_line.specs.declared.calls.OfNumber.TheVariants.{Releases, Script, Rush}
 use Rattle.command_line.specs.declared.calls.Verb.{Verb}
 use Rattle.command_line.specs.declared.calls.Verb.TheVariants.{One, Two, Number}
-use Rattle.command_line.specs.declared.calls.TheConstants.{MOST_WORKERS, LATEST_END}
+use Rattle.command_line.specs.declared.calls.Choice.{Choice}
+use Rattle.command_line.specs.declared.calls.Choice.TheVariants.{Prefer, Task, Base, LowerIsHigher, Seed, Tasks}
+use Rattle.command_line.specs.declared.calls.Takes.{Takes}
+use Rattle.command_line.specs.declared.calls.Takes.TheVariants as takes
+use Rattle.command_line.specs.declared.calls.TheConstants.{MOST_WORKERS, MOST_TEAM, MOST_PRIORITY, MOST_SEED, LATEST_END}
 
--- the commands with their words, as help lists them: those that answer on a task set, those for certificates and
--- runs, those for scripts
-abbrev pub commands : List (Text × Verb)
+-- the commands with their words and the options that they take, as help lists them: those that answer on a task set,
+-- those for certificates and runs, those for scripts
+abbrev pub commands : List (Text × Verb × List Choice)
 commands =
-    (codes "admit", One Admit) ∷ (codes "explain", One Explain) ∷ (codes "headroom", One Headroom)
-    ∷ (codes "settings", One Settings) ∷ (codes "judge", Two Judge)
-    ∷ (codes "certify", One Certify) ∷ (codes "check", Two Check)
-    ∷ (codes "releases", Number Releases) ∷ (codes "simulate", Two Simulate)
-    ∷ (codes "draw", Two Draw)
-    ∷ (codes "play", One Play) ∷ (codes "rush", Number Rush) ∷ []
+    (codes "admit", One Admit, Prefer ∷ [])
+    ∷ (codes "explain", One Explain, Prefer ∷ Task ∷ [])
+    ∷ (codes "limits", One Limits, Prefer ∷ Task ∷ [])
+    ∷ (codes "settings", One Settings, Prefer ∷ [])
+    ∷ (codes "judge", Two Judge, Prefer ∷ [])
+    ∷ (codes "diff", Two Diff, Prefer ∷ [])
+    ∷ (codes "certify", One Certify, Prefer ∷ [])
+    ∷ (codes "check", Two Check, Prefer ∷ [])
+    ∷ (codes "releases", Number Releases, Prefer ∷ Seed ∷ [])
+    ∷ (codes "simulate", Two Simulate, Prefer ∷ Tasks ∷ [])
+    ∷ (codes "draw", Two Draw, Prefer ∷ [])
+    ∷ (codes "script", Number Script, Prefer ∷ [])
+    ∷ (codes "play", One Play, [])
+    ∷ (codes "rush", Number Rush, [])
+    ∷ []
 
 -- the command that has the word
 unfoldable pub verb_of : Text → Option Verb
@@ -33,27 +46,49 @@ input_of (One Play) = codes "SCRIPT"
 input_of (Number Rush) = codes "SCRIPT"
 input_of _ = codes "SET"
 
--- a command whose input has this name reads a task set, and takes `--prefer`
-abbrev pub takes_preference : Text → Bool
-takes_preference input = bytes_eq input (codes "SET")
-
 -- the name of the second input of a command that takes two
 abbrev pub second_of : OfTwo → Text
 second_of Check = codes "CERT"
 second_of Judge = codes "SETTINGS"
+second_of Diff = codes "NEW"
 second_of _ = codes "RELEASES"
 
 -- the name of the number of a command that takes one
 abbrev pub number_name : OfNumber → Text
 number_name Releases = codes "UNTIL"
+number_name Script = codes "TEAM"
 number_name Rush = codes "WORKERS"
 
 -- the least number that it takes
 abbrev pub least_of : OfNumber → ℕ
 least_of Releases = 0
+least_of Script = 1
 least_of Rush = 1
 
 -- the greatest number that it takes
 abbrev pub most_of : OfNumber → ℕ
 most_of Releases = LATEST_END
+most_of Script = MOST_TEAM
 most_of Rush = MOST_WORKERS
+
+-- the word of an option, behind its dashes
+abbrev pub choice_name : Choice → Text
+choice_name Prefer = codes "prefer"
+choice_name Task = codes "task"
+choice_name Base = codes "base"
+choice_name LowerIsHigher = codes "lower-is-higher"
+choice_name Seed = codes "seed"
+choice_name Tasks = codes "tasks"
+
+-- what an option takes
+abbrev pub takes_of : Choice → Takes
+takes_of Prefer = takes.Word
+takes_of Task = takes.Word
+takes_of Base = takes.Number 1 MOST_PRIORITY
+takes_of LowerIsHigher = takes.Flag
+takes_of Seed = takes.Number 0 MOST_SEED
+takes_of Tasks = takes.Flag
+
+-- the options that take a number
+abbrev pub number_choices : List Choice
+number_choices = Base ∷ Seed ∷ []

@@ -1,13 +1,23 @@
 //! The calls of `desk`.
 ghost use Rattle.std.specs.Prelude.{◌≡◌, pos};
 ghost use Rattle.command_line.specs.Calls.{is_standard, is_twice};
-ghost use Rattle.command_line.specs.Commands.{input_of, least_of, most_of, number_name, second_of};
+ghost use Rattle.command_line.specs.Calls.{no_options};
+ghost use Rattle.command_line.specs.Commands.{choice_name, input_of, least_of, most_of, number_name, second_of, takes_of};
 
 /// The most threads that test the set of a commit.
 pub const MOST_WORKERS: usize = 8;
 
+/// The greatest number of a team.
+pub const MOST_TEAM: usize = 8;
+
 /// The latest end of a run, in microseconds.
 pub const LATEST_END: usize = 60_000_000;
+
+/// The greatest number of a priority.
+pub const MOST_PRIORITY: usize = 1_000_000;
+
+/// The greatest seed of a random release list.
+pub const MOST_SEED: usize = 4_294_967_295;
 
 /// An input that a word names.
 #[derive(Clone, Copy, Debug, PartialEq, Eq)]
@@ -25,8 +35,8 @@ pub enum OfOne {
     Admit,
     /// `certify SET`
     Certify,
-    /// `headroom SET`
-    Headroom,
+    /// `limits SET`
+    Limits,
     /// `settings SET`
     Settings,
     /// `explain SET`
@@ -42,6 +52,8 @@ pub enum OfTwo {
     Check,
     /// `judge SET SETTINGS`
     Judge,
+    /// `diff SET NEW`
+    Diff,
     /// `simulate SET RELEASES`
     Simulate,
     /// `draw SET RELEASES`
@@ -53,6 +65,8 @@ pub enum OfTwo {
 pub enum OfNumber {
     /// `releases SET UNTIL`
     Releases,
+    /// `script SET TEAM`
+    Script,
     /// `rush SCRIPT WORKERS`
     Rush,
 }
@@ -74,26 +88,76 @@ pub(crate) enum Verb {
     Number(OfNumber),
 }
 
-/// A command with its inputs. `by_deadline` says that `--prefer deadline` is given: the deadlines of the tasks stand in
-/// for their weights. A command that reads no task set is never given it.
+// An option that commands take.
+#[derive(Clone, Copy)]
+pub(crate) enum Choice {
+    // `--prefer weight|deadline`
+    Prefer,
+    // `--task NAME`
+    Task,
+    // `--base N`
+    Base,
+    // `--lower-is-higher`
+    LowerIsHigher,
+    // `--seed N`
+    Seed,
+    // `--tasks`
+    Tasks,
+}
+
+// What an option takes: a word, a number from the least to the most, or nothing.
+#[derive(Clone, Copy)]
+pub(crate) enum Takes {
+    Word,
+    Number { least: u32, most: u32 },
+    Flag,
+}
+
+/// What decides among the orders that pass.
+#[derive(Clone, Copy, Debug, PartialEq, Eq)]
+pub enum Preferred {
+    /// The weights of the tasks.
+    Weight,
+    /// Their deadlines, in place of the weights.
+    Deadline,
+}
+
+/// What a call's words choose beside its inputs. Where a command does not take an option, no words choose it.
+#[derive(Clone, Copy, Debug, PartialEq, Eq)]
+pub struct Options<'a> {
+    /// `--prefer weight|deadline`
+    pub prefer: Option<Preferred>,
+    /// `--task NAME`: the task that is asked about.
+    pub task: Option<&'a str>,
+    /// `--base N`: the priority of level 1.
+    pub base: Option<usize>,
+    /// `--lower-is-higher`: the smaller number is the higher priority.
+    pub lower_is_higher: bool,
+    /// `--seed N`: the seed of a random release list.
+    pub seed: Option<usize>,
+    /// `--tasks`: what each task came to in a run, in place of its trace.
+    pub by_task: bool,
+}
+
+/// A command with its inputs, and what its words choose.
 #[derive(Clone, Copy, Debug, PartialEq, Eq)]
 pub enum Call<'a> {
     One {
         command: OfOne,
         input: Input<'a>,
-        by_deadline: bool,
+        options: Options<'a>,
     },
     Two {
         command: OfTwo,
         first: Input<'a>,
         second: Input<'a>,
-        by_deadline: bool,
+        options: Options<'a>,
     },
     Number {
         command: OfNumber,
         input: Input<'a>,
         number: usize,
-        by_deadline: bool,
+        options: Options<'a>,
     },
 }
 
@@ -113,6 +177,7 @@ impl OfTwo {
         match self {
             OfTwo::Check => "CERT",
             OfTwo::Judge => "SETTINGS",
+            OfTwo::Diff => "NEW",
             OfTwo::Simulate | OfTwo::Draw => "RELEASES",
         }
     }
@@ -132,12 +197,89 @@ impl OfNumber {
                 least: 0,
                 most: LATEST_END as i64,
             },
+            OfNumber::Script => Number {
+                name: "TEAM",
+                help: "The number of the team whose script it is, from 1 to 8",
+                least: 1,
+                most: MOST_TEAM as i64,
+            },
             OfNumber::Rush => Number {
                 name: "WORKERS",
                 help: "How many threads may test the set of a commit, from 1 to 8",
                 least: 1,
                 most: MOST_WORKERS as i64,
             },
+        }
+    }
+}
+
+impl Choice {
+    // Its word, behind the dashes.
+    pub(crate) fn name<'a>(self) -> &'a str
+        ensures { result.now ≡ choice_name self }
+    {
+        match self {
+            Choice::Prefer => "prefer",
+            Choice::Task => "task",
+            Choice::Base => "base",
+            Choice::LowerIsHigher => "lower-is-higher",
+            Choice::Seed => "seed",
+            Choice::Tasks => "tasks",
+        }
+    }
+
+    // What it takes.
+    pub(crate) fn takes(self) -> Takes
+        ensures { result ≡ takes_of self }
+    {
+        match self {
+            Choice::Prefer | Choice::Task => Takes::Word,
+            Choice::Base => Takes::Number {
+                least: 1,
+                most: MOST_PRIORITY as u32,
+            },
+            Choice::Seed => Takes::Number {
+                least: 0,
+                most: MOST_SEED as u32,
+            },
+            Choice::LowerIsHigher | Choice::Tasks => Takes::Flag,
+        }
+    }
+
+    // What help calls the word or the number that it takes.
+    pub(crate) fn value_name<'a>(self) -> &'a str {
+        match self {
+            Choice::Prefer => "ORDER",
+            Choice::Task => "NAME",
+            Choice::Base | Choice::Seed | Choice::LowerIsHigher | Choice::Tasks => "N",
+        }
+    }
+
+    // What it chooses.
+    pub(crate) fn help<'a>(self) -> &'a str {
+        match self {
+            Choice::Prefer => "What decides among the orders that pass: weight or deadline",
+            Choice::Task => "The task that is asked about, alone",
+            Choice::Base => "The priority of level 1, from 1 to 1000000",
+            Choice::LowerIsHigher => "The smaller number is the higher priority",
+            Choice::Seed => "A random list in place of the densest, the same for the same seed",
+            Choice::Tasks => "What each task came to, in place of who executes when",
+        }
+    }
+}
+
+impl<'a> Options<'a> {
+    /// Where nothing is chosen.
+    pub fn none() -> Options<'a>
+        ensures { result ≡ no_options }
+    {
+        Options {
+            prefer: None,
+            task: None,
+            base: None,
+            lower_is_higher: false,
+            seed: None,
+            by_task: false,
         }
     }
 }

@@ -4,21 +4,23 @@ ghost use Rattle.std.specs.List.{find};
 ghost use Rattle.std.specs.Str.{bytes_eq};
 ghost use Rattle.clap.specs.Words.{app_of, rule_of, with_rule, with_subcommand};
 ghost use Rattle.clap.specs.declared.builder.command.Command.TheViews.{out-Command as fields_of};
-ghost use Rattle.command_line.specs.App.{bare_app, command_app, desk_app, input_app, input_rule, number_rule, preference_rule};
-ghost use Rattle.command_line.specs.Commands.{commands, input_of, least_of, most_of, number_name, verb_of};
+ghost use Rattle.command_line.specs.App.{bare_app, choice_rule, command_app, desk_app, input_rule, number_rule, verb_app, with_choices};
+ghost use Rattle.command_line.specs.Commands.{commands, least_of, most_of, number_name, verb_of};
 
-use crate::calls::{OfNumber, OfOne, OfTwo, Verb};
+use crate::calls::{Choice, OfNumber, OfOne, OfTwo, Takes, Verb};
 use clap::{Arg, ArgAction, Command, value_parser};
 use std::alloc::{AllocError, Global};
 
 // The program's version.
 const VERSION: &str = "0.5.0";
 
-// A command as help lists it: its word, what it does, and how it is called, with what its statuses say.
+// A command as help lists it: its word, the options that it takes, what it does, and how it is called, with what its
+// statuses say.
 #[derive(Clone, Copy)]
 struct Listed {
     verb: Verb,
     word: &'static str,
+    options: &'static [Choice],
     about: &'static str,
     example: &'static str,
 }
@@ -39,10 +41,11 @@ macro_rules! example {
 }
 
 // The commands, as help lists them: those that answer on a task set, those for certificates and runs, those for scripts.
-const COMMANDS: [Listed; 12] = [
+const COMMANDS: [Listed; 14] = [
     Listed {
         verb: Verb::One(OfOne::Admit),
         word: "admit",
+        options: &[Choice::Prefer],
         about: "Prints the best order with its responses, or the tasks that stand in the way of all",
         example: example!(
             "admit examples/shared-lock.toml",
@@ -52,6 +55,7 @@ const COMMANDS: [Listed; 12] = [
     Listed {
         verb: Verb::One(OfOne::Explain),
         word: "explain",
+        options: &[Choice::Prefer, Choice::Task],
         about: "Prints what each response is made of, or a least set of tasks that collide",
         example: example!(
             "explain examples/shared-lock.toml",
@@ -59,17 +63,19 @@ const COMMANDS: [Listed; 12] = [
         ),
     },
     Listed {
-        verb: Verb::One(OfOne::Headroom),
-        word: "headroom",
-        about: "Prints the greatest cost of each task with which some order passes, all else equal",
+        verb: Verb::One(OfOne::Limits),
+        word: "limits",
+        options: &[Choice::Prefer, Choice::Task],
+        about: "Prints how far each number of a set may go with some order passing, all else equal",
         example: example!(
-            "headroom examples/shared-lock.toml",
+            "limits examples/robot.toml",
             "0 admitted, 3 infeasible, 4 the set is refused"
         ),
     },
     Listed {
         verb: Verb::One(OfOne::Settings),
         word: "settings",
+        options: &[Choice::Prefer],
         about: "Prints the level of each thread and the ceiling of each mutex in the best order",
         example: example!(
             "settings examples/shared-lock.toml",
@@ -79,6 +85,7 @@ const COMMANDS: [Listed; 12] = [
     Listed {
         verb: Verb::Two(OfTwo::Judge),
         word: "judge",
+        options: &[Choice::Prefer],
         about: "Prints which tasks meet their deadlines at priorities that are given",
         example: example!(
             "settings examples/shared-lock.toml | desk judge examples/shared-lock.toml -",
@@ -86,8 +93,19 @@ const COMMANDS: [Listed; 12] = [
         ),
     },
     Listed {
+        verb: Verb::Two(OfTwo::Diff),
+        word: "diff",
+        options: &[Choice::Prefer],
+        about: "Prints what a change of a task set does to each task",
+        example: example!(
+            "diff examples/robot.toml examples/robot-mended.toml",
+            "0 the new set is admitted, 3 it is infeasible, 4 a set is refused"
+        ),
+    },
+    Listed {
         verb: Verb::One(OfOne::Certify),
         word: "certify",
+        options: &[Choice::Prefer],
         about: "Prints a certificate of what admit answers",
         example: example!(
             "certify examples/shared-lock.toml",
@@ -97,6 +115,7 @@ const COMMANDS: [Listed; 12] = [
     Listed {
         verb: Verb::Two(OfTwo::Check),
         word: "check",
+        options: &[Choice::Prefer],
         about: "Checks a certificate against a task set, whoever wrote it",
         example: example!(
             "check examples/three-tasks.toml examples/three-tasks.cert",
@@ -106,7 +125,8 @@ const COMMANDS: [Listed; 12] = [
     Listed {
         verb: Verb::Number(OfNumber::Releases),
         word: "releases",
-        about: "Prints the densest release list that a set allows, for simulate and draw",
+        options: &[Choice::Prefer, Choice::Seed],
+        about: "Prints the densest release list that a set allows, or a random one, for simulate and draw",
         example: example!(
             "releases examples/shared-lock.toml 100000",
             "0 printed, 4 the set is refused or the list too long"
@@ -115,6 +135,7 @@ const COMMANDS: [Listed; 12] = [
     Listed {
         verb: Verb::Two(OfTwo::Simulate),
         word: "simulate",
+        options: &[Choice::Prefer, Choice::Tasks],
         about: "Runs a release list in a simulated kernel, at the levels of the best order",
         example: example!(
             "simulate examples/shared-lock.toml examples/shared-lock.releases",
@@ -124,6 +145,7 @@ const COMMANDS: [Listed; 12] = [
     Listed {
         verb: Verb::Two(OfTwo::Draw),
         word: "draw",
+        options: &[Choice::Prefer],
         about: "Draws the run that simulate prints, as an SVG document",
         example: example!(
             "draw examples/shared-lock.toml examples/shared-lock.releases > run.svg",
@@ -131,8 +153,19 @@ const COMMANDS: [Listed; 12] = [
         ),
     },
     Listed {
+        verb: Verb::Number(OfNumber::Script),
+        word: "script",
+        options: &[Choice::Prefer],
+        about: "Prints a task set as the script of a team, for play and rush",
+        example: example!(
+            "script examples/shared-lock.toml 1",
+            "0 printed, 4 the set is refused"
+        ),
+    },
+    Listed {
         verb: Verb::One(OfOne::Play),
         word: "play",
+        options: &[],
         about: "Plays a script of drafts, findings and commits, and prints what each line comes to",
         example: example!(
             "play examples/two-teams-fit.script",
@@ -142,6 +175,7 @@ const COMMANDS: [Listed; 12] = [
     Listed {
         verb: Verb::Number(OfNumber::Rush),
         word: "rush",
+        options: &[],
         about: "Runs the lines of each team of a script on a thread of its own, and prints the log and the book",
         example: example!(
             "rush examples/two-teams-fit.script 4",
@@ -153,7 +187,7 @@ const COMMANDS: [Listed; 12] = [
 
 // The list of the commands.
 fn listed_commands<'a>() -> &'a [Listed]
-    ensures { map (λ l. (l.word.now, l.verb)) result.now ≡ commands }
+    ensures { map (λ l. (l.word.now, l.verb, l.options.now)) result.now ≡ commands }
 {
     &COMMANDS
 }
@@ -179,6 +213,7 @@ pub(crate) fn verb_named(word: &str) -> Option<Verb>
 fn input_help<'a>(name: &str) -> &'a str {
     match name {
         "CERT" => "A certificate: a path, or - for standard input",
+        "NEW" => "The task set that it becomes: a path, or - for standard input",
         "RELEASES" => "A release list: a path, or - for standard input",
         "SCRIPT" => "A script: a path, or - for standard input",
         "SETTINGS" => "Lines as settings prints them: a path, or - for standard input",
@@ -197,16 +232,21 @@ fn input_arg<'a>(alloc: Global, name: &'a str) -> Arg<'a>
         .help(input_help(name))
 }
 
-// The option `--prefer`.
-fn preference_arg<'a>(alloc: Global) -> Arg<'a>
-    ensures rule { rule_of result ≡ preference_rule }
+// An option.
+fn choice_arg<'a>(alloc: Global, choice: Choice) -> Arg<'a>
+    ensures rule { rule_of result ≡ choice_rule choice }
     ensures local { result.global ≡ false }
 {
-    Arg::new(alloc, "prefer")
-        .long("prefer")
-        .action(ArgAction::Set)
-        .value_name("ORDER")
-        .help("What decides among the orders that pass in place of the weights: deadline")
+    let name = choice.name();
+    let named = Arg::new(alloc, name).long(name).help(choice.help());
+    match choice.takes() {
+        Takes::Word => named.action(ArgAction::Set).value_name(choice.value_name()),
+        Takes::Number { least, most } => named
+            .action(ArgAction::Set)
+            .value_name(choice.value_name())
+            .value_parser(value_parser!(usize).range(i64::from(least)..=i64::from(most))),
+        Takes::Flag => named.action(ArgAction::SetTrue),
+    }
 }
 
 // The number that a command takes.
@@ -223,23 +263,6 @@ fn number_arg<'a>(alloc: Global, command: OfNumber) -> Arg<'a>
         .value_parser(value_parser!(usize).range(number.least..=number.most))
 }
 
-// A command with its first input, and with `--prefer` where that is a task set.
-fn input_command<'a>(alloc: Global, listed: Listed) -> Result<Command<'a>, AllocError>
-    ensures app { IfOk result (λ c. app_of c ≡ input_app listed.word.now (input_of listed.verb)) }
-    ensures local { IfOk result (λ c. (fields_of c).has_globals ≡ false) }
-{
-    let bare = Command::new(alloc, listed.word)
-        .about(listed.about)
-        .after_help(listed.example);
-    let input = listed.verb.input();
-    let command = with_arg(bare, input_arg(alloc, input))?;
-    if input == "SET" {
-        with_arg(command, preference_arg(alloc))
-    } else {
-        Ok(command)
-    }
-}
-
 // A command with one more argument.
 fn with_arg<'a>(command: Command<'a>, arg: Arg<'a>) -> Result<Command<'a>, AllocError>
     requires command { (fields_of command).has_globals ≡ false }
@@ -248,21 +271,50 @@ fn with_arg<'a>(command: Command<'a>, arg: Arg<'a>) -> Result<Command<'a>, Alloc
         (rule_of arg.entry)) }
     ensures local { IfOk result (λ c. (fields_of c).has_globals ≡ false) }
 {
-    let both = command.arg(arg)?;
-    Ok(both)
+    command.arg(arg)
 }
 
-// A command with all that it takes.
-fn command_of<'a>(alloc: Global, listed: Listed) -> Result<Command<'a>, AllocError>
-    ensures app { IfOk result (λ c. app_of c ≡ command_app listed.word.now listed.verb) }
+// A command with its inputs and its number.
+fn verb_command<'a>(alloc: Global, listed: &Listed) -> Result<Command<'a>, AllocError>
+    ensures app { IfOk result (λ c. app_of c ≡ verb_app listed.now.word.now listed.now.verb) }
     ensures local { IfOk result (λ c. (fields_of c).has_globals ≡ false) }
 {
-    let first = input_command(alloc, listed)?;
+    let bare = Command::new(alloc, listed.word)
+        .about(listed.about)
+        .after_help(listed.example);
+    let first = with_arg(bare, input_arg(alloc, listed.verb.input()))?;
     match listed.verb {
         Verb::One(_) => Ok(first),
         Verb::Two(command) => with_arg(first, input_arg(alloc, command.second())),
         Verb::Number(command) => with_arg(first, number_arg(alloc, command)),
     }
+}
+
+// A command with further options.
+fn with_options<'a>(
+    alloc: Global,
+    command: Command<'a>,
+    options: &[Choice],
+) -> Result<Command<'a>, AllocError>
+    requires { (fields_of command).has_globals ≡ false }
+    ensures app { IfOk result (λ c. app_of c ≡ with_choices (app_of command.entry) options.now) }
+    ensures local { IfOk result (λ c. (fields_of c).has_globals ≡ false) }
+{
+    let mut made = command;
+    for choice in options {
+        made = with_arg(made, choice_arg(alloc, *choice))?;
+    }
+    Ok(made)
+}
+
+// A command with all that it takes.
+fn command_of<'a>(alloc: Global, listed: &Listed) -> Result<Command<'a>, AllocError>
+    ensures app { IfOk result (λ c. app_of c ≡ command_app listed.now.word.now listed.now.verb
+        listed.now.options.now) }
+    ensures local { IfOk result (λ c. (fields_of c).has_globals ≡ false) }
+{
+    let command = verb_command(alloc, listed)?;
+    with_options(alloc, command, listed.options)
 }
 
 // The program with no command yet.
@@ -289,8 +341,22 @@ fn with_command<'a>(above: Command<'a>, command: Command<'a>) -> Result<Command<
         (app_of command.entry).top) }
     ensures local { IfOk result (λ c. (fields_of c).has_globals ≡ false) }
 {
-    let both = above.subcommand(command)?;
-    Ok(both)
+    above.subcommand(command)
+}
+
+// The program with the command of one more row.
+fn with_listed<'a>(
+    alloc: Global,
+    above: Command<'a>,
+    listed: &Listed,
+) -> Result<Command<'a>, AllocError>
+    requires { (fields_of above).has_globals ≡ false }
+    ensures app { IfOk result (λ c. app_of c ≡ with_subcommand (app_of above.entry)
+        (command_app listed.now.word.now listed.now.verb listed.now.options.now).top) }
+    ensures local { IfOk result (λ c. (fields_of c).has_globals ≡ false) }
+{
+    let command = command_of(alloc, listed)?;
+    with_command(above, command)
 }
 
 // The program with all its commands.
@@ -300,7 +366,7 @@ pub(crate) fn desk_command<'a>(alloc: Global) -> Result<Command<'a>, AllocError>
 {
     let mut desk = bare_command(alloc)?;
     for listed in listed_commands() {
-        desk = with_command(desk, command_of(alloc, *listed)?)?;
+        desk = with_listed(alloc, desk, listed)?;
     }
     Ok(desk)
 }

@@ -3,9 +3,9 @@ ghost use Rattle.std.specs.Prelude.{◌≡◌, ◌≢◌, map, Ok, Some, None, E
 ghost use Rattle.clap.specs.Words.{FailsBy, fault_of, first_of, found_of, rows_of, subcommand_of, subcommand_rows_of};
 ghost use Rattle.command_line.specs.App.{desk_app};
 ghost use Rattle.command_line.specs.Commands.{number_name};
-ghost use Rattle.command_line.specs.Calls.{Calls, Counts, HasNumber, IsCall, IsCommand, AreTakenWords, IsWordsFault, Names, Prefers, PrefersOther, TakesNumber, is_twice};
+ghost use Rattle.command_line.specs.Calls.{AreOptions, Calls, Counts, Flags, HasNumber, IsCall, IsCommand, AreTakenWords, IsWordsFault, MayNumber, IsNumberOf, Names, Prefers, PrefersOther, SayChoices, TakesNumber, is_twice};
 
-use crate::calls::{Call, Input, OfNumber, OfOne, Verb};
+use crate::calls::{Call, Choice, Input, OfNumber, OfOne, Options, Preferred, Verb};
 use crate::commands::{desk_command, verb_named};
 use clap::{ArgMatches, Error};
 use std::alloc::Global;
@@ -15,7 +15,7 @@ use std::alloc::Global;
 pub enum WordsFault {
     /// `clap`'s error, which help is too, or want of memory.
     Clap(Error),
-    /// `--prefer` is given a word other than `deadline`.
+    /// `--prefer` is given a word other than `weight` and `deadline`.
     NoSuchPreference,
     /// Standard input is named twice.
     InputTwice,
@@ -43,18 +43,53 @@ fn input_at<'a>(matches: &ArgMatches<'a>, id: &str) -> Input<'a>
     }
 }
 
-// Whether the words of the command prefer the order by deadlines. None where they prefer another.
-fn preference_at(matches: &ArgMatches<'_>) -> Option<bool>
+// What the words of the command prefer, where they say it. None where that is something else.
+fn preference_at(matches: &ArgMatches<'_>) -> Option<Option<Preferred>>
     ensures known { IfSome result (Prefers (rows_of (found_of matches.now))) }
-    ensures none { result ≡ None
-        → (word : _) × (first_of (codes "prefer") (rows_of (found_of matches.now)) ≡ Some word)
-        × (word ≢ codes "deadline") }
+    ensures none { result ≡ None → PrefersOther (rows_of (found_of matches.now)) }
 {
     match matches.get_str("prefer") {
-        None => Some(false),
-        Some("deadline") => Some(true),
+        None => Some(None),
+        Some("weight") => Some(Some(Preferred::Weight)),
+        Some("deadline") => Some(Some(Preferred::Deadline)),
         Some(_) => None,
     }
+}
+
+// The number that an option is given.
+fn number_chosen(matches: &ArgMatches<'_>, choice: Choice) -> Option<usize>
+    requires { MayNumber choice (rows_of (found_of matches.now)) }
+    ensures { IsNumberOf choice (rows_of (found_of matches.now)) result }
+{
+    matches.get_one::<usize>(choice.name())
+}
+
+// Whether a flag is given.
+fn flag_chosen(matches: &ArgMatches<'_>, choice: Choice) -> bool
+    ensures { Flags choice (rows_of (found_of matches.now)) result }
+{
+    match matches.get_str(choice.name()) {
+        None => false,
+        Some("true") => true,
+        Some(_) => false,
+    }
+}
+
+// What the words of the command choose. None where they prefer something else than weights or deadlines.
+fn options_at<'a>(matches: &ArgMatches<'a>) -> Option<Options<'a>>
+    requires { SayChoices (rows_of (found_of matches.now)) }
+    ensures known { IfSome result (AreOptions (rows_of (found_of matches.now))) }
+    ensures none { result ≡ None → PrefersOther (rows_of (found_of matches.now)) }
+{
+    let prefer = preference_at(matches)?;
+    Some(Options {
+        prefer,
+        task: matches.get_str("task"),
+        base: number_chosen(matches, Choice::Base),
+        lower_is_higher: flag_chosen(matches, Choice::LowerIsHigher),
+        seed: number_chosen(matches, Choice::Seed),
+        by_task: flag_chosen(matches, Choice::Tasks),
+    })
 }
 
 // The number that the words of the command say.
@@ -70,9 +105,9 @@ fn number_at(matches: &ArgMatches<'_>, command: OfNumber) -> usize
 }
 
 // The call that a command names.
-fn call_named<'a>(name: &str, found: &ArgMatches<'a>, by_deadline: bool) -> Call<'a>
+fn call_named<'a>(name: &str, found: &ArgMatches<'a>, options: Options<'a>) -> Call<'a>
     requires command { IsCommand (Some (name.now, rows_of (found_of found.now))) }
-    requires preference { Prefers (rows_of (found_of found.now)) by_deadline }
+    requires options { AreOptions (rows_of (found_of found.now)) options }
     ensures { IsCall (Some (name.now, rows_of (found_of found.now))) result }
 {
     let verb = match verb_named(name) {
@@ -84,19 +119,19 @@ fn call_named<'a>(name: &str, found: &ArgMatches<'a>, by_deadline: bool) -> Call
         Verb::One(command) => Call::One {
             command,
             input,
-            by_deadline,
+            options,
         },
         Verb::Two(command) => Call::Two {
             command,
             first: input,
             second: input_at(found, command.second()),
-            by_deadline,
+            options,
         },
         Verb::Number(command) => Call::Number {
             command,
             input,
             number: number_at(found, command),
-            by_deadline,
+            options,
         },
     }
 }
@@ -105,13 +140,14 @@ fn call_named<'a>(name: &str, found: &ArgMatches<'a>, by_deadline: bool) -> Call
 fn call_of<'a>(matches: &ArgMatches<'a>) -> Option<Call<'a>>
     requires { IsCommand (subcommand_rows_of matches.now) }
     ensures call { IfSome result (IsCall (subcommand_rows_of matches.now)) }
-    ensures none { result ≡ None → PrefersOther (subcommand_rows_of matches.now) }
+    ensures none { result ≡ None → IfSome (subcommand_rows_of matches.now)
+        (λ found. PrefersOther found.1) }
 {
     match matches.subcommand() {
         None => unreachable!(),
         Some((name, found)) => {
-            let by_deadline = preference_at(found)?;
-            Some(call_named(name, found, by_deadline))
+            let options = options_at(found)?;
+            Some(call_named(name, found, options))
         }
     }
 }
@@ -128,7 +164,7 @@ pub fn read_words<'a>(alloc: Global, words: &'a [&'a str]) -> Result<Call<'a>, W
         return Ok(Call::One {
             command: OfOne::Admit,
             input: Input::Standard,
-            by_deadline: false,
+            options: Options::none(),
         });
     }
     let matches = match desk_matches(alloc, words) {

@@ -1,6 +1,6 @@
 use Rattle.std.proofs.Common.{◌∙◌, ◌+◌, ap, drop, map, sym}
 use Rattle.std.proofs.lemmas.List.{at_drop_more}
-use Rattle.clap.specs.Words.{App, app_of, with_subcommand}
+use Rattle.clap.specs.Words.{app_of}
 use Rattle.command_line.specs.App.{with_commands}
 use Rattle.command_line.proofs.Listed.{app_of_listed, desk_listed}
 use Rattle.command_line.proofs.commands.desk_command.Goals as goal
@@ -21,7 +21,6 @@ loop-listed-preserved c =
     record {
       app =
           ap (λ a. with_commands a later) c.in_ok-desk-2.ensures.app
-          ∙ ap (λ (b : App). with_commands (with_subcommand above b.top) later) c.in_ok-command_of.ensures.app
           ∙ sym (at_drop_more (λ more. with_commands above (map app_of_listed more)) rows c.loop-listed.listed-index _ c.loop-listed-test.true)
           ∙ c.loop-listed.invariant.app;
       local = c.in_ok-desk-2.ensures.local;

@@ -1,0 +1,14 @@
+use Rattle.std.proofs.Common.{◌∙◌}
+use Rattle.clap.specs.Words.{found_of}
+use Rattle.clap.proofs.WalkLemmas.{first_value-rows}
+use Rattle.command_line.proofs.words.options_at.Goals as goal
+
+pub returns-clause-known : goal.returns-clause-known
+returns-clause-known c = record {
+  prefer = c.in_ok-prefer.ensures.known;
+  task = c.get_str.ensures ∙ first_value-rows (found_of c.args.matches.now) _;
+  base = c.number_chosen.ensures;
+  lower_is_higher = c.flag_chosen.ensures;
+  seed = c.number_chosen-2.ensures;
+  by_task = c.flag_chosen-2.ensures;
+}
