@@ -1,0 +1,418 @@
+-- The script of a set says the set.
+use Rattle.std.proofs.Common.{◌≡◌, ◌∙◌, ◌==◌, ◌+◌, ◌<◌, ◌≤◌, ◌^◌, ℕ, zero, suc, true, false, List, [], ◌∷◌, ◌++◌, map, length, codes, bytes_eq, Option, Some, None, Ok, refl, sym, ap, subst, arith, append_assoc}
+use Rattle.std.specs.List.{slice_split, join_with_byte, AllByRecursion}
+use Rattle.std.specs.Char.{is_ascii_digit}
+use Rattle.std.specs.Fmt.{decimal}
+use Rattle.std.proofs.lemmas.Bool.{le-leb, lt-ltb}
+use Rattle.std.proofs.Math.Dec.{eqb-suc-zero}
+use Rattle.std.proofs.lemmas.Fmt.{decimal_digit}
+use Rattle.std.proofs.lemmas.List.Elements.{recursion_from_All}
+use Rattle.task_sheet.specs.Name.{IsName, is_name_byte}
+use Rattle.task_sheet.specs.Sheet.{CriticalSection, Task, AreOutranked, AreSections, IsValidSheet, task_of, with_jitter}
+use Rattle.task_sheet.specs.SheetFault.{outranks_fault}
+use Rattle.task_sheet.specs.TaskSet.{IsTaskSet}
+use Rattle.task_sheet.specs.declared.sheet.OutranksCause.{OutranksCause}
+use Rattle.task_sheet.proofs.SheetLaws.{sheet_valid, never_outranked}
+use Rattle.lines.specs.Lines.{kept_from, lines_of}
+use Rattle.lines.specs.Steps.{◌>>=◌}
+use Rattle.lines.specs.Words.{number_in, words}
+use Rattle.lines.proofs.NumberLaws.{number_again}
+use Rattle.lines.proofs.Parts.{line_cut}
+use Rattle.drafts.specs.declared.team.TheConstants.{TEAM_LIMIT}
+use Rattle.scripts.specs.Rows.{each_in, field_case, made_in, names_or_none, next_draft, next_field, next_name, next_number, only_draft, open_in, or_bad, pair_of, put_in, round, row_in, section_in, sections_in, sheet_in, sheet_with_jitter, up_to, value_of, value_or_zero, word_names}
+use Rattle.scripts.specs.Script.{script_from, script_in}
+use Rattle.scripts.specs.declared.line.Row.TheVariants.{Open, Put, Commit}
+use Rattle.scripted.specs.Scripted.{delay_words, lines_from, lines_of_set, over_words, plus_names, put_line, put_lines, script_of, section_word, section_words, spaced, value_words}
+use Rattle.scripted.proofs.Spelled.{Lacks, cut_at, joined_again, joined_lacks, lacks_append, name_lacks, number_lacks, uncut}
+
+-- ---- first words
+number_next : (n : ℕ) (ws : List (List ℕ)) → n < 10 ^ 10 → next_number (decimal n ∷ ws) ≡ Ok (n, ws)
+unfolding next_number
+number_next n ws short = ap (λ (o : Option ℕ). or_bad o >>= λ k. Ok (k, ws)) (number_again n short)
+
+name_next : (name : List ℕ) (ws : List (List ℕ)) → IsName name → next_name (name ∷ ws) ≡ Ok (name, ws)
+unfolding next_name
+name_next name ws is = rw is refl
+
+number_one : number_in (codes "1") ≡ Some 1
+number_one = ap number_in (sym (decimal_digit 1 (omega arith))) ∙ number_again 1 (omega arith)
+
+draft_next : (ws : List (List ℕ)) → next_draft 1 (codes "1" ∷ ws) ≡ Ok (1, ws)
+unfolding next_draft
+draft_next ws = ap (λ (o : Option ℕ). or_bad (up_to 1 o) >>= λ k. Ok (k, ws)) number_one
+
+-- ---- names
+names_each : (names : List (List ℕ)) → AllByRecursion IsName names → word_names names ≡ Ok names
+unfolding each_in
+names_each [] each = refl
+names_each (n ∷ ns) each = rw (each.0, names_each ns each.1) refl
+
+each_lacks : (c : ℕ) (names : List (List ℕ)) → is_name_byte c ≡ false → AllByRecursion IsName names → AllByRecursion (λ w. Lacks c w) names
+each_lacks c [] other each = tt
+each_lacks c (n ∷ ns) other each = (name_lacks c n other each.0, each_lacks c ns other each.1)
+
+-- as they are joined
+joined : (n : List ℕ) (ns : List (List ℕ)) → plus_names (n ∷ ns) ≡ join_with_byte 43 (n ∷ ns)
+joined n [] = nothing n
+  where
+    nothing : (xs : List ℕ) → xs ++ [] ≡ xs
+    nothing [] = refl
+    nothing (x ∷ xs) = ap (λ l. x ∷ l) (nothing xs)
+joined n (m ∷ ns) = ap (λ l. n ++ 43 ∷ l) (joined m ns)
+
+plus_again : (n : List ℕ) (ns : List (List ℕ)) → AllByRecursion IsName (n ∷ ns) → word_names (slice_split (λ b. b == 43) (plus_names (n ∷ ns))) ≡ Ok (n ∷ ns)
+plus_again n ns each =
+    let lack = each_lacks 43 (n ∷ ns) refl each in
+    ap (λ (l : List ℕ). word_names (slice_split (λ b. b == 43) l)) (joined n ns) ∙ ap word_names (joined_again 43 n ns lack.0 lack.1) ∙ names_each (n ∷ ns) each
+
+plus_lacks : (c : ℕ) (names : List (List ℕ)) → (43 == c) ≡ false → is_name_byte c ≡ false → AllByRecursion IsName names → Lacks c (plus_names names)
+plus_lacks c [] other letter each = record { none = tt }
+plus_lacks c (n ∷ ns) other letter each = subst (λ (l : List ℕ). Lacks c l) (sym (joined n ns)) (joined_lacks 43 c (n ∷ ns) other (each_lacks c (n ∷ ns) letter each))
+
+-- ---- sections
+-- a section with names and numbers that can be spelled
+record IsSpelled (s : CriticalSection) : Type 0 where
+  named : AllByRecursion IsName s.locks
+  some : 0 < length s.locks
+  at : s.at < 10 ^ 10
+  len : s.len < 10 ^ 10
+
+section_shape : (s : CriticalSection) → section_word s ≡ plus_names s.locks ++ 64 ∷ (decimal s.at ++ 58 ∷ decimal s.len)
+section_shape s = simp append_assoc
+
+-- a byte that no section has
+record IsApart (c : ℕ) : Type 0 where
+  name : is_name_byte c ≡ false
+  digit : is_ascii_digit c ≡ false
+  plus : (43 == c) ≡ false
+  sign : (64 == c) ≡ false
+  colon : (58 == c) ≡ false
+
+section_lacks : (c : ℕ) (s : CriticalSection) → IsApart c → IsSpelled s → Lacks c (section_word s)
+section_lacks c s apart is =
+    let len : Lacks c (decimal s.len) = number_lacks c s.len apart.digit (omega (arith, is.len)) in
+    let back : Lacks c (58 ∷ decimal s.len) = record { none = (apart.colon, len.none) } in
+    let span : Lacks c (decimal s.at ++ 58 ∷ decimal s.len) = lacks_append c (decimal s.at) (58 ∷ decimal s.len) (number_lacks c s.at apart.digit (omega (arith, is.at))) back in
+    let side : Lacks c (64 ∷ (decimal s.at ++ 58 ∷ decimal s.len)) = record { none = (apart.sign, span.none) } in
+    subst (λ (w : List ℕ). Lacks c w) (sym (section_shape s)) (lacks_append c (plus_names s.locks) (64 ∷ (decimal s.at ++ 58 ∷ decimal s.len)) (plus_lacks c s.locks apart.plus apart.name is.named) side)
+
+locks_again : (locks : List (List ℕ)) → AllByRecursion IsName locks → 0 < length locks → word_names (slice_split (λ b. b == 43) (plus_names locks)) ≡ Ok locks
+locks_again [] named some = absurd (omega arith)
+locks_again (n ∷ ns) named some = plus_again n ns named
+
+section_again : (s : CriticalSection) → IsSpelled s → section_in (section_word s) ≡ Ok s
+unfolding section_in
+section_again s is =
+    let span : List ℕ = decimal s.at ++ 58 ∷ decimal s.len in
+    let sign : Lacks 64 (decimal s.at ++ 58 ∷ decimal s.len) =
+    lacks_append 64 (decimal s.at) (58 ∷ decimal s.len) (number_lacks 64 s.at refl (omega (arith, is.at))) (record { none = (refl, (number_lacks 64 s.len refl (omega (arith, is.len))).none) }) in
+    let sides : round 64 (section_word s) ≡ Some (plus_names s.locks, decimal s.at ++ 58 ∷ decimal s.len) =
+    ap (λ (w : List ℕ). round 64 w) (section_shape s)
+    ∙ ap pair_of (cut_at 64 (plus_names s.locks) (decimal s.at ++ 58 ∷ decimal s.len) (plus_lacks 64 s.locks refl refl is.named))
+    ∙ ap (λ (l : List (List ℕ)). pair_of (plus_names s.locks ∷ l)) (uncut 64 (decimal s.at ++ 58 ∷ decimal s.len) sign) in
+    let halves : round 58 (decimal s.at ++ 58 ∷ decimal s.len) ≡ Some (decimal s.at, decimal s.len) =
+    ap pair_of (cut_at 58 (decimal s.at) (decimal s.len) (number_lacks 58 s.at refl (omega (arith, is.at))))
+    ∙ ap (λ (l : List (List ℕ)). pair_of (decimal s.at ∷ l)) (uncut 58 (decimal s.len) (number_lacks 58 s.len refl (omega (arith, is.len)))) in
+    rw (sides, halves, number_again s.at is.at, number_again s.len is.len, locks_again s.locks is.named is.some) refl
+
+sections_again : (ss : List CriticalSection) → AllByRecursion IsSpelled ss → sections_in (map section_word ss) ≡ Ok ss
+unfolding each_in
+sections_again [] each = refl
+sections_again (s ∷ ss) each = rw (section_again s each.0, sections_again ss each.1) refl
+
+spelled_sections : (from cost : ℕ) (ss : List CriticalSection) → cost < 10 ^ 10 → AreSections from cost ss → AllByRecursion IsSpelled ss
+spelled_sections from cost [] short are = tt
+spelled_sections from cost (s ∷ ss) short are =
+    let is = are.0 in (
+      record {
+        named = recursion_from_All IsName s.locks is.named;
+        some = is.some;
+        at = omega (arith, is.within, short);
+        len = omega (arith, is.within, short);
+      },
+      spelled_sections (s.at + s.len) cost ss short are.1,
+    )
+
+-- ---- fields that may be left out
+-- a word without the sign `=` is no such field
+no_field : (key w : List ℕ) (ws : List (List ℕ)) → Lacks 61 w → next_field key (w ∷ ws) ≡ (None, w ∷ ws)
+unfolding next_field
+no_field key w ws lacks = ap (λ (l : List (List ℕ)). field_case (value_of key (pair_of l)) w ws) (uncut 61 w lacks)
+
+other_field : (key front value : List ℕ) (ws : List (List ℕ)) → Lacks 61 front → Lacks 61 value → bytes_eq front key ≡ false → next_field key ((front ++ 61 ∷ value) ∷ ws) ≡ (None, (front ++ 61 ∷ value) ∷ ws)
+unfolding next_field
+other_field key front value ws lacks lacks' other =
+    ap (λ (l : List (List ℕ)). field_case (value_of key (pair_of l)) (front ++ 61 ∷ value) ws) (cut_at 61 front value lacks ∙ ap (λ (l : List (List ℕ)). front ∷ l) (uncut 61 value lacks'))
+    ∙ rw other refl
+
+this_field : (key value : List ℕ) (ws : List (List ℕ)) → Lacks 61 key → Lacks 61 value → bytes_eq key key ≡ true → next_field key ((key ++ 61 ∷ value) ∷ ws) ≡ (Some value, ws)
+unfolding next_field
+this_field key value ws lacks lacks' same =
+    ap (λ (l : List (List ℕ)). field_case (value_of key (pair_of l)) (key ++ 61 ∷ value) ws) (cut_at 61 key value lacks ∙ ap (λ (l : List (List ℕ)). key ∷ l) (uncut 61 value lacks'))
+    ∙ rw same refl
+
+no_words : (key : List ℕ) → next_field key [] ≡ (None, [])
+unfolding next_field
+no_words key = refl
+
+equals_apart : IsApart 61
+equals_apart = record { name = refl; digit = refl; plus = refl; sign = refl; colon = refl }
+
+over_lacks : Lacks 61 (codes "over")
+over_lacks = record { none = (refl, (refl, (refl, (refl, tt)))) }
+
+delay_lacks : Lacks 61 (codes "j")
+delay_lacks = record { none = (refl, tt) }
+
+-- sections are no field
+sections_no_field : (key : List ℕ) (ss : List CriticalSection) → AllByRecursion IsSpelled ss → next_field key (map section_word ss) ≡ (None, map section_word ss)
+sections_no_field key [] each = no_words key
+sections_no_field key (s ∷ ss) each = no_field key (section_word s) (map section_word ss) (section_lacks 61 s equals_apart each.0)
+
+-- the value of `over`
+over_value : List (List ℕ) → Option (List ℕ)
+over_value [] = None
+over_value (n ∷ ns) = Some (plus_names (n ∷ ns))
+
+over_next : (names : List (List ℕ)) (ss : List CriticalSection) → AllByRecursion IsName names → AllByRecursion IsSpelled ss → next_field (codes "over") (over_words names ++ map section_word ss) ≡ (over_value names, map section_word ss)
+unfolding over_value
+over_next [] ss named each = sections_no_field (codes "over") ss each
+over_next (n ∷ ns) ss named each = this_field (codes "over") (plus_names (n ∷ ns)) (map section_word ss) over_lacks (plus_lacks 61 (n ∷ ns) refl refl named) refl
+
+over_again : (names : List (List ℕ)) → AllByRecursion IsName names → names_or_none (over_value names) ≡ Ok names
+unfolding over_value
+over_again [] named = refl
+over_again (n ∷ ns) named = plus_again n ns named
+
+no_delay : (names : List (List ℕ)) (ss : List CriticalSection) → AllByRecursion IsName names → AllByRecursion IsSpelled ss → next_field (codes "j") (over_words names ++ map section_word ss) ≡ (None, over_words names ++ map section_word ss)
+no_delay [] ss named each = sections_no_field (codes "j") ss each
+no_delay (n ∷ ns) ss named each = other_field (codes "j") (codes "over") (plus_names (n ∷ ns)) (map section_word ss) over_lacks (plus_lacks 61 (n ∷ ns) refl refl named) refl
+
+-- the value of `j`
+delay_value : ℕ → Option (List ℕ)
+delay_value zero = None
+delay_value (suc k) = Some (decimal (suc k))
+
+delay_shape : (k : ℕ) → delay_words (suc k) ≡ (codes "j=" ++ decimal (suc k)) ∷ []
+delay_shape k = rw (eqb-suc-zero k) refl
+
+delay_next : (jitter : ℕ) (names : List (List ℕ)) (ss : List CriticalSection) → jitter < 10 ^ 10 → AllByRecursion IsName names → AllByRecursion IsSpelled ss → next_field (codes "j") (delay_words jitter ++ (over_words names ++ map section_word ss)) ≡ (delay_value jitter, over_words names ++ map section_word ss)
+unfolding delay_value
+delay_next zero names ss short named each = no_delay names ss named each
+delay_next (suc k) names ss short named each = ap (λ (l : List (List ℕ)). next_field (codes "j") (l ++ (over_words names ++ map section_word ss))) (delay_shape k) ∙ this_field (codes "j") (decimal (suc k)) (over_words names ++ map section_word ss) delay_lacks (number_lacks 61 (suc k) refl (omega (arith, short))) refl
+
+delay_again : (jitter : ℕ) → jitter < 10 ^ 10 → value_or_zero (delay_value jitter) ≡ Ok jitter
+unfolding delay_value
+delay_again zero short = refl
+delay_again (suc k) short = ap or_bad (number_again (suc k) short)
+
+-- ---- a sheet
+no_outranks_fault : (own : List ℕ) (names : List (List ℕ)) → AreOutranked own names → outranks_fault own names ≡ None
+no_outranks_fault own names are = by (outranks_fault own names) refl
+  where
+    by : (o : Option OutranksCause) → outranks_fault own names ≡ o → outranks_fault own names ≡ None
+    by None is = is
+    by (Some c) is = absurd (never_outranked own names c is are)
+
+-- what is spelled of a sheet
+record IsShort (t : Task) : Type 0 where
+  weight : t.weight < 10 ^ 10
+  period : t.period < 10 ^ 10
+  deadline : t.deadline < 10 ^ 10
+  cost : t.cost < 10 ^ 10
+  jitter : t.jitter < 10 ^ 10
+  names : AllByRecursion IsName t.outranks
+  sections : AllByRecursion IsSpelled t.sections
+
+short_sheet : (t : Task) → IsValidSheet t → IsShort t
+short_sheet t is =
+    let cost : t.cost < 10 ^ 10 = omega (arith, is.cost_to, is.period_to) in
+    record {
+      weight = omega (arith, is.weight);
+      period = omega (arith, is.period_to);
+      deadline = omega (arith, is.deadline_to, is.period_to);
+      cost = cost;
+      jitter = omega (arith, is.jitter, is.deadline_to, is.period_to);
+      names = recursion_from_All IsName t.outranks is.outranked.named;
+      sections = spelled_sections 0 t.cost t.sections cost is.sections;
+    }
+
+made_again : (t : Task) → IsValidSheet t → made_in t.name t.weight t.period t.deadline t.cost (map section_word t.sections) ≡ Ok (task_of t.name t.weight t.period t.deadline t.cost t.sections)
+unfolding made_in
+made_again t is = rw (sections_again t.sections (short_sheet t is).sections, sheet_valid t is) refl
+
+late_again : (t : Task) → IsValidSheet t → sheet_with_jitter t.jitter (task_of t.name t.weight t.period t.deadline t.cost t.sections) ≡ Ok (with_jitter (task_of t.name t.weight t.period t.deadline t.cost t.sections) t.jitter)
+late_again t is = rw (lt-ltb t.jitter t.deadline is.jitter) refl
+
+-- what may be left out
+abbrev more_words : Task → List (List ℕ)
+more_words t = delay_words t.jitter ++ over_words t.outranks ++ section_words t.sections
+
+-- the words behind `put`
+abbrev put_words : Task → List (List ℕ)
+put_words t = codes "1" ∷ t.name ∷ decimal t.weight ∷ decimal t.period ∷ decimal t.deadline ∷ decimal t.cost ∷ more_words t
+
+spaced_append : (vs ws : List (List ℕ)) → spaced (vs ++ ws) ≡ spaced vs ++ spaced ws
+spaced_append [] ws = refl
+spaced_append (v ∷ vs) ws = ap (λ (l : List ℕ). (codes " " ++ v) ++ l) (spaced_append vs ws) ∙ sym (append_assoc (codes " " ++ v) (spaced vs) (spaced ws))
+
+put_shape : (t : Task) → put_line t ≡ codes "put" ++ spaced (put_words t)
+put_shape t =
+    let V : List (List ℕ) = value_words t in
+    let D : List (List ℕ) = delay_words t.jitter in
+    let O : List (List ℕ) = over_words t.outranks in
+    let S : List (List ℕ) = section_words t.sections in
+    let more : spaced (put_words t) ≡ spaced V ++ ((spaced D ++ spaced O) ++ spaced S) =
+    spaced_append V ((D ++ O) ++ S) ∙ ap (λ (l : List ℕ). spaced V ++ l) (spaced_append (D ++ O) S ∙ ap (λ (l : List ℕ). l ++ spaced S) (spaced_append D O)) in
+    regroup (codes "put") (spaced V) (spaced D) (spaced O) (spaced S) ∙ ap (λ (l : List ℕ). codes "put" ++ l) (sym more)
+  where
+    regroup : (p v d o s : List ℕ) → (((p ++ v) ++ d) ++ o) ++ s ≡ p ++ (v ++ ((d ++ o) ++ s))
+    regroup p v d o s = simp append_assoc
+
+more_shape : (t : Task) → more_words t ≡ delay_words t.jitter ++ (over_words t.outranks ++ map section_word t.sections)
+more_shape t = append_assoc (delay_words t.jitter) (over_words t.outranks) (map section_word t.sections)
+
+sheet_again : (t : Task) → IsValidSheet t → sheet_in (t.name ∷ decimal t.weight ∷ decimal t.period ∷ decimal t.deadline ∷ decimal t.cost ∷ more_words t) ≡ Ok t
+unfolding sheet_in
+sheet_again t is =
+    let short = short_sheet t is in
+    let rest : List (List ℕ) = delay_words t.jitter ++ (over_words t.outranks ++ map section_word t.sections) in
+    rw (
+      more_shape t,
+      name_next t.name (decimal t.weight ∷ decimal t.period ∷ decimal t.deadline ∷ decimal t.cost ∷ rest) is.named,
+      number_next t.weight (decimal t.period ∷ decimal t.deadline ∷ decimal t.cost ∷ rest) short.weight,
+      number_next t.period (decimal t.deadline ∷ decimal t.cost ∷ rest) short.period,
+      number_next t.deadline (decimal t.cost ∷ rest) short.deadline,
+      number_next t.cost rest short.cost,
+      delay_next t.jitter t.outranks t.sections short.jitter short.names short.sections,
+      delay_again t.jitter short.jitter,
+      over_next t.outranks t.sections short.names short.sections,
+      over_again t.outranks short.names,
+      made_again t is,
+      late_again t is,
+      no_outranks_fault t.name t.outranks is.outranked,
+    ) refl
+
+-- ---- a line
+words_again : (w : List ℕ) (ws : List (List ℕ)) → Lacks 32 w → AllByRecursion (λ v. Lacks 32 v) ws → words (w ++ spaced ws) ≡ w ∷ ws
+words_again w [] lacks each = ap words (append_nil w) ∙ uncut 32 w lacks
+  where
+    append_nil : (xs : List ℕ) → xs ++ [] ≡ xs
+    append_nil [] = refl
+    append_nil (x ∷ xs) = ap (λ l. x ∷ l) (append_nil xs)
+words_again w (v ∷ ws) lacks each = cut_at 32 w (v ++ spaced ws) lacks ∙ ap (λ (l : List (List ℕ)). w ∷ l) (words_again v ws each.0 each.1)
+
+spaced_lacks : (c : ℕ) (ws : List (List ℕ)) → (32 == c) ≡ false → AllByRecursion (λ v. Lacks c v) ws → Lacks c (spaced ws)
+spaced_lacks c [] other each = record { none = tt }
+spaced_lacks c (w ∷ ws) other each =
+    let rest : Lacks c (w ++ spaced ws) = lacks_append c w (spaced ws) each.0 (spaced_lacks c ws other each.1) in
+    record { none = (other, rest.none) }
+
+-- a byte that no word has
+record IsGap (c : ℕ) : Type 0 where
+  apart : IsApart c
+  one : Lacks c (codes "1")
+  delay : Lacks c (codes "j=")
+  over : Lacks c (codes "over=")
+
+all_append : (c : ℕ) (vs ws : List (List ℕ)) → AllByRecursion (λ v. Lacks c v) vs → AllByRecursion (λ v. Lacks c v) ws → AllByRecursion (λ v. Lacks c v) (vs ++ ws)
+all_append c [] ws a b = b
+all_append c (v ∷ vs) ws a b = (a.0, all_append c vs ws a.1 b)
+
+module _ (c : ℕ) (gap : IsGap c) where
+  number_apart : (n : ℕ) → n < 10 ^ 10 → Lacks c (decimal n)
+  number_apart n short = number_lacks c n gap.apart.digit (omega (arith, short))
+
+  sections_apart : (ss : List CriticalSection) → AllByRecursion IsSpelled ss → AllByRecursion (λ v. Lacks c v) (map section_word ss)
+  sections_apart [] each = tt
+  sections_apart (s ∷ ss) each = (section_lacks c s gap.apart each.0, sections_apart ss each.1)
+
+  over_apart : (names : List (List ℕ)) → AllByRecursion IsName names → AllByRecursion (λ v. Lacks c v) (over_words names)
+  over_apart [] named = tt
+  over_apart (n ∷ ns) named = (lacks_append c (codes "over=") (plus_names (n ∷ ns)) gap.over (plus_lacks c (n ∷ ns) gap.apart.plus gap.apart.name named), tt)
+
+  delay_apart : (jitter : ℕ) → jitter < 10 ^ 10 → AllByRecursion (λ v. Lacks c v) (delay_words jitter)
+  delay_apart zero short = tt
+  delay_apart (suc k) short = subst (λ (l : List (List ℕ)). AllByRecursion (λ v. Lacks c v) l) (sym (delay_shape k)) (lacks_append c (codes "j=") (decimal (suc k)) gap.delay (number_apart (suc k) short), tt)
+
+  put_apart : (t : Task) → IsValidSheet t → AllByRecursion (λ v. Lacks c v) (put_words t)
+  put_apart t is =
+      let short = short_sheet t is in
+      let more : AllByRecursion (λ v. Lacks c v) (more_words t) =
+      all_append c (delay_words t.jitter ++ over_words t.outranks) (map section_word t.sections)
+      (all_append c (delay_words t.jitter) (over_words t.outranks) (delay_apart t.jitter short.jitter) (over_apart t.outranks short.names))
+      (sections_apart t.sections short.sections) in
+      (gap.one, (name_lacks c t.name gap.apart.name is.named, (number_apart t.weight short.weight, (number_apart t.period short.period, (number_apart t.deadline short.deadline, (number_apart t.cost short.cost, more))))))
+
+space_gap : IsGap 32
+space_gap = record {
+  apart = record { name = refl; digit = refl; plus = refl; sign = refl; colon = refl };
+  one = record { none = (refl, tt) };
+  delay = record { none = (refl, (refl, tt)) };
+  over = record { none = (refl, (refl, (refl, (refl, (refl, tt))))) };
+}
+
+end_gap : IsGap 10
+end_gap = record {
+  apart = record { name = refl; digit = refl; plus = refl; sign = refl; colon = refl };
+  one = record { none = (refl, tt) };
+  delay = record { none = (refl, (refl, tt)) };
+  over = record { none = (refl, (refl, (refl, (refl, (refl, tt))))) };
+}
+
+put_again : (ws : List (List ℕ)) (t : Task) → sheet_in ws ≡ Ok t → row_in 1 (codes "put" ∷ codes "1" ∷ ws) ≡ Ok (Put 1 t)
+unfolding row_in put_in
+put_again ws t is = rw (draft_next ws, is) refl
+
+line_again : (t : Task) → IsValidSheet t → row_in 1 (words (put_line t)) ≡ Ok (Put 1 t)
+line_again t is =
+    ap (λ (l : List ℕ). row_in 1 (words l)) (put_shape t) ∙ ap (row_in 1) (words_again (codes "put") (put_words t) (record { none = (refl, (refl, (refl, tt))) }) (put_apart 32 space_gap t is))
+    ∙ put_again _ t (sheet_again t is)
+
+put_ends : (t : Task) → IsValidSheet t → Lacks 10 (put_line t)
+put_ends t is = subst (λ (l : List ℕ). Lacks 10 l) (sym (put_shape t)) (lacks_append 10 (codes "put") (spaced (put_words t)) (record { none = (refl, (refl, (refl, tt))) }) (spaced_lacks 10 (put_words t) refl (put_apart 10 end_gap t is)))
+
+commit_again : row_in 1 (words (codes "commit 1")) ≡ Ok (Commit 1)
+unfolding row_in only_draft
+commit_again = rw (draft_next []) refl
+
+open_again : (team : ℕ) → 1 ≤ team → team ≤ TEAM_LIMIT → row_in 0 (codes "open" ∷ decimal team ∷ []) ≡ Ok (Open team)
+unfolding row_in open_in
+open_again team from to = rw (number_again team (omega (arith, to)), le-leb 1 team from, le-leb team TEAM_LIMIT to) refl
+
+-- ---- all lines
+put_texts : List Task → List (List ℕ)
+put_texts [] = codes "commit 1" ∷ []
+put_texts (t ∷ U) = put_line t ∷ put_texts U
+
+one_more : (line rest : List ℕ) → Lacks 10 line → lines_of (line ++ 10 ∷ rest) ≡ line ∷ lines_of rest
+one_more line rest lacks = line_cut (line ++ 10 ∷ rest) line rest (cut_at 10 line rest lacks)
+
+texts_again : (U : List Task) → AllByRecursion IsValidSheet U → lines_of (put_lines U ++ codes "commit 1\n") ≡ put_texts U
+unfolding put_texts
+texts_again [] each = refl
+texts_again (t ∷ U) each =
+    ap lines_of (regroup (put_line t) (codes "\n") (put_lines U) (codes "commit 1\n")) ∙ one_more (put_line t) (put_lines U ++ codes "commit 1\n") (put_ends t each.0) ∙ ap (λ (l : List (List ℕ)). put_line t ∷ l) (texts_again U each.1)
+  where
+    regroup : (line end more last : List ℕ) → ((line ++ end) ++ more) ++ last ≡ line ++ (end ++ (more ++ last))
+    regroup line end more last = simp append_assoc
+
+rows_again : (U : List Task) (number : ℕ) → AllByRecursion IsValidSheet U → script_from 1 (kept_from number (put_texts U)) ≡ Ok (lines_from number U)
+unfolding script_from put_texts
+rows_again [] number each = rw commit_again refl
+rows_again (t ∷ U) number each = rw (line_again t each.0, rows_again U (number + 1) each.1) refl
+
+pub script_again : (team : ℕ) (U : List Task) → 1 ≤ team → team ≤ TEAM_LIMIT → IsTaskSet U → script_in (script_of team U) ≡ Ok (lines_of_set team U)
+unfolding script_from
+script_again team U from to set =
+    let each : AllByRecursion IsValidSheet U = recursion_from_All IsValidSheet U set.valid in
+    let number : Lacks 10 (decimal team) = number_lacks 10 team refl (omega (arith, to)) in
+    let space : Lacks 32 (decimal team) = number_lacks 32 team refl (omega (arith, to)) in
+    let shape : script_of team U ≡ (codes "open" ++ spaced (decimal team ∷ [])) ++ 10 ∷ (put_lines U ++ codes "commit 1\n") = simp append_assoc in
+    let line : Lacks 10 (codes "open" ++ spaced (decimal team ∷ [])) =
+    lacks_append 10 (codes "open") (spaced (decimal team ∷ [])) (record { none = (refl, (refl, (refl, (refl, tt)))) }) (spaced_lacks 10 (decimal team ∷ []) refl (number, tt)) in
+    let texts : lines_of (script_of team U) ≡ (codes "open" ++ spaced (decimal team ∷ [])) ∷ put_texts U =
+    ap lines_of shape ∙ one_more (codes "open" ++ spaced (decimal team ∷ [])) (put_lines U ++ codes "commit 1\n") line ∙ ap (λ (l : List (List ℕ)). (codes "open" ++ spaced (decimal team ∷ [])) ∷ l) (texts_again U each) in
+    let row : row_in 0 (words (codes "open" ++ spaced (decimal team ∷ []))) ≡ Ok (Open team) =
+    ap (row_in 0) (words_again (codes "open") (decimal team ∷ []) (record { none = (refl, (refl, (refl, (refl, tt)))) }) (space, tt)) ∙ open_again team from to in
+    ap (λ (ls : List (List ℕ)). script_from 0 (kept_from 1 ls)) texts ∙ rw (row, rows_again U 2 each) refl

@@ -1,0 +1,7 @@
+//! A set as a script's lines: one draft of a team, in which its tasks are put, and its commit.
+#![tactic(auto)]
+
+pub mod laws;
+mod text;
+
+pub use crate::text::script_text;

@@ -1,0 +1,113 @@
+//! The text of a set as a script.
+ghost use Rattle.std.specs.Prelude.{◌≡◌, ◌++◌, OnOk, IfOk, string_bytes, codes};
+ghost use Rattle.std.specs.Fmt.{decimal};
+ghost use Rattle.scripted.specs.Scripted.{delay_words, over_words, plus_names, plus_rest, put_line, put_lines, script_of, section_word, section_words, spaced};
+
+use drafts::Team;
+use std::alloc::{AllocError, Global};
+use task_sheet::{Name, Section, Sheet, TaskSet};
+
+// Names, each behind a sign `+`.
+fn push_rest(text: &mut String, names: &[Name]) -> Result<(), AllocError>
+    ensures { OnOk result (string_bytes text.new ≡ string_bytes text.old ++ plus_rest names.now) }
+{
+    for name in names {
+        write!(text, "+{name}")?;
+    }
+    Ok(())
+}
+
+// Names with a sign `+` between each two.
+fn push_names(text: &mut String, names: &[Name]) -> Result<(), AllocError>
+    ensures { OnOk result (string_bytes text.new ≡ string_bytes text.old ++ plus_names names.now) }
+{
+    let Some((first, rest)) = names.split_first() else {
+        return Ok(());
+    };
+    write!(text, "{first}")?;
+    push_rest(text, rest)
+}
+
+// A section, behind a space.
+fn push_section(text: &mut String, section: &Section) -> Result<(), AllocError>
+    ensures { OnOk result (string_bytes text.new
+        ≡ string_bytes text.old ++ codes " " ++ section_word section.now) }
+{
+    text.push_str(" ")?;
+    push_names(text, &section.locks)?;
+    let at = section.at;
+    let len = section.len;
+    write!(text, "@{at}:{len}")
+}
+
+// Sections, each behind a space.
+fn push_sections(text: &mut String, sections: &[Section]) -> Result<(), AllocError>
+    ensures { OnOk result (string_bytes text.new
+        ≡ string_bytes text.old ++ spaced (section_words sections.now)) }
+{
+    for section in sections {
+        push_section(text, section)?;
+    }
+    Ok(())
+}
+
+// `j=JITTER`, where the jitter isn't 0, behind a space.
+fn push_delay(text: &mut String, jitter: u64) -> Result<(), AllocError>
+    ensures { OnOk result (string_bytes text.new
+        ≡ string_bytes text.old ++ spaced (delay_words jitter)) }
+{
+    if jitter == 0 {
+        return Ok(());
+    }
+    write!(text, " j={jitter}")
+}
+
+// `over=NAME+NAME`, where there are names, behind a space.
+fn push_over(text: &mut String, names: &[Name]) -> Result<(), AllocError>
+    ensures { OnOk result (string_bytes text.new
+        ≡ string_bytes text.old ++ spaced (over_words names.now)) }
+{
+    if names.is_empty() {
+        return Ok(());
+    }
+    text.push_str(" over=")?;
+    push_names(text, names)
+}
+
+// The line that puts a task into the first draft.
+fn push_task(text: &mut String, sheet: &Sheet) -> Result<(), AllocError>
+    ensures { OnOk result (string_bytes text.new
+        ≡ string_bytes text.old ++ put_line sheet.now ++ codes "\n") }
+{
+    let name = sheet.name();
+    let weight = sheet.weight();
+    let period = sheet.period();
+    let deadline = sheet.deadline();
+    let cost = sheet.cost();
+    write!(text, "put 1 {name} {weight} {period} {deadline} {cost}")?;
+    push_delay(text, sheet.jitter())?;
+    push_over(text, sheet.outranks())?;
+    push_sections(text, sheet.sections())?;
+    text.push_str("\n")
+}
+
+// Those of all tasks, by rank.
+fn push_tasks(text: &mut String, sheets: &[Sheet]) -> Result<(), AllocError>
+    ensures { OnOk result (string_bytes text.new ≡ string_bytes text.old ++ put_lines sheets.now) }
+{
+    for sheet in sheets {
+        push_task(text, sheet)?;
+    }
+    Ok(())
+}
+
+/// The set as a script: a team opens a draft, puts each task by rank, and commits. The error is want of memory.
+pub fn script_text(alloc: Global, team: Team, set: &TaskSet) -> Result<String, AllocError>
+    ensures { IfOk result (λ text. string_bytes text ≡ script_of team set.now) }
+{
+    let number = team.number();
+    let mut text = format!(in alloc; "open {number}\n")?;
+    push_tasks(&mut text, set.sheets())?;
+    text.push_str("commit 1\n")?;
+    Ok(text)
+}
