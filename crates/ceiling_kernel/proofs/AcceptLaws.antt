@@ -13,7 +13,7 @@ use Rattle.ceiling_kernel.specs.declared.trace.Release.{Release}
 use Rattle.ceiling_kernel.specs.declared.trace.RunFault.{RunFault}
 use Rattle.ceiling_kernel.specs.declared.trace.RunFault.TheVariants as fault
 use Rattle.ceiling_kernel.specs.Tick.{job_at}
-use Rattle.ceiling_kernel.specs.Releases.{task_named, task_number, job_of, jobs_of, first_or, first_where, no_release, release_at, is_unsorted, is_unknown, is_soon_job, is_too_soon, is_too_late, is_past, refuse_if, refusal_of}
+use Rattle.ceiling_kernel.specs.Releases.{task_named, task_number, job_of, jobs_of, first_or, first_where, no_release, release_at, is_unsorted, is_unknown, is_soon_job, is_too_soon, is_too_late, is_outside_cost, is_past, refuse_if, refusal_of}
 use Rattle.ceiling_kernel.specs.Releases.{soon_after}
 use Rattle.task_sheet.proofs.Below.{some_below-at, some_below-none}
 use Rattle.ceiling_kernel.proofs.ReleaseLaws.{job_is, place_is}
@@ -77,6 +77,7 @@ pub record IsAccepted (U : List Task) (rs : List Release) (until : ℕ) : Type 0
   pub known : first_where (is_unknown U rs) (length rs) ≡ None
   pub spaced : first_where (is_too_soon U (jobs_of U rs)) (length rs) ≡ None
   pub prompt : first_where (is_too_late U rs) (length rs) ≡ None
+  pub in_cost : first_where (is_outside_cost U rs) (length rs) ≡ None
   pub before : list_any (is_past until) rs ≡ false
 
 pub accepted : (U : List Task) (rs : List Release) (until : ℕ) → refusal_of U rs until ≡ None → IsAccepted U rs until
@@ -85,12 +86,14 @@ accepted U rs until e =
     let b = or_none (option_map (λ k. fault.UnknownTask (k + 1)) (first_where (is_unknown U rs) (length rs))) _ a.1 in
     let c = or_none (option_map (λ k. fault.TooSoon (k + 1)) (first_where (is_too_soon U (jobs_of U rs)) (length rs))) _ b.1 in
     let l = or_none (option_map (λ k. fault.TooLate (k + 1)) (first_where (is_too_late U rs) (length rs))) _ c.1 in
-    let d = or_none (refuse_if (nat_lt 60000000 until || list_any (is_past until) rs) fault.PastHorizon) _ l.1 in
+    let o = or_none (option_map (λ k. fault.OutsideCost (k + 1)) (first_where (is_outside_cost U rs) (length rs))) _ l.1 in
+    let d = or_none (refuse_if (nat_lt 60000000 until || list_any (is_past until) rs) fault.PastHorizon) _ o.1 in
     record {
       sorted = map_none (λ k. fault.Unsorted (k + 1)) (first_where (is_unsorted rs) (length rs)) a.0;
       known = map_none (λ k. fault.UnknownTask (k + 1)) (first_where (is_unknown U rs) (length rs)) b.0;
       spaced = map_none (λ k. fault.TooSoon (k + 1)) (first_where (is_too_soon U (jobs_of U rs)) (length rs)) c.0;
       prompt = map_none (λ k. fault.TooLate (k + 1)) (first_where (is_too_late U rs) (length rs)) l.0;
+      in_cost = map_none (λ k. fault.OutsideCost (k + 1)) (first_where (is_outside_cost U rs) (length rs)) o.0;
       before = (or_false_parts (nat_lt 60000000 until) (list_any (is_past until) rs) (if_none (nat_lt 60000000 until || list_any (is_past until) rs) fault.PastHorizon d.0)).1;
     }
 
@@ -273,6 +276,22 @@ too_late_at U rs k i jitter r t b lt is known et ej eb =
     let f : task_at U i ≡ t = get_or_default U i no_task t known ∙ sym et in
     let task : (task_at U (task_number U (release_at rs k))).jitter ≡ jitter = ap (λ n. (task_at U n).jitter) (sym is) ∙ (ap (λ x. x.jitter) f ∙ sym ej) in
     ap₂ nat_lt task (ap (λ x. x.late) e) ∙ sym eb
+
+-- ---- how long they execute
+pub outside_at : (U : List Task) (rs : List Release) (k i cost : ℕ) (r : Release) (t : Task) → k < length rs → i ≡ task_number U (release_at rs k) → i < length U → t ≡ get_or U i t → cost ≡ t.cost
+    → is_outside_cost U rs k ≡ ((unwrap_or (get_or rs k r).runs cost == 0) || nat_lt cost (unwrap_or (get_or rs k r).runs cost))
+outside_at U rs k i cost r t lt is known et ec =
+    let e : release_at rs k ≡ get_or rs k r = get_or_default rs k no_release r lt in
+    let f : task_at U i ≡ t = get_or_default U i no_task t known ∙ sym et in
+    let task : (task_at U (task_number U (release_at rs k))).cost ≡ cost = ap (λ n. (task_at U n).cost) (sym is) ∙ (ap (λ x. x.cost) f ∙ sym ec) in
+    ap₂ (λ c o. (unwrap_or o c == 0) || nat_lt c (unwrap_or o c)) task (ap (λ x. x.runs) e)
+
+-- a release that isn't outside executes something, and no more than the cost
+pub inside_cost : (runs cost : ℕ) → ((runs == 0) || nat_lt cost runs) ≡ false → (0 < runs) × (runs ≤ cost)
+inside_cost runs cost h =
+    let p : ((runs == 0) ≡ false) × (nat_lt cost runs ≡ false) = or_false_parts (runs == 0) (nat_lt cost runs) h in
+    let some : 0 < runs = elim (cases_eq runs 0) [ inl z ↦ absurd (true≢false (sym (eq-eqb runs 0 z) ∙ p.0)) | inr nz ↦ omega arith ] in
+    (some, not_lt cost runs p.1)
 
 -- where no element passes a test, one that is read doesn't
 pub none_passes : {X : Type 0} (p : X → Bool) (xs : List X) (k : ℕ) (d : X) → k < length xs → list_any p xs ≡ false → p (get_or xs k d) ≡ false

@@ -1,4 +1,5 @@
--- Each job of a task that passes finishes by its bound.
+-- Each job of a task that passes finishes by its bound; and by a time that covers its work, where a section that blocks
+-- is left after its first tick.
 use Rattle.std.proofs.Common.{ℕ, ◌+◌, ◌-◌, ◌*◌, ◌/◌, ◌<◌, ◌≤◌, ◌≡◌, inl, inr, refl, sym, ap, ◌∙◌, subst, arith, if◌then◌else◌, Bool, true, false, ◌==◌, ◌&&◌, cond, List, [], ◌∷◌, length, nat_le, nat_lt, eqb}
 use Rattle.std.proofs.lemmas.Bool.{cases_eq, cases_lt, cases_Bool, lt-ltb, le-leb, lt-leb, leb-true, ltb-true, and_parts, eq-eqb, eqb-true, ne_eqb, le-ltb}
 use Rattle.std.proofs.lemmas.List.{get_or_past}
@@ -7,19 +8,22 @@ use Rattle.std.proofs.Math.Nat.{div-eq_of_lt-le}
 use Rattle.std.proofs.lemmas.Grind.{div_ceil_times}
 use Rattle.std.specs.Int.{div_ceil}
 use Rattle.std.specs.List.{list_any}
-use Rattle.task_sheet.specs.Sheet.{Task, CriticalSection, no_task, task_at}
+use Rattle.task_sheet.specs.Sheet.{no_task, Task, CriticalSection, task_at}
 use Rattle.task_sheet.specs.Indexes.{Indexes, with_index, greatest_below}
 use Rattle.task_sheet.specs.Locks.{uses, shares_lock, reaches}
-use Rattle.task_sheet.specs.Demand.{releases_within, longest_reached, blocking_of, interference_of, demand_of, limit_of, past_jitter, Passes}
+use Rattle.task_sheet.specs.Demand.{releases_within, longest_reached, blocking_of, interference_of, interference_within, demand_of, limit_of, past_jitter, Passes}
 use Rattle.task_sheet.specs.Orders.{IsPassingOrder}
 use Rattle.ceiling_kernel.specs.Tick.{Node, Job, job_at, job_task, level_in_order, level_of_job, executed_before, picked, ceiling, top_ceiling}
+use Rattle.ceiling_kernel.specs.Behaviours.{IsWithinSheet}
 use Rattle.ceiling_kernel.specs.Waits.{IsNode, AreLegalJobs, lateness_of, NoOverrun}
-use Rattle.ceiling_kernel.specs.Bounds.{above_of, is_ready_in, ready_within, WindowsHold, PassesBy, response_by, ResponsesBound, BoundHolds}
-use Rattle.ceiling_kernel.proofs.NodeLaws.{AreApart, IsSoundTask, IsSound, sound, top_user, stands_above}
-use Rattle.ceiling_kernel.proofs.SumLaws.{total, total-sum, total-le, total-add, total-same, total-single, total-zero}
+use Rattle.ceiling_kernel.specs.Bounds.{above_of, is_ready_in, ready_within, WindowsHold, PassesBy, response_by, ResponsesBound, BoundHolds, work_of, CoversBy, TighterBoundHolds}
+use Rattle.ceiling_kernel.specs.Behaviours.{AreApart}
+use Rattle.ceiling_kernel.proofs.NodeLaws.{IsSoundTask, IsSound, sound, top_user, stands_above}
+use Rattle.ceiling_kernel.proofs.SumLaws.{total, total-sum, total-le, total-add, total-single, total-zero}
 use Rattle.task_sheet.proofs.Below.{some_below-at, le-greatest_below}
 use Rattle.ceiling_kernel.proofs.WindowLaws.{of_task, most_in_window, by_tasks}
-use Rattle.ceiling_kernel.proofs.SectionLaws.{rest_of, rest-le}
+use Rattle.ceiling_kernel.proofs.BehaviourLaws.{HasSpans, spans_of, taken_apart}
+use Rattle.ceiling_kernel.proofs.SectionLaws.{rest_of, rest-le, stretch, stretch-le}
 use Rattle.ceiling_kernel.proofs.MachineLaws.{machine, is_high, rest_at}
 use Rattle.ceiling_kernel.proofs.Busy.{work, finishes, done_later}
 
@@ -34,11 +38,11 @@ most_jobs-releases task t some =
     div-eq_of_lt-le task.period (omega (arith, b.1)) (omega (arith, b.0))
 
 -- a task of a level or above that uses one of some locks
-abbrev IsTopOf : Node → ℕ → List (List ℕ) → Type 0
+abbrev pub IsTopOf : Node → ℕ → List (List ℕ) → Type 0
 IsTopOf node level locks = (h : ℕ) × (h < length node.tasks) × (level ≤ level_in_order node h) × (list_any (λ lock. uses (task_at node.tasks h) lock) locks ≡ true)
 
 -- where the highest ceiling reaches the level, there is one
-top_of : (node : Node) → IsNode node → (level : ℕ) (locks : List (List ℕ)) → 0 < level → level ≤ top_ceiling node locks → IsTopOf node level locks
+pub top_of : (node : Node) → IsNode node → (level : ℕ) (locks : List (List ℕ)) → 0 < level → level ≤ top_ceiling node locks → IsTopOf node level locks
 top_of node ok level [] some h = absurd (omega arith)
 top_of node ok level (r ∷ rs) some h =
     elim (cases_lt (ceiling node r) level) [
@@ -54,14 +58,8 @@ module _ (node : Node) (jobs : List Job) (is_node : IsNode node) (legal : AreLeg
   valid : IsSound node
   valid = sound node is_node
 
-  apart_at : (i : ℕ) → AreApart 0 (task_at node.tasks i).sections (task_at node.tasks i).cost
-  apart_at i =
-      elim (cases_lt i (length node.tasks)) [
-        | inl known ↦ (let v : IsSoundTask node i = valid.each i known in v.apart)
-        | inr past ↦
-            let none : task_at node.tasks i ≡ no_task = get_or_past node.tasks i no_task past in
-            subst (λ x. AreApart 0 x.sections x.cost) (sym none) (omega arith)
-      ]
+  spanned : (j : ℕ) → HasSpans node jobs j
+  spanned = spans_of node jobs legal.within
 
   -- of the jobs of task h that become ready in a window of t ticks, no more count
   most_ready : (counts : ℕ → Bool) (h a t : ℕ) → h < length node.tasks → 0 < t → ((j : ℕ) → j < length jobs → counts j ≡ true → (a ≤ (job_at jobs j).ready) × ((job_at jobs j).ready < a + t))
@@ -98,7 +96,7 @@ module _ (node : Node) (jobs : List Job) (is_node : IsNode node) (legal : AreLeg
       total-sum (of_task (λ j. (job_at jobs j).task) (λ j. (job_at jobs j).arrival) (is_ready_in jobs a t) h) (length jobs) in
       omega arith
 
-  module _ (i t : ℕ) (is : i < length node.tasks) (passes : PassesBy node i t) where
+  module _ (i t : ℕ) (is : i < length node.tasks) (covers : CoversBy node i t) where
     abbrev level : ℕ
     level = level_in_order node i
 
@@ -109,8 +107,9 @@ module _ (node : Node) (jobs : List Job) (is_node : IsNode node) (legal : AreLeg
     abbrev upper : Indexes
     upper = with_index (above_of node i) i
 
+    -- what is left of a section that blocks
     abbrev blocking : ℕ
-    blocking = blocking_of node.tasks i (above_of node i)
+    blocking = blocking_of node.tasks i (above_of node i) - 1
 
     upper-high : (h : ℕ) → h < length node.tasks → level ≤ level_in_order node h → upper h ≡ true
     upper-high h lt le =
@@ -135,8 +134,8 @@ module _ (node : Node) (jobs : List Job) (is_node : IsNode node) (legal : AreLeg
         let u : IsTopOf node level s.locks = top_of node is_node level s.locks level_some le in
         (let up : upper u.0 ≡ true = upper-high u.0 u.1 u.2 in some_below-at (length node.tasks) (λ k. upper k && shares_lock (task_at node.tasks k) s) u.0 u.1 (rw (up, u.3)))
 
-    -- the rest of a section of a lower task is at most the blocking
-    rest_most : (j e : ℕ) → rest_at node jobs level level_some (λ k. apart_at (job_at jobs k).task) j e ≤ blocking
+    -- the rest of a section of a lower task is at most that
+    rest_most : (j e : ℕ) → rest_at node jobs level level_some spanned j e ≤ blocking
     unfolding blocking_of
     rest_most j e =
         let k : ℕ = (job_at jobs j).task in
@@ -146,7 +145,12 @@ module _ (node : Node) (jobs : List Job) (is_node : IsNode node) (legal : AreLeg
               rw high (omega arith)
           | inl low ↦
               let not_high : nat_le level (level_of_job node jobs j) ≡ false = lt-leb level (level_of_job node jobs j) low in
-              let a : rest_of node level (job_task node jobs j).sections e ≤ longest_reached node.tasks upper (job_task node jobs j) = rest-le node level upper reached (job_task node jobs j).sections e in
+              let o : HasSpans node jobs j = spanned j in
+              let a : rest_of node level o.spans e ≤ longest_reached node.tasks upper (job_task node jobs j) - 1 =
+              rest-le node level upper reached (job_task node jobs j).sections 0 (job_at jobs j).executes o.spans e o.taken in
+              let apart : AreApart 0 o.spans (job_at jobs j).executes = taken_apart (job_task node jobs j).sections 0 (job_at jobs j).executes o.spans o.taken in
+              let s : stretch node level (job_at jobs j).sections ((job_at jobs j).executes - e) e ≤ rest_of node level o.spans e =
+              stretch-le node level level_some 0 (job_at jobs j).executes (job_at jobs j).sections o.spans apart o.above ((job_at jobs j).executes - e) e in
               elim (cases_lt k (length node.tasks)) [
                 | inl lt ↦
                     let out : upper k ≡ false = upper-low k low in
@@ -156,13 +160,16 @@ module _ (node : Node) (jobs : List Job) (is_node : IsNode node) (legal : AreLeg
                     rw not_high (omega arith)
                 | inr past ↦
                     let none : task_at node.tasks k ≡ no_task = get_or_past node.tasks k no_task past in
-                    let z : rest_of node level (task_at node.tasks k).sections e ≡ 0 = ap (λ x. rest_of node level x.sections e) none in
+                    let z : longest_reached node.tasks upper (job_task node jobs j) ≡ 0 = ap (longest_reached node.tasks upper) none in
                     rw not_high (omega arith)
               ]
         ]
 
     abbrev ready_of : ℕ → ℕ
     ready_of j = (job_at jobs j).ready
+
+    abbrev executes_of : ℕ → ℕ
+    executes_of j = (job_at jobs j).executes
 
     abbrev cost_of : ℕ → ℕ
     cost_of j = (job_task node jobs j).cost
@@ -182,7 +189,7 @@ module _ (node : Node) (jobs : List Job) (is_node : IsNode node) (legal : AreLeg
     number a h = total (of_task (λ j. (job_at jobs j).task) (λ j. (job_at jobs j).arrival) (counts a) h) (length jobs)
 
     number-le : (a h : ℕ) → h < length node.tasks → number a h ≤ most_jobs (task_at node.tasks h) t
-    number-le a h lt = most_ready (counts a) h a t lt passes.from_one (λ j below c. let p : (level ≤ level_of_job node jobs j) × (a ≤ ready_of j) × (ready_of j < a + t) = counts_parts a j c in (p.1, p.2))
+    number-le a h lt = most_ready (counts a) h a t lt covers.from_one (λ j below c. let p : (level ≤ level_of_job node jobs j) × (a ≤ ready_of j) × (ready_of j < a + t) = counts_parts a j c in (p.1, p.2))
 
     number-zero : (a h : ℕ) → level_in_order node h < level → number a h ≡ 0
     number-zero a h low =
@@ -214,7 +221,7 @@ module _ (node : Node) (jobs : List Job) (is_node : IsNode node) (legal : AreLeg
                 | inl e ↦
                     let own : eqb i h ≡ true = eq-eqb i h e in
                     let v : IsSoundTask node h = valid.each h lt in
-                    let p : t ≤ limit_of (task_at node.tasks i) = passes.in_time in
+                    let p : t ≤ limit_of (task_at node.tasks i) = covers.in_time in
                     let ph : t ≤ limit_of (task_at node.tasks h) = subst (λ x. t ≤ limit_of (task_at node.tasks x)) e p in
                     let room : limit_of (task_at node.tasks h) + lateness_of (task_at node.tasks h) ≤ (task_at node.tasks h).deadline = v.late_within in
                     let within : (task_at node.tasks h).deadline ≤ (task_at node.tasks h).period = v.deadline_within in
@@ -236,22 +243,28 @@ module _ (node : Node) (jobs : List Job) (is_node : IsNode node) (legal : AreLeg
               ]
         ]
 
-    abbrev work_of : ℕ → ℕ → ℕ
-    work_of a j = work (length jobs) ready_of cost_of (is_high node jobs level level_some (λ k. apart_at (job_at jobs k).task)) (rest_at node jobs level level_some (λ k. apart_at (job_at jobs k).task)) (executed_before node jobs) (picked node jobs) (machine node jobs level level_some (λ k. apart_at (job_at jobs k).task)) a (a + t) j
+    abbrev window_work : ℕ → ℕ → ℕ
+    window_work a j = work (length jobs) ready_of executes_of (is_high node jobs level level_some spanned) (rest_at node jobs level level_some spanned) (executed_before node jobs) (picked node jobs) (machine node jobs level level_some spanned) a (a + t) j
 
-    work-counts : (a j : ℕ) → work_of a j ≡ cond (counts a j) (cost_of j) 0
+    work-counts : (a j : ℕ) → window_work a j ≡ cond (counts a j) (executes_of j) 0
     work-counts a j =
         elim (cases_Bool (nat_le level (level_of_job node jobs j))) [ inl high ↦ rw high | inr low ↦ rw low ]
 
-    -- the demand, with its sum as the laws have it
-    demand_is : demand_of node.tasks i (above_of node i) t ≡ (task_at node.tasks i).cost + blocking + total higher_term (length node.tasks)
-    unfolding demand_of
-    demand_is = ap (λ x. (task_at node.tasks i).cost + blocking + x) (sym (total-sum higher_term (length node.tasks)))
+    -- a job executes at most its task's cost
+    work-le : (a j : ℕ) → j < length jobs → window_work a j ≤ cond (counts a j) (cost_of j) 0
+    work-le a j lt =
+        let w : IsWithinSheet (job_task node jobs j) (job_at jobs j) = legal.within j lt in
+        let most : executes_of j ≤ cost_of j = w.executes in
+        let is : window_work a j ≡ cond (counts a j) (executes_of j) 0 = work-counts a j in
+        elim (cases_Bool (counts a j)) [
+          | inl c ↦ (let e : window_work a j ≡ executes_of j = rw c at is in rw c (omega arith))
+          | inr c ↦ (let e : window_work a j ≡ 0 = rw c at is in rw c (omega arith))
+        ]
 
-    fits : (a : ℕ) → total (work_of a) (length jobs) + blocking ≤ t
+    fits : (a : ℕ) → total (window_work a) (length jobs) + blocking ≤ t
     fits a =
-        let same : total (work_of a) (length jobs) ≡ total (λ j. if counts a j then cost_of j else 0) (length jobs) =
-        total-same (work_of a) (λ j. if counts a j then cost_of j else 0) (length jobs) (λ j lt. work-counts a j) in
+        let same : total (window_work a) (length jobs) ≤ total (λ j. if counts a j then cost_of j else 0) (length jobs) =
+        total-le (window_work a) (λ j. if counts a j then cost_of j else 0) (length jobs) (λ j lt. work-le a j lt) in
         let tasks_first : total (λ j. if counts a j then cost_of j else 0) (length jobs) ≡ total (λ h. number a h * (task_at node.tasks h).cost) (length node.tasks) =
         by_tasks (λ j. (job_at jobs j).task) (λ j. (job_at jobs j).arrival) (counts a) (λ h. (task_at node.tasks h).cost) (length node.tasks) (length jobs) (λ j lt c. legal.known j lt) in
         let each : total (λ h. number a h * (task_at node.tasks h).cost) (length node.tasks) ≤ total (λ h. own_term h + higher_term h) (length node.tasks) =
@@ -259,16 +272,16 @@ module _ (node : Node) (jobs : List Job) (is_node : IsNode node) (legal : AreLeg
         let split : total (λ h. own_term h + higher_term h) (length node.tasks) ≡ total own_term (length node.tasks) + total higher_term (length node.tasks) =
         total-add own_term higher_term (length node.tasks) in
         let own : total own_term (length node.tasks) ≡ (task_at node.tasks i).cost = total-single (λ h. (task_at node.tasks h).cost) (length node.tasks) i is in
-        let enough : demand_of node.tasks i (above_of node i) t ≤ t = passes.enough in
-        let d : demand_of node.tasks i (above_of node i) t ≡ (task_at node.tasks i).cost + blocking + total higher_term (length node.tasks) = demand_is in
+        let enough : work_of node i blocking t ≤ t = covers.enough in
+        let sum : total higher_term (length node.tasks) ≡ interference_within node.tasks (above_of node i) t = total-sum higher_term (length node.tasks) in
         omega arith
 
     -- THE BOUND: a job of the task finishes within t ticks after it is ready
-    pub within_bound : (j : ℕ) → j < length jobs → (job_at jobs j).task ≡ i → cost_of j ≤ executed_before node jobs (ready_of j + t) j
+    pub within_bound : (j : ℕ) → j < length jobs → (job_at jobs j).task ≡ i → executes_of j ≤ executed_before node jobs (ready_of j + t) j
     within_bound j lt mine =
         let same : level_of_job node jobs j ≡ level = ap (λ x. level_in_order node x) mine in
-        finishes (length jobs) ready_of cost_of (is_high node jobs level level_some (λ k. apart_at (job_at jobs k).task)) (rest_at node jobs level level_some (λ k. apart_at (job_at jobs k).task)) (executed_before node jobs) (picked node jobs) (machine node jobs level level_some (λ k. apart_at (job_at jobs k).task))
-        t blocking passes.from_one rest_most fits j lt (le-leb level (level_of_job node jobs j) (omega arith))
+        finishes (length jobs) ready_of executes_of (is_high node jobs level level_some spanned) (rest_at node jobs level level_some spanned) (executed_before node jobs) (picked node jobs) (machine node jobs level level_some spanned)
+        t blocking covers.from_one rest_most fits j lt (le-leb level (level_of_job node jobs j) (omega arith))
 
 pub windows_law : (node : Node) (jobs : List Job) → IsNode node → AreLegalJobs node jobs → WindowsHold node jobs
 windows_law node jobs valid legal = window_holds node jobs valid legal
@@ -287,17 +300,31 @@ responses_law node i r response within = (
 executed_later : (node : Node) (jobs : List Job) (valid : IsNode node) (legal : AreLegalJobs node jobs) (s u j : ℕ) → s ≤ u → executed_before node jobs s j ≤ executed_before node jobs u j
 executed_later node jobs valid legal s u j le =
     let one : 0 < 1 = omega arith in
-    let apart : (k : ℕ) → AreApart 0 (job_task node jobs k).sections (job_task node jobs k).cost = λ k. apart_at node jobs valid legal (job_at jobs k).task in
-    done_later (length jobs) (λ k. (job_at jobs k).ready) (λ k. (job_task node jobs k).cost) (is_high node jobs 1 one apart) (rest_at node jobs 1 one apart) (executed_before node jobs) (picked node jobs) (machine node jobs 1 one apart) s u j le
+    let own : (k : ℕ) → HasSpans node jobs k = spans_of node jobs legal.within in
+    done_later (length jobs) (λ k. (job_at jobs k).ready) (λ k. (job_at jobs k).executes) (is_high node jobs 1 one own) (rest_at node jobs 1 one own) (executed_before node jobs) (picked node jobs) (machine node jobs 1 one own) s u j le
 
-pub bound_law : (node : Node) (jobs : List Job) → IsNode node → AreLegalJobs node jobs → BoundHolds node jobs
-bound_law node jobs valid legal j t lt passes =
-    let i : ℕ = (job_at jobs j).task in
-    let fin : (job_task node jobs j).cost ≤ executed_before node jobs ((job_at jobs j).ready + t) j = within_bound node jobs valid legal i t (legal.known j lt) passes j lt refl in
+pub tighter_law : (node : Node) (jobs : List Job) → IsNode node → AreLegalJobs node jobs → TighterBoundHolds node jobs
+tighter_law node jobs valid legal j t lt covers = within_bound node jobs valid legal (job_at jobs j).task t (legal.known j lt) covers j lt refl
+
+-- the same from the arrival
+pub tighter_response : (node : Node) (jobs : List Job) → IsNode node → AreLegalJobs node jobs → (j t : ℕ) → j < length jobs → CoversBy node (job_at jobs j).task t
+    → (job_at jobs j).executes ≤ executed_before node jobs ((job_at jobs j).arrival + response_by (job_task node jobs j) t) j
+tighter_response node jobs valid legal j t lt covers =
+    let fin : (job_at jobs j).executes ≤ executed_before node jobs ((job_at jobs j).ready + t) j = tighter_law node jobs valid legal j t lt covers in
     let by : (job_at jobs j).ready ≤ (job_at jobs j).arrival + lateness_of (job_task node jobs j) = legal.not_late j lt in
     let later : executed_before node jobs ((job_at jobs j).ready + t) j ≤ executed_before node jobs ((job_at jobs j).arrival + response_by (job_task node jobs j) t) j =
     executed_later node jobs valid legal ((job_at jobs j).ready + t) ((job_at jobs j).arrival + response_by (job_task node jobs j) t) j (omega arith) in
     omega arith
+
+-- the demand of a task that passes counts that tick, too
+pub covers_from : (node : Node) (i t : ℕ) → PassesBy node i t → CoversBy node i t
+unfolding demand_of
+covers_from node i t passes =
+    let enough : (task_at node.tasks i).cost + blocking_of node.tasks i (above_of node i) + interference_within node.tasks (above_of node i) t ≤ t = passes.enough in
+    record { from_one = passes.from_one; in_time = passes.in_time; enough = omega arith }
+
+pub bound_law : (node : Node) (jobs : List Job) → IsNode node → AreLegalJobs node jobs → BoundHolds node jobs
+bound_law node jobs valid legal j t lt passes = tighter_response node jobs valid legal j t lt (covers_from node (job_at jobs j).task t passes)
 
 -- where each task passes by some time, no job overruns the one before it
 no_overrun_if : (node : Node) (jobs : List Job) → IsNode node → AreLegalJobs node jobs → ((i : ℕ) → i < length node.tasks → (t : ℕ) × PassesBy node i t) → NoOverrun node jobs
@@ -314,10 +341,10 @@ no_overrun_if node jobs valid legal pass k lt over =
     let gap : (job_at jobs j).arrival + (job_task node jobs k).period ≤ (job_at jobs k).arrival = legal.spaced j k over.1 lt over.2 in
     let same : (job_task node jobs k).period ≡ (task_at node.tasks i).period = ap (λ x. (task_at node.tasks x).period) (sym over.2) in
     let early : (job_at jobs k).arrival ≤ (job_at jobs k).ready = legal.not_early k lt in
-    let fin : (job_task node jobs j).cost ≤ executed_before node jobs ((job_at jobs j).arrival + response_by (task_at node.tasks i) p.0) j = bound_law node jobs valid legal j p.0 below p.1 in
+    let fin : (job_at jobs j).executes ≤ executed_before node jobs ((job_at jobs j).arrival + response_by (task_at node.tasks i) p.0) j = bound_law node jobs valid legal j p.0 below p.1 in
     let later : executed_before node jobs ((job_at jobs j).arrival + response_by (task_at node.tasks i) p.0) j ≤ executed_before node jobs (job_at jobs k).ready j =
     executed_later node jobs valid legal ((job_at jobs j).arrival + response_by (task_at node.tasks i) p.0) (job_at jobs k).ready j (omega arith) in
-    let open_ : executed_before node jobs (job_at jobs k).ready j < (job_task node jobs j).cost = over.3 in
+    let open_ : executed_before node jobs (job_at jobs k).ready j < (job_at jobs j).executes = over.3 in
     omega arith
 
 -- in a passing order each task passes by some time

@@ -3,7 +3,7 @@ use Rattle.std.proofs.Common.{Option, ap, ◌-◌, ℕ, zero, suc, ◌+◌, ◌<
 use Rattle.std.proofs.lemmas.Option.{none-some}
 use Rattle.std.specs.Option.{option_or}
 use Rattle.std.proofs.lemmas.Bool.{cases_eq, cases_lt, le-leb, lt-leb}
-use Rattle.ceiling_kernel.specs.Tick.{Node, Job, job_task, executed_before, picked}
+use Rattle.ceiling_kernel.specs.Tick.{Node, Job, job_at, executed_before, picked}
 use Rattle.ceiling_kernel.specs.Trace.{finish_before}
 use Rattle.ceiling_kernel.specs.Readings.{IsFinishAt}
 use Rattle.ceiling_kernel.proofs.MachineLaws.{start_of, idle_of, own_of, other_of}
@@ -13,7 +13,7 @@ module _ (node : Node) (jobs : List Job) (j : ℕ) where
   done t = executed_before node jobs t j
 
   abbrev cost : ℕ
-  cost = (job_task node jobs j).cost
+  cost = (job_at jobs j).executes
 
   pub finish_start : finish_before node jobs 0 j ≡ None
   unfolding finish_before

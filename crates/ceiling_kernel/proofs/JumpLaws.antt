@@ -3,13 +3,13 @@ use Rattle.std.proofs.Common.{ℕ, zero, suc, ◌+◌, ◌<◌, ◌≤◌, ◌�
 use Rattle.std.proofs.lemmas.Bool.{cases_eq, cases_lt, cases_Bool, lt-ltb, le-ltb, le-leb, lt-leb, eq-eqb}
 use Rattle.ceiling_kernel.specs.declared.trace.Slice.{Slice}
 use Rattle.task_sheet.specs.Sheet.{CriticalSection}
-use Rattle.ceiling_kernel.specs.Tick.{Node, Job, job_at, job_task, level_of_job, is_pending, active_of, executed_before, picked, is_inside, held_ceiling}
+use Rattle.ceiling_kernel.specs.Tick.{Node, Job, job_at, level_of_job, is_pending, active_of, executed_before, picked, is_inside, held_ceiling}
 use Rattle.ceiling_kernel.specs.Trace.{slices_before, with_run, with_tick}
 use Rattle.ceiling_kernel.specs.Jumps.{change_after, NoneReadyBetween, PickStays, IdleStays}
-use Rattle.ceiling_kernel.specs.Waits.{IsNode}
-use Rattle.ceiling_kernel.proofs.NodeLaws.{AreApart, sound}
+use Rattle.ceiling_kernel.specs.Behaviours.{AreApart, TakeTurns}
+use Rattle.ceiling_kernel.proofs.BehaviourLaws.{turns_apart}
 use Rattle.ceiling_kernel.proofs.SectionLaws.{inside_from, outside_before, outside_after}
-use Rattle.ceiling_kernel.proofs.LockLaws.{held_before, apart_at}
+use Rattle.ceiling_kernel.proofs.LockLaws.{held_before}
 use Rattle.ceiling_kernel.proofs.PickLaws.{best_same}
 use Rattle.ceiling_kernel.proofs.MachineLaws.{idle_of, own_of, other_of, picked_is, IsPick, pending_parts, pending_from}
 
@@ -78,7 +78,21 @@ held_same node begin cost (s ∷ ss) e e' limit apart le lt =
           ]
     ]
 
--- the next boundary lies above e, and no further than the cost
+-- the next boundary lies above e
+pub change_ahead : (ss : List CriticalSection) (e limit : ℕ) → e < limit → e < change_after ss e limit
+change_ahead [] e limit lt = lt
+change_ahead (s ∷ ss) e limit lt =
+    elim (cases_lt s.at e) [
+      | inr at_most ↦ (let x : nat_le e s.at ≡ true = le-leb e s.at at_most in rw x (omega arith))
+      | inl past ↦
+          let x : nat_le e s.at ≡ false = lt-leb e s.at past in
+          elim (cases_lt e (s.at + s.len)) [
+            | inl within ↦ (let y : nat_lt e (s.at + s.len) ≡ true = lt-ltb e (s.at + s.len) within in rw (x, y) within)
+            | inr after ↦ (let y : nat_lt e (s.at + s.len) ≡ false = le-ltb e (s.at + s.len) after in rw (x, y) (change_ahead ss e limit lt))
+          ]
+    ]
+
+-- and no further than the cost
 pub change_above : (begin cost : ℕ) (ss : List CriticalSection) (e : ℕ) → AreApart begin ss cost → e < cost → (e < change_after ss e cost) × (change_after ss e cost ≤ cost)
 change_above begin cost [] e apart lt = (lt, omega arith)
 change_above begin cost (s ∷ ss) e apart lt =
@@ -113,7 +127,7 @@ module _ (node : Node) (jobs : List Job) where
   early_or_late : (t u j : ℕ) → j < length jobs → NoneReadyBetween jobs t u → ((job_at jobs j).ready ≤ t) ⊎ (u ≤ (job_at jobs j).ready)
   early_or_late t u j below none = elim (cases_lt t (job_at jobs j).ready) [ inl late ↦ inr (none j below late) | inr early ↦ inl early ]
 
-  module _ (t k p : ℕ) (apart : AreApart 0 (job_task node jobs p).sections (job_task node jobs p).cost) (now : picked node jobs t ≡ Some p) (none : NoneReadyBetween jobs t (t + k)) (within : executed_before node jobs t p + k ≤ change_after (job_task node jobs p).sections (executed_before node jobs t p) (job_task node jobs p).cost) where
+  module _ (t k p : ℕ) (apart : AreApart 0 (job_at jobs p).sections (job_at jobs p).executes) (now : picked node jobs t ≡ Some p) (none : NoneReadyBetween jobs t (t + k)) (within : executed_before node jobs t p + k ≤ change_after (job_at jobs p).sections (executed_before node jobs t p) (job_at jobs p).executes) where
     abbrev pub After : ℕ → Type 0
     After d = (executed_before node jobs (t + d) p ≡ executed_before node jobs t p + d) × ((j : ℕ) → j ≢ p → executed_before node jobs (t + d) j ≡ executed_before node jobs t j)
 
@@ -121,25 +135,25 @@ module _ (node : Node) (jobs : List Job) where
     unfolding picked
     same_pick d lt after =
         let is : IsPick node jobs t p = picked_is node jobs t p now in
-        let pp : ((job_at jobs p).ready ≤ t) × (executed_before node jobs t p < (job_task node jobs p).cost) = pending_parts node jobs t p is.is_pending in
-        let above : (executed_before node jobs t p < change_after (job_task node jobs p).sections (executed_before node jobs t p) (job_task node jobs p).cost) × (change_after (job_task node jobs p).sections (executed_before node jobs t p) (job_task node jobs p).cost ≤ (job_task node jobs p).cost) =
-        change_above 0 (job_task node jobs p).cost (job_task node jobs p).sections (executed_before node jobs t p) apart pp.1 in
+        let pp : ((job_at jobs p).ready ≤ t) × (executed_before node jobs t p < (job_at jobs p).executes) = pending_parts node jobs t p is.is_pending in
+        let above : (executed_before node jobs t p < change_after (job_at jobs p).sections (executed_before node jobs t p) (job_at jobs p).executes) × (change_after (job_at jobs p).sections (executed_before node jobs t p) (job_at jobs p).executes ≤ (job_at jobs p).executes) =
+        change_above 0 (job_at jobs p).executes (job_at jobs p).sections (executed_before node jobs t p) apart pp.1 in
         let own : executed_before node jobs (t + d) p ≡ executed_before node jobs t p + d = after.0 in
-        best_same (is_pending node jobs (executed_before node jobs (t + d)) (t + d)) (is_pending node jobs (executed_before node jobs t) t)
+        best_same (is_pending jobs (executed_before node jobs (t + d)) (t + d)) (is_pending jobs (executed_before node jobs t) t)
         (active_of node jobs (executed_before node jobs (t + d))) (active_of node jobs (executed_before node jobs t)) (level_of_job node jobs) (length jobs)
         (λ j below. elim (cases_eq j p) [
           | inl e ↦
-              let x : is_pending node jobs (executed_before node jobs (t + d)) (t + d) p ≡ true = pending_from node jobs (t + d) p (omega arith) (omega arith) in
-              let y : is_pending node jobs (executed_before node jobs t) t p ≡ true = is.is_pending in
-              subst (λ z. is_pending node jobs (executed_before node jobs (t + d)) (t + d) z ≡ is_pending node jobs (executed_before node jobs t) t z) (sym e) (x ∙ sym y)
+              let x : is_pending jobs (executed_before node jobs (t + d)) (t + d) p ≡ true = pending_from node jobs (t + d) p (omega arith) (omega arith) in
+              let y : is_pending jobs (executed_before node jobs t) t p ≡ true = is.is_pending in
+              subst (λ z. is_pending jobs (executed_before node jobs (t + d)) (t + d) z ≡ is_pending jobs (executed_before node jobs t) t z) (sym e) (x ∙ sym y)
           | inr ne ↦
               let x : nat_le (job_at jobs j).ready (t + d) ≡ nat_le (job_at jobs j).ready t = ready_same t (t + k) j (early_or_late t (t + k) j below none) d (omega arith) in
               rw (x, after.1 j ne)
         ])
         (λ j below. elim (cases_eq j p) [
           | inl e ↦
-              let x : held_ceiling node (job_task node jobs p).sections (executed_before node jobs t p + d) ≡ held_ceiling node (job_task node jobs p).sections (executed_before node jobs t p) =
-              held_same node 0 (job_task node jobs p).cost (job_task node jobs p).sections (executed_before node jobs t p) (executed_before node jobs t p + d) (job_task node jobs p).cost apart (omega arith) (omega arith) in
+              let x : held_ceiling node (job_at jobs p).sections (executed_before node jobs t p + d) ≡ held_ceiling node (job_at jobs p).sections (executed_before node jobs t p) =
+              held_same node 0 (job_at jobs p).executes (job_at jobs p).sections (executed_before node jobs t p) (executed_before node jobs t p + d) (job_at jobs p).executes apart (omega arith) (omega arith) in
               let y : active_of node jobs (executed_before node jobs (t + d)) p ≡ active_of node jobs (executed_before node jobs t) p = rw (own, x) in
               subst (λ z. active_of node jobs (executed_before node jobs (t + d)) z ≡ active_of node jobs (executed_before node jobs t) z) (sym e) y
           | inr ne ↦ rw (after.1 j ne)
@@ -164,7 +178,7 @@ module _ (node : Node) (jobs : List Job) where
     same_none : (d : ℕ) → d < k → ((j : ℕ) → executed_before node jobs (t + d) j ≡ executed_before node jobs t j) → picked node jobs (t + d) ≡ None
     unfolding picked
     same_none d lt same =
-        best_same (is_pending node jobs (executed_before node jobs (t + d)) (t + d)) (is_pending node jobs (executed_before node jobs t) t)
+        best_same (is_pending jobs (executed_before node jobs (t + d)) (t + d)) (is_pending jobs (executed_before node jobs t) t)
         (active_of node jobs (executed_before node jobs (t + d))) (active_of node jobs (executed_before node jobs t)) (level_of_job node jobs) (length jobs)
         (λ j below.
         let x : nat_le (job_at jobs j).ready (t + d) ≡ nat_le (job_at jobs j).ready t = ready_same t (t + k) j (early_or_late t (t + k) j below none) d (omega arith) in
@@ -181,8 +195,8 @@ module _ (node : Node) (jobs : List Job) where
     pub idle_stays : (d : ℕ) → d < k → picked node jobs (t + d) ≡ None
     idle_stays d lt = same_none d lt (idle_after d (omega arith))
 
-pub pick_stays_law : (node : Node) (jobs : List Job) → IsNode node → PickStays node jobs
-pick_stays_law node jobs valid t k p now none within = stays node jobs t k p (apart_at node jobs (sound node valid) p) now none within
+pub pick_stays_law : (node : Node) (jobs : List Job) → TakeTurns jobs → PickStays node jobs
+pick_stays_law node jobs turns t k p now none within = stays node jobs t k p (turns_apart jobs turns p) now none within
 
 pub idle_stays_law : (node : Node) (jobs : List Job) → IdleStays node jobs
 idle_stays_law node jobs t k now none = idle_stays node jobs t k now none

@@ -1,5 +1,5 @@
 -- What the slots keep gives the pick of the tick rule, and each event keeps it.
-use Rattle.std.proofs.Common.{ℕ, ◌+◌, ◌<◌, ◌≤◌, ◌≡◌, ◌≢◌, inl, inr, sym, ap, ap₂, ◌∙◌, subst, arith, List, length, set, replicate, Option, Some, None, Bool, true, false, slice_index_or, get_or-set_same, get_or-set_other, length-set}
+use Rattle.std.proofs.Common.{ℕ, ◌+◌, ◌<◌, ◌≤◌, ◌≡◌, ◌≢◌, inl, inr, sym, ap, ap₂, ◌∙◌, subst, arith, max, List, length, set, replicate, Option, Some, None, Bool, true, false, slice_index_or, get_or-set_same, get_or-set_other, length-set}
 use Rattle.std.proofs.lemmas.Option.{none-some}
 use Rattle.std.proofs.lemmas.Bool.{cases_Bool, cases_eq, cases_lt, true≢false}
 use Rattle.std.proofs.lemmas.List.{get_or-replicate, length-replicate, get_or_past}
@@ -10,14 +10,18 @@ use Rattle.ceiling_kernel.specs.Jumps.{change_after, NoneReadyBetween}
 use Rattle.ceiling_kernel.specs.Waits.{Overruns}
 use Rattle.ceiling_kernel.specs.Turns.{TasksKeepOrder}
 use Rattle.ceiling_kernel.specs.States.{active_at, best_slot, IsPending, Kept}
-use Rattle.ceiling_kernel.proofs.NodeLaws.{AreApart, IsSoundTask, IsSound}
+use Rattle.ceiling_kernel.specs.Behaviours.{AreApart}
+use Rattle.ceiling_kernel.proofs.NodeLaws.{IsSoundTask, IsSound}
 use Rattle.ceiling_kernel.proofs.PickLaws.{best_is, best_none_is}
 use Rattle.ceiling_kernel.proofs.MachineLaws.{picked_is, IsPick, pending_parts, pending_from}
+use Rattle.ceiling_kernel.proofs.BehaviourLaws.{AreSoundJobs, sound_jobs}
+use Rattle.ceiling_kernel.specs.Behaviours.{IsCut, AreCut}
+use Rattle.ceiling_kernel.proofs.CutLaws.{held-cut, change-cut, cuts_within, cuts_apart}
 use Rattle.ceiling_kernel.proofs.LockLaws.{began_strictly, held_before}
 use Rattle.ceiling_kernel.proofs.JumpLaws as jump
 use Rattle.ceiling_kernel.proofs.SlotLaws.{IsBestSlot, slot_some, slot_none}
 
-module _ (node : Node) (jobs : List Job) (sound : IsSound node) (known : (j : ℕ) → j < length jobs → (job_at jobs j).task < length node.tasks) where
+module _ (node : Node) (jobs : List Job) (sound : IsSound node) (known : (j : ℕ) → j < length jobs → (job_at jobs j).task < length node.tasks) (cuts : AreCut node jobs) where
   abbrev done : ℕ → ℕ → ℕ
   done t j = executed_before node jobs t j
 
@@ -27,29 +31,37 @@ module _ (node : Node) (jobs : List Job) (sound : IsSound node) (known : (j : �
   abbrev pub task_no : ℕ → ℕ
   task_no j = (job_at jobs j).task
 
-  abbrev pub cost_of : ℕ → ℕ
-  cost_of j = (job_task node jobs j).cost
+  abbrev pub executes_of : ℕ → ℕ
+  executes_of j = (job_at jobs j).executes
+
+  own_sections : AreSoundJobs node jobs
+  own_sections = sound_jobs node jobs (cuts_within node jobs sound known cuts) (cuts_apart node jobs sound known cuts)
 
   abbrev slot_of : List (Option Pending) → ℕ → Option Pending
   slot_of slots i = slice_index_or slots i None
 
-  -- a pending job's active priority is that of the tick rule
-  pending_active : (t : ℕ) (come : ℕ → Bool) (i : ℕ) (p : Pending) → IsPending node jobs t come i p → p.active ≡ active_of node jobs (done t) p.job
-  pending_active t come i p is = is.active ∙ ap₂ (λ x e. active_at node x e) (sym is.own) is.executed
-
-  pending_open : (t : ℕ) (come : ℕ → Bool) (i : ℕ) (p : Pending) → IsPending node jobs t come i p → done t p.job < cost_of p.job
+  -- a pending job isn't finished
+  pending_open : (t : ℕ) (come : ℕ → Bool) (i : ℕ) (p : Pending) → IsPending node jobs t come i p → done t p.job < executes_of p.job
   pending_open t come i p is =
       let e : p.executed ≡ done t p.job = is.executed in
-      let c : (task_at node.tasks i).cost ≡ cost_of p.job = ap (λ x. (task_at node.tasks x).cost) (sym is.own) in
-      let u : p.executed < (task_at node.tasks i).cost = is.unfinished in
+      let u : p.executed < executes_of p.job = is.unfinished in
       omega arith
+
+  -- a pending job's active priority is that of the tick rule
+  pending_active : (t : ℕ) (come : ℕ → Bool) (i : ℕ) (p : Pending) → p.job < length jobs → IsPending node jobs t come i p → p.active ≡ active_of node jobs (done t) p.job
+  pending_active t come i p lt is =
+      let c : IsCut (job_task node jobs p.job) (job_at jobs p.job) = cuts p.job lt in
+      let open_ : done t p.job < executes_of p.job = pending_open t come i p is in
+      let held : held_ceiling node (job_at jobs p.job).sections (done t p.job) ≡ held_ceiling node (job_task node jobs p.job).sections (done t p.job) =
+      ap (λ ss. held_ceiling node ss (done t p.job)) c.sections ∙ held-cut node (executes_of p.job) (job_task node jobs p.job).sections (done t p.job) open_ in
+      is.active ∙ (ap₂ (λ x e. active_at node x e) (sym is.own) is.executed ∙ ap (max (level_of_job node jobs p.job)) (sym held))
 
   -- ---- the pick
   module _ (t : ℕ) (come : ℕ → Bool) (slots : List (Option Pending)) (kept : Kept node jobs t come slots) (later : (j : ℕ) → come j ≡ false → j < length jobs → t < ready_of j) where
     -- who is pending stands in the slot of its task
-    has_slot : (k : ℕ) → k < length jobs → is_pending node jobs (done t) t k ≡ true → (q : Pending) × (slot_of slots (task_no k) ≡ Some q) × (q.job ≡ k)
+    has_slot : (k : ℕ) → k < length jobs → is_pending jobs (done t) t k ≡ true → (q : Pending) × (slot_of slots (task_no k) ≡ Some q) × (q.job ≡ k)
     has_slot k lt pending =
-        let p : (ready_of k ≤ t) × (done t k < cost_of k) = pending_parts node jobs t k pending in
+        let p : (ready_of k ≤ t) × (done t k < executes_of k) = pending_parts node jobs t k pending in
         elim (cases_Bool (come k)) [
           | inl has ↦ kept.complete k has p.1
           | inr not ↦ (let l : t < ready_of k = later k not lt in absurd (omega arith))
@@ -62,15 +74,15 @@ module _ (node : Node) (jobs : List Job) (sound : IsSound node) (known : (j : �
         let place : (i : ℕ) × (slot_of slots i ≡ Some p) = elim s.from [ inl no_one ↦ absurd (none-some p no_one) | inr found ↦ found ] in
         let m : IsPending node jobs t come place.0 p = kept.pending place.0 p place.1 in
         let below : p.job < length jobs = kept.within p.job m.released in
-        let active_p : p.active ≡ active_of node jobs (done t) p.job = pending_active t come place.0 p m in
+        let active_p : p.active ≡ active_of node jobs (done t) p.job = pending_active t come place.0 p below m in
         let level_p : p.level ≡ level_of_job node jobs p.job = m.level ∙ ap (level_in_order node) (sym m.own) in
-        best_is (is_pending node jobs (done t) t) (active_of node jobs (done t)) (level_of_job node jobs) (length jobs) p.job
+        best_is (is_pending jobs (done t) t) (active_of node jobs (done t)) (level_of_job node jobs) (length jobs) p.job
         below (pending_from node jobs t p.job (kept.admitted p.job m.released) (pending_open t come place.0 p m))
         (λ k lt pending ne.
         let h : (q : Pending) × (slot_of slots (task_no k) ≡ Some q) × (q.job ≡ k) = has_slot k lt pending in
         let q : Pending = h.0 in
         let mq : IsPending node jobs t come (task_no k) q = kept.pending (task_no k) q h.1 in
-        let active_q : q.active ≡ active_of node jobs (done t) k = pending_active t come (task_no k) q mq ∙ ap (active_of node jobs (done t)) h.2 in
+        let active_q : q.active ≡ active_of node jobs (done t) k = pending_active t come (task_no k) q (kept.within q.job mq.released) mq ∙ ap (active_of node jobs (done t)) h.2 in
         let level_q : q.level ≡ level_of_job node jobs k = mq.level in
         elim (s.first (task_no k) q h.1) [
           | inl less ↦ inl (omega arith)
@@ -89,8 +101,8 @@ module _ (node : Node) (jobs : List Job) (sound : IsSound node) (known : (j : �
     unfolding picked
     idle_is e =
         let s : (◌≡◌ {A = Option Pending} None None) × ((i : ℕ) (k : Pending) → slot_of slots i ≡ Some k → ⊥) = slot_none slots None e in
-        best_none_is (is_pending node jobs (done t) t) (active_of node jobs (done t)) (level_of_job node jobs) (length jobs)
-        (λ k lt. elim (cases_Bool (is_pending node jobs (done t) t k)) [
+        best_none_is (is_pending jobs (done t) t) (active_of node jobs (done t)) (level_of_job node jobs) (length jobs)
+        (λ k lt. elim (cases_Bool (is_pending jobs (done t) t k)) [
           | inl pending ↦ (let h : (q : Pending) × (slot_of slots (task_no k) ≡ Some q) × (q.job ≡ k) = has_slot k lt pending in absurd (s.1 (task_no k) h.0 h.1))
           | inr not ↦ not
         ])
@@ -144,7 +156,10 @@ module _ (node : Node) (jobs : List Job) (sound : IsSound node) (known : (j : �
             active =
                 let none_held : held_ceiling node (task_at node.tasks i).sections p.executed ≡ 0 = held_before node 0 (task_at node.tasks i).cost (task_at node.tasks i).sections p.executed v.apart (omega arith) in
                 omega arith;
-            unfinished = (let c : 0 < (task_at node.tasks i).cost = v.takes_time in omega arith);
+            unfinished =
+                let c : IsCut (job_task node jobs n) (job_at jobs n) = cuts n lt in
+                let same : executes_of p.job ≡ executes_of n = ap executes_of job in
+                omega (arith, c.some);
           } in
           record {
             within = λ j has. elim (cases_eq j n) [
@@ -191,7 +206,7 @@ module _ (node : Node) (jobs : List Job) (sound : IsSound node) (known : (j : �
                     | inr not ↦ (let later : t ≤ ready_of over.0 = kept.to_come over.0 not (omega arith) in absurd (omega arith))
                   ] in
                   let r : ready_of k ≡ t = (let s : ready_of k ≡ ready_of n = ap ready_of same in omega arith) in
-                  let open_ : done t over.0 < cost_of over.0 = subst (λ x. done x over.0 < cost_of over.0) r over.3 in
+                  let open_ : done t over.0 < executes_of over.0 = subst (λ x. done x over.0 < executes_of over.0) r over.3 in
                   let was : (q : Pending) × (slot_of slots (task_no over.0) ≡ Some q) × (q.job ≡ over.0) = kept.complete over.0 came open_ in
                   none-some was.0 (sym free ∙ subst (λ x. slot_of slots x ≡ Some was.0) o was.1)
               | inr ne ↦ kept.no_overrun k (sym (others k ne) ∙ has) over
@@ -212,7 +227,7 @@ module _ (node : Node) (jobs : List Job) (sound : IsSound node) (known : (j : �
             ]
           ] in
           let same : t ≡ ready_of n = omega arith in
-          (q.job, before, m.own, subst (λ x. done x q.job < cost_of q.job) same (pending_open t come (task_no n) q m))
+          (q.job, before, m.own, subst (λ x. done x q.job < executes_of q.job) same (pending_open t come (task_no n) q m))
 
     module _ (k : ℕ) (until_next : (j : ℕ) → come j ≡ false → j < length jobs → t + k ≤ ready_of j) where
       pub none_between : NoneReadyBetween jobs t (t + k)
@@ -237,22 +252,31 @@ module _ (node : Node) (jobs : List Job) (sound : IsSound node) (known : (j : �
         }
 
       -- the pending job p is picked, and reaches no boundary before the end of k ticks
-      module _ (i : ℕ) (p : Pending) (slot : slot_of slots i ≡ Some p) (now : picked node jobs t ≡ Some p.job) (within : p.executed + k ≤ change_after (task_at node.tasks i).sections p.executed (task_at node.tasks i).cost) where
+      module _ (i : ℕ) (p : Pending) (slot : slot_of slots i ≡ Some p) (now : picked node jobs t ≡ Some p.job) (within : p.executed + k ≤ change_after (task_at node.tasks i).sections p.executed (executes_of p.job)) (to_end : p.executed + k ≤ executes_of p.job) where
         is_p : IsPending node jobs t come i p
         is_p = kept.pending i p slot
 
         pick_below : p.job < length jobs
         pick_below = (let is : IsPick node jobs t p.job = picked_is node jobs t p.job now in is.below)
 
-        apart : AreApart 0 (job_task node jobs p.job).sections (job_task node jobs p.job).cost
-        apart = (let v : IsSoundTask node (task_no p.job) = sound.each (task_no p.job) (known p.job pick_below) in v.apart)
+        apart : AreApart 0 (job_at jobs p.job).sections (job_at jobs p.job).executes
+        apart = (let own : AreSoundJobs node jobs = own_sections in own.apart p.job)
 
-        within_t : done t p.job + k ≤ change_after (job_task node jobs p.job).sections (done t p.job) (cost_of p.job)
+        sheet_apart : AreApart 0 (job_task node jobs p.job).sections (job_task node jobs p.job).cost
+        sheet_apart = (let v : IsSoundTask node (task_no p.job) = sound.each (task_no p.job) (known p.job pick_below) in v.apart)
+
+        within_t : done t p.job + k ≤ change_after (job_at jobs p.job).sections (done t p.job) (executes_of p.job)
         within_t =
             let own : task_no p.job ≡ i = (let m : IsPending node jobs t come i p = is_p in m.own) in
             let e : p.executed ≡ done t p.job = (let m : IsPending node jobs t come i p = is_p in m.executed) in
-            subst (λ x. x + k ≤ change_after (job_task node jobs p.job).sections x (cost_of p.job)) e
-            (subst (λ x. p.executed + k ≤ change_after (task_at node.tasks x).sections p.executed (task_at node.tasks x).cost) (sym own) within)
+            let c : IsCut (job_task node jobs p.job) (job_at jobs p.job) = cuts p.job pick_below in
+            let near : p.executed + k ≤ change_after (job_task node jobs p.job).sections p.executed (executes_of p.job) =
+            subst (λ x. p.executed + k ≤ change_after (task_at node.tasks x).sections p.executed (executes_of p.job)) (sym own) within in
+            let open_ : p.executed < executes_of p.job = (let m : IsPending node jobs t come i p = is_p in m.unfinished) in
+            let near' : p.executed + k ≤ change_after (job_at jobs p.job).sections p.executed (executes_of p.job) =
+            subst (λ ss. p.executed + k ≤ change_after ss p.executed (executes_of p.job)) (sym c.sections)
+            (change-cut (executes_of p.job) 0 (job_task node jobs p.job).cost (job_task node jobs p.job).sections p.executed (p.executed + k) sheet_apart open_ near to_end) in
+            subst (λ x. x + k ≤ change_after (job_at jobs p.job).sections x (executes_of p.job)) e near'
 
         pub own_then : done (t + k) p.job ≡ p.executed + k
         own_then =
@@ -282,7 +306,7 @@ module _ (node : Node) (jobs : List Job) (sound : IsSound node) (known : (j : �
             record { released = m.released; task = m.task; own = m.own; level = m.level; executed = m.executed ∙ sym (others_then q.job ne); active = m.active; unfinished = m.unfinished }
 
         -- another job that isn't finished then is the pending one of its slot, whatever this slot has
-        other_complete : (v : Option Pending) (j : ℕ) → j ≢ p.job → come j ≡ true → done (t + k) j < cost_of j → (q : Pending) × (slot_of (set slots i v) (task_no j) ≡ Some q) × (q.job ≡ j)
+        other_complete : (v : Option Pending) (j : ℕ) → j ≢ p.job → come j ≡ true → done (t + k) j < executes_of j → (q : Pending) × (slot_of (set slots i v) (task_no j) ≡ Some q) × (q.job ≡ j)
         other_complete v j ne lt left =
             let s : done (t + k) j ≡ done t j = others_then j ne in
             let was : (q : Pending) × (slot_of slots (task_no j) ≡ Some q) × (q.job ≡ j) = kept.complete j lt (omega arith) in
@@ -295,7 +319,7 @@ module _ (node : Node) (jobs : List Job) (sound : IsSound node) (known : (j : �
             ]
 
         -- it isn't finished then
-        pub kept_run : (p' : Pending) → p'.job ≡ p.job → p'.task ≡ p.task → p'.level ≡ p.level → p'.executed ≡ p.executed + k → p'.active ≡ active_at node i p'.executed → p.executed + k < (task_at node.tasks i).cost
+        pub kept_run : (p' : Pending) → p'.job ≡ p.job → p'.task ≡ p.task → p'.level ≡ p.level → p'.executed ≡ p.executed + k → p'.active ≡ active_at node i p'.executed → p.executed + k < executes_of p.job
             → Kept node jobs (t + k) come (set slots i (Some p'))
         kept_run p' job task level executed active open_ =
             let m : IsPending node jobs t come i p = is_p in
@@ -306,7 +330,7 @@ module _ (node : Node) (jobs : List Job) (sound : IsSound node) (known : (j : �
               level = level ∙ m.level;
               executed = executed ∙ (sym own_then ∙ ap (done (t + k)) (sym job));
               active = active;
-              unfinished = omega arith;
+              unfinished = (let same : executes_of p'.job ≡ executes_of p.job = ap executes_of job in omega arith);
             } in
             record {
               within = kept.within;
@@ -331,7 +355,7 @@ module _ (node : Node) (jobs : List Job) (sound : IsSound node) (known : (j : �
             }
 
         -- it executes its last ticks
-        pub kept_finish : p.executed + k ≡ (task_at node.tasks i).cost → Kept node jobs (t + k) come (set slots i None)
+        pub kept_finish : p.executed + k ≡ executes_of p.job → Kept node jobs (t + k) come (set slots i None)
         kept_finish full =
             let m : IsPending node jobs t come i p = is_p in
             record {
@@ -347,9 +371,8 @@ module _ (node : Node) (jobs : List Job) (sound : IsSound node) (known : (j : �
               ];
               complete = λ j lt left. elim (cases_eq j p.job) [
                 | inl same ↦
-                    let l : done (t + k) p.job < cost_of p.job = subst (λ x. done (t + k) x < cost_of x) same left in
+                    let l : done (t + k) p.job < executes_of p.job = subst (λ x. done (t + k) x < executes_of x) same left in
                     let o : done (t + k) p.job ≡ p.executed + k = own_then in
-                    let c : cost_of p.job ≡ (task_at node.tasks i).cost = ap (λ x. (task_at node.tasks x).cost) m.own in
                     absurd (omega arith)
                 | inr ne ↦ other_complete None j ne lt left
               ];

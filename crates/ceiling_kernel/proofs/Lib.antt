@@ -2,10 +2,13 @@ pub mod NodeLaws
 pub mod SumLaws
 pub mod Busy
 pub mod PickLaws
+pub mod BehaviourLaws
 pub mod SectionLaws
+pub mod CutLaws
 pub mod MachineLaws
 pub mod WindowLaws
 pub mod LockLaws
+pub mod NestLaws
 pub mod JumpLaws
 pub mod BoundLaws
 pub mod TaskLaws

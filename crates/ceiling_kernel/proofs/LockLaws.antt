@@ -1,14 +1,14 @@
 -- No job waits for a lock.
 use Rattle.std.proofs.Common.{ℕ, zero, suc, ◌+◌, ◌<◌, ◌≤◌, ◌≡◌, ◌≢◌, ◌⊎◌, inl, inr, refl, sym, ap, ◌∙◌, subst, arith, Bool, true, false, ◌==◌, ◌&&◌, ◌||◌, List, [], ◌∷◌, length, Some, None}
-use Rattle.std.proofs.lemmas.Bool.{cases_eq, cases_lt, cases_Bool, cases_order, true≢false, and_parts, or_cases, or_right, eq-eqb, eqb-true}
-use Rattle.std.proofs.lemmas.List.{get_or_past}
+use Rattle.std.proofs.lemmas.Bool.{cases_eq, cases_Bool, cases_order, true≢false, and_parts, or_cases, or_right, eq-eqb, eqb-true}
 use Rattle.std.specs.List.{list_any}
-use Rattle.std.specs.Cmp.Lexicographic.{same_text}
-use Rattle.task_sheet.specs.Sheet.{CriticalSection, no_task, task_at, same_bytes}
+use Rattle.task_sheet.specs.Sheet.{CriticalSection}
 use Rattle.task_sheet.specs.Locks.{names_lock}
-use Rattle.ceiling_kernel.specs.Tick.{Node, Job, job_at, job_task, level_of_job, active_of, executed_before, picked, is_inside, ceiling, top_ceiling, held_ceiling}
-use Rattle.ceiling_kernel.specs.Waits.{IsNode, AreLegalJobs, holds_lock, asks_lock, NoOverrunBy, NobodyWaits, IsGranted, OneOwner}
-use Rattle.ceiling_kernel.proofs.NodeLaws.{AreApart, IsSoundTask, IsSound, sound}
+use Rattle.ceiling_kernel.specs.Tick.{Node, Job, job_at, level_of_job, active_of, executed_before, picked, is_inside, ceiling, top_ceiling, held_ceiling}
+use Rattle.ceiling_kernel.specs.Waits.{IsNode, AreLegalJobs, holds_lock, asks_lock, NoOverrunBy, NobodyWaits, IsGranted, AskAnew}
+use Rattle.ceiling_kernel.specs.Behaviours.{AreApart, TakeTurns}
+use Rattle.ceiling_kernel.proofs.NodeLaws.{IsSound, sound}
+use Rattle.ceiling_kernel.proofs.BehaviourLaws.{turns_apart, ceiling-le_top, AreSoundJobs, sound_jobs}
 use Rattle.ceiling_kernel.proofs.SectionLaws.{inside_true, inside_from, outside_before, outside_after}
 use Rattle.ceiling_kernel.proofs.MachineLaws.{machine, is_high, rest_at, picked_is, IsPick, pending_from, pending_parts, start_of, idle_of, own_of, other_of}
 use Rattle.ceiling_kernel.proofs.Busy.{began, done_later}
@@ -69,16 +69,6 @@ held_none_of node begin cost (s ∷ ss) e r apart h =
           rw out (omega arith)
     ]
 
-ceiling-le_top : (node : Node) (qs : List (List ℕ)) (r : List ℕ) → list_any (λ q. same_bytes q r) qs ≡ true → ceiling node r ≤ top_ceiling node qs
-ceiling-le_top node [] r h = absurd (true≢false (sym h))
-ceiling-le_top node (q ∷ qs) r h =
-    elim (or_cases (same_bytes q r) (list_any (λ p. same_bytes p r) qs) h) [
-      | inl same ↦
-          let e : ceiling node q ≡ ceiling node r = ap (ceiling node) (same_text q r (sym same)) in
-          omega arith
-      | inr later ↦ (let ih : ceiling node r ≤ top_ceiling node qs = ceiling-le_top node qs r later in omega arith)
-    ]
-
 -- who holds a lock executes at its ceiling at least, inside a section
 ceiling-le_held : (node : Node) (begin cost : ℕ) (ss : List CriticalSection) (e : ℕ) (r : List ℕ) → AreApart begin ss cost → holds_lock ss e r ≡ true → (ceiling node r ≤ held_ceiling node ss e) × (begin < e) × (e < cost)
 ceiling-le_held node begin cost [] e r apart h = absurd (true≢false (sym h))
@@ -101,10 +91,10 @@ ceiling-le_held node begin cost (s ∷ ss) e r apart h =
     end_within begin cost (s ∷ ss) apart = let c : s.at + s.len ≤ cost = end_within (s.at + s.len) cost ss apart.2 in omega arith
 
 -- some section names the lock
-abbrev some_names : List CriticalSection → List ℕ → Bool
+abbrev pub some_names : List CriticalSection → List ℕ → Bool
 some_names ss r = list_any (λ s. names_lock s r) ss
 
-names_from_asks : (ss : List CriticalSection) (e : ℕ) (r : List ℕ) → asks_lock ss e r ≡ true → some_names ss r ≡ true
+pub names_from_asks : (ss : List CriticalSection) (e : ℕ) (r : List ℕ) → asks_lock ss e r ≡ true → some_names ss r ≡ true
 names_from_asks [] e r h = h
 names_from_asks (s ∷ ss) e r h =
     elim (or_cases ((s.at == e) && names_lock s r) (asks_lock ss e r) h) [
@@ -112,7 +102,7 @@ names_from_asks (s ∷ ss) e r h =
       | inr later ↦ (let ih : some_names ss r ≡ true = names_from_asks ss e r later in elim (cases_Bool (names_lock s r)) [ inl c ↦ rw c | inr c ↦ rw c ih ])
     ]
 
-names_from_holds : (ss : List CriticalSection) (e : ℕ) (r : List ℕ) → holds_lock ss e r ≡ true → some_names ss r ≡ true
+pub names_from_holds : (ss : List CriticalSection) (e : ℕ) (r : List ℕ) → holds_lock ss e r ≡ true → some_names ss r ≡ true
 names_from_holds [] e r h = h
 names_from_holds (s ∷ ss) e r h =
     elim (or_cases (is_inside s e && names_lock s r) (holds_lock ss e r) h) [
@@ -120,28 +110,40 @@ names_from_holds (s ∷ ss) e r h =
       | inr later ↦ (let ih : some_names ss r ≡ true = names_from_holds ss e r later in elim (cases_Bool (names_lock s r)) [ inl c ↦ rw c | inr c ↦ rw c ih ])
     ]
 
-module _ (node : Node) (jobs : List Job) (valid : IsSound node) where
-  pub apart_at : (j : ℕ) → AreApart 0 (job_task node jobs j).sections (job_task node jobs j).cost
-  apart_at j =
-      let i : ℕ = (job_at jobs j).task in
-      elim (cases_lt i (length node.tasks)) [
-        | inl is ↦ (let v : IsSoundTask node i = valid.each i is in v.apart)
-        | inr past ↦
-            let none : task_at node.tasks i ≡ no_task = get_or_past node.tasks i no_task past in
-            subst (λ x. AreApart 0 x.sections x.cost) (sym none) (omega arith)
+-- who holds a lock after a tick held it before, or asked for it
+pub holds_begins : (ss : List CriticalSection) (e : ℕ) (r : List ℕ) → holds_lock ss (suc e) r ≡ true → (holds_lock ss e r ≡ true) ⊎ (asks_lock ss e r ≡ true)
+holds_begins [] e r h = absurd (true≢false (sym h))
+holds_begins (s ∷ ss) e r h =
+    elim (or_cases (is_inside s (suc e) && names_lock s r) (holds_lock ss (suc e) r) h) [
+      | inl here ↦
+          let p : (is_inside s (suc e) ≡ true) × (names_lock s r ≡ true) = and_parts (is_inside s (suc e)) (names_lock s r) here in
+          let n : names_lock s r ≡ true = p.1 in
+          let b : (s.at < suc e) × (suc e < s.at + s.len) = inside_true s (suc e) p.0 in
+          elim (cases_eq s.at e) [
+            | inl begins ↦ (let c : (s.at == e) ≡ true = eq-eqb s.at e begins in inr (rw (c, n)))
+            | inr ne ↦ (let c : is_inside s e ≡ true = inside_from s e (omega arith) (omega arith) in inl (rw (c, n)))
+          ]
+      | inr later ↦ elim (holds_begins ss e r later) [
+        | inl held ↦ inl (or_right (is_inside s e && names_lock s r) (holds_lock ss e r) held)
+        | inr asks ↦ inr (or_right ((s.at == e) && names_lock s r) (asks_lock ss e r) asks)
       ]
+    ]
+
+module _ (node : Node) (jobs : List Job) (valid : IsSound node) (own_sections : AreSoundJobs node jobs) where
+  apart_at : (j : ℕ) → AreApart 0 (job_at jobs j).sections (job_at jobs j).executes
+  apart_at = own_sections.apart
 
   one : 0 < 1
   one = omega arith
 
   executed_later : (s u j : ℕ) → s ≤ u → executed_before node jobs s j ≤ executed_before node jobs u j
-  executed_later s u j le = done_later (length jobs) (λ k. (job_at jobs k).ready) (λ k. (job_task node jobs k).cost) (is_high node jobs 1 one apart_at) (rest_at node jobs 1 one apart_at) (executed_before node jobs) (picked node jobs) (machine node jobs 1 one apart_at) s u j le
+  executed_later s u j le = done_later (length jobs) (λ k. (job_at jobs k).ready) (λ k. (job_at jobs k).executes) (is_high node jobs 1 one own_sections.spanned) (rest_at node jobs 1 one own_sections.spanned) (executed_before node jobs) (picked node jobs) (machine node jobs 1 one own_sections.spanned) s u j le
 
   began_of : (t j : ℕ) → 0 < executed_before node jobs t j → (j < length jobs) × ((job_at jobs j).ready ≤ t)
-  began_of t j h = began (length jobs) (λ k. (job_at jobs k).ready) (λ k. (job_task node jobs k).cost) (is_high node jobs 1 one apart_at) (rest_at node jobs 1 one apart_at) (executed_before node jobs) (picked node jobs) (machine node jobs 1 one apart_at) t j h
+  began_of t j h = began (length jobs) (λ k. (job_at jobs k).ready) (λ k. (job_at jobs k).executes) (is_high node jobs 1 one own_sections.spanned) (rest_at node jobs 1 one own_sections.spanned) (executed_before node jobs) (picked node jobs) (machine node jobs 1 one own_sections.spanned) t j h
 
   -- two jobs of a task that are both pending overrun
-  two_pending : (t j k : ℕ) → j < k → k < length jobs → NoOverrunBy node jobs t → (job_at jobs j).task ≡ (job_at jobs k).task → (job_at jobs k).ready ≤ t → executed_before node jobs t j < (job_task node jobs j).cost → ⊥
+  two_pending : (t j k : ℕ) → j < k → k < length jobs → NoOverrunBy node jobs t → (job_at jobs j).task ≡ (job_at jobs k).task → (job_at jobs k).ready ≤ t → executed_before node jobs t j < (job_at jobs j).executes → ⊥
   two_pending t j k lt below none same ready open_ =
       let earlier : executed_before node jobs (job_at jobs k).ready j ≤ executed_before node jobs t j = executed_later (job_at jobs k).ready t j ready in
       none k below ready (j, lt, same, omega arith)
@@ -149,24 +151,24 @@ module _ (node : Node) (jobs : List Job) (valid : IsSound node) where
   granted : ((j : ℕ) → j < length jobs → (job_at jobs j).task < length node.tasks) → NobodyWaits node jobs
   granted known t p r none pick asks =
       let is : IsPick node jobs t p = picked_is node jobs t p pick in
-      let pp : ((job_at jobs p).ready ≤ t) × (executed_before node jobs t p < (job_task node jobs p).cost) = pending_parts node jobs t p is.is_pending in
-      let held : held_ceiling node (job_task node jobs p).sections (executed_before node jobs t p) ≡ 0 = held_none_of node 0 (job_task node jobs p).cost (job_task node jobs p).sections (executed_before node jobs t p) r (apart_at p) asks in
+      let pp : ((job_at jobs p).ready ≤ t) × (executed_before node jobs t p < (job_at jobs p).executes) = pending_parts node jobs t p is.is_pending in
+      let held : held_ceiling node (job_at jobs p).sections (executed_before node jobs t p) ≡ 0 = held_none_of node 0 (job_at jobs p).executes (job_at jobs p).sections (executed_before node jobs t p) r (apart_at p) asks in
       let own : active_of node jobs (executed_before node jobs t) p ≡ level_of_job node jobs p = omega arith in
-      let within : level_of_job node jobs p ≤ ceiling node r = valid.users_below (job_at jobs p).task r (names_from_asks (job_task node jobs p).sections (executed_before node jobs t p) r asks) in
-      let holds_none : (q : List ℕ) → holds_lock (job_task node jobs p).sections (executed_before node jobs t p) q ≡ false = λ q. holds_none_of 0 (job_task node jobs p).cost (job_task node jobs p).sections (executed_before node jobs t p) r q (apart_at p) asks in
+      let within : level_of_job node jobs p ≤ ceiling node r = valid.users_below (job_at jobs p).task r (own_sections.uses_own p r (names_from_asks (job_at jobs p).sections (executed_before node jobs t p) r asks)) in
+      let holds_none : (q : List ℕ) → holds_lock (job_at jobs p).sections (executed_before node jobs t p) q ≡ false = λ q. holds_none_of 0 (job_at jobs p).executes (job_at jobs p).sections (executed_before node jobs t p) r q (apart_at p) asks in
       record {
         holds_none = holds_none;
-        is_free = λ k lt. elim (cases_Bool (holds_lock (job_task node jobs k).sections (executed_before node jobs t k) r)) [
+        is_free = λ k lt. elim (cases_Bool (holds_lock (job_at jobs k).sections (executed_before node jobs t k) r)) [
           | inr free ↦ free
           | inl holds ↦
-              let h : (ceiling node r ≤ held_ceiling node (job_task node jobs k).sections (executed_before node jobs t k)) × (0 < executed_before node jobs t k) × (executed_before node jobs t k < (job_task node jobs k).cost) =
-              ceiling-le_held node 0 (job_task node jobs k).cost (job_task node jobs k).sections (executed_before node jobs t k) r (apart_at k) holds in
+              let h : (ceiling node r ≤ held_ceiling node (job_at jobs k).sections (executed_before node jobs t k)) × (0 < executed_before node jobs t k) × (executed_before node jobs t k < (job_at jobs k).executes) =
+              ceiling-le_held node 0 (job_at jobs k).executes (job_at jobs k).sections (executed_before node jobs t k) r (apart_at k) holds in
               let b : (k < length jobs) × ((job_at jobs k).ready ≤ t) = began_of t k h.1 in
-              let of_k : level_of_job node jobs k ≤ ceiling node r = valid.users_below (job_at jobs k).task r (names_from_holds (job_task node jobs k).sections (executed_before node jobs t k) r holds) in
+              let of_k : level_of_job node jobs k ≤ ceiling node r = valid.users_below (job_at jobs k).task r (own_sections.uses_own k r (names_from_holds (job_at jobs k).sections (executed_before node jobs t k) r holds)) in
               let same_level : level_of_job node jobs p ≡ level_of_job node jobs k = elim (is.first k lt (pending_from node jobs t k b.1 h.2)) [ inl less ↦ omega arith | inr tied ↦ omega arith ] in
               let same : (job_at jobs p).task ≡ (job_at jobs k).task = valid.levels_differ (job_at jobs p).task (job_at jobs k).task (known p is.below) (known k lt) same_level in
               elim (cases_order p k) [
-                | inl e ↦ absurd (true≢false (sym holds ∙ subst (λ x. holds_lock (job_task node jobs x).sections (executed_before node jobs t x) r ≡ false) e (holds_none r)))
+                | inl e ↦ absurd (true≢false (sym holds ∙ subst (λ x. holds_lock (job_at jobs x).sections (executed_before node jobs t x) r ≡ false) e (holds_none r)))
                 | inr differ ↦ elim differ [
                   | inl before ↦ absurd (two_pending t p k before lt none same b.1 pp.1)
                   | inr after ↦ absurd (two_pending t k p after is.below none (sym same) pp.0 h.2)
@@ -177,77 +179,58 @@ module _ (node : Node) (jobs : List Job) (valid : IsSound node) where
         within_ceiling = within;
       }
 
-  -- who holds a lock after a tick held it before, or asked for it
-  holds_begins : (ss : List CriticalSection) (e : ℕ) (r : List ℕ) → holds_lock ss (suc e) r ≡ true → (holds_lock ss e r ≡ true) ⊎ (asks_lock ss e r ≡ true)
-  holds_begins [] e r h = absurd (true≢false (sym h))
-  holds_begins (s ∷ ss) e r h =
-      elim (or_cases (is_inside s (suc e) && names_lock s r) (holds_lock ss (suc e) r) h) [
-        | inl here ↦
-            let p : (is_inside s (suc e) ≡ true) × (names_lock s r ≡ true) = and_parts (is_inside s (suc e)) (names_lock s r) here in
-            let n : names_lock s r ≡ true = p.1 in
-            let b : (s.at < suc e) × (suc e < s.at + s.len) = inside_true s (suc e) p.0 in
-            elim (cases_eq s.at e) [
-              | inl begins ↦ (let c : (s.at == e) ≡ true = eq-eqb s.at e begins in inr (rw (c, n)))
-              | inr ne ↦ (let c : is_inside s e ≡ true = inside_from s e (omega arith) (omega arith) in inl (rw (c, n)))
-            ]
-        | inr later ↦ elim (holds_begins ss e r later) [
-          | inl held ↦ inl (or_right (is_inside s e && names_lock s r) (holds_lock ss e r) held)
-          | inr asks ↦ inr (or_right ((s.at == e) && names_lock s r) (asks_lock ss e r) asks)
-        ]
-      ]
-
   -- no two jobs hold a lock
   module _ (known : (j : ℕ) → j < length jobs → (job_at jobs j).task < length node.tasks) where
     -- who holds a lock is a job
-    holder_is_job : (t j : ℕ) (r : List ℕ) → holds_lock (job_task node jobs j).sections (executed_before node jobs t j) r ≡ true → j < length jobs
+    holder_is_job : (t j : ℕ) (r : List ℕ) → holds_lock (job_at jobs j).sections (executed_before node jobs t j) r ≡ true → j < length jobs
     holder_is_job t j r h =
-        let c : (ceiling node r ≤ held_ceiling node (job_task node jobs j).sections (executed_before node jobs t j)) × (0 < executed_before node jobs t j) × (executed_before node jobs t j < (job_task node jobs j).cost) =
-        ceiling-le_held node 0 (job_task node jobs j).cost (job_task node jobs j).sections (executed_before node jobs t j) r (apart_at j) h in
+        let c : (ceiling node r ≤ held_ceiling node (job_at jobs j).sections (executed_before node jobs t j)) × (0 < executed_before node jobs t j) × (executed_before node jobs t j < (job_at jobs j).executes) =
+        ceiling-le_held node 0 (job_at jobs j).executes (job_at jobs j).sections (executed_before node jobs t j) r (apart_at j) h in
         (began_of t j c.1).0
 
     -- in the tick of job p, which comes to hold a lock or holds it on, nobody else holds it
     none_beside : (t p k : ℕ) (r : List ℕ) → NoOverrunBy node jobs t → picked node jobs t ≡ Some p → k ≢ p
-        → (holds_lock (job_task node jobs p).sections (executed_before node jobs t p) r ≡ true → holds_lock (job_task node jobs k).sections (executed_before node jobs t k) r ≡ true → p ≡ k)
-        → holds_lock (job_task node jobs p).sections (executed_before node jobs (suc t) p) r ≡ true → holds_lock (job_task node jobs k).sections (executed_before node jobs (suc t) k) r ≡ true → ⊥
+        → (holds_lock (job_at jobs p).sections (executed_before node jobs t p) r ≡ true → holds_lock (job_at jobs k).sections (executed_before node jobs t k) r ≡ true → p ≡ k)
+        → holds_lock (job_at jobs p).sections (executed_before node jobs (suc t) p) r ≡ true → holds_lock (job_at jobs k).sections (executed_before node jobs (suc t) k) r ≡ true → ⊥
     none_beside t p k r none pick ne before hp hk =
-        let k_was : holds_lock (job_task node jobs k).sections (executed_before node jobs t k) r ≡ true = subst (λ e. holds_lock (job_task node jobs k).sections e r ≡ true) (other_of node jobs t p k pick ne) hk in
-        elim (holds_begins (job_task node jobs p).sections (executed_before node jobs t p) r (subst (λ e. holds_lock (job_task node jobs p).sections e r ≡ true) (own_of node jobs t p pick) hp)) [
+        let k_was : holds_lock (job_at jobs k).sections (executed_before node jobs t k) r ≡ true = subst (λ e. holds_lock (job_at jobs k).sections e r ≡ true) (other_of node jobs t p k pick ne) hk in
+        elim (holds_begins (job_at jobs p).sections (executed_before node jobs t p) r (subst (λ e. holds_lock (job_at jobs p).sections e r ≡ true) (own_of node jobs t p pick) hp)) [
           | inl held ↦ ne (sym (before held k_was))
           | inr asks ↦ (let g : IsGranted node jobs t p r = granted known t p r none pick asks in true≢false (sym k_was ∙ g.is_free k (holder_is_job t k r k_was)))
         ]
 
     pub one_owner : (t j k : ℕ) (r : List ℕ) → ((s : ℕ) → s < t → NoOverrunBy node jobs s)
-        → holds_lock (job_task node jobs j).sections (executed_before node jobs t j) r ≡ true → holds_lock (job_task node jobs k).sections (executed_before node jobs t k) r ≡ true → j ≡ k
+        → holds_lock (job_at jobs j).sections (executed_before node jobs t j) r ≡ true → holds_lock (job_at jobs k).sections (executed_before node jobs t k) r ≡ true → j ≡ k
     one_owner zero j k r none hj hk =
-        let free : holds_lock (job_task node jobs j).sections (executed_before node jobs 0 j) r ≡ false = holds_before 0 (job_task node jobs j).cost (job_task node jobs j).sections (executed_before node jobs 0 j) r (apart_at j) (omega (arith, start_of node jobs j)) in
+        let free : holds_lock (job_at jobs j).sections (executed_before node jobs 0 j) r ≡ false = holds_before 0 (job_at jobs j).executes (job_at jobs j).sections (executed_before node jobs 0 j) r (apart_at j) (omega (arith, start_of node jobs j)) in
         absurd (true≢false (sym hj ∙ free))
     one_owner (suc t) j k r none hj hk =
-        let before : (i l : ℕ) → holds_lock (job_task node jobs i).sections (executed_before node jobs t i) r ≡ true → holds_lock (job_task node jobs l).sections (executed_before node jobs t l) r ≡ true → i ≡ l =
+        let before : (i l : ℕ) → holds_lock (job_at jobs i).sections (executed_before node jobs t i) r ≡ true → holds_lock (job_at jobs l).sections (executed_before node jobs t l) r ≡ true → i ≡ l =
         λ i l. one_owner t i l r (λ s lt. none s (omega arith)) in
         elim (picked node jobs t) as (λ o. picked node jobs t ≡ o → j ≡ k) [
           | None ↦ λ idle. before j k
-              (subst (λ e. holds_lock (job_task node jobs j).sections e r ≡ true) (idle_of node jobs t j idle) hj)
-              (subst (λ e. holds_lock (job_task node jobs k).sections e r ≡ true) (idle_of node jobs t k idle) hk)
+              (subst (λ e. holds_lock (job_at jobs j).sections e r ≡ true) (idle_of node jobs t j idle) hj)
+              (subst (λ e. holds_lock (job_at jobs k).sections e r ≡ true) (idle_of node jobs t k idle) hk)
           | Some p ↦ λ pick. elim (cases_eq j p) [
             | inl j_runs ↦ elim (cases_eq k p) [
               | inl k_runs ↦ j_runs ∙ sym k_runs
-              | inr ne ↦ absurd (none_beside t p k r (none t (omega arith)) pick ne (before p k) (subst (λ x. holds_lock (job_task node jobs x).sections (executed_before node jobs (suc t) x) r ≡ true) j_runs hj) hk)
+              | inr ne ↦ absurd (none_beside t p k r (none t (omega arith)) pick ne (before p k) (subst (λ x. holds_lock (job_at jobs x).sections (executed_before node jobs (suc t) x) r ≡ true) j_runs hj) hk)
             ]
             | inr j_rests ↦ elim (cases_eq k p) [
-              | inl k_runs ↦ absurd (none_beside t p j r (none t (omega arith)) pick j_rests (before p j) (subst (λ x. holds_lock (job_task node jobs x).sections (executed_before node jobs (suc t) x) r ≡ true) k_runs hk) hj)
+              | inl k_runs ↦ absurd (none_beside t p j r (none t (omega arith)) pick j_rests (before p j) (subst (λ x. holds_lock (job_at jobs x).sections (executed_before node jobs (suc t) x) r ≡ true) k_runs hk) hj)
               | inr k_rests ↦ before j k
-                  (subst (λ e. holds_lock (job_task node jobs j).sections e r ≡ true) (other_of node jobs t p j pick j_rests) hj)
-                  (subst (λ e. holds_lock (job_task node jobs k).sections e r ≡ true) (other_of node jobs t p k pick k_rests) hk)
+                  (subst (λ e. holds_lock (job_at jobs j).sections e r ≡ true) (other_of node jobs t p j pick j_rests) hj)
+                  (subst (λ e. holds_lock (job_at jobs k).sections e r ≡ true) (other_of node jobs t p k pick k_rests) hk)
             ]
           ]
         ] refl
 
-pub nobody_waits_law : (node : Node) (jobs : List Job) → IsNode node → AreLegalJobs node jobs → NobodyWaits node jobs
-nobody_waits_law node jobs valid legal = granted node jobs (sound node valid) legal.known
+pub nobody_waits_law : (node : Node) (jobs : List Job) → IsNode node → AreLegalJobs node jobs → TakeTurns jobs → NobodyWaits node jobs
+nobody_waits_law node jobs valid legal turns = granted node jobs (sound node valid) (sound_jobs node jobs legal.within turns) legal.known
 
-pub one_owner_law : (node : Node) (jobs : List Job) → IsNode node → AreLegalJobs node jobs → OneOwner node jobs
-one_owner_law node jobs valid legal t j k r none hj hk =
-    one_owner node jobs (sound node valid) legal.known (t + 1) j k r (λ s lt i below ready. none i below (omega arith)) hj hk
+-- a job that takes its sections in turn asks for no lock that it holds
+pub anew_law : (jobs : List Job) → TakeTurns jobs → AskAnew jobs
+anew_law jobs turns j e r asks = holds_none_of 0 (job_at jobs j).executes (job_at jobs j).sections e r r (turns_apart jobs turns j) asks
 
 -- a job that has executed was ready before
 pub began_strictly : (node : Node) (jobs : List Job) (t j : ℕ) → 0 < executed_before node jobs t j → (job_at jobs j).ready < t
@@ -258,7 +241,7 @@ began_strictly node jobs (suc t) j h =
       | Some p ↦ λ e. elim (cases_eq j p) [
         | inl same ↦
             let is : IsPick node jobs t p = picked_is node jobs t p e in
-            let pp : ((job_at jobs p).ready ≤ t) × (executed_before node jobs t p < (job_task node jobs p).cost) = pending_parts node jobs t p is.is_pending in
+            let pp : ((job_at jobs p).ready ≤ t) × (executed_before node jobs t p < (job_at jobs p).executes) = pending_parts node jobs t p is.is_pending in
             let r : (job_at jobs j).ready ≡ (job_at jobs p).ready = ap (λ x. (job_at jobs x).ready) same in
             omega arith
         | inr ne ↦ (let s : executed_before node jobs (suc t) j ≡ executed_before node jobs t j = other_of node jobs t p j e ne in let ih : (job_at jobs j).ready < t = began_strictly node jobs t j (omega arith) in omega arith)

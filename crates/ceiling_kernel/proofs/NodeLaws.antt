@@ -11,16 +11,12 @@ use Rattle.task_sheet.specs.Locks.{uses, ceiling_from}
 use Rattle.task_sheet.specs.Indexes.{among}
 use Rattle.task_sheet.specs.Orders.{Stands, AllStand}
 use Rattle.task_sheet.specs.Demand.{limit_of}
+use Rattle.ceiling_kernel.specs.Behaviours.{AreApart}
 use Rattle.ceiling_kernel.specs.Tick.{Node, level_from, level_in_order, ceiling}
 use Rattle.ceiling_kernel.specs.Waits.{IsNode, lateness_of}
 use Rattle.ceiling_kernel.specs.Bounds.{above_of, after_of}
 
 -- ---- sections
--- the sections stand in order and apart, from `begin` on and within the cost
-abbrev pub AreApart : ℕ → List CriticalSection → ℕ → Type 0
-AreApart begin [] cost = begin ≤ cost
-AreApart begin (s ∷ ss) cost = (begin ≤ s.at) × (0 < s.len) × AreApart (s.at + s.len) ss cost
-
 apart_of : (begin cost : ℕ) (ss : List CriticalSection) → begin ≤ cost → AreSections begin cost ss → AreApart begin ss cost
 apart_of begin cost [] within h = within
 apart_of begin cost (s ∷ ss) within h =

@@ -8,7 +8,7 @@ use Rattle.ceiling_kernel.specs.Tick.{Node, is_inside, level_from, level_in_orde
 use Rattle.ceiling_kernel.specs.Jumps.{change_after}
 use Rattle.ceiling_kernel.specs.Waits.{IsNode}
 use Rattle.ceiling_kernel.specs.States.{active_at}
-use Rattle.ceiling_kernel.proofs.NodeLaws.{AreApart}
+use Rattle.ceiling_kernel.specs.Behaviours.{AreApart}
 use Rattle.ceiling_kernel.proofs.SectionLaws.{inside_from, outside_before, outside_after}
 use Rattle.ceiling_kernel.proofs.LockLaws.{held_before}
 use Rattle.ceiling_kernel.proofs.OrderLaws.{order_length}
@@ -94,10 +94,10 @@ module _ (node : Node) where
       ]
 
   -- so its priority is its own level, or no lower than it was
-  pub active_next : (i e e' : ℕ) → AreApart 0 (task_at node.tasks i).sections (task_at node.tasks i).cost → e ≤ e' → e' ≤ change_after (task_at node.tasks i).sections e (task_at node.tasks i).cost
+  pub active_next : (i e e' limit : ℕ) → AreApart 0 (task_at node.tasks i).sections (task_at node.tasks i).cost → e ≤ e' → e' ≤ change_after (task_at node.tasks i).sections e limit
       → (active_at node i e' ≡ level_in_order node i) ⊎ (active_at node i e ≤ active_at node i e')
-  active_next i e e' apart le lt =
-      elim (held_next 0 (task_at node.tasks i).cost (task_at node.tasks i).sections e e' (task_at node.tasks i).cost apart le lt) [
+  active_next i e e' limit apart le lt =
+      elim (held_next 0 (task_at node.tasks i).cost (task_at node.tasks i).sections e e' limit apart le lt) [
         | inl none ↦ inl (omega arith)
         | inr more ↦ inr (omega arith)
       ]

@@ -1,8 +1,9 @@
 -- The steps of a run, over the code's own lists.
-use Rattle.std.proofs.Common.{ℕ, suc, ◌+◌, ◌-◌, ◌<◌, ◌≤◌, ◌≡◌, ◌≢◌, ◌⊎◌, inl, inr, refl, sym, ap, ◌∙◌, subst, arith, cond, List, length, set, get_or, map, replicate, Option, Some, None, Bool, true, false, slice_index_or, get_or-set_same, get_or-set_other, length-set}
+use Rattle.std.proofs.Common.{ℕ, suc, ◌+◌, ◌-◌, ◌<◌, ◌≤◌, ◌≡◌, ◌≢◌, ◌⊎◌, inl, inr, refl, sym, ap, ap₂, ◌∙◌, subst, arith, cond, List, length, set, get_or, map, replicate, Option, Some, None, Bool, true, false, slice_index_or, get_or-set_same, get_or-set_other, length-set}
+use Rattle.std.specs.Option.{unwrap_or}
 use Rattle.std.proofs.lemmas.Option.{none-some}
 use Rattle.std.proofs.lemmas.Bool.{cases_eq, cases_Bool, true≢false}
-use Rattle.std.proofs.lemmas.List.{get_or-replicate, length-replicate}
+use Rattle.std.proofs.lemmas.List.{get_or-replicate, length-replicate, get_or_default}
 use Rattle.std.proofs.lemmas.List.Elements.{All-get_or}
 use Rattle.task_sheet.specs.Sheet.{IsValidSheet, no_task, task_at}
 use Rattle.task_sheet.specs.TaskSet.{IsTaskSet}
@@ -14,7 +15,7 @@ use Rattle.ceiling_kernel.specs.Tick.{Node, Job, job_at, job_task, level_in_orde
 use Rattle.ceiling_kernel.specs.Trace.{with_run, slices_before, finish_before}
 use Rattle.ceiling_kernel.specs.Jumps.{change_after, NoneReadyBetween}
 use Rattle.ceiling_kernel.specs.Waits.{IsNode, Overruns, NoOverrunBy, holds_lock}
-use Rattle.ceiling_kernel.specs.Releases.{task_number, ready_of, jobs_of, release_at}
+use Rattle.ceiling_kernel.specs.Releases.{task_number, ready_of, job_of, jobs_of, no_release, release_at}
 use Rattle.ceiling_kernel.specs.Turns.{time_in_turn, job_in_turn, AreTurns, has_come, TasksKeepOrder}
 use Rattle.ceiling_kernel.specs.Runs.{IsOverrun}
 use Rattle.ceiling_kernel.specs.NodeTasks.{IsTaskOf}
@@ -23,7 +24,11 @@ use Rattle.ceiling_kernel.specs.Owners.{owner_of, with_owners, AreOwners}
 use Rattle.ceiling_kernel.specs.Lists.{list_at, with_tail, without_head, moved_to, Queues, IsAlone}
 use Rattle.ceiling_kernel.proofs.ReleaseLaws.{finish_first, job_is, jobs_length, place_is, read_at}
 use Rattle.ceiling_kernel.proofs.TurnLaws.{keeps_order, come_of, come_others, next_fresh, next_first, next_time}
-use Rattle.ceiling_kernel.proofs.NodeLaws.{AreApart, IsSoundTask, IsSound, sound}
+use Rattle.ceiling_kernel.specs.Behaviours.{AreApart}
+use Rattle.ceiling_kernel.proofs.NodeLaws.{IsSoundTask, IsSound, sound}
+use Rattle.ceiling_kernel.proofs.BehaviourLaws.{AreSoundJobs, sound_jobs}
+use Rattle.ceiling_kernel.specs.Behaviours.{IsCut, AreCut}
+use Rattle.ceiling_kernel.proofs.CutLaws.{holds-cut, cuts_within, cuts_apart}
 use Rattle.ceiling_kernel.proofs.MachineLaws.{picked_is, IsPick}
 use Rattle.ceiling_kernel.proofs.JumpLaws as jump
 use Rattle.ceiling_kernel.proofs.SlotLaws.{IsBestSlot, slot_some}
@@ -56,6 +61,16 @@ module _ (node : Node) (rs : List Release) (turns : List (ℕ × ℕ)) (runnable
       let k : task_number node.tasks (release_at rs j) < length node.tasks = runnable.known j lt' in
       omega arith
 
+  -- each job does as its sheet says, up to its end
+  pub cuts_of : AreCut node jobs
+  cuts_of j lt =
+      let l : length jobs ≡ length rs = jobs_length node.tasks rs in
+      let e : job_at jobs j ≡ job_of node.tasks (release_at rs j) = job_is node.tasks rs j (omega arith) in
+      subst (λ x. IsCut (task_at node.tasks x.task) x) (sym e) (record { some = (runnable.in_cost j (omega arith)).0; most = (runnable.in_cost j (omega arith)).1; sections = refl })
+
+  own_sections : AreSoundJobs node jobs
+  own_sections = sound_jobs node jobs (cuts_within node jobs is_sound known_of cuts_of) (cuts_apart node jobs is_sound known_of cuts_of)
+
   ready_is : (j : ℕ) → j < length rs → (job_at jobs j).ready ≡ ready_of (release_at rs j)
   ready_is j lt = ap (λ x. x.ready) (job_is node.tasks rs j lt)
 
@@ -66,19 +81,19 @@ module _ (node : Node) (rs : List Release) (turns : List (ℕ × ℕ)) (runnable
       let l : length jobs ≡ length rs = jobs_length node.tasks rs in
       omega (arith, are.known n lt)
 
-  valid_cost : (i : ℕ) → i < length node.tasks → (0 < (task_at node.tasks i).cost) × ((task_at node.tasks i).cost ≤ 10000000)
+  valid_cost : (i : ℕ) → i < length node.tasks → (task_at node.tasks i).cost ≤ 10000000
   valid_cost i lt =
       let n : IsNode node = ok in let s : IsTaskSet node.tasks = n.tasks in
       let v : IsValidSheet (task_at node.tasks i) = All-get_or IsValidSheet node.tasks i no_task lt s.valid in
       let c : (task_at node.tasks i).cost ≤ (task_at node.tasks i).period = v.cost_to in
       let p : (task_at node.tasks i).period ≤ 10000000 = v.period_to in
-      (v.cost_from, omega arith)
+      omega arith
 
   pub few_tasks : length node.tasks ≤ 32
   few_tasks = (let n : IsNode node = ok in let s : IsTaskSet node.tasks = n.tasks in s.few)
 
-  pub cost_some : (j : ℕ) → j < length rs → 0 < (job_task node jobs j).cost
-  cost_some j lt = (let l : length jobs ≡ length rs = jobs_length node.tasks rs in (valid_cost (task_no j) (known_of j (omega arith))).0)
+  pub executes_some : (j : ℕ) → j < length rs → 0 < (job_at jobs j).executes
+  executes_some j lt = (let l : length jobs ≡ length rs = jobs_length node.tasks rs in let c : IsCut (job_task node jobs j) (job_at jobs j) = cuts_of j (omega arith) in c.some)
 
   -- the kept index of the task whose turn it is
   pub task_in_turn : (places : List ℕ) (n : ℕ) → places ≡ map (task_number node.tasks) rs → n < length turns → get_or places (job_in_turn turns n) 0 < length node.tasks
@@ -88,7 +103,7 @@ module _ (node : Node) (rs : List Release) (turns : List (ℕ × ℕ)) (runnable
 
   -- before the first tick
   pub kept_start : Kept node jobs 0 (has_come turns 0) (replicate (length node.tasks) None)
-  kept_start = laws.kept_start node jobs is_sound known_of (has_come turns 0) (λ j. refl)
+  kept_start = laws.kept_start node jobs is_sound known_of cuts_of (has_come turns 0) (λ j. refl)
 
   pub finishes_start : AreFinishes node rs 0 (replicate (length rs) None)
   finishes_start = record {
@@ -145,7 +160,7 @@ module _ (node : Node) (rs : List Release) (turns : List (ℕ × ℕ)) (runnable
           → Kept node jobs t (has_come turns (suc next)) (set slots (task_number node.tasks (release_at rs turn)) (Some p))
       admit p job task level executed active free =
           subst (λ x. Kept node jobs t (has_come turns (suc next)) (set slots x (Some p))) (sym turn_task)
-          (laws.kept_admit node jobs is_sound known_of t come slots kept turn turn_below turn_fresh turn_ready keep (has_come turns (suc next)) (come_of turns (suc next) next (omega arith)) (come_others turns next) p job (task ∙ turn_task) (level ∙ ap (level_in_order node) turn_task) executed (active ∙ ap (level_in_order node) turn_task)
+          (laws.kept_admit node jobs is_sound known_of cuts_of t come slots kept turn turn_below turn_fresh turn_ready keep (has_come turns (suc next)) (come_of turns (suc next) next (omega arith)) (come_others turns next) p job (task ∙ turn_task) (level ∙ ap (level_in_order node) turn_task) executed (active ∙ ap (level_in_order node) turn_task)
           (subst (λ x. slot_of x ≡ None) turn_task free))
 
       -- its task comes to the tail of the list of its own level
@@ -176,7 +191,7 @@ module _ (node : Node) (rs : List Release) (turns : List (ℕ × ℕ)) (runnable
 
       pub overrun : (q : Pending) → slot_of (task_number node.tasks (release_at rs turn)) ≡ Some q → (r : Release) → release_at rs turn ≡ r → (time : ℕ) → time ≡ time_in_turn turns next → IsOverrun node rs r.name time
       overrun q taken r e time timed =
-          let over : Overruns node jobs turn = laws.overruns_now node jobs is_sound known_of t come slots kept turn turn_below turn_fresh turn_ready keep q (subst (λ x. slot_of x ≡ Some q) turn_task taken) in
+          let over : Overruns node jobs turn = laws.overruns_now node jobs is_sound known_of cuts_of t come slots kept turn turn_below turn_fresh turn_ready keep q (subst (λ x. slot_of x ≡ Some q) turn_task taken) in
           record {
             place = turn;
             first = record {
@@ -203,6 +218,12 @@ module _ (node : Node) (rs : List Release) (turns : List (ℕ × ℕ)) (runnable
             time_is = timed ∙ (turn_time ∙ ready_is turn turn_in_list);
           }
 
+    -- before its end a job holds what its sheet says
+    holds_own : (j : ℕ) → j < length jobs → (e : ℕ) (lock : List ℕ) → e < (job_at jobs j).executes → holds_lock (job_task node jobs j).sections e lock ≡ true → holds_lock (job_at jobs j).sections e lock ≡ true
+    holds_own j lt e lock open_ held =
+        let c : IsCut (job_task node jobs j) (job_at jobs j) = cuts_of j lt in
+        ap (λ ss. holds_lock ss e lock) c.sections ∙ (holds-cut (job_at jobs j).executes (job_task node jobs j).sections e lock open_ ∙ held)
+
     -- ---- up to a limit, at which the next turn stands at the earliest
     module _ (limit : ℕ) (after : t < limit) (before_next : next < length turns → limit ≤ time_in_turn turns next) where
       all_later : (j : ℕ) → come j ≡ false → j < length jobs → limit ≤ (job_at jobs j).ready
@@ -220,16 +241,16 @@ module _ (node : Node) (rs : List Release) (turns : List (ℕ × ℕ)) (runnable
       -- nothing is pending
       module _ (none : best_slot slots None ≡ None) where
         idle_now : picked node jobs t ≡ None
-        idle_now = laws.idle_is node jobs is_sound known_of t come slots kept later none
+        idle_now = laws.idle_is node jobs is_sound known_of cuts_of t come slots kept later none
 
         to_limit : t + (limit - t) ≡ limit
         to_limit = omega arith
 
         pub idle_kept : Kept node jobs limit come slots
-        idle_kept = subst (λ x. Kept node jobs x come slots) to_limit (laws.kept_idle node jobs is_sound known_of t come slots kept (limit - t) (later_by (limit - t) (omega arith)) idle_now)
+        idle_kept = subst (λ x. Kept node jobs x come slots) to_limit (laws.kept_idle node jobs is_sound known_of cuts_of t come slots kept (limit - t) (later_by (limit - t) (omega arith)) idle_now)
 
         none_between : NoneReadyBetween jobs t (t + (limit - t))
-        none_between = laws.none_between node jobs is_sound known_of t come slots kept (limit - t) (later_by (limit - t) (omega arith))
+        none_between = laws.none_between node jobs is_sound known_of cuts_of t come slots kept (limit - t) (later_by (limit - t) (omega arith))
 
         pub idle_slices : slices_before (picked node jobs) limit ≡ slices_before (picked node jobs) t
         idle_slices =
@@ -240,15 +261,15 @@ module _ (node : Node) (rs : List Release) (turns : List (ℕ × ℕ)) (runnable
         idle_finishes fs are = record {
           count = are.count;
           each = λ j lt.
-              let same : executed_before node jobs (t + (limit - t)) j ≡ executed_before node jobs t j = laws.idle_same node jobs is_sound known_of t come slots kept (limit - t) (later_by (limit - t) (omega arith)) idle_now j in
-              let stays : finish_before node jobs (t + (limit - t)) j ≡ finish_before node jobs t j = finish_stays node jobs j t (limit - t) (cost_some j lt) (inl same) in
+              let same : executed_before node jobs (t + (limit - t)) j ≡ executed_before node jobs t j = laws.idle_same node jobs is_sound known_of cuts_of t come slots kept (limit - t) (later_by (limit - t) (omega arith)) idle_now j in
+              let stays : finish_before node jobs (t + (limit - t)) j ≡ finish_before node jobs t j = finish_stays node jobs j t (limit - t) (executes_some j lt) (inl same) in
               are.each j lt ∙ (sym stays ∙ ap (λ x. finish_before node jobs x j) to_limit);
         }
 
       -- the pending job p goes first
       module _ (p : Pending) (best : best_slot slots None ≡ Some p) where
-        abbrev cost : ℕ
-        cost = (task_at node.tasks p.task).cost
+        abbrev pub executes : ℕ
+        executes = (job_at jobs p.job).executes
 
         place : (i : ℕ) × (slot_of i ≡ Some p)
         place = (let s : IsBestSlot slots None p = slot_some slots None p best in elim s.from [ inl no_one ↦ absurd (none-some p no_one) | inr found ↦ found ])
@@ -260,7 +281,7 @@ module _ (node : Node) (rs : List Release) (turns : List (ℕ × ℕ)) (runnable
         is_p = kept.pending p.task p slot
 
         picks_now : picked node jobs t ≡ Some p.job
-        picks_now = laws.pick_is node jobs is_sound known_of t come slots kept later p best
+        picks_now = laws.pick_is node jobs is_sound known_of cuts_of t come slots kept later p best
 
         job_below : p.job < length jobs
         job_below = (let is : IsPick node jobs t p.job = picked_is node jobs t p.job picks_now in is.below)
@@ -274,11 +295,24 @@ module _ (node : Node) (rs : List Release) (turns : List (ℕ × ℕ)) (runnable
         pub task_in_slots : p.task < length slots
         task_in_slots = (let c : length slots ≡ length node.tasks = kept.slot_count in let l : p.task < length node.tasks = task_in in omega arith)
 
-        apart : AreApart 0 (task_at node.tasks p.task).sections cost
+        apart : AreApart 0 (task_at node.tasks p.task).sections (task_at node.tasks p.task).cost
         apart = (let s : IsSound node = is_sound in let v : IsSoundTask node p.task = s.each p.task task_in in v.apart)
 
-        pub small : cost ≤ 10000000
-        small = (valid_cost p.task task_in).1
+        pub small : executes ≤ 10000000
+        small =
+            let c : IsCut (job_task node jobs p.job) (job_at jobs p.job) = cuts_of p.job job_below in
+            let most : (job_task node jobs p.job).cost ≤ 10000000 = valid_cost (task_no p.job) (known_of p.job job_below) in
+            omega (arith, c.most)
+
+        -- how long it executes
+        pub runs_is : (r : Release) (x : NodeTask) → r ≡ get_or rs p.job r → IsTaskOf node p.task x → unwrap_or r.runs x.cost ≡ executes
+        runs_is r x read is_x =
+            let e : job_at jobs p.job ≡ job_of node.tasks (release_at rs p.job) = job_is node.tasks rs p.job job_in in
+            let own : (job_at jobs p.job).task ≡ p.task = (let m : IsPending node jobs t come p.task p = is_p in m.own) in
+            let task : task_number node.tasks (release_at rs p.job) ≡ p.task = sym (ap (λ y. y.task) e) ∙ own in
+            let here : r ≡ release_at rs p.job = read ∙ get_or_default rs p.job r no_release job_in in
+            let cost : x.cost ≡ (task_at node.tasks (task_number node.tasks (release_at rs p.job))).cost = is_x.cost ∙ ap (λ i. (task_at node.tasks i).cost) (sym task) in
+            ap₂ (λ (y : Release) c. unwrap_or y.runs c) here cost ∙ sym (ap (λ y. y.executes) e)
 
         pub list_is : (lists : List (List ℕ)) → Queues (λ k. slice_index_or slots k None) (list_at lists) → p.active < length lists
         list_is lists queues = move.list_in slots lists queues p.active 0 p.task (move.stands_first slots lists queues p p.task best slot)
@@ -299,20 +333,19 @@ module _ (node : Node) (rs : List Release) (turns : List (ℕ × ℕ)) (runnable
               (λ k ne. get_or-set_other slots p.task k None None ne) p slot (get_or-set_same slots p.task None None task_in_slots)
               (λ lock. owner_written node p.executed None lock owners p.task x.sections.items task_in count is_x.sections)
 
-          change_is : next_change x.sections.items p.executed x.cost ≡ change_after (task_at node.tasks p.task).sections p.executed cost
-          change_is = ap (λ z. next_change x.sections.items p.executed z) is_x.cost ∙ next_change-is node (task_at node.tasks p.task).sections x.sections.items p.executed cost is_x.sections
+          change_is : next_change x.sections.items p.executed executes ≡ change_after (task_at node.tasks p.task).sections p.executed executes
+          change_is = next_change-is node (task_at node.tasks p.task).sections x.sections.items p.executed executes is_x.sections
 
-          pub ahead : (p.executed < next_change x.sections.items p.executed x.cost) × (next_change x.sections.items p.executed x.cost ≤ x.cost)
+          pub ahead : (p.executed < next_change x.sections.items p.executed executes) × (p.executed < executes)
           ahead =
               let m : IsPending node jobs t come p.task p = is_p in
-              let b : (p.executed < change_after (task_at node.tasks p.task).sections p.executed cost) × (change_after (task_at node.tasks p.task).sections p.executed cost ≤ cost) = jump.change_above 0 cost (task_at node.tasks p.task).sections p.executed apart m.unfinished in
-              let e : next_change x.sections.items p.executed x.cost ≡ change_after (task_at node.tasks p.task).sections p.executed cost = change_is in
-              let c : x.cost ≡ cost = is_x.cost in
-              (omega arith, omega arith)
+              let b : p.executed < change_after (task_at node.tasks p.task).sections p.executed executes = jump.change_ahead (task_at node.tasks p.task).sections p.executed executes m.unfinished in
+              let e : next_change x.sections.items p.executed executes ≡ change_after (task_at node.tasks p.task).sections p.executed executes = change_is in
+              (omega arith, m.unfinished)
 
-          module _ (stop : ℕ) (runs : t < stop) (in_limit : stop ≤ limit) (within : p.executed + (stop - t) ≤ next_change x.sections.items p.executed x.cost) where
-            within_p : p.executed + (stop - t) ≤ change_after (task_at node.tasks p.task).sections p.executed cost
-            within_p = (let e : next_change x.sections.items p.executed x.cost ≡ change_after (task_at node.tasks p.task).sections p.executed cost = change_is in omega arith)
+          module _ (stop : ℕ) (runs : t < stop) (in_limit : stop ≤ limit) (within : p.executed + (stop - t) ≤ next_change x.sections.items p.executed executes) (to_end : p.executed + (stop - t) ≤ executes) where
+            within_p : p.executed + (stop - t) ≤ change_after (task_at node.tasks p.task).sections p.executed executes
+            within_p = (let e : next_change x.sections.items p.executed executes ≡ change_after (task_at node.tasks p.task).sections p.executed executes = change_is in omega arith)
 
             to_stop : t + (stop - t) ≡ stop
             to_stop = omega arith
@@ -321,33 +354,30 @@ module _ (node : Node) (rs : List Release) (turns : List (ℕ × ℕ)) (runnable
             by_stop = later_by (stop - t) (omega arith)
 
             own : executed_before node jobs (t + (stop - t)) p.job ≡ p.executed + (stop - t)
-            own = laws.own_then node jobs is_sound known_of t come slots kept (stop - t) by_stop p.task p slot picks_now within_p
+            own = laws.own_then node jobs is_sound known_of cuts_of t come slots kept (stop - t) by_stop p.task p slot picks_now within_p to_end
 
             others : (j : ℕ) → j ≢ p.job → executed_before node jobs (t + (stop - t)) j ≡ executed_before node jobs t j
-            others = laws.others_then node jobs is_sound known_of t come slots kept (stop - t) by_stop p.task p slot picks_now within_p
-
-            cost_p : (job_task node jobs p.job).cost ≡ cost
-            cost_p = (let m : IsPending node jobs t come p.task p = is_p in ap (λ z. (task_at node.tasks z).cost) m.own)
+            others = laws.others_then node jobs is_sound known_of cuts_of t come slots kept (stop - t) by_stop p.task p slot picks_now within_p to_end
 
             pub run_slices : slices_before (picked node jobs) stop ≡ with_run (slices_before (picked node jobs) t) p.job t stop
             run_slices =
                 let more : t + suc (stop - t - 1) ≡ stop = omega arith in
-                let stays : (d : ℕ) → d < stop - t → picked node jobs (t + d) ≡ Some p.job = laws.picks node jobs is_sound known_of t come slots kept (stop - t) by_stop p.task p slot picks_now within_p in
+                let stays : (d : ℕ) → d < stop - t → picked node jobs (t + d) ≡ Some p.job = laws.picks node jobs is_sound known_of cuts_of t come slots kept (stop - t) by_stop p.task p slot picks_now within_p to_end in
                 subst (λ y. slices_before (picked node jobs) y ≡ with_run (slices_before (picked node jobs) t) p.job t y) more
                 (jump.slices_run (picked node jobs) t (stop - t - 1) p.job (λ d lt. stays d (omega arith)))
 
-            pub run_kept : (p' : Pending) → p'.job ≡ p.job → p'.task ≡ p.task → p'.level ≡ p.level → p'.executed ≡ p.executed + (stop - t) → p'.active ≡ active_at node p.task p'.executed → p.executed + (stop - t) < cost
+            pub run_kept : (p' : Pending) → p'.job ≡ p.job → p'.task ≡ p.task → p'.level ≡ p.level → p'.executed ≡ p.executed + (stop - t) → p'.active ≡ active_at node p.task p'.executed → p.executed + (stop - t) < executes
                 → Kept node jobs stop come (set slots p.task (Some p'))
             run_kept p' job task level executed active open_ =
                 subst (λ y. Kept node jobs y come (set slots p.task (Some p'))) to_stop
-                (laws.kept_run node jobs is_sound known_of t come slots kept (stop - t) by_stop p.task p slot picks_now within_p p' job task level executed active open_)
+                (laws.kept_run node jobs is_sound known_of cuts_of t come slots kept (stop - t) by_stop p.task p slot picks_now within_p to_end p' job task level executed active open_)
 
             -- its next active priority
             next_is : (active : ℕ) → active ≡ active_at node p.task (p.executed + (stop - t)) → (active ≡ level_in_order node p.task) ⊎ (p.active ≤ active)
             next_is active e =
                 let m : IsPending node jobs t come p.task p = is_p in
                 let was : p.active ≡ active_at node p.task p.executed = m.active in
-                elim (priority.active_next node p.task p.executed (p.executed + (stop - t)) apart (omega arith) within_p) [ inl own_level ↦ inl (e ∙ own_level) | inr more ↦ inr (omega arith) ]
+                elim (priority.active_next node p.task p.executed (p.executed + (stop - t)) executes apart (omega arith) within_p) [ inl own_level ↦ inl (e ∙ own_level) | inr more ↦ inr (omega arith) ]
 
             pub run_lists : (lists : List (List ℕ)) → Queues (λ k. slice_index_or slots k None) (list_at lists) → IsAlone slot_of → length lists ≡ length node.tasks + 1 → (p' : Pending) → p'.level ≡ p.level → p'.active ≡ active_at node p.task (p.executed + (stop - t))
                 → Queues (λ k. slice_index_or (set slots p.task (Some p')) k None) (list_at (moved_to lists p.active p'.active p.task))
@@ -366,10 +396,10 @@ module _ (node : Node) (rs : List Release) (turns : List (ℕ × ℕ)) (runnable
             ]
 
             -- then it takes what it holds
-            pub run_owners : (p' : Pending) → p'.executed ≡ p.executed + (stop - t) → (owners : List (Option ℕ)) → length owners ≡ length (locks_of node.tasks) → AreOwners node.tasks slot_of (owner_of node.tasks owners)
+            pub run_owners : p.executed + (stop - t) < executes → (p' : Pending) → p'.executed ≡ p.executed + (stop - t) → (owners : List (Option ℕ)) → length owners ≡ length (locks_of node.tasks) → AreOwners node.tasks slot_of (owner_of node.tasks owners)
                 → AreOwners node.tasks (λ k. slice_index_or (set slots p.task (Some p')) k None)
                 (owner_of node.tasks (with_owners (with_owners owners x.sections.items p.executed None) x.sections.items (p.executed + (stop - t)) (Some p.task)))
-            run_owners p' executed owners count are =
+            run_owners open_ p' executed owners count are =
                 let m : IsPending node jobs t come p.task p = is_p in
                 let given : List (Option ℕ) = with_owners owners x.sections.items p.executed None in
                 owners_join node.tasks (λ k. slice_index_or (set slots p.task None) k None) (owner_of node.tasks given) (leave_owners owners count are)
@@ -384,47 +414,45 @@ module _ (node : Node) (rs : List Release) (turns : List (ℕ × ℕ)) (runnable
                 let differ : q.job ≢ p.job = λ same. ne (sym mq.own ∙ (ap task_no same ∙ m.own)) in
                 let mine_then : executed_before node jobs stop p.job ≡ p'.executed = ap (λ y. executed_before node jobs y p.job) (sym to_stop) ∙ (own ∙ sym executed) in
                 let other_then : executed_before node jobs stop q.job ≡ q.executed = ap (λ y. executed_before node jobs y q.job) (sym to_stop) ∙ (others q.job differ ∙ sym mq.executed) in
-                let mine_holds : holds_lock (job_task node jobs p.job).sections (executed_before node jobs stop p.job) lock ≡ true =
-                subst (λ e. holds_lock (job_task node jobs p.job).sections e lock ≡ true) (sym mine_then) (subst (λ i. holds_lock (task_at node.tasks i).sections p'.executed lock ≡ true) (sym m.own) mine) in
-                let other_holds : holds_lock (job_task node jobs q.job).sections (executed_before node jobs stop q.job) lock ≡ true =
-                subst (λ e. holds_lock (job_task node jobs q.job).sections e lock ≡ true) (sym other_then) (subst (λ i. holds_lock (task_at node.tasks i).sections q.executed lock ≡ true) (sym mq.own) other) in
-                differ (sym (one_owner node jobs is_sound known_of stop p.job q.job lock no_overrun_before mine_holds other_holds)))
+                let mine_holds : holds_lock (job_at jobs p.job).sections (executed_before node jobs stop p.job) lock ≡ true =
+                subst (λ e. holds_lock (job_at jobs p.job).sections e lock ≡ true) (sym mine_then) (holds_own p.job job_below p'.executed lock (omega arith) (subst (λ i. holds_lock (task_at node.tasks i).sections p'.executed lock ≡ true) (sym m.own) mine)) in
+                let other_holds : holds_lock (job_at jobs q.job).sections (executed_before node jobs stop q.job) lock ≡ true =
+                subst (λ e. holds_lock (job_at jobs q.job).sections e lock ≡ true) (sym other_then) (holds_own q.job (kept.within q.job mq.released) q.executed lock mq.unfinished (subst (λ i. holds_lock (task_at node.tasks i).sections q.executed lock ≡ true) (sym mq.own) other)) in
+                differ (sym (one_owner node jobs is_sound own_sections known_of stop p.job q.job lock no_overrun_before mine_holds other_holds)))
 
-            pub finish_kept : p.executed + (stop - t) ≡ cost → Kept node jobs stop come (set slots p.task None)
+            pub finish_kept : p.executed + (stop - t) ≡ executes → Kept node jobs stop come (set slots p.task None)
             finish_kept full =
                 subst (λ y. Kept node jobs y come (set slots p.task None)) to_stop
-                (laws.kept_finish node jobs is_sound known_of t come slots kept (stop - t) by_stop p.task p slot picks_now within_p full)
+                (laws.kept_finish node jobs is_sound known_of cuts_of t come slots kept (stop - t) by_stop p.task p slot picks_now within_p to_end full)
 
             -- what is known of another job's finish stays
             other_finish : (j : ℕ) → j < length rs → j ≢ p.job → finish_before node jobs t j ≡ finish_before node jobs stop j
             other_finish j lt ne =
-                let stays : finish_before node jobs (t + (stop - t)) j ≡ finish_before node jobs t j = finish_stays node jobs j t (stop - t) (cost_some j lt) (inl (others j ne)) in
+                let stays : finish_before node jobs (t + (stop - t)) j ≡ finish_before node jobs t j = finish_stays node jobs j t (stop - t) (executes_some j lt) (inl (others j ne)) in
                 sym stays ∙ ap (λ y. finish_before node jobs y j) to_stop
 
-            pub run_finishes : p.executed + (stop - t) < cost → (fs : List (Option ℕ)) → AreFinishes node rs t fs → AreFinishes node rs stop fs
+            pub run_finishes : p.executed + (stop - t) < executes → (fs : List (Option ℕ)) → AreFinishes node rs t fs → AreFinishes node rs stop fs
             run_finishes open_ fs are = record {
               count = are.count;
               each = λ j lt. are.each j lt ∙ elim (cases_eq j p.job) [
                 | inl same ↦
                     let o : executed_before node jobs (t + (stop - t)) p.job ≡ p.executed + (stop - t) = own in
-                    let c : (job_task node jobs p.job).cost ≡ cost = cost_p in
-                    let stays : finish_before node jobs (t + (stop - t)) p.job ≡ finish_before node jobs t p.job = finish_stays node jobs p.job t (stop - t) (cost_some p.job job_in) (inr (omega arith)) in
+                    let stays : finish_before node jobs (t + (stop - t)) p.job ≡ finish_before node jobs t p.job = finish_stays node jobs p.job t (stop - t) (executes_some p.job job_in) (inr (omega arith)) in
                     subst (λ z. finish_before node jobs t z ≡ finish_before node jobs stop z) (sym same) (sym stays ∙ ap (λ y. finish_before node jobs y p.job) to_stop)
                 | inr ne ↦ other_finish j lt ne
               ];
             }
 
-            pub finish_finishes : p.executed + (stop - t) ≡ cost → (fs : List (Option ℕ)) → AreFinishes node rs t fs → AreFinishes node rs stop (set fs p.job (Some stop))
+            pub finish_finishes : p.executed + (stop - t) ≡ executes → (fs : List (Option ℕ)) → AreFinishes node rs t fs → AreFinishes node rs stop (set fs p.job (Some stop))
             finish_finishes full fs are =
-                let c : (job_task node jobs p.job).cost ≡ cost = cost_p in
                 let last : t + suc (stop - t - 1) ≡ stop = omega arith in
-                let short : executed_before node jobs (t + (stop - t - 1)) p.job < (job_task node jobs p.job).cost =
+                let short : executed_before node jobs (t + (stop - t - 1)) p.job < (job_at jobs p.job).executes =
                 (let o : executed_before node jobs (t + (stop - t - 1)) p.job ≡ p.executed + (stop - t - 1) =
-                laws.own_then node jobs is_sound known_of t come slots kept (stop - t - 1) (later_by (stop - t - 1) (omega arith)) p.task p slot picks_now (let w : p.executed + (stop - t) ≤ change_after (task_at node.tasks p.task).sections p.executed cost = within_p in omega arith) in omega arith) in
-                let full_then : (job_task node jobs p.job).cost ≤ executed_before node jobs (t + suc (stop - t - 1)) p.job =
+                laws.own_then node jobs is_sound known_of cuts_of t come slots kept (stop - t - 1) (later_by (stop - t - 1) (omega arith)) p.task p slot picks_now (let w : p.executed + (stop - t) ≤ change_after (task_at node.tasks p.task).sections p.executed executes = within_p in omega arith) (omega arith) in omega arith) in
+                let full_then : (job_at jobs p.job).executes ≤ executed_before node jobs (t + suc (stop - t - 1)) p.job =
                 (let o : executed_before node jobs (t + (stop - t)) p.job ≡ p.executed + (stop - t) = own in
                 let e : t + (stop - t) ≡ t + suc (stop - t - 1) = omega arith in
-                subst (λ y. (job_task node jobs p.job).cost ≤ executed_before node jobs y p.job) e (omega arith)) in
+                subst (λ y. (job_at jobs p.job).executes ≤ executed_before node jobs y p.job) e (omega arith)) in
                 let now : finish_before node jobs stop p.job ≡ Some stop = subst (λ y. finish_before node jobs y p.job ≡ Some y) last (finish_now node jobs p.job t (stop - t - 1) short full_then) in
                 let count : length fs ≡ length rs = are.count in
                 let in_fs : p.job < length fs = (let l : p.job < length rs = job_in in omega arith) in

@@ -1,12 +1,14 @@
 -- What is left of the section that a job is inside of, where its ceiling reaches a level.
-use Rattle.std.proofs.Common.{ℕ, suc, ◌+◌, ◌-◌, ◌<◌, ◌≤◌, ◌≡◌, inl, inr, refl, arith, if◌then◌else◌, true, false, ◌&&◌, max, List, [], ◌∷◌, nat_le, nat_lt}
+use Rattle.std.proofs.Common.{ℕ, zero, suc, ◌+◌, ◌-◌, ◌<◌, ◌≤◌, ◌≡◌, inl, inr, refl, ap, ◌∙◌, subst, arith, if◌then◌else◌, true, false, ◌&&◌, max, List, [], ◌∷◌, nat_le, nat_lt}
 use Rattle.std.proofs.lemmas.Bool.{cases_lt, cases_Bool, lt-ltb, le-ltb, le-leb, lt-leb, leb-true, ltb-true, and_parts, and_left, and_right, and_from}
 use Rattle.task_sheet.specs.Sheet.{CriticalSection}
 use Rattle.task_sheet.specs.Indexes.{Indexes}
 use Rattle.task_sheet.specs.Locks.{reaches}
 use Rattle.task_sheet.specs.Demand.{greatest_of}
 use Rattle.ceiling_kernel.specs.Tick.{Node, is_inside, top_ceiling, held_ceiling}
-use Rattle.ceiling_kernel.proofs.NodeLaws.{AreApart}
+use Rattle.ceiling_kernel.specs.Behaviours.{AreTaken}
+use Rattle.ceiling_kernel.proofs.BehaviourLaws.{covered-le}
+use Rattle.ceiling_kernel.specs.Behaviours.{AreApart}
 
 pub inside_true : (s : CriticalSection) (e : ℕ) → is_inside s e ≡ true → (s.at < e) × (e < s.at + s.len)
 inside_true s e h =
@@ -84,16 +86,17 @@ module _ (node : Node) (level : ℕ) where
             rw (not_it, out) ih
       ]
 
-  -- it is at most the longest section that some tasks reach, where they reach each one whose ceiling reaches the level
-  pub rest-le : (X : Indexes) → ((s : CriticalSection) → level ≤ top_ceiling node s.locks → reaches node.tasks X s ≡ true) → (ss : List CriticalSection) (e : ℕ) → rest_of ss e ≤ greatest_of (λ s. if reaches node.tasks X s then s.len else 0) ss
-  rest-le X all [] e = omega arith
-  rest-le X all (s ∷ ss) e =
-      let ih : rest_of ss e ≤ greatest_of (λ s. if reaches node.tasks X s then s.len else 0) ss = rest-le X all ss e in
+  -- it is less than the longest section of the sheet that some tasks reach, where they reach each one whose ceiling reaches the level: the first tick is executed
+  pub rest-le : (X : Indexes) → ((s : CriticalSection) → level ≤ top_ceiling node s.locks → reaches node.tasks X s ≡ true) → (declared : List CriticalSection) (from executes : ℕ) (ss : List CriticalSection) (e : ℕ) → AreTaken declared from executes ss
+      → rest_of ss e ≤ greatest_of (λ s. if reaches node.tasks X s then s.len else 0) declared - 1
+  rest-le X all declared from executes [] e taken = omega arith
+  rest-le X all declared from executes (s ∷ ss) e taken =
+      let ih : rest_of ss e ≤ greatest_of (λ s. if reaches node.tasks X s then s.len else 0) declared - 1 = rest-le X all declared (s.at + s.len) executes ss e taken.3 in
       elim (cases_Bool (is_inside s e && nat_le level (top_ceiling node s.locks))) [
         | inl reaching ↦
             let p = of_reaching s e reaching in
-            let r : reaches node.tasks X s ≡ true = all s (leb-true level (top_ceiling node s.locks) p.1) in
-            rw (p.0, p.1, r) (omega arith)
+            let most : s.len ≤ greatest_of (λ s. if reaches node.tasks X s then s.len else 0) declared = covered-le node level X all declared s taken.2 (leb-true level (top_ceiling node s.locks) p.1) in
+            rw (p.0, p.1) (omega (arith, p.2, p.3, most))
         | inr not_it ↦ rw not_it (omega arith)
       ]
 
@@ -132,4 +135,44 @@ module _ (node : Node) (level : ℕ) where
             let later : 0 < rest_of ss e = rw not_it at h in
             let ih : level ≤ held_ceiling node ss e = held_from_rest ss e later in
             omega arith
+      ]
+
+  -- ---- for how many of n ticks from e on the ceiling that is held reaches the level without a break
+  abbrev pub stretch : List CriticalSection → ℕ → ℕ → ℕ
+  stretch ss zero e = 0
+  stretch ss (suc n) e = if nat_le level (held_ceiling node ss e) then suc (stretch ss n (suc e)) else 0
+
+  pub stretch_held : (ss : List CriticalSection) (n e : ℕ) → 0 < stretch ss n e → level ≤ held_ceiling node ss e
+  stretch_held ss zero e h = absurd (omega arith)
+  stretch_held ss (suc n) e h = elim (cases_Bool (nat_le level (held_ceiling node ss e))) [
+    | inl t ↦ leb-true level (held_ceiling node ss e) t
+    | inr f ↦ (let none : 0 < 0 = rw f at h in absurd (omega arith))
+  ]
+
+  pub stretch_from : (ss : List CriticalSection) (n e : ℕ) → 0 < n → level ≤ held_ceiling node ss e → 0 < stretch ss n e
+  stretch_from ss zero e some h = absurd (omega arith)
+  stretch_from ss (suc n) e some h = (let t : nat_le level (held_ceiling node ss e) ≡ true = le-leb level (held_ceiling node ss e) h in rw t (omega arith))
+
+  stretch_step : (ss : List CriticalSection) (n e : ℕ) → 0 < stretch ss (suc n) e → stretch ss (suc n) e ≡ suc (stretch ss n (suc e))
+  stretch_step ss n e h = (let t : nat_le level (held_ceiling node ss e) ≡ true = le-leb level (held_ceiling node ss e) (stretch_held ss (suc n) e h) in rw t)
+
+  pub stretch_next : (ss : List CriticalSection) (x e : ℕ) → e < x → 0 < stretch ss (x - e) e → stretch ss (x - e) e ≡ suc (stretch ss (x - suc e) (suc e))
+  stretch_next ss x e lt h =
+      let n : x - e ≡ suc (x - suc e) = omega arith in
+      let h' : 0 < stretch ss (suc (x - suc e)) e = subst (λ k. 0 < stretch ss k e) n h in
+      ap (λ k. stretch ss k e) n ∙ stretch_step ss (x - suc e) e h'
+
+  -- it lies within what is left of a span
+  pub stretch-le : (some : 0 < level) (begin cost : ℕ) (ss spans : List CriticalSection) → AreApart begin spans cost → ((e : ℕ) → held_ceiling node ss e ≤ held_ceiling node spans e) → (n e : ℕ) → stretch ss n e ≤ rest_of spans e
+  stretch-le some begin cost ss spans apart above zero e = omega arith
+  stretch-le some begin cost ss spans apart above (suc n) e =
+      elim (cases_Bool (nat_le level (held_ceiling node ss e))) [
+        | inl t ↦
+            let high : level ≤ held_ceiling node ss e = leb-true level (held_ceiling node ss e) t in
+            let up : held_ceiling node ss e ≤ held_ceiling node spans e = above e in
+            let left : 0 < rest_of spans e = rest_from_held spans e some (omega arith) in
+            let next : rest_of spans e ≡ suc (rest_of spans (suc e)) = rest_next_of begin cost spans e apart left in
+            let ih : stretch ss n (suc e) ≤ rest_of spans (suc e) = stretch-le some begin cost ss spans apart above n (suc e) in
+            rw t (omega arith)
+        | inr f ↦ rw f (omega arith)
       ]

@@ -1,8 +1,8 @@
 -- The bound of the analysis (Audsley et al. 1993) against the tick rule.
-use Rattle.std.specs.Prelude.{◌≡◌, ℕ, ◌+◌, ◌<◌, ◌≤◌, Bool, ◌&&◌, nat_lt, nat_le, ◌==◌, if◌then◌else◌, List, [], ◌∷◌, length}
+use Rattle.std.specs.Prelude.{◌≡◌, ℕ, ◌+◌, ◌-◌, ◌<◌, ◌≤◌, Bool, ◌&&◌, nat_lt, nat_le, ◌==◌, if◌then◌else◌, List, [], ◌∷◌, length}
 use Rattle.task_sheet.specs.Sheet.{Task, task_at}
 use Rattle.task_sheet.specs.Indexes.{Indexes, sum_below}
-use Rattle.task_sheet.specs.Demand.{releases_within, demand_of, limit_of, IsResponseOf}
+use Rattle.task_sheet.specs.Demand.{releases_within, blocking_of, interference_within, demand_of, limit_of, IsResponseOf}
 use Rattle.ceiling_kernel.specs.Tick.{Node, Job, job_at, job_task, level_in_order, executed_before}
 use Rattle.ceiling_kernel.specs.Waits.{lateness_of}
 
@@ -47,9 +47,29 @@ ResponsesBound node =
     (i r : ℕ) → IsResponseOf node.tasks i (above_of node i) r → r ≤ (task_at node.tasks i).deadline
     → (t : ℕ) × PassesBy node i t × (response_by (task_at node.tasks i) t ≡ r)
 
--- each job of a task that passes by t has executed its cost by the end of that response
+-- each job of a task that passes by t has executed all that it executes by the end of that response
 abbrev pub BoundHolds : Node → List Job → Type 0
 BoundHolds node jobs =
     (j t : ℕ) → j < length jobs → PassesBy node (job_at jobs j).task t
-    → (job_task node jobs j).cost
+    → (job_at jobs j).executes
     ≤ executed_before node jobs ((job_at jobs j).arrival + response_by (job_task node jobs j) t) j
+
+-- ---- but for a tick
+-- what must be executed for task i in a window of t: its cost, what is left of a section that blocks it, and the jobs
+-- of the tasks above
+abbrev pub work_of : Node → (i left t : ℕ) → ℕ
+work_of node i left t =
+    (task_at node.tasks i).cost + left + interference_within node.tasks (above_of node i) t
+
+-- t covers the work of task i, where a section that blocks is left after its first tick
+pub record CoversBy (node : Node) (i t : ℕ) : Type 0 where
+  pub from_one : 0 < t
+  pub in_time : t ≤ limit_of (task_at node.tasks i)
+  pub enough : work_of node i (blocking_of node.tasks i (above_of node i) - 1) t ≤ t
+
+-- each job of a task has executed all that it executes such a time after it is ready: a section that blocks has begun
+-- before, so that a tick of it is gone
+abbrev pub TighterBoundHolds : Node → List Job → Type 0
+TighterBoundHolds node jobs =
+    (j t : ℕ) → j < length jobs → CoversBy node (job_at jobs j).task t
+    → (job_at jobs j).executes ≤ executed_before node jobs ((job_at jobs j).ready + t) j

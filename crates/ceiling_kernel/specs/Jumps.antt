@@ -1,7 +1,7 @@
 -- From one event to the next the pick stays: what lets a simulation jump.
 use Rattle.std.specs.Prelude.{◌≡◌, ℕ, ◌+◌, ◌<◌, ◌≤◌, nat_le, nat_lt, if◌then◌else◌, Some, None, List, [], ◌∷◌, length}
 use Rattle.task_sheet.specs.Sheet.{CriticalSection}
-use Rattle.ceiling_kernel.specs.Tick.{Node, Job, job_at, job_task, executed_before, picked}
+use Rattle.ceiling_kernel.specs.Tick.{Node, Job, job_at, executed_before, picked}
 
 -- the first boundary above e at which what a job with these sections holds may change, or the limit
 abbrev pub change_after : List CriticalSection → (e limit : ℕ) → ℕ
@@ -20,8 +20,8 @@ abbrev pub PickStays : Node → List Job → Type 0
 PickStays node jobs =
     (t k p : ℕ) → picked node jobs t ≡ Some p → NoneReadyBetween jobs t (t + k)
     → executed_before node jobs t p + k
-    ≤ change_after (job_task node jobs p).sections (executed_before node jobs t p)
-    (job_task node jobs p).cost
+    ≤ change_after (job_at jobs p).sections (executed_before node jobs t p)
+    (job_at jobs p).executes
     → (d : ℕ) → d < k → picked node jobs (t + d) ≡ Some p
 
 -- where tick t picks no job, none is picked until one becomes ready

@@ -1,4 +1,5 @@
 pub mod Tick
+pub mod Behaviours
 pub mod Trace
 pub mod Waits
 pub mod Jumps

@@ -9,6 +9,7 @@ use Rattle.ceiling_kernel.specs.declared.trace.Release.{Release}
 use Rattle.ceiling_kernel.specs.declared.trace.RunFault.{RunFault}
 use Rattle.ceiling_kernel.specs.declared.trace.RunFault.TheVariants as fault
 use Rattle.ceiling_kernel.specs.Tick.{Job, job_at}
+use Rattle.ceiling_kernel.specs.Behaviours.{cut_at}
 use Rattle.ceiling_kernel.specs.Waits.{lateness_of}
 
 -- ---- the jobs of a release list
@@ -24,9 +25,20 @@ task_number U r = unwrap_or (task_named U r.name) (length U)
 abbrev pub ready_of : Release → ℕ
 ready_of r = r.time + r.late
 
--- the job of a release
+-- for how many ticks its job executes: as many as it says, else its task's cost
+abbrev pub runs_of : List Task → Release → ℕ
+runs_of U r = unwrap_or r.runs (task_at U (task_number U r)).cost
+
+-- the job of a release, with the sections of its task's sheet up to its end
 abbrev pub job_of : List Task → Release → Job
-job_of U r = record { task = task_number U r; arrival = r.time; ready = ready_of r }
+job_of U r =
+    record {
+      task = task_number U r;
+      arrival = r.time;
+      ready = ready_of r;
+      executes = runs_of U r;
+      sections = cut_at (runs_of U r) (task_at U (task_number U r)).sections;
+    }
 
 -- the jobs of a release list, in its order
 abbrev pub jobs_of : List Task → List Release → List Job
@@ -45,7 +57,7 @@ first_where test (suc n) = first_or (first_where test n) (test n) n
 
 -- stands past the end of a list of releases
 abbrev pub no_release : Release
-no_release = record { time = 0; name = []; late = 0 }
+no_release = record { time = 0; name = []; late = 0; runs = None }
 
 -- the release at a place, from 0
 abbrev pub release_at : List Release → ℕ → Release
@@ -76,6 +88,12 @@ abbrev pub is_too_late : List Task → List Release → ℕ → Bool
 is_too_late U rs k =
     nat_lt (lateness_of (task_at U (task_number U (release_at rs k)))) (release_at rs k).late
 
+-- it executes nothing, or more than its task's cost
+abbrev pub is_outside_cost : List Task → List Release → ℕ → Bool
+is_outside_cost U rs k =
+    (runs_of U (release_at rs k) == 0)
+    || nat_lt (task_at U (task_number U (release_at rs k))).cost (runs_of U (release_at rs k))
+
 -- it is ready at the end or after it
 abbrev pub is_past : ℕ → Release → Bool
 is_past until r = nat_le until (ready_of r)
@@ -94,8 +112,10 @@ refusal_of U rs until =
     (first_where (is_too_soon U (jobs_of U rs)) (length rs)))
     (option_or (option_map (λ k. fault.TooLate (k + 1))
     (first_where (is_too_late U rs) (length rs)))
+    (option_or (option_map (λ k. fault.OutsideCost (k + 1))
+    (first_where (is_outside_cost U rs) (length rs)))
     (option_or (refuse_if (nat_lt HORIZON until || list_any (is_past until) rs) fault.PastHorizon)
-    (refuse_if (nat_lt RELEASE_LIMIT (length rs)) fault.TooMany)))))
+    (refuse_if (nat_lt RELEASE_LIMIT (length rs)) fault.TooMany))))))
 
 -- ---- how they are found
 -- a fault is want of memory, or the refusal

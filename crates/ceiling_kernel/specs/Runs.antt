@@ -10,7 +10,7 @@ use Rattle.ceiling_kernel.specs.declared.trace.RunFault.TheVariants as fault
 use Rattle.ceiling_kernel.specs.Tick.{Node, Job, job_at}
 use Rattle.ceiling_kernel.specs.Trace.{slices_of, finish_before}
 use Rattle.ceiling_kernel.specs.Waits.{Overruns, NoOverrun}
-use Rattle.ceiling_kernel.specs.Bounds.{PassesBy, response_by}
+use Rattle.ceiling_kernel.specs.Bounds.{PassesBy, CoversBy, response_by}
 use Rattle.ceiling_kernel.specs.Releases.{task_number, ready_of, jobs_of, release_at, refusal_of}
 
 -- job k is the first that overruns the one before it: the earliest, then the first in the list
@@ -64,14 +64,22 @@ Runs node rs until (Err e) = refusal_of node.tasks rs until ≡ Some e
 abbrev pub bound_by : Node → Release → ℕ → ℕ
 bound_by node r t = r.time + response_by (task_at node.tasks (task_number node.tasks r)) t
 
--- each job of a task that passes by t, with that bound within the run, has a finish by then
-abbrev pub MeetsBounds : Node → List Release → ℕ → Trace → Type 0
-MeetsBounds node rs until trace =
-    (j t : ℕ) → j < length rs → PassesBy node (task_number node.tasks (release_at rs j)) t
+-- each job of a task of which t is such a time, with the bound that t gives within the run, has a finish by then
+abbrev pub MeetsBy : (Node → ℕ → ℕ → Type 0) → Node → List Release → ℕ → Trace → Type 0
+MeetsBy By node rs until trace =
+    (j t : ℕ) → j < length rs → By node (task_number node.tasks (release_at rs j)) t
     → bound_by node (release_at rs j) t ≤ until
     → (f : ℕ)
     × ((slice_index_or trace.jobs.items j no_record).finish ≡ Some f)
     × (f ≤ bound_by node (release_at rs j) t)
+
+-- each job of a task that passes by t
+abbrev pub MeetsBounds : Node → List Release → ℕ → Trace → Type 0
+MeetsBounds = MeetsBy PassesBy
+
+-- each job of a task whose work t covers, of the section that blocks all but its first tick
+abbrev pub MeetsTighterBounds : Node → List Release → ℕ → Trace → Type 0
+MeetsTighterBounds = MeetsBy CoversBy
 
 -- a fault that isn't an overrun
 abbrev pub IsNoOverrun : RunFault → Type 0

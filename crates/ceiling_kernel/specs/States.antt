@@ -13,10 +13,10 @@ use Rattle.ceiling_kernel.specs.declared.run.Simulation.{Simulation}
 use Rattle.ceiling_kernel.specs.Lists.{listed, list_at, Queues, IsAlone}
 use Rattle.ceiling_kernel.specs.NodeTasks.{is_within}
 use Rattle.ceiling_kernel.specs.Owners.{owner_of, AreOwners}
-use Rattle.ceiling_kernel.specs.Tick.{Node, Job, job_at, job_task, level_in_order, held_ceiling, executed_before, picked}
+use Rattle.ceiling_kernel.specs.Tick.{Node, Job, job_at, level_in_order, held_ceiling, executed_before, picked}
 use Rattle.ceiling_kernel.specs.Trace.{slices_before, finish_before}
 use Rattle.ceiling_kernel.specs.Waits.{IsNode, AreLegalJobs, Overruns}
-use Rattle.ceiling_kernel.specs.Releases.{task_number, jobs_of, release_at}
+use Rattle.ceiling_kernel.specs.Releases.{task_number, runs_of, jobs_of, release_at}
 use Rattle.ceiling_kernel.specs.Turns.{AreTurns, has_come}
 use Rattle.ceiling_kernel.specs.Runs.{IsOverrun}
 
@@ -24,6 +24,9 @@ use Rattle.ceiling_kernel.specs.Runs.{IsOverrun}
 pub record IsRunnable (node : Node) (rs : List Release) (turns : List (ℕ × ℕ)) : Type 0 where
   pub of_node : IsNode node
   pub known : (j : ℕ) → j < length rs → task_number node.tasks (release_at rs j) < length node.tasks
+  pub in_cost : (j : ℕ) → j < length rs
+      → (0 < runs_of node.tasks (release_at rs j))
+      × (runs_of node.tasks (release_at rs j) ≤ (task_at node.tasks (task_number node.tasks (release_at rs j))).cost)
   pub legal : AreLegalJobs node (jobs_of node.tasks rs)
   pub in_turn : AreTurns (jobs_of node.tasks rs) turns
 
@@ -80,7 +83,7 @@ pub record IsPending (node : Node) (jobs : List Job) (t : ℕ) (come : ℕ → B
   pub level : p.level ≡ level_in_order node i
   pub executed : p.executed ≡ executed_before node jobs t p.job
   pub active : p.active ≡ active_at node i p.executed
-  pub unfinished : p.executed < (task_at node.tasks i).cost
+  pub unfinished : p.executed < (job_at jobs p.job).executes
 
 -- at tick t, where those jobs have come, the slot of each task holds its pending job
 pub record Kept (node : Node) (jobs : List Job) (t : ℕ) (come : ℕ → Bool) (slots : List (Option Pending)) : Type 0 where
@@ -91,7 +94,7 @@ pub record Kept (node : Node) (jobs : List Job) (t : ℕ) (come : ℕ → Bool) 
   pub pending : (i : ℕ) (p : Pending) → slice_index_or slots i None ≡ Some p
       → IsPending node jobs t come i p
   pub complete : (j : ℕ) → come j ≡ true
-      → executed_before node jobs t j < (job_task node jobs j).cost
+      → executed_before node jobs t j < (job_at jobs j).executes
       → (p : Pending) × (slice_index_or slots (job_at jobs j).task None ≡ Some p) × (p.job ≡ j)
   pub no_overrun : (k : ℕ) → come k ≡ true → ¬ Overruns node jobs k
 

@@ -19,16 +19,18 @@ pub record Node : Type 0 where
 abbrev pub node_in : List Task → List ℕ → Node
 node_in U order = record { tasks = U; order = order }
 
--- a job: the index of its task, when it arrives, and from when on it may execute, which is its arrival
--- and how late it is
+-- a job: the index of its task; when it arrives; from when on it may execute, which is its arrival and how late it is;
+-- for how many ticks it executes; and the critical sections that it takes, at times of its own execution
 pub record Job : Type 0 where
   pub task : ℕ
   pub arrival : ℕ
   pub ready : ℕ
+  pub executes : ℕ
+  pub sections : List CriticalSection
 
 -- stands past the end of a list of jobs
 abbrev pub no_job : Job
-no_job = record { task = 0; arrival = 0; ready = 0 }
+no_job = record { task = 0; arrival = 0; ready = 0; executes = 0; sections = [] }
 
 -- the job at a place, from 0
 abbrev pub job_at : List Job → ℕ → Job
@@ -87,10 +89,10 @@ best pending active level zero = None
 best pending active level (suc j) = better_of pending active level (best pending active level j) j
 
 -- ---- the ticks; a state is how many ticks each job has executed, by its place in the list of jobs
--- job j is pending at tick t: it is ready, and has not executed its cost
-abbrev pub is_pending : Node → List Job → (executed : ℕ → ℕ) → ℕ → ℕ → Bool
-is_pending node jobs executed t j =
-    nat_le (job_at jobs j).ready t && nat_lt (executed j) (job_task node jobs j).cost
+-- job j is pending at tick t: it is ready, and has not executed all that it executes
+abbrev pub is_pending : List Job → (executed : ℕ → ℕ) → ℕ → ℕ → Bool
+is_pending jobs executed t j =
+    nat_le (job_at jobs j).ready t && nat_lt (executed j) (job_at jobs j).executes
 
 -- job j's own level
 abbrev pub level_of_job : Node → List Job → ℕ → ℕ
@@ -99,12 +101,12 @@ level_of_job node jobs j = level_in_order node (job_at jobs j).task
 -- job j's active priority: the highest of its own level and the ceilings of the locks that it holds
 abbrev pub active_of : Node → List Job → (executed : ℕ → ℕ) → ℕ → ℕ
 active_of node jobs executed j =
-    max (level_of_job node jobs j) (held_ceiling node (job_task node jobs j).sections (executed j))
+    max (level_of_job node jobs j) (held_ceiling node (job_at jobs j).sections (executed j))
 
 -- the job that executes in tick t
 abbrev pub pick : Node → List Job → (executed : ℕ → ℕ) → ℕ → Option ℕ
 pick node jobs executed t =
-    best (is_pending node jobs executed t) (active_of node jobs executed) (level_of_job node jobs)
+    best (is_pending jobs executed t) (active_of node jobs executed) (level_of_job node jobs)
     (length jobs)
 
 -- one tick of that job

@@ -2,7 +2,7 @@
 use Rattle.std.specs.Prelude.{ℕ, zero, suc, ◌+◌, ◌&&◌, nat_le, ◌==◌, if◌then◌else◌, Option, Some, None, List, [], ◌∷◌, reverse}
 use Rattle.std.specs.Option.{option_or}
 use Rattle.ceiling_kernel.specs.declared.trace.Slice.{Slice}
-use Rattle.ceiling_kernel.specs.Tick.{Node, Job, job_task, executed_before, picked}
+use Rattle.ceiling_kernel.specs.Tick.{Node, Job, job_at, executed_before, picked}
 
 -- slices, the newest first, with the ticks from `start` to `stop` of one job behind them
 abbrev pub with_run : List Slice → (job start stop : ℕ) → List Slice
@@ -26,10 +26,10 @@ slices_before run (suc t) = with_tick (slices_before run t) t (run t)
 abbrev pub slices_of : Node → List Job → ℕ → List Slice
 slices_of node jobs until = reverse (slices_before (picked node jobs) until)
 
--- when job j finishes in the ticks below a time: at the end of the tick in which it executes the last of its cost
+-- when job j finishes in the ticks below a time: at the end of the last tick that it executes
 unfoldable pub finish_before : Node → List Job → ℕ → ℕ → Option ℕ
 finish_before node jobs zero j = None
 finish_before node jobs (suc t) j =
     option_or (finish_before node jobs t j)
-    (if nat_le (job_task node jobs j).cost (executed_before node jobs (suc t) j) then Some (suc t)
+    (if nat_le (job_at jobs j).executes (executed_before node jobs (suc t) j) then Some (suc t)
     else None)

@@ -2,7 +2,7 @@
 ghost use Rattle.std.specs.Prelude.{◌≡◌, ◌<◌, ◌≤◌, ◌+◌, ℕ, List, length, map, MatchResult, IfSome, Some, None};
 ghost use Rattle.task_sheet.specs.Sheet.{Task, task_at};
 ghost use Rattle.std.specs.List.{list_any};
-ghost use Rattle.ceiling_kernel.specs.Releases.{task_number, jobs_of, first_where, is_unsorted, is_unknown, is_too_soon, is_too_late, is_past, refusal_of, IsRefusal, IsUnknown, soon_after};
+ghost use Rattle.ceiling_kernel.specs.Releases.{task_number, jobs_of, first_where, is_unsorted, is_unknown, is_too_soon, is_too_late, is_outside_cost, is_past, refusal_of, IsRefusal, IsUnknown, soon_after};
 ghost use Rattle.std.specs.Option.{ForSome};
 
 use crate::trace::{Release, RunFault};
@@ -115,6 +115,33 @@ fn first_too_late(set: &TaskSet, releases: &[Release], places: &[usize]) -> Opti
     None
 }
 
+// The release executes nothing, or more than its task's cost.
+fn is_outside_cost(set: &TaskSet, releases: &[Release], places: &[usize], k: usize) -> bool
+    requires known { first_where (is_unknown set.now releases.now) (length releases.now) ≡ None }
+    requires places { places.now ≡ map (task_number set.now) releases.now }
+    requires in_list { k < length releases.now }
+    ensures { result ≡ is_outside_cost set.now releases.now k }
+{
+    let cost = set.sheets()[places[k]].cost();
+    let runs = releases[k].runs.unwrap_or(cost);
+    runs == 0 || cost < runs
+}
+
+// The place, from 0, of the first release that executes nothing, or more than its task's cost.
+fn first_outside_cost(set: &TaskSet, releases: &[Release], places: &[usize]) -> Option<usize>
+    requires known { first_where (is_unknown set.now releases.now) (length releases.now) ≡ None }
+    requires places { places.now ≡ map (task_number set.now) releases.now }
+    ensures first { result ≡ first_where (is_outside_cost set.now releases.now) (length releases.now) }
+    ensures in_list { IfSome result (λ k. k < length releases.now) }
+{
+    for k in 0..releases.len() {
+        if is_outside_cost(set, releases, places, k) {
+            return Some(k);
+        }
+    }
+    None
+}
+
 // The release becomes ready at the end or after it.
 fn is_past(release: &Release, until: u64) -> bool
     ensures { result ≡ is_past until release.now }
@@ -150,6 +177,9 @@ pub fn accept(
     }
     if let Some(k) = first_too_late(set, releases, &places) {
         return Err(RunFault::TooLate { place: k + 1 });
+    }
+    if let Some(k) = first_outside_cost(set, releases, &places) {
+        return Err(RunFault::OutsideCost { place: k + 1 });
     }
     if until > HORIZON || some_past(releases, until) {
         return Err(RunFault::PastHorizon);

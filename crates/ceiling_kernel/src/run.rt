@@ -6,7 +6,7 @@ ghost use Rattle.ceiling_kernel.specs.Turns.{time_in_turn};
 ghost use Rattle.ceiling_kernel.specs.Tick.{Node, job_at};
 ghost use Rattle.ceiling_kernel.specs.Trace.{with_run, finish_before};
 ghost use Rattle.ceiling_kernel.specs.Releases.{task_number, jobs_of, release_at};
-ghost use Rattle.ceiling_kernel.specs.Runs.{records_from, Runs, MeetsBounds, IsNoOverrun};
+ghost use Rattle.ceiling_kernel.specs.Runs.{records_from, Runs, MeetsBounds, MeetsTighterBounds, IsNoOverrun};
 ghost use Rattle.ceiling_kernel.specs.Waits.{EachIsGranted};
 ghost use Rattle.task_sheet.specs.Orders.{IsPassingOrder};
 ghost use Rattle.ceiling_kernel.specs.NodeTasks.{IsTaskOf};
@@ -106,15 +106,17 @@ fn limit_of(turns: &[(u64, usize)], next: usize, now: u64, until: u64) -> u64
     until
 }
 
-// Until when a job of the task runs at one priority, from `now` on and to `limit` at most.
-fn stop_at(task: &NodeTask, executed: u64, now: u64, limit: u64) -> u64
-    requires ahead { executed < next_change task.now.sections.items executed task.now.cost }
+// Until when a job of the task that runs for so long runs at one priority, from `now` on and to `limit` at most.
+fn stop_at(task: &NodeTask, runs: u64, executed: u64, now: u64, limit: u64) -> u64
+    requires ahead { executed < next_change task.now.sections.items executed runs }
+    requires open { executed < runs }
     requires before { now < limit }
     ensures after { now < result }
     ensures limit { result ≤ limit }
-    ensures within { executed + (result - now) ≤ next_change task.now.sections.items executed task.now.cost }
+    ensures within { executed + (result - now) ≤ next_change task.now.sections.items executed runs }
+    ensures end { executed + (result - now) ≤ runs }
 {
-    let change = next_change(&task.sections, executed, task.cost);
+    let change = next_change(&task.sections, executed, runs).min(runs);
     let most = change - executed;
     if most < limit - now {
         now + most
@@ -269,12 +271,13 @@ impl Simulation {
             return Ok(());
         };
         let task = &kernel.tasks()[picked.task];
-        let stop = stop_at(task, picked.executed, self.now, limit);
+        let runs = agenda.releases[picked.job].runs.unwrap_or(task.cost);
+        let stop = stop_at(task, runs, picked.executed, self.now, limit);
         self.slices.add(picked.job, self.now, stop)?;
         let executed = picked.executed + (stop - self.now);
         self.now = stop;
         set_owners(&mut self.owners, &task.sections, picked.executed, None);
-        if executed == task.cost {
+        if executed == runs {
             drop_first(&mut self.lists, picked.active);
             self.slots[picked.task] = None;
             self.finishes[picked.job] = Some(stop);
@@ -328,6 +331,7 @@ impl<'a> Kernel<'a> {
 
         // What the analysis says of the order holds in the run.
         ensures bounds { IfOk result (MeetsBounds self.now releases.now until) }
+        ensures tighter { IfOk result (MeetsTighterBounds self.now releases.now until) }
         ensures no_overrun { IsPassingOrder self.now.tasks self.now.order
             → IfErr result IsNoOverrun }
     {

@@ -5,12 +5,14 @@ ghost use Rattle.ceiling_kernel.specs.declared.trace.RunFault.TheVariants.{OutOf
 use std::alloc::AllocError;
 use task_sheet::Name;
 
-/// A job of the task with that name arrives at that time, and becomes ready so much later; in microseconds.
+/// A job of the task with that name arrives at that time, becomes ready so much later, and executes for so long, or for
+/// its task's cost, with the critical sections of its task up to there; in microseconds.
 #[derive(Clone, Copy, Debug, PartialEq, Eq)]
 pub struct Release {
     pub time: u64,
     pub name: Name,
     pub late: u64,
+    pub runs: Option<u64>,
 }
 
 /// A longest run of ticks of one job, from `start` up to `stop`, in microseconds. A job is named by its place among the
@@ -48,6 +50,8 @@ pub enum RunFault {
     TooSoon { place: usize },
     /// A release is later than its task's jitter.
     TooLate { place: usize },
+    /// A release executes nothing, or more than its task's cost.
+    OutsideCost { place: usize },
     /// `until` is above 60,000,000, or a release becomes ready at it or after it.
     PastHorizon,
     /// There are more than 10,000 releases.

@@ -1,5 +1,6 @@
 use Rattle.ceiling_kernel.proofs.LockLaws.{nobody_waits_law}
+use Rattle.ceiling_kernel.proofs.NestLaws.{free_law}
 use Rattle.ceiling_kernel.proofs.laws.nobody_waits.Goals as goal
 
 pub returns : goal.returns
-returns c = nobody_waits_law
+returns c = record { turns = nobody_waits_law; nested = free_law }

@@ -8,7 +8,7 @@ use Rattle.ceiling_kernel.specs.Releases.{jobs_of}
 use Rattle.ceiling_kernel.specs.Turns.{AreTurns, has_come}
 use Rattle.ceiling_kernel.specs.Runs.{records_from}
 use Rattle.ceiling_kernel.specs.States.{AreFinishes}
-use Rattle.ceiling_kernel.proofs.EndLaws.{ready_fits, runnable_from, no_overrun_then, each_granted, bounded_trace, stop_without}
+use Rattle.ceiling_kernel.proofs.EndLaws.{ready_fits, runnable_from, no_overrun_then, each_granted, bounded_trace, tighter_trace, stop_without}
 use Rattle.ceiling_kernel.proofs.kernel.Kernel.run.Goals.{In_ok-jobs}
 use Rattle.ceiling_kernel.proofs.kernel.Kernel.run.Goals as goal
 
@@ -77,6 +77,12 @@ returns-clause-bounds c =
     let accepted = rw c.set.ensures.tasks at c.in_ok-tasks.ensures in
     bounded_trace c.args.self.now c.args.releases.now c.args.until (record { slices = c.in_ok-slices.slices; jobs = c.in_ok-jobs.jobs }) c.set.ensures.node accepted.0
     (recorded (goal.at.returns-clause-bounds c).In_ok-jobs)
+
+pub returns-clause-tighter : goal.returns-clause-tighter
+returns-clause-tighter c =
+    let accepted = rw c.set.ensures.tasks at c.in_ok-tasks.ensures in
+    tighter_trace c.args.self.now c.args.releases.now c.args.until (record { slices = c.in_ok-slices.slices; jobs = c.in_ok-jobs.jobs }) c.set.ensures.node accepted.0
+    (recorded (goal.at.returns-clause-tighter c).In_ok-jobs)
 
 pub returns-in_err-step-clause-no_overrun : goal.returns-in_err-step-clause-no_overrun
 returns-in_err-step-clause-no_overrun c = λ order.

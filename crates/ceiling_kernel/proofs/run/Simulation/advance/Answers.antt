@@ -1,6 +1,10 @@
 use Rattle.std.proofs.Common.{◌≡◌, ◌+◌, ◌-◌, ◌<◌, ◌≤◌, refl, sym, ap, ◌∙◌, arith, All, List, length, vec_len, ℕ, subst, Option, Some, None, slice_index_or}
 use Rattle.ceilings.specs.IsTableOf.{locks_of}
 use Rattle.ceiling_kernel.specs.declared.tasks.NodeSection.{NodeSection}
+use Rattle.std.specs.Option.{unwrap_or}
+use Rattle.ceiling_kernel.specs.declared.trace.Release.{Release}
+use Rattle.ceiling_kernel.specs.Tick.{job_at}
+use Rattle.ceiling_kernel.specs.Releases.{jobs_of}
 use Rattle.ceiling_kernel.specs.NodeTasks.{IsTaskOf}
 use Rattle.ceiling_kernel.specs.States.{best_slot, next_change}
 use Rattle.task_sheet.specs.Sheet.{task_at}
@@ -9,8 +13,8 @@ use Rattle.ceiling_kernel.proofs.OwnerLaws.{with_owners-length, locks_within}
 use Rattle.ceiling_kernel.proofs.ListsLaws.{listed_length}
 use Rattle.ceiling_kernel.proofs.PriorityLaws.{active_within}
 use Rattle.ceiling_kernel.proofs.StopLaws.{done, runs_on}
-use Rattle.ceiling_kernel.proofs.RunLaws.{list_is, few_tasks, idle_kept, idle_slices, idle_finishes, job_in, task_in, task_in_slots, small, ahead}
-use Rattle.ceiling_kernel.proofs.run.Simulation.advance.Goals.{After-index-tasks-picked}
+use Rattle.ceiling_kernel.proofs.RunLaws.{list_is, few_tasks, idle_kept, idle_slices, idle_finishes, job_in, task_in, task_in_slots, small, ahead, runs_is}
+use Rattle.ceiling_kernel.proofs.run.Simulation.advance.Goals.{After-index-tasks-picked, After-unwrap_or-runs}
 use Rattle.ceiling_kernel.proofs.run.Simulation.advance.Goals as goal
 
 pub returns-in_default : goal.returns-in_default
@@ -62,8 +66,8 @@ module _ (c : goal.After-index-tasks-picked) where
       let count : length c.tasks.result.now ≡ length c.args.kernel.now.tasks = c.tasks.ensures.count in
       c.tasks.ensures.each c.in-Some.picked.task c.index-tasks-picked.result (omega arith) c.index-tasks-picked.is
 
-  runs : (c.in-Some.picked.executed < next_change c.index-tasks-picked.result.sections.items c.in-Some.picked.executed c.index-tasks-picked.result.cost)
-      × (next_change c.index-tasks-picked.result.sections.items c.in-Some.picked.executed c.index-tasks-picked.result.cost ≤ c.index-tasks-picked.result.cost)
+  runs : (c.in-Some.picked.executed < next_change c.index-tasks-picked.result.sections.items c.in-Some.picked.executed (job_at (jobs_of c.args.kernel.now.tasks c.args.agenda.now.releases.now) c.in-Some.picked.job).executes)
+      × (c.in-Some.picked.executed < (job_at (jobs_of c.args.kernel.now.tasks c.args.agenda.now.releases.now) c.in-Some.picked.job).executes)
   runs = ahead c.args.kernel.now c.args.agenda.now.releases.now c.args.agenda.now.turns.now c.requires.runnable c.args.self.now.now c.args.self.now.next c.args.self.now.slots.items c.requires.running.kept c.limit_of-limit.result c.limit_of-limit.ensures.after c.limit_of-limit.ensures.next c.in-Some.picked best c.index-tasks-picked.result task
 
   in_slots : c.in-Some.picked.task < length c.args.self.now.slots.items
@@ -81,14 +85,49 @@ module _ (c : goal.After-index-tasks-picked) where
       subst (λ x. All (λ r. All (λ place. place < room) r.locks.items) x) (sym same)
       (locks_within c.args.kernel.now (task_at c.args.kernel.now.tasks c.in-Some.picked.task).sections c.index-tasks-picked.result.sections.items room task.sections few)
 
+  -- its job is one of the list
+  in_list : c.in-Some.picked.job < length c.args.agenda.now.releases.now
+  in_list = job_in c.args.kernel.now c.args.agenda.now.releases.now c.args.agenda.now.turns.now c.requires.runnable c.args.self.now.now c.args.self.now.next c.args.self.now.slots.items c.requires.running.kept c.limit_of-limit.result c.limit_of-limit.ensures.after c.limit_of-limit.ensures.next c.in-Some.picked best
+
+-- and how long it executes
+module _ (c : goal.After-unwrap_or-runs) where
+  task' : IsTaskOf c.args.kernel.now c.in-Some.picked.task c.index-tasks-picked.result
+  task' =
+      let inside = task_in c.args.kernel.now c.args.agenda.now.releases.now c.args.agenda.now.turns.now c.requires.runnable c.args.self.now.now c.args.self.now.next c.args.self.now.slots.items c.requires.running.kept c.limit_of-limit.result c.limit_of-limit.ensures.after c.limit_of-limit.ensures.next c.in-Some.picked (sym (rw c.deref.ensures.value at c.in-Some.ensures)) in
+      let count : length c.tasks.result.now ≡ length c.args.kernel.now.tasks = c.tasks.ensures.count in
+      c.tasks.ensures.each c.in-Some.picked.task c.index-tasks-picked.result (omega arith) c.index-tasks-picked.is
+
+  abbrev executes_of : ℕ
+  executes_of = (job_at (jobs_of c.args.kernel.now.tasks c.args.agenda.now.releases.now) c.in-Some.picked.job).executes
+
+  ends : c.unwrap_or-runs.result ≡ executes_of
+  ends = c.unwrap_or-runs.ensures ∙ (ap (λ (r : Release). unwrap_or r.runs c.index-tasks-picked.result.cost) (sym c.index-agenda-picked.is) ∙ runs_is c.args.kernel.now c.args.agenda.now.releases.now c.args.agenda.now.turns.now c.requires.runnable c.args.self.now.now c.args.self.now.next c.args.self.now.slots.items c.requires.running.kept c.limit_of-limit.result c.limit_of-limit.ensures.after c.limit_of-limit.ensures.next c.in-Some.picked (sym (rw c.deref.ensures.value at c.in-Some.ensures)) c.index-agenda-picked.result c.index-tasks-picked.result c.index-agenda-picked.is task')
+
+  abbrev Stops : ℕ → ℕ → Type 0
+  Stops stop ends = c.in-Some.picked.executed + (stop - c.args.self.now.now) ≤ next_change c.index-tasks-picked.result.sections.items c.in-Some.picked.executed ends
+
+  near : (stop : ℕ) → Stops stop c.unwrap_or-runs.result → Stops stop executes_of
+  near stop within = subst (Stops stop) ends within
+
+pub bounds-agenda-picked : goal.bounds-agenda-picked
+bounds-agenda-picked c = in_list (goal.at.bounds-agenda-picked c).After-index-tasks-picked
+
+pub offset_bounds-agenda-picked : goal.offset_bounds-agenda-picked
+offset_bounds-agenda-picked c = omega (arith, in_list (goal.at.offset_bounds-agenda-picked c).After-index-tasks-picked, c.type_inv.agenda)
+
 pub stop_at-stop-requires-clause-ahead : goal.stop_at-stop-requires-clause-ahead
-stop_at-stop-requires-clause-ahead c = (runs (goal.at.stop_at-stop-requires-clause-ahead c).After-index-tasks-picked).0
+stop_at-stop-requires-clause-ahead c =
+    let e = ends (goal.at.stop_at-stop-requires-clause-ahead c).After-unwrap_or-runs in
+    subst (λ x. c.in-Some.picked.executed < next_change c.index-tasks-picked.result.sections.items c.in-Some.picked.executed x) (sym e) (runs (goal.at.stop_at-stop-requires-clause-ahead c).After-index-tasks-picked).0
+
+pub stop_at-stop-requires-clause-open : goal.stop_at-stop-requires-clause-open
+stop_at-stop-requires-clause-open c = omega (arith, ends (goal.at.stop_at-stop-requires-clause-open c).After-unwrap_or-runs, (runs (goal.at.stop_at-stop-requires-clause-open c).After-index-tasks-picked).1)
 
 pub overflow_add-executed : goal.overflow_add-executed
 overflow_add-executed c =
     let known = (goal.at.overflow_add-executed c).After-index-tasks-picked in
     let low = small c.args.kernel.now c.args.agenda.now.releases.now c.args.agenda.now.turns.now c.requires.runnable c.args.self.now.now c.args.self.now.next c.args.self.now.slots.items c.requires.running.kept c.limit_of-limit.result c.limit_of-limit.ensures.after c.limit_of-limit.ensures.next c.in-Some.picked (best known) in
-    omega (arith, (runs known).1, low, (task known).cost, c.stop_at-stop.ensures.within)
+    omega (arith, ends (goal.at.overflow_add-executed c).After-unwrap_or-runs, low, c.stop_at-stop.ensures.end)
 
 pub index_mut-requires : goal.index_mut-requires
 index_mut-requires c = omega (arith, in_slots (goal.at.index_mut-requires c).After-index-tasks-picked, c.args.self.now.slots.ok.0)
@@ -96,32 +135,34 @@ index_mut-requires c = omega (arith, in_slots (goal.at.index_mut-requires c).Aft
 pub index_mut-requires-2 : goal.index_mut-requires-2
 index_mut-requires-2 c = omega (arith, in_slots (goal.at.index_mut-requires-2 c).After-index-tasks-picked, c.args.self.now.slots.ok.0)
 
-pub index_mut-requires-then-executed-task : goal.index_mut-requires-then-executed-task
-index_mut-requires-then-executed-task c =
-    let inside = job_in c.args.kernel.now c.args.agenda.now.releases.now c.args.agenda.now.turns.now c.requires.runnable c.args.self.now.now c.args.self.now.next c.args.self.now.slots.items c.requires.running.kept c.limit_of-limit.result c.limit_of-limit.ensures.after c.limit_of-limit.ensures.next c.in-Some.picked (best (goal.at.index_mut-requires-then-executed-task c).After-index-tasks-picked) in
+pub index_mut-requires-then-executed-runs : goal.index_mut-requires-then-executed-runs
+index_mut-requires-then-executed-runs c =
+    let inside = job_in c.args.kernel.now c.args.agenda.now.releases.now c.args.agenda.now.turns.now c.requires.runnable c.args.self.now.now c.args.self.now.next c.args.self.now.slots.items c.requires.running.kept c.limit_of-limit.result c.limit_of-limit.ensures.after c.limit_of-limit.ensures.next c.in-Some.picked (best (goal.at.index_mut-requires-then-executed-runs c).After-index-tasks-picked) in
     omega (arith, inside, c.args.self.now.finishes.ok.0, c.requires.running.finishes.count)
 
-pub returns-then-executed-task : goal.returns-then-executed-task
-returns-then-executed-task c =
-    let known = (goal.at.returns-then-executed-task c).After-index-tasks-picked in
+pub returns-then-executed-runs : goal.returns-then-executed-runs
+returns-then-executed-runs c =
+    let known = (goal.at.returns-then-executed-runs c).After-index-tasks-picked in
+    let run = (goal.at.returns-then-executed-runs c).After-unwrap_or-runs in
     let st = c.stop_at-stop.ensures in
     record {
       ok = done c.args.kernel.now c.args.agenda.now.releases.now c.args.agenda.now.turns.now c.requires.runnable c.args.self.now c.requires.running c.limit_of-limit.result c.limit_of-limit.ensures.after c.limit_of-limit.ensures.next
-          c.in-Some.picked (best known) c.index-tasks-picked.result (task known) c.stop_at-stop.result st.after st.limit st.within c.args.until c.limit_of-limit.ensures.until
+          c.in-Some.picked (best known) c.index-tasks-picked.result (task known) c.stop_at-stop.result st.after st.limit (near run c.stop_at-stop.result st.within) (omega (arith, ends run, st.end)) c.args.until c.limit_of-limit.ensures.until
           _ refl refl c.in_ok-add.ensures.run c.in_ok-add.ensures.tidy
-          c.if-executed-task.true refl c.drop_first.ensures (rw c.deref-3.ensures.value at c.set_owners.ensures) refl;
+          run.unwrap_or-runs.result (ends run) c.if-executed-runs.true refl c.drop_first.ensures (rw c.deref-3.ensures.value at c.set_owners.ensures) refl;
     }
 
 pub returns : goal.returns
 returns c =
     let known = (goal.at.returns c).After-index-tasks-picked in
+    let run = (goal.at.returns c).After-unwrap_or-runs in
     let st = c.stop_at-stop.ensures in
     let gives = rw c.deref-3.ensures.value at c.set_owners.ensures in
     record {
       ok = runs_on c.args.kernel.now c.args.agenda.now.releases.now c.args.agenda.now.turns.now c.requires.runnable c.args.self.now c.requires.running c.limit_of-limit.result c.limit_of-limit.ensures.after c.limit_of-limit.ensures.next
-          c.in-Some.picked (best known) c.index-tasks-picked.result (task known) c.stop_at-stop.result st.after st.limit st.within c.args.until c.limit_of-limit.ensures.until
+          c.in-Some.picked (best known) c.index-tasks-picked.result (task known) c.stop_at-stop.result st.after st.limit (near run c.stop_at-stop.result st.within) (omega (arith, ends run, st.end)) c.args.until c.limit_of-limit.ensures.until
           _ refl refl c.in_ok-add.ensures.run c.in_ok-add.ensures.tidy
-          _ refl refl refl refl (c.active-active.ensures c.args.kernel.now c.in-Some.picked.task (task known)) c.if-executed-task.false
+          run.unwrap_or-runs.result (ends run) _ refl refl refl refl (c.active-active.ensures c.args.kernel.now c.in-Some.picked.task (task known)) c.if-executed-runs.false
           refl c.in_ok-move_first.ensures (rw (c.deref-4.ensures.value, gives) at c.set_owners-2.ensures) refl;
     }
 
