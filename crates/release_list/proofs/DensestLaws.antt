@@ -1,137 +1,127 @@
--- The densest list, from one time to the next.
-use Rattle.std.proofs.Common.{◌≡◌, ℕ, zero, suc, ◌+◌, ◌-◌, ◌<◌, ◌≤◌, inl, inr, true, false, nat_lt, Option, Some, None, List, [], ◌∷◌, ◌++◌, length, map, take, get_or, refl, sym, ◌∙◌, ap, ap₂, subst, append_assoc, arith}
-use Rattle.std.specs.List.{filter}
-use Rattle.std.proofs.lemmas.List.{length-append, append-nil}
-use Rattle.std.proofs.lemmas.Bool.{and_left, cases_lt, lt-ltb, le-ltb}
+-- The densest list is that of the tasks' streams.
+use Rattle.std.proofs.Common.{◌≡◌, ℕ, zero, suc, ◌<◌, ◌≤◌, inl, inr, true, false, nat_lt, All, Some, None, Result, Ok, Err, List, [], ◌∷◌, length, map, get_or, refl, sym, ◌∙◌, ap, subst, arith}
+use Rattle.std.specs.Prelude.{MatchResult, IfOk}
+use Rattle.std.proofs.lemmas.List.{length-map, get_or_default}
+use Rattle.std.proofs.lemmas.Bool.{cases_lt, lt-ltb, le-ltb}
 use Rattle.std.proofs.lemmas.Option.{none-some}
-use Rattle.task_sheet.specs.Sheet.{Task, no_task, task_at}
+use Rattle.task_sheet.specs.Sheet.{Task, IsValidSheet, no_task, task_at}
+use Rattle.task_sheet.specs.TaskSet.{IsTaskSet}
 use Rattle.ceiling_kernel.specs.declared.trace.Release.{Release}
 use Rattle.ceiling_kernel.specs.declared.trace.RunFault.{RunFault}
 use Rattle.ceiling_kernel.specs.declared.trace.RunFault.TheVariants as fault
-use Rattle.ceiling_kernel.specs.Releases.{no_release, refuse_if, IsRefusal}
-use Rattle.release_list.specs.Densest.{instant_of, arrives, late_at, release_of, is_listed, releases_at, releases_before, densest_of, list_refusal}
-use Rattle.release_list.proofs.ListLaws.{none_come, chosen-more, chosen-same, chosen-room}
+use Rattle.ceiling_kernel.specs.Releases.{task_named, ready_of, release_at, IsRefusal, refusal_of}
+use Rattle.release_list.specs.declared.stream.Stream.{Stream}
+use Rattle.release_list.specs.Streams.{IsStream, no_stream, stream_at, list_of, job_release, count_refusal}
+use Rattle.release_list.specs.Densest.{instant_of, stream_of, streams_of, densest_of, list_refusal, IsJob, IsDensest}
+use Rattle.release_list.proofs.TimeLaws.{few_from}
+use Rattle.release_list.proofs.TaskNumbers.{found}
+use Rattle.release_list.proofs.JobLaws.{IsIn, IsOf, before_from, before_order, before_end, job_from, job_in}
+use Rattle.release_list.proofs.FitLaws.{IsFit, AreFit, some_period, named_is, none_refused}
 
-pub before_start : (U : List Task) (until : ℕ) → releases_before U 0 until ≡ []
-unfolding releases_before
-before_start U until = refl
-
-pub before_step : (U : List Task) (time until : ℕ) → releases_before U (suc time) until ≡ releases_before U time until ++ releases_at U time until
-unfolding releases_before
-before_step U time until = refl
-
--- where no job of the set arrives there is no release
-pub none_at : (U : List Task) (time until : ℕ) → ((i : ℕ) → i < length U → arrives (instant_of U) time (task_at U i) ≡ false) → releases_at U time until ≡ []
-none_at U time until h =
-    none_come (is_listed (instant_of U) time until) (release_of (instant_of U) time) no_task no_release U
-    (λ i lt. and_left (arrives (instant_of U) time (task_at U i)) (nat_lt (time + late_at (instant_of U) time (task_at U i)) until) (h i lt))
-
--- over times at which there is none
-before_quiet : (U : List Task) (time d until : ℕ) → ((t : ℕ) → time < t → t < suc time + d → releases_at U t until ≡ []) → releases_before U (suc time + d) until ≡ releases_before U (suc time) until
-before_quiet U time zero until h = ap (λ n. releases_before U n until) (omega arith)
-before_quiet U time (suc d) until h =
-    let s : suc time + suc d ≡ suc (suc time + d) = omega arith in
-    let quiet : releases_at U (suc time + d) until ≡ [] = h (suc time + d) (omega arith) (omega arith) in
-    ap (λ n. releases_before U n until) s
-    ∙ before_step U (suc time + d) until
-    ∙ ap (λ rs. releases_before U (suc time + d) until ++ rs) quiet
-    ∙ append-nil (releases_before U (suc time + d) until)
-    ∙ before_quiet U time d until (λ t less more. h t less (omega arith))
-
--- the releases of a time, and none up to the next
-pub before_leap : (U : List Task) (time next until : ℕ) → time < next → ((t : ℕ) → time < t → t < next → releases_at U t until ≡ [])
-    → releases_before U next until ≡ releases_before U time until ++ releases_at U time until
-before_leap U time next until less h =
-    let s : next ≡ suc time + (next - suc time) = omega arith in
-    ap (λ n. releases_before U n until) s
-    ∙ before_quiet U time (next - suc time) until (λ t a b. h t a (omega arith))
-    ∙ before_step U time until
-
--- there are never less
-before_more : (U : List Task) (time d until : ℕ) → length (releases_before U time until) ≤ length (releases_before U (time + d) until)
-before_more U time zero until =
-    let e : length (releases_before U (time + 0) until) ≡ length (releases_before U time until) = ap (λ n. length (releases_before U n until)) (omega arith) in
-    omega arith
-before_more U time (suc d) until =
-    let e : length (releases_before U (time + suc d) until) ≡ length (releases_before U (time + d) until ++ releases_at U (time + d) until) =
-    ap (λ n. length (releases_before U n until)) (omega arith) ∙ ap length (before_step U (time + d) until) in
-    omega (arith, e, length-append (releases_before U (time + d) until) (releases_at U (time + d) until), before_more U time d until)
-
-pub before_grows : (U : List Task) (time later until : ℕ) → time ≤ later → length (releases_before U time until) ≤ length (releases_before U later until)
-before_grows U time later until le =
-    let s : length (releases_before U (time + (later - time)) until) ≡ length (releases_before U later until) = ap (λ n. length (releases_before U n until)) (omega arith) in
-    omega (arith, s, before_more U time (later - time) until)
-
--- ---- what the code does with the releases of a time
--- the releases of a time from the first tasks of the set, by the instant
-abbrev pub listed_of : (instant time until : ℕ) → List Task → List Release
-listed_of instant time until xs = map (release_of instant time) (filter (is_listed instant time until) xs)
-
-pub listed_is : (xs : List Task) (instant time until : ℕ) → instant ≡ instant_of xs → listed_of instant time until xs ≡ releases_at xs time until
-listed_is xs instant time until e = ap (λ n. listed_of n time until xs) e
-
-module _ (xs : List Task) (instant time until : ℕ) (old items : List Release) (i : ℕ) (d : Task) (lt : i < length xs) (is : d ≡ get_or xs i d)
-    (sofar : items ≡ old ++ listed_of instant time until (take i xs)) where
-  pub push_next : (items' : List Release) (r : Release) → items' ≡ items ++ r ∷ [] → r ≡ release_of instant time d → is_listed instant time until d ≡ true
-      → items' ≡ old ++ listed_of instant time until (take (i + 1) xs)
-  push_next items' r e er on =
-      let on' : is_listed instant time until (get_or xs i d) ≡ true = ap (is_listed instant time until) (sym is) ∙ on in
-      let er' : r ≡ release_of instant time (get_or xs i d) = er ∙ ap (release_of instant time) is in
-      let more = chosen-more (is_listed instant time until) (release_of instant time) no_task no_release xs i d lt on' in
-      e ∙ ap₂ (λ x y. x ++ y ∷ []) sofar er'
-      ∙ append_assoc old (listed_of instant time until (take i xs)) (release_of instant time (get_or xs i d) ∷ [])
-      ∙ ap (λ x. old ++ x) (sym more)
-
-  pub pass_next : is_listed instant time until d ≡ false → items ≡ old ++ listed_of instant time until (take (i + 1) xs)
-  pass_next off =
-      let off' : is_listed instant time until (get_or xs i d) ≡ false = ap (is_listed instant time until) (sym is) ∙ off in
-      let same = chosen-same (is_listed instant time until) (release_of instant time) no_task no_release xs i d lt off' in
-      sofar ∙ ap (λ x. old ++ x) (sym same)
-
-  -- one more than there may be
-  pub too_many : instant ≡ instant_of xs → length items ≡ 10000 → is_listed instant time until d ≡ true
-      → refuse_if (nat_lt 10000 (length (old ++ releases_at xs time until))) fault.TooMany ≡ Some fault.TooMany
-  too_many e full on =
-      let on' : is_listed instant time until (get_or xs i d) ≡ true = ap (is_listed instant time until) (sym is) ∙ on in
-      let room : length (listed_of instant time until (take i xs)) < length (listed_of instant time until xs) =
-      chosen-room (is_listed instant time until) (release_of instant time) no_task no_release xs i d lt on' in
-      let a : length items ≡ length old + length (listed_of instant time until (take i xs)) = ap length sofar ∙ length-append old (listed_of instant time until (take i xs)) in
-      let b : length (old ++ releases_at xs time until) ≡ length old + length (releases_at xs time until) = length-append old (releases_at xs time until) in
-      let s : length (listed_of instant time until xs) ≡ length (releases_at xs time until) = ap length (listed_is xs instant time until e) in
-      let big : nat_lt 10000 (length (old ++ releases_at xs time until)) ≡ true = lt-ltb 10000 (length (old ++ releases_at xs time until)) (omega arith) in
-      rw big refl
-
--- ---- refusals
--- want of memory may come where nothing is refused, and nothing else
-pub nothing_else : (e : RunFault) (o : Option RunFault) → IsRefusal e None → IsRefusal e o
-nothing_else fault.OutOfMemory o h = tt
-nothing_else (fault.Unsorted k) o h = absurd (none-some (fault.Unsorted k) h)
-nothing_else (fault.UnknownTask k) o h = absurd (none-some (fault.UnknownTask k) h)
-nothing_else (fault.TooSoon k) o h = absurd (none-some (fault.TooSoon k) h)
-nothing_else (fault.TooLate k) o h = absurd (none-some (fault.TooLate k) h)
-nothing_else fault.PastHorizon o h = absurd (none-some fault.PastHorizon h)
-nothing_else fault.TooMany o h = absurd (none-some fault.TooMany h)
-nothing_else (fault.Overrun name time) o h = absurd (none-some (fault.Overrun name time) h)
+map_at : (f : Task → Stream) (xs : List Task) (q : ℕ) → q < length xs → stream_at (map f xs) q ≡ f (task_at xs q)
+map_at f [] q lt = absurd (omega arith)
+map_at f (x ∷ xs) zero lt = refl
+map_at f (x ∷ xs) (suc q) lt = map_at f xs q (omega arith)
 
 -- where the end is within the horizon, too many are the only reason
-pub list_refusal-within : (U : List Task) (until : ℕ) → until ≤ 60000000 → list_refusal U until ≡ refuse_if (nat_lt 10000 (length (densest_of U until))) fault.TooMany
+pub list_refusal-within : (U : List Task) (until : ℕ) → until ≤ 60000000 → list_refusal U until ≡ count_refusal (streams_of U) until
 list_refusal-within U until le = (let e : nat_lt 60000000 until ≡ false = le-ltb 60000000 until le in rw e refl)
 
--- too many before some time are too many
-pub refused_early : (U : List Task) (items : List Release) (time until : ℕ) (e : RunFault) → until ≤ 60000000 → time < until → items ≡ releases_before U time until
-    → IsRefusal e (refuse_if (nat_lt 10000 (length (items ++ releases_at U time until))) fault.TooMany) → IsRefusal e (list_refusal U until)
-refused_early U items time until e horizon less is h =
-    elim (cases_lt 10000 (length (items ++ releases_at U time until))) [
-      | inl many ↦
-          let grown : length (releases_before U (suc time) until) ≤ length (densest_of U until) = before_grows U (suc time) until until (omega arith) in
-          let step : length (releases_before U (suc time) until) ≡ length (items ++ releases_at U time until) =
-          ap length (before_step U time until) ∙ ap (λ x. length (x ++ releases_at U time until)) (sym is) in
-          let here : nat_lt 10000 (length (items ++ releases_at U time until)) ≡ true = lt-ltb 10000 (length (items ++ releases_at U time until)) many in
-          let all : nat_lt 10000 (length (densest_of U until)) ≡ true = lt-ltb 10000 (length (densest_of U until)) (omega arith) in
-          let to : refuse_if (nat_lt 10000 (length (items ++ releases_at U time until))) fault.TooMany ≡ list_refusal U until =
-          ap (λ b. refuse_if b fault.TooMany) (here ∙ sym all) ∙ sym (list_refusal-within U until horizon) in
-          subst (λ o. IsRefusal e o) to h
-      | inr few ↦
-          let here : nat_lt 10000 (length (items ++ releases_at U time until)) ≡ false = le-ltb 10000 (length (items ++ releases_at U time until)) few in
-          nothing_else e (list_refusal U until) (subst (λ o. IsRefusal e o) (ap (λ b. refuse_if b fault.TooMany) here) h)
-    ]
+module _ (U : List Task) (until : ℕ) (set : IsTaskSet U) where
+  abbrev rs : List Release
+  rs = densest_of U until
+
+  abbrev ss : List Stream
+  ss = streams_of U
+
+  long : length ss ≡ length U
+  long = length-map U (stream_of (instant_of U))
+
+  stream_is : (q : ℕ) → q < length ss → stream_at ss q ≡ stream_of (instant_of U) (task_at U q)
+  stream_is q lt = map_at (stream_of (instant_of U)) U q (omega (arith, long))
+
+  pub fits : AreFit U ss (λ q. q)
+  fits = record {
+    each = λ q lt.
+        let f : IsFit U (stream_of (instant_of U) (task_at U q)) q = record { in_set = omega (arith, long, lt); named = refl; apart = omega arith; prompt = omega arith } in
+        subst (λ s. IsFit U s q) (sym (stream_is q lt)) f;
+    distinct = λ q r lq lr same. same;
+  }
+
+  -- they come one after the other
+  pub all_streams : (items : List Stream) → items ≡ ss → All IsStream items
+  all_streams items is q d lt =
+      let lt' : q < length ss = subst (λ (xs : List Stream). q < length xs) is lt in
+      let v : IsValidSheet (task_at U q) = set.valid q no_task (omega (arith, long)) in
+      let s : IsStream (stream_of (instant_of U) (task_at U q)) = record { some = omega (arith, v.period_from); small = omega (arith, v.period_to) } in
+      let at : stream_at ss q ≡ get_or items q d = get_or_default ss q no_stream d lt' ∙ ap (λ (xs : List Stream). get_or xs q d) (sym is) in
+      subst (λ x. IsStream x) at (subst (λ x. IsStream x) (sym (stream_is q lt')) s)
+
+  periods : (q : ℕ) → q < length ss → 0 < (stream_at ss q).period
+  periods = some_period U set ss (λ q. q) fits until
+
+  -- each release is ready before the end
+  pub ends_before : (n : ℕ) → n < length rs → ready_of (release_at rs n) < until
+  ends_before n lt = (let b = before_from ss until until n lt in before_end ss until periods (release_at rs n) b.0 b.1)
+
+  named : (r : Release) (i : ℕ) → IsOf ss until r i → task_named U r.name ≡ Some i
+  named r i o = named_is U set ss (λ q. q) fits until r i o
+
+  named_job : (r : Release) (i k : ℕ) → IsJob U until r i k → task_named U r.name ≡ Some i
+  named_job r i k j = ap (task_named U) (ap (λ x. x.name) j.is) ∙ found U set.distinct i j.in_set
+
+  one_task : (r : Release) (i h : ℕ) → task_named U r.name ≡ Some i → task_named U r.name ≡ Some h → i ≡ h
+  one_task r i h a b = cc (a, b)
+
+  pub densest-is : IsDensest U until (densest_of U until)
+  densest-is = record {
+    sound = λ n lt.
+        let b = before_from ss until until n lt in
+        let i : ℕ = b.0 in
+        let small : b.0 < length ss = b.1.in_set in
+        let j = job_from ss until periods (release_at rs n) b.0 b.1 in
+        let is : release_at rs n ≡ job_release (stream_of (instant_of U) (task_at U b.0)) j.0 = j.1 ∙ ap (λ s. job_release s j.0) (stream_is b.0 small) in
+        (b.0, j.0, record { in_set = omega (arith, long, small); is = is; before = ends_before n lt });
+    complete = λ i k lt before.
+        let small : i < length ss = omega (arith, long, lt) in
+        let is : job_release (stream_at ss i) k ≡ job_release (stream_of (instant_of U) (task_at U i)) k = ap (λ s. job_release s k) (stream_is i small) in
+        let before' : ready_of (job_release (stream_at ss i) k) < until = subst (λ r. ready_of r < until) (sym is) before in
+        let at : IsIn rs (job_release (stream_at ss i) k) = job_in ss until periods i k small before' in
+        (at.0, at.1, at.2 ∙ is);
+    ordered = λ m n i h j k less lt first second.
+        let r : Release = release_at rs m in
+        let s : Release = release_at rs n in
+        let o = before_order ss until until m n less lt in
+        let a : o.0 ≡ i = one_task r o.0 i (named r o.0 o.2) (named_job r i j first) in
+        let b : o.1 ≡ h = one_task s o.1 h (named s o.1 o.3) (named_job s h k second) in
+        elim o.4 [
+          | inl early ↦ inl early
+          | inr same ↦ inr (same.0, omega (arith, a, b, same.1))
+        ];
+  }
+
+  -- ---- a kernel refuses no such list
+  pub refuses_none : until ≤ 60000000 → length rs ≤ 10000 → refusal_of U rs until ≡ None
+  refuses_none horizon few = none_refused U set ss (λ q. q) fits until horizon few
+
+  -- the same from the reasons to refuse the list
+  pub horizon_from : list_refusal U until ≡ None → (until ≤ 60000000) × (length rs ≤ 10000)
+  horizon_from h = elim (cases_lt 60000000 until) [
+    | inl past ↦ absurd (none-some fault.PastHorizon (sym h ∙ past_horizon past))
+    | inr within ↦ (within, few_from ss until (sym (list_refusal-within U until within) ∙ h))
+  ]
+    where
+      past_horizon : 60000000 < until → list_refusal U until ≡ Some fault.PastHorizon
+      past_horizon past = (let e : nat_lt 60000000 until ≡ true = lt-ltb 60000000 until past in rw e refl)
+
+  pub kernel_takes : list_refusal U until ≡ None → refusal_of U rs until ≡ None
+  kernel_takes h = (let p = horizon_from h in refuses_none p.0 p.1)
+
+-- so the list of the tasks' streams, where there is one, is refused by none
+pub accepted_if : {X : Type 0} (U : List Task) (until : ℕ) → IsTaskSet U → until ≤ 60000000 → (streams : List Stream) → streams ≡ streams_of U → (items : X → List Release) (r : Result X RunFault)
+    → MatchResult r (λ x. (count_refusal streams until ≡ None) × (items x ≡ list_of streams until)) (λ e. IsRefusal e (count_refusal streams until)) → IfOk r (λ x. refusal_of U (items x) until ≡ None)
+accepted_if U until set horizon streams same items (Err e) h = tt
+accepted_if U until set horizon streams same items (Ok x) h =
+    let is : items x ≡ densest_of U until = h.1 ∙ ap (λ (xs : List Stream). list_of xs until) same in
+    let none : count_refusal (streams_of U) until ≡ None = subst (λ (xs : List Stream). count_refusal xs until ≡ None) same h.0 in
+    subst (λ (rs : List Release). refusal_of U rs until ≡ None) (sym is) (refuses_none U until set horizon (few_from (streams_of U) until none))

@@ -1,6 +1,11 @@
 pub mod ArrivalLaws
 pub mod ListLaws
+pub mod TimeLaws
 pub mod TaskNumbers
-pub mod DensestLaws
 pub mod JobLaws
-pub mod AcceptedLaws
+pub mod FitLaws
+pub mod DensestLaws
+pub mod OrderLaws
+pub mod RandomLaws
+pub mod RandomAccepted
+pub mod RandomLists

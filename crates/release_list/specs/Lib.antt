@@ -1,2 +1,4 @@
+pub mod Streams
 pub mod Densest
 pub mod Text
+pub mod Random

@@ -1,5 +1,6 @@
--- A release list as text: the line `until N`, and then a line `TIME NAME`, or `TIME NAME LATE`, for each release.
-use Rattle.std.specs.Prelude.{ℕ, List, [], ◌∷◌, ◌++◌, ◌==◌, codes, if◌then◌else◌}
+-- A release list as text: the line `until N`, and then for each release a line `TIME NAME`, `TIME NAME LATE` where it is
+-- late, with `runs N` behind it where it says for how long its job executes.
+use Rattle.std.specs.Prelude.{ℕ, Option, Some, None, List, [], ◌∷◌, ◌++◌, ◌==◌, codes, if◌then◌else◌}
 use Rattle.std.specs.Fmt.{decimal}
 use Rattle.ceiling_kernel.specs.declared.trace.Release.{Release}
 
@@ -7,9 +8,15 @@ use Rattle.ceiling_kernel.specs.declared.trace.Release.{Release}
 abbrev pub late_words : ℕ → List ℕ
 late_words late = if late == 0 then [] else codes " " ++ decimal late
 
--- a release: when it arrives, its task, and how late it is
+-- for how long its job executes, where it says so
+abbrev pub runs_words : Option ℕ → List ℕ
+runs_words None = []
+runs_words (Some runs) = codes " runs " ++ decimal runs
+
+-- a release: when it arrives, its task, how late it is, and for how long its job executes
 abbrev pub release_line : Release → List ℕ
-release_line r = decimal r.time ++ codes " " ++ r.name ++ late_words r.late ++ codes "\n"
+release_line r =
+    decimal r.time ++ codes " " ++ r.name ++ late_words r.late ++ runs_words r.runs ++ codes "\n"
 
 -- a line for each release
 abbrev pub release_lines : List Release → List ℕ

@@ -1,9 +1,16 @@
-//! The densest release list that a set allows, and its text.
+//! Release lists: the releases of streams of jobs, the densest that a set allows and random ones, and their text.
 #![tactic(auto)]
 
+mod dense;
 pub mod laws;
 mod list;
+pub mod random_laws;
+mod random_list;
+mod stream;
 mod text;
 
-pub use crate::list::densest;
+pub use crate::dense::{densest, stream_of};
+pub use crate::list::list_of;
+pub use crate::random_list::random;
+pub use crate::stream::Stream;
 pub use crate::text::list_text;

@@ -1,9 +1,29 @@
 //! The lines of a release list.
 ghost use Rattle.std.specs.Prelude.{◌≡◌, ◌++◌, OnOk, IfOk, string_bytes};
-ghost use Rattle.release_list.specs.Text.{list_lines, release_line, release_lines};
+ghost use Rattle.release_list.specs.Text.{late_words, runs_words, list_lines, release_line, release_lines};
 
 use ceiling_kernel::Release;
 use std::alloc::{AllocError, Global};
+
+// How late a release is, where it is late.
+fn push_late(text: &mut String, late: u64) -> Result<(), AllocError>
+    ensures { OnOk result (string_bytes text.new ≡ string_bytes text.old ++ late_words late) }
+{
+    if late == 0 {
+        return Ok(());
+    }
+    write!(text, " {late}")
+}
+
+// For how long its job executes, where it says so.
+fn push_runs(text: &mut String, runs: Option<u64>) -> Result<(), AllocError>
+    ensures { OnOk result (string_bytes text.new ≡ string_bytes text.old ++ runs_words runs) }
+{
+    match runs {
+        Some(runs) => write!(text, " runs {runs}"),
+        None => Ok(()),
+    }
+}
 
 // The line of a release.
 fn push_release(text: &mut String, release: Release) -> Result<(), AllocError>
@@ -11,11 +31,9 @@ fn push_release(text: &mut String, release: Release) -> Result<(), AllocError>
 {
     let time = release.time;
     let name = release.name;
-    let late = release.late;
     write!(text, "{time} {name}")?;
-    if late != 0 {
-        write!(text, " {late}")?;
-    }
+    push_late(text, release.late)?;
+    push_runs(text, release.runs)?;
     text.push_str("\n")
 }
 
@@ -30,8 +48,8 @@ fn push_releases(text: &mut String, releases: &[Release]) -> Result<(), AllocErr
     Ok(())
 }
 
-/// The lines that say a release list: when the run ends, and each release with how late it is where that isn't 0; in
-/// microseconds. The error is want of memory.
+/// The lines that say a release list: when the run ends, and each release with how late it is where that isn't 0,
+/// and for how long it executes where it says so; in microseconds. The error is want of memory.
 pub fn list_text(alloc: Global, until: u64, releases: &[Release]) -> Result<String, AllocError>
     ensures { IfOk result (λ text. string_bytes text ≡ list_lines until releases.now) }
 {

@@ -1,4 +1,4 @@
-use Rattle.release_list.proofs.AcceptedLaws.{kernel_takes}
+use Rattle.release_list.proofs.DensestLaws.{kernel_takes}
 use Rattle.release_list.proofs.laws.kernels_refuse_none.Goals as goal
 
 pub returns : goal.returns

@@ -1,4 +1,4 @@
-use Rattle.release_list.proofs.JobLaws.{densest-is}
+use Rattle.release_list.proofs.DensestLaws.{densest-is}
 use Rattle.release_list.proofs.laws.lists_are_densest.Goals as goal
 
 pub returns : goal.returns
