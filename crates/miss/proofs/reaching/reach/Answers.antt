@@ -1,0 +1,5 @@
+use Rattle.miss.proofs.OrderLaws.{place_of}
+use Rattle.miss.proofs.reaching.reach.Goals as goal
+
+pub place_of-requires : goal.place_of-requires
+place_of-requires c = place_of c.args.set.now c.args.order.now c.in-Ok.ensures.ok.1 c.args.task c.requires

@@ -1,0 +1,7 @@
+use Rattle.std.proofs.Common.{ℕ, ◌<◌, get_or}
+use Rattle.ceiling_kernel.specs.Tick.{node_in}
+use Rattle.miss.specs.Shown.{PassesThere}
+use Rattle.miss.proofs.reason.fails_above.Given as goal
+
+abbrev pub invariant-loop-higher : goal.invariant-loop-higher
+invariant-loop-higher l = (q : ℕ) → l.place < q → q < l.higher → PassesThere (node_in l.set l.order) (get_or l.order q 0)

@@ -1,0 +1,5 @@
+pub mod Exact
+pub mod Misses
+pub mod Found
+pub mod Shown
+pub mod Reached

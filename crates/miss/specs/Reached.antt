@@ -1,0 +1,69 @@
+-- The worst case of a task that passes, as a run: when its job finishes there.
+use Rattle.std.specs.Prelude.{◌≡◌, ℕ, ◌+◌, ◌-◌, ◌<◌, ◌≤◌, None, Option, List, length}
+use Rattle.task_sheet.specs.Sheet.{Task}
+use Rattle.task_sheet.specs.Demand.{blocking_of}
+use Rattle.ceiling_kernel.specs.declared.accept.TheConstants.{RELEASE_LIMIT}
+use Rattle.ceiling_kernel.specs.declared.trace.Release.{Release}
+use Rattle.ceiling_kernel.specs.Tick.{Node}
+use Rattle.ceiling_kernel.specs.declared.trace.JobRecord.{JobRecord}
+use Rattle.ceiling_kernel.specs.Trace.{finish_before}
+use Rattle.ceiling_kernel.specs.Readings.{IsFinishAt}
+use Rattle.ceiling_kernel.specs.Waits.{NoOverrun}
+use Rattle.ceiling_kernel.specs.Bounds.{above_of, after_of, work_of, CoversBy}
+use Rattle.ceiling_kernel.specs.Releases.{task_number, jobs_of, ready_of, release_at, refusal_of}
+use Rattle.miss.specs.declared.reaching.Reached.{Reached}
+use Rattle.miss.specs.declared.reaching.Reached.TheVariants as reached
+use Rattle.miss.specs.declared.reaching.WorstRun.{WorstRun}
+use Rattle.miss.specs.Exact.{EndsLow}
+use Rattle.miss.specs.Found.{record_at}
+use Rattle.miss.specs.Misses.{IsWorstCase}
+use Rattle.miss.specs.Shown.{AboveAllPass, IsTooLong}
+
+-- a kernel takes the releases and runs them to the end; release j is one of the task
+pub record IsRunOf (node : Node) (rs : List Release) (until task j : ℕ) : Type 0 where
+  pub accepted : refusal_of node.tasks rs until ≡ None
+  pub no_overrun : NoOverrun node (jobs_of node.tasks rs)
+  pub is_job : j < length rs
+  pub of_task : task_number node.tasks (release_at rs j) ≡ task
+
+-- r is the least time that covers the work of task i, of the section that blocks all but its first tick
+pub record IsLeastCover (node : Node) (i r : ℕ) : Type 0 where
+  pub covers : CoversBy node i r
+  pub least : (u : ℕ) → 0 < u → u < r
+      → u < work_of node i (blocking_of node.tasks i (above_of node i) - 1) u
+
+-- THE BOUND IS REACHED, but for a tick: below tasks that pass, a job of a task whose last tick is executed at its own level
+-- finishes in its worst case exactly so long after it is ready
+abbrev pub WorstCaseReaches : Node → Type 0
+WorstCaseReaches node =
+    (i : ℕ) (rs : List Release) (until r : ℕ) → i < length node.tasks
+    → IsWorstCase node.tasks i (after_of node.order i) rs until → length rs ≤ RELEASE_LIMIT
+    → AboveAllPass node i → EndsLow node i → IsLeastCover node i r
+    → (j : ℕ) × IsRunOf node rs until i j
+    × IsFinishAt node (jobs_of node.tasks rs) j (ready_of (release_at rs j) + r)
+
+-- the record of release j, which is one of the task, has this finish
+pub record IsReadOf (U : List Task) (task : ℕ) (rs : List Release) (records : List JobRecord)
+    (j : ℕ) (finish : Option ℕ) : Type 0 where
+  pub is_job : j < length rs
+  pub of_task : task_number U (release_at rs j) ≡ task
+  pub finish_is : finish ≡ (record_at records j).finish
+
+-- a job of the task in a run, and when it finishes there, if it does
+pub record IsFinishIn (node : Node) (rs : List Release) (until task j : ℕ) (finish : Option ℕ)
+    : Type 0 where
+  pub ran : IsRunOf node rs until task j
+  pub finish_is : finish ≡ finish_before node (jobs_of node.tasks rs) until j
+
+-- the worst case of a task, run to its end: its first job, and when that finishes, if it does
+pub record IsWorstRun (node : Node) (task : ℕ) (run : WorstRun) : Type 0 where
+  pub case : IsWorstCase node.tasks task (after_of node.order task) run.releases.items run.until
+  pub few : length run.releases.items ≤ RELEASE_LIMIT
+  pub finish : IsFinishIn node run.releases.items run.until task run.job run.finish
+
+-- what comes of the worst case of a task: it was run; or it is too long; or it is stopped, as some task above doesn't pass
+abbrev pub IsReachedOf : Node → ℕ → Reached → Type 0
+IsReachedOf node task (reached.Ran run) = IsWorstRun node task run
+IsReachedOf node task reached.TooMany =
+    IsTooLong node.tasks task (after_of node.order task)
+IsReachedOf node task reached.Stopped = ¬ AboveAllPass node task

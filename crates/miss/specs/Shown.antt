@@ -1,0 +1,77 @@
+-- What is shown of a task at its place in an order: a run in which it misses its deadline, or why there is none.
+use Rattle.std.specs.Prelude.{◌≡◌, ℕ, ◌-◌, ◌<◌, true, false, Bool, ◌&&◌, List, length}
+use Rattle.std.specs.List.{list_any}
+use Rattle.task_sheet.specs.Sheet.{Task, task_at}
+use Rattle.task_sheet.specs.Indexes.{Indexes}
+use Rattle.task_sheet.specs.Locks.{reaches}
+use Rattle.task_sheet.specs.Demand.{Passes}
+use Rattle.task_sheet.specs.Orders.{Stands}
+use Rattle.task_sheet.specs.Verdicts.{IsLeastOver}
+use Rattle.ceiling_kernel.specs.declared.accept.TheConstants.{RELEASE_LIMIT}
+use Rattle.ceiling_kernel.specs.declared.trace.Release.{Release}
+use Rattle.ceiling_kernel.specs.Tick.{Node, is_inside}
+use Rattle.ceiling_kernel.specs.Bounds.{above_of, after_of, CoversBy}
+use Rattle.miss.specs.declared.shown.Shown.{Shown}
+use Rattle.miss.specs.declared.shown.Shown.TheVariants as shown
+use Rattle.miss.specs.declared.shown.NoRun.{NoRun}
+use Rattle.miss.specs.declared.shown.NoRun.TheVariants as why
+use Rattle.miss.specs.Exact.{EndsLow}
+use Rattle.miss.specs.Misses.{IsWorstCase, MustMiss}
+use Rattle.miss.specs.Found.{IsMiss}
+
+-- task i passes in its place
+abbrev pub PassesThere : Node → ℕ → Type 0
+PassesThere node i = Passes node.tasks i (above_of node i)
+
+-- a job of task i that executes its cost executes the last tick inside a section that one of the tasks H reaches
+abbrev pub ends_inside : List Task → ℕ → Indexes → Bool
+ends_inside U i H =
+    list_any (λ s. is_inside s ((task_at U i).cost - 1) && reaches U H s) (task_at U i).sections
+
+-- the worst case of task i with those above it has more releases than a run takes
+pub record IsTooLong (U : List Task) (i : ℕ) (above : List ℕ) : Type 0 where
+  pub releases : List Release
+  pub until : ℕ
+  pub case : IsWorstCase U i above releases until
+  pub many : RELEASE_LIMIT < length releases
+
+-- task h stands above task i, and doesn't pass
+pub record FailsAbove (node : Node) (i h : ℕ) : Type 0 where
+  pub in_set : h < length node.tasks
+  pub above : above_of node i h ≡ true
+  pub fails : ¬ PassesThere node h
+
+-- each task above task i passes
+abbrev pub AboveAllPass : Node → ℕ → Type 0
+AboveAllPass node i =
+    (h : ℕ) → h < length node.tasks → above_of node i h ≡ true → PassesThere node h
+
+-- why there is no run
+abbrev pub IsNoRun : Node → ℕ → NoRun → Type 0
+IsNoRun node i (why.MustOutrank other) =
+    PassesThere node i × IsLeastOver node.tasks i (above_of node i) other
+IsNoRun node i why.TooMany =
+    (¬ PassesThere node i) × IsTooLong node.tasks i (after_of node.order i)
+IsNoRun node i (why.Below above) = (¬ PassesThere node i) × FailsAbove node i above
+IsNoRun node i why.EndsInside = (¬ PassesThere node i) × (¬ EndsLow node i)
+IsNoRun node i why.WithinTick = (¬ PassesThere node i) × ((t : ℕ) × CoversBy node i t)
+
+-- it may stand there, or it misses its deadline in a run, or there is none
+abbrev pub IsShown : Node → ℕ → Shown → Type 0
+IsShown node i shown.Stands = Stands node.tasks i (above_of node i)
+IsShown node i (shown.Misses m) = (m.task ≡ i) × IsMiss node m
+IsShown node i (shown.NoRun reason) = IsNoRun node i reason
+
+-- its worst case is too long
+abbrev pub is_too_long : Shown → Bool
+is_too_long (shown.NoRun why.TooMany) = true
+is_too_long s = false
+
+-- the worst case of some task that doesn't pass is too long, and so is that of each task that must miss its deadline
+pub record IsLeftOpen (node : Node) : Type 0 where
+  pub task : ℕ
+  pub in_set : task < length node.tasks
+  pub fails : ¬ PassesThere node task
+  pub long : IsTooLong node.tasks task (after_of node.order task)
+  pub others : (i : ℕ) → i < length node.tasks → MustMiss node i
+      → IsTooLong node.tasks i (after_of node.order i)

@@ -1,0 +1,214 @@
+//! A run that shows that an order doesn't pass.
+ghost use Rattle.std.specs.Prelude.{◌≡◌, ◌<◌, ℕ, length, slice_index_or, IfOk, IfErr, IfSome, IfNone, ◌≢◌};
+ghost use Rattle.std.specs.Bool.{OnTrue, OnFalse};
+ghost use Rattle.ceiling_kernel.specs.Tick.{node_in};
+ghost use Rattle.ceiling_kernel.specs.Releases.{release_at};
+ghost use Rattle.miss.specs.declared.fault.MissFault.TheVariants.{WrongOrder, TooMany, OutOfMemory};
+ghost use Rattle.task_sheet.specs.Orders.{IsOrder};
+ghost use Rattle.miss.specs.Misses.{IsMissOf, HasMiss, MustMiss, IsLockFree, AllPass};
+ghost use Rattle.miss.specs.Found.{IsMissed, record_at, IsMiss};
+ghost use Rattle.miss.specs.Shown.{IsShown, is_too_long, IsLeftOpen};
+ghost use Rattle.ceilings.specs.IsTableOf.{IsTableOf};
+
+use crate::fault::MissFault;
+use crate::reason::{members_above, why_not};
+use crate::shown::{Miss, NoRun, Shown};
+use crate::worst::{Run, worst_case};
+use assignment::least_over;
+use ceiling_kernel::{JobRecord, Kernel, KernelFault, Release, RunFault};
+use ceilings::LockTable;
+use response_time::passes;
+use std::alloc::Global;
+use task_sheet::TaskSet;
+
+// A job of the task isn't done by its deadline, which is the end of the run.
+fn is_missed(set: &TaskSet, task: usize, release: Release, job: &JobRecord, until: u64) -> bool
+    requires { task < length set.now }
+    ensures yes { OnTrue result (IsMissed set.now task until release job.now) }
+    ensures no { OnFalse result (¬ IsMissed set.now task until release job.now) }
+{
+    if job.finish.is_some() || until < release.time {
+        return false;
+    }
+    let Some(found) = set.find(release.name) else {
+        return false;
+    };
+    found == task && until - release.time == set.sheets()[task].deadline()
+}
+
+// The place of the first such job.
+fn first_missed(
+    set: &TaskSet,
+    task: usize,
+    releases: &[Release],
+    jobs: &[JobRecord],
+    until: u64,
+) -> Option<usize>
+    requires task { task < length set.now }
+    requires jobs { length jobs.now ≡ length releases.now }
+    ensures some { IfSome result (λ j. (j < length releases.now)
+        × IsMissed set.now task until (release_at releases.now j) (record_at jobs.now j)) }
+    ensures none { IfNone result ((j : ℕ) → j < length releases.now
+        → ¬ IsMissed set.now task until (release_at releases.now j) (record_at jobs.now j)) }
+{
+    for j in 0..releases.len() {
+        if is_missed(set, task, releases[j], &jobs[j], until) {
+            return Some(j);
+        }
+    }
+    None
+}
+
+// The place of a job of the task that misses its deadline in a run up to that.
+fn missed_in(
+    alloc: Global,
+    kernel: &Kernel,
+    set: &TaskSet,
+    task: usize,
+    run: &Run,
+) -> Result<Option<usize>, MissFault>
+    requires set { kernel.now.tasks ≡ set.now }
+    requires task { task < length set.now }
+    ensures some { IfOk result (λ found. IfSome found
+        (IsMissOf kernel.now run.now.releases.items run.now.until task)) }
+    ensures none { IfOk result (λ found. IfNone found
+        (¬ HasMiss kernel.now run.now.releases.items run.now.until task)) }
+    ensures err { IfErr result (λ fault. fault ≡ OutOfMemory) }
+{
+    // The set is valid: the proof has it from its sheets.
+    let _ = set.sheets();
+    match kernel.run(alloc, &run.releases, run.until) {
+        Ok(trace) => Ok(first_missed(set, task, &run.releases, &trace.jobs, run.until)),
+        Err(fault) => match fault {
+            RunFault::OutOfMemory => Err(MissFault::OutOfMemory),
+            _ => Ok(None),
+        },
+    }
+}
+
+/// The place of a task in an order.
+pub(crate) fn place_of(order: &[usize], task: usize) -> usize
+    requires { (p : ℕ) × (p < length order.now) × (slice_index_or order.now p 0 ≡ task) }
+    ensures within { result < length order.now }
+    ensures is { slice_index_or order.now result 0 ≡ task }
+{
+    for place in 0..order.len() {
+        if order[place] == task {
+            return place;
+        }
+    }
+    // Some place has it.
+    0
+}
+
+// What is shown of the task at a place of an order.
+fn shown_at(
+    alloc: Global,
+    kernel: &Kernel,
+    set: &TaskSet,
+    table: &LockTable,
+    order: &[usize],
+    place: usize,
+) -> Result<Shown, MissFault>
+    requires kernel { kernel.now ≡ node_in set.now order.now }
+    requires table { IsTableOf set.now table.now }
+    requires order { IsOrder set.now order.now }
+    requires place { place < length order.now }
+    ensures shown { IfOk result (IsShown (node_in set.now order.now)
+        (slice_index_or order.now place 0)) }
+    ensures err { IfErr result (λ fault. fault ≡ OutOfMemory) }
+{
+    // The set is valid: the proof has it from its sheets.
+    let _ = set.sheets();
+    let task = order[place];
+    let members = members_above(set, order, place);
+    if passes(set, table, task, members) {
+        return match least_over(set, table, task, members) {
+            Some(other) => Ok(Shown::NoRun(NoRun::MustOutrank { other })),
+            None => Ok(Shown::Stands),
+        };
+    }
+    let Some(run) = worst_case(alloc, set, table, task, &order[place + 1..])? else {
+        return Ok(Shown::NoRun(NoRun::TooMany));
+    };
+    if let Some(job) = missed_in(alloc, kernel, set, task, &run)? {
+        return Ok(Shown::Misses(Miss {
+            task,
+            job,
+            until: run.until,
+            releases: run.releases,
+        }));
+    }
+    Ok(Shown::NoRun(why_not(set, table, order, place)))
+}
+
+/// What is shown of a task of the set at its place in an order, lowest first: it may stand there, or it misses its
+/// deadline in its worst case, or why that is no run in which it does.
+pub fn show_miss(
+    alloc: Global,
+    set: &TaskSet,
+    order: &[usize],
+    task: usize,
+) -> Result<Shown, MissFault>
+    requires { task < length set.now }
+    ensures shown { IfOk result (IsShown (node_in set.now order.now) task) }
+    ensures order { IfErr result (λ fault. fault ≡ WrongOrder → ¬ IsOrder set.now order.now) }
+    ensures many { IfErr result (λ fault. fault ≢ TooMany) }
+{
+    let kernel = match Kernel::new(alloc, set, order) {
+        Ok(kernel) => kernel,
+        Err(KernelFault::WrongOrder) => return Err(MissFault::WrongOrder),
+        Err(KernelFault::OutOfMemory) => return Err(MissFault::OutOfMemory),
+    };
+    // The set is valid: the proof has it from its sheets.
+    let _ = set.sheets();
+    let table = LockTable::new(alloc, set)?;
+    shown_at(alloc, &kernel, set, &table, order, place_of(order, task))
+}
+
+// The worst case has more releases than a run takes.
+fn is_too_long(shown: &Shown) -> bool
+    ensures { result ≡ is_too_long shown.now }
+{
+    match shown {
+        Shown::NoRun(NoRun::TooMany) => true,
+        _ => false,
+    }
+}
+
+/// A run in which a task of the set misses its deadline at the levels of an order, lowest first: the worst case of the
+/// highest task that misses it there. None only where no task must miss its deadline; so, without locks, where each passes.
+/// `TooMany` only where none is found, and the worst case of a task that doesn't pass has more than 10,000 releases.
+pub fn find_miss(alloc: Global, set: &TaskSet, order: &[usize]) -> Result<Option<Miss>, MissFault>
+    ensures found { IfOk result (λ found. IfSome found (IsMiss (node_in set.now order.now))) }
+    ensures none { IfOk result (λ found. IfNone found ((i : ℕ) → i < length set.now
+        → ¬ MustMiss (node_in set.now order.now) i)) }
+    ensures lock_free { IfOk result (λ found. IfNone found (IsLockFree set.now
+        → AllPass (node_in set.now order.now))) }
+    ensures order { IfErr result (λ fault. fault ≡ WrongOrder → ¬ IsOrder set.now order.now) }
+    ensures many { IfErr result (λ fault. fault ≡ TooMany
+        → IsLeftOpen (node_in set.now order.now)) }
+{
+    let kernel = match Kernel::new(alloc, set, order) {
+        Ok(kernel) => kernel,
+        Err(KernelFault::WrongOrder) => return Err(MissFault::WrongOrder),
+        Err(KernelFault::OutOfMemory) => return Err(MissFault::OutOfMemory),
+    };
+    // The set is valid: the proof has it from its sheets.
+    let _ = set.sheets();
+    let table = LockTable::new(alloc, set)?;
+    let mut is_long = false;
+    let mut place = order.len();
+    while place > 0 {
+        place -= 1;
+        let shown = shown_at(alloc, &kernel, set, &table, order, place)?;
+        is_long = is_long | is_too_long(&shown);
+        if let Shown::Misses(miss) = shown {
+            return Ok(Some(miss));
+        }
+    }
+    if is_long {
+        return Err(MissFault::TooMany);
+    }
+    Ok(None)
+}

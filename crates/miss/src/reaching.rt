@@ -1,0 +1,172 @@
+//! The worst case of a task, run to its end.
+ghost use Rattle.std.specs.Prelude.{◌≡◌, ◌≢◌, ◌<◌, ℕ, length, slice_index_or, IfOk, IfErr, IfSome, IfNone};
+ghost use Rattle.std.specs.Bool.{OnTrue, OnFalse};
+ghost use Rattle.ceiling_kernel.specs.Tick.{node_in};
+ghost use Rattle.ceiling_kernel.specs.Releases.{task_number, release_at};
+ghost use Rattle.task_sheet.specs.Orders.{IsOrder};
+ghost use Rattle.ceilings.specs.IsTableOf.{IsTableOf};
+ghost use Rattle.miss.specs.declared.fault.MissFault.TheVariants.{WrongOrder, TooMany, OutOfMemory};
+ghost use Rattle.miss.specs.Reached.{IsRunOf, IsReadOf, IsFinishIn, IsReachedOf};
+
+use crate::fault::MissFault;
+use crate::find::place_of;
+use crate::worst::{Run, worst_case};
+use ceiling_kernel::{JobRecord, Kernel, KernelFault, Release, RunFault};
+use ceilings::LockTable;
+use std::alloc::Global;
+use task_sheet::TaskSet;
+
+/// The worst case of a task, run by a kernel: the place of the task's first job among the releases, from 0; when that job
+/// finishes, if it does by the end of the run, which is its deadline; in microseconds.
+#[derive(Drop)]
+pub struct WorstRun {
+    pub job: usize,
+    pub finish: Option<u64>,
+    pub until: u64,
+    pub releases: Vec<Release>,
+}
+
+/// What comes of running a task's worst case.
+#[derive(Drop)]
+pub enum Reached {
+    /// It was run to its end.
+    Ran(WorstRun),
+    /// It has more than 10,000 releases.
+    TooMany,
+    /// A job of a task above overran the one before it.
+    Stopped,
+}
+
+// The release is one of the task's.
+fn is_of(set: &TaskSet, task: usize, release: Release) -> bool
+    requires { task < length set.now }
+    ensures yes { OnTrue result (task_number set.now release ≡ task) }
+    ensures no { OnFalse result (¬ (task_number set.now release ≡ task)) }
+{
+    let Some(found) = set.find(release.name) else {
+        return false;
+    };
+    found == task
+}
+
+// The place of the first release of a task.
+fn first_of(set: &TaskSet, task: usize, releases: &[Release]) -> Option<usize>
+    requires { task < length set.now }
+    ensures some { IfSome result (λ j. (j < length releases.now)
+        × (task_number set.now (release_at releases.now j) ≡ task)) }
+    ensures none { IfNone result ((j : ℕ) → j < length releases.now
+        → ¬ (task_number set.now (release_at releases.now j) ≡ task)) }
+{
+    for place in 0..releases.len() {
+        if is_of(set, task, releases[place]) {
+            return Some(place);
+        }
+    }
+    None
+}
+
+// The first job of a task, and when it finishes, if it does.
+#[derive(Clone, Copy)]
+pub(crate) struct Finish {
+    pub(crate) job: usize,
+    pub(crate) time: Option<u64>,
+}
+
+// That of the releases of a trace.
+fn finish_of(set: &TaskSet, task: usize, releases: &[Release], jobs: &[JobRecord]) -> Option<Finish>
+    requires task { task < length set.now }
+    requires jobs { length jobs.now ≡ length releases.now }
+    ensures some { IfSome result (λ f. IsReadOf set.now task releases.now jobs.now f.job f.time) }
+    ensures none { IfNone result ((j : ℕ) → j < length releases.now
+        → ¬ (task_number set.now (release_at releases.now j) ≡ task)) }
+{
+    let job = first_of(set, task, releases)?;
+    let time = jobs[job].finish;
+    Some(Finish { job, time })
+}
+
+// The place of a job of the task in a run up to the end of its worst case, and when it finishes, if it does; none where
+// the kernel stops before.
+fn finish_in(
+    alloc: Global,
+    kernel: &Kernel,
+    set: &TaskSet,
+    task: usize,
+    run: &Run,
+) -> Result<Option<Finish>, MissFault>
+    requires set { kernel.now.tasks ≡ set.now }
+    requires task { task < length set.now }
+    ensures some { IfOk result (λ found. IfSome found
+        (λ f. IsFinishIn kernel.now run.now.releases.items run.now.until task f.job f.time)) }
+    ensures none { IfOk result (λ found. IfNone found ((j : ℕ)
+        → ¬ IsRunOf kernel.now run.now.releases.items run.now.until task j)) }
+    ensures err { IfErr result (λ fault. fault ≡ OutOfMemory) }
+{
+    // The set is valid: the proof has it from its sheets.
+    let _ = set.sheets();
+    match kernel.run(alloc, &run.releases, run.until) {
+        Ok(trace) => Ok(finish_of(set, task, &run.releases, &trace.jobs)),
+        Err(fault) => match fault {
+            RunFault::OutOfMemory => Err(MissFault::OutOfMemory),
+            _ => Ok(None),
+        },
+    }
+}
+
+// What comes of the worst case of the task at a place of an order.
+fn reach_at(
+    alloc: Global,
+    kernel: &Kernel,
+    set: &TaskSet,
+    table: &LockTable,
+    order: &[usize],
+    place: usize,
+) -> Result<Reached, MissFault>
+    requires kernel { kernel.now ≡ node_in set.now order.now }
+    requires table { IsTableOf set.now table.now }
+    requires order { IsOrder set.now order.now }
+    requires place { place < length order.now }
+    ensures reached { IfOk result (IsReachedOf (node_in set.now order.now)
+        (slice_index_or order.now place 0)) }
+    ensures err { IfErr result (λ fault. fault ≡ OutOfMemory) }
+{
+    // The set is valid: the proof has it from its sheets.
+    let _ = set.sheets();
+    let task = order[place];
+    let Some(run) = worst_case(alloc, set, table, task, &order[place + 1..])? else {
+        return Ok(Reached::TooMany);
+    };
+    match finish_in(alloc, kernel, set, task, &run)? {
+        Some(found) => Ok(Reached::Ran(WorstRun {
+            job: found.job,
+            finish: found.time,
+            until: run.until,
+            releases: run.releases,
+        })),
+        None => Ok(Reached::Stopped),
+    }
+}
+
+/// What comes of the worst case of a task of the set in an order, lowest first. It is run to its end wherever the tasks
+/// above pass and it has no more than 10,000 releases.
+pub fn reach(
+    alloc: Global,
+    set: &TaskSet,
+    order: &[usize],
+    task: usize,
+) -> Result<Reached, MissFault>
+    requires { task < length set.now }
+    ensures reached { IfOk result (IsReachedOf (node_in set.now order.now) task) }
+    ensures order { IfErr result (λ fault. fault ≡ WrongOrder → ¬ IsOrder set.now order.now) }
+    ensures many { IfErr result (λ fault. fault ≢ TooMany) }
+{
+    let kernel = match Kernel::new(alloc, set, order) {
+        Ok(kernel) => kernel,
+        Err(KernelFault::WrongOrder) => return Err(MissFault::WrongOrder),
+        Err(KernelFault::OutOfMemory) => return Err(MissFault::OutOfMemory),
+    };
+    // The set is valid: the proof has it from its sheets.
+    let _ = set.sheets();
+    let table = LockTable::new(alloc, set)?;
+    reach_at(alloc, &kernel, set, &table, order, place_of(order, task))
+}

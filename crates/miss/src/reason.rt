@@ -1,0 +1,104 @@
+//! Why a task that doesn't pass has no run.
+ghost use Rattle.std.specs.Prelude.{◌≡◌, ◌<◌, ℕ, ◌&&◌, true, List, length, slice_index_or, IfSome, IfNone};
+ghost use Rattle.task_sheet.specs.Sheet.{Task};
+ghost use Rattle.task_sheet.specs.Indexes.{indexes_of};
+ghost use Rattle.task_sheet.specs.Locks.{reaches};
+ghost use Rattle.task_sheet.specs.Orders.{IsOrder};
+ghost use Rattle.ceilings.specs.IsTableOf.{IsTableOf};
+ghost use Rattle.ceiling_kernel.specs.Tick.{node_in, is_inside};
+ghost use Rattle.ceiling_kernel.specs.Bounds.{above_of};
+ghost use Rattle.miss.specs.Misses.{MustMiss};
+ghost use Rattle.miss.specs.Shown.{PassesThere, ends_inside, FailsAbove, AboveAllPass, IsNoRun};
+
+use crate::shown::NoRun;
+use crate::worst::members_of;
+use ceilings::LockTable;
+use response_time::passes;
+use task_sheet::{Members, Section, TaskSet};
+
+// A job that has executed so long is inside the section, and one of these tasks reaches that.
+fn is_raised(table: &LockTable, section: &Section, executed: u64, above: Members) -> bool
+    ensures { (U : List Task) → IsTableOf U table.now
+        → result ≡ (is_inside section.now executed
+        && reaches U (indexes_of above) section.now) }
+{
+    if executed <= section.at {
+        return false;
+    }
+    if executed - section.at >= section.len {
+        return false;
+    }
+    table.reaches(section, above)
+}
+
+// A job of a task that executes its cost executes the last tick inside a section that one of these reaches.
+fn ends_inside(set: &TaskSet, table: &LockTable, task: usize, above: Members) -> bool
+    requires table { IsTableOf set.now table.now }
+    requires task { task < length set.now }
+    ensures { result ≡ ends_inside set.now task (indexes_of above) }
+{
+    let sheet = &set.sheets()[task];
+    let last = sheet.cost().saturating_sub(1);
+    for section in sheet.sections() {
+        if is_raised(table, section, last, above) {
+            return true;
+        }
+    }
+    false
+}
+
+/// The tasks above the one at a place of an order.
+pub(crate) fn members_above(set: &TaskSet, order: &[usize], place: usize) -> Members
+    requires order { IsOrder set.now order.now }
+    requires place { place < length order.now }
+    ensures { indexes_of result ≡ above_of (node_in set.now order.now)
+        (slice_index_or order.now place 0) }
+{
+    // The set is valid: the proof has it from its sheets.
+    let _ = set.sheets();
+    members_of(&order[place + 1..])
+}
+
+// The lowest of those above the task at a place of an order that doesn't pass.
+fn fails_above(set: &TaskSet, table: &LockTable, order: &[usize], place: usize) -> Option<usize>
+    requires table { IsTableOf set.now table.now }
+    requires order { IsOrder set.now order.now }
+    requires place { place < length order.now }
+    ensures some { IfSome result (FailsAbove (node_in set.now order.now)
+        (slice_index_or order.now place 0)) }
+    ensures none { IfNone result (AboveAllPass (node_in set.now order.now)
+        (slice_index_or order.now place 0)) }
+{
+    // The set is valid: the proof has it from its sheets.
+    let _ = set.sheets();
+    for higher in place + 1..order.len() {
+        let task = order[higher];
+        let above = members_above(set, order, higher);
+        let holds = passes(set, table, task, above);
+        if !holds {
+            return Some(task);
+        }
+    }
+    None
+}
+
+/// Why the task at a place of an order, which doesn't pass, need not miss its deadline.
+pub(crate) fn why_not(set: &TaskSet, table: &LockTable, order: &[usize], place: usize) -> NoRun
+    requires table { IsTableOf set.now table.now }
+    requires order { IsOrder set.now order.now }
+    requires place { place < length order.now }
+    requires fails { ¬ PassesThere (node_in set.now order.now) (slice_index_or order.now place 0) }
+    requires need_not { ¬ MustMiss (node_in set.now order.now) (slice_index_or order.now place 0) }
+    ensures { IsNoRun (node_in set.now order.now) (slice_index_or order.now place 0) result }
+{
+    // The set is valid: the proof has it from its sheets.
+    let _ = set.sheets();
+    if let Some(above) = fails_above(set, table, order, place) {
+        return NoRun::Below { above };
+    }
+    let above = members_above(set, order, place);
+    if ends_inside(set, table, order[place], above) {
+        return NoRun::EndsInside;
+    }
+    NoRun::WithinTick
+}

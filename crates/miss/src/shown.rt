@@ -1,0 +1,39 @@
+//! What is shown of a task at its place in an order.
+use ceiling_kernel::Release;
+
+/// A run in which a task misses its deadline: the task's index, the place of its job among the releases, from 0, and when
+/// the run ends, which is at that job's deadline, in microseconds.
+#[derive(Drop)]
+pub struct Miss {
+    pub task: usize,
+    pub job: usize,
+    pub until: u64,
+    pub releases: Vec<Release>,
+}
+
+/// Why there is no run in which a task that may not stand in its place misses its deadline.
+#[derive(Clone, Copy, Debug, PartialEq, Eq)]
+pub enum NoRun {
+    /// It passes, but a task stands above it above which it must stand: of these the one of least rank.
+    MustOutrank { other: usize },
+    /// Its worst case has more than 10,000 releases.
+    TooMany,
+    /// This one above it doesn't pass, so that the run may end with its overrun.
+    Below { above: usize },
+    /// A job's last tick is inside a section that a task above reaches, so that it may finish sooner than the analysis
+    /// says.
+    EndsInside,
+    /// It would pass with a tick less of the section that blocks it, which has begun before.
+    WithinTick,
+}
+
+/// What is shown of a task at its place in an order.
+#[derive(Drop)]
+pub enum Shown {
+    /// It may stand there.
+    Stands,
+    /// It misses its deadline in a run.
+    Misses(Miss),
+    /// It may not stand there, and there is no run.
+    NoRun(NoRun),
+}
