@@ -1,0 +1,70 @@
+use Rattle.std.proofs.Common.{◌≡◌, false, refl, sym, ◌∙◌, ap, subst, arith, get_or}
+use Rattle.std.proofs.lemmas.Bool.{both_ways}
+use Rattle.task_sheet.specs.Indexes.{indexes_of, below, IsPart}
+use Rattle.task_sheet.specs.Orders.{all_of, Stands, IsOrderOf}
+use Rattle.task_sheet.proofs.MembersIndexes.{indexes_of-all_below}
+use Rattle.task_sheet.proofs.PassingLaws.{is_bound-at}
+use Rattle.headroom.proofs.OrderLaws.{low-inside, part-next, rest-next, stands-here, all-here}
+use Rattle.limits.proofs.in_order.order_passes.Goals as goal
+
+pub loop-low-init : goal.loop-low-init
+loop-low-init c =
+    let U = c.args.set.now in
+    let all : indexes_of c.all-above.result ≡ all_of U = ap indexes_of c.all-above.ensures ∙ indexes_of-all_below c.len.result ∙ ap (λ m. below m) c.len.ensures.count in
+    record {
+      part = subst (λ X. IsPart X (all_of U)) (sym all) (λ k h. h);
+      rest = subst (λ X. IsOrderOf X c.args.order.now) (sym all) c.requires.each;
+      stood = λ all. all;
+    }
+
+pub without-above-requires : goal.without-above-requires
+without-above-requires c =
+    let inv = c.loop-low.invariant in
+    omega (arith, low-inside c.args.set.now c.args.order.now c.loop-low.low-index c.loop-low.above inv.part inv.rest c.loop-low-test.true, c.requires.table.few)
+
+pub least_over-requires-clause-task : goal.least_over-requires-clause-task
+least_over-requires-clause-task c =
+    let inv = c.loop-low.invariant in
+    low-inside c.args.set.now c.args.order.now c.loop-low.low-index c.loop-low.above inv.part inv.rest c.loop-low-test.true
+
+pub passes-requires-clause-task : goal.passes-requires-clause-task
+passes-requires-clause-task c =
+    let inv = c.loop-low.invariant in
+    low-inside c.args.set.now c.args.order.now c.loop-low.low-index c.loop-low.above inv.part inv.rest c.loop-low-test.true
+
+pub returns-in-Some : goal.returns-in-Some
+returns-in-Some c =
+    let inv = c.loop-low.invariant in
+    let U = c.args.set.now in
+    let over = c.in-Some.ensures.some in (
+      λ no. absurd (both_ways false refl no),
+      λ passing.
+          let stands = stands-here U c.args.order.now c.loop-low.low-index c.loop-low.above inv.part inv.rest c.loop-low-test.true c.without-above.result c.without-above.ensures U passing.each_stands in
+          absurd (both_ways _ stands.1 (is_bound-at U _ _ c.in-Some.field-0 over.in_set over.above over.named)),
+    )
+
+pub returns-then-not-passes : goal.returns-then-not-passes
+returns-then-not-passes c =
+    let inv = c.loop-low.invariant in
+    let U = c.args.set.now in (
+      λ no. absurd (both_ways false refl no),
+      λ passing.
+          let stands = stands-here U c.args.order.now c.loop-low.low-index c.loop-low.above inv.part inv.rest c.loop-low-test.true c.without-above.result c.without-above.ensures U passing.each_stands in
+          absurd (both_ways _ c.if-not-passes.true (c.passes.ensures.1 stands.0)),
+    )
+
+pub loop-low-preserved : goal.loop-low-preserved
+loop-low-preserved c =
+    let inv = c.loop-low.invariant in
+    let U = c.args.set.now in
+    let order = c.args.order.now in
+    let n = c.loop-low.low-index in
+    let left = c.loop-low.above in
+    let left' = c.without-above.result in
+    let removed = c.without-above.ensures in
+    let stands : Stands U (get_or order n 0) (indexes_of left') = (c.passes.ensures.0 c.if-not-passes.false, c.in-None.ensures.none) in
+    record {
+      part = part-next U order n left inv.part inv.rest c.loop-low-test.true left' removed;
+      rest = rest-next U order n left inv.part inv.rest c.loop-low-test.true left' removed;
+      stood = λ all. inv.stood (all-here U order n left inv.part inv.rest c.loop-low-test.true left' removed U stands all);
+    }

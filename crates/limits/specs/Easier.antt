@@ -1,0 +1,25 @@
+-- Sets that ask less of the node: less cost and jitter, longer periods, later deadlines, shorter sections.
+use Rattle.std.specs.Prelude.{◌≡◌, ℕ, ◌≤◌, List, [], ◌∷◌, length}
+use Rattle.task_sheet.specs.Sheet.{CriticalSection, Task, task_at}
+
+-- one by one the sections have the locks of the others, and are no longer
+abbrev pub AreShorter : List CriticalSection → List CriticalSection → Type 0
+AreShorter [] [] = Unit {0}
+AreShorter [] (y ∷ ys) = ⊥
+AreShorter (x ∷ xs) [] = ⊥
+AreShorter (x ∷ xs) (y ∷ ys) = (x.locks ≡ y.locks) × (x.len ≤ y.len) × AreShorter xs ys
+
+-- the task asks no more than the other one, of the same name and the same names to outrank
+pub record IsEasier (easy hard : Task) : Type 0 where
+  pub name : easy.name ≡ hard.name
+  pub outranks : easy.outranks ≡ hard.outranks
+  pub cost : easy.cost ≤ hard.cost
+  pub jitter : easy.jitter ≤ hard.jitter
+  pub period : hard.period ≤ easy.period
+  pub deadline : hard.deadline ≤ easy.deadline
+  pub sections : AreShorter easy.sections hard.sections
+
+-- each task of a set asks no more than that of another one
+pub record AreEasier (easy hard : List Task) : Type 0 where
+  pub count : length easy ≡ length hard
+  pub each : (k : ℕ) → IsEasier (task_at easy k) (task_at hard k)

@@ -1,0 +1,5 @@
+pub mod Numbers
+pub mod Easier
+pub mod Remade
+pub mod Rooms
+pub mod InOrder

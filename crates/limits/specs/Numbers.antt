@@ -1,0 +1,110 @@
+-- The numbers of a task, and for each the furthest value with which some order of its set passes.
+use Rattle.std.specs.Prelude.{◌≡◌, ℕ, ◌+◌, ◌-◌, ◌<◌, ◌≤◌, max, min, List, [], length, slice_set, slice_index_or, Option, Some, None}
+use Rattle.task_sheet.specs.Sheet.{CriticalSection, Task, with_jitter, IsValidSheet, task_at}
+use Rattle.task_sheet.specs.Orders.{IsFeasible}
+use Rattle.headroom.specs.Costs.{with_cost}
+use Rattle.limits.specs.declared.number.Number.{Number}
+use Rattle.limits.specs.declared.number.Number.TheVariants.{Cost, Period, Deadline, Jitter, Len}
+
+-- stands past the end of a task's sections
+abbrev pub no_section : CriticalSection
+no_section = record { locks = []; at = 0; len = 0 }
+
+-- the section at a place
+abbrev pub section_at : List CriticalSection → ℕ → CriticalSection
+section_at sections k = slice_index_or sections k no_section
+
+-- the sections, with another length of the one at a place
+abbrev pub with_len : List CriticalSection → ℕ → ℕ → List CriticalSection
+with_len sections k len = slice_set sections k (record (section_at sections k) { len = len })
+
+-- the task has such a number
+abbrev pub HasNumber : Task → Number → Type 0
+HasNumber t Cost = Unit {0}
+HasNumber t Period = Unit {0}
+HasNumber t Deadline = Unit {0}
+HasNumber t Jitter = Unit {0}
+HasNumber t (Len k) = k < length t.sections
+
+-- that number
+abbrev pub value_of : Number → Task → ℕ
+value_of Cost t = t.cost
+value_of Period t = t.period
+value_of Deadline t = t.deadline
+value_of Jitter t = t.jitter
+value_of (Len k) t = (section_at t.sections k).len
+
+-- the task, with another value of it: a period that is shorter than the deadline takes it along, a deadline that is
+-- later than the period takes that along
+abbrev pub with_number : Number → Task → ℕ → Task
+with_number Cost t value = with_cost t value
+with_number Period t value = record t { period = value; deadline = min t.deadline value }
+with_number Deadline t value = record t { period = max t.period value; deadline = value }
+with_number Jitter t value = with_jitter t value
+with_number (Len k) t value = record t { sections = with_len t.sections k value }
+
+-- a value that asks no more than the other: a cost, a jitter or a length that is no greater, a period or a deadline that
+-- is no less
+abbrev pub IsNoFurther : Number → ℕ → ℕ → Type 0
+IsNoFurther Cost value other = value ≤ other
+IsNoFurther Period value other = other ≤ value
+IsNoFurther Deadline value other = other ≤ value
+IsNoFurther Jitter value other = value ≤ other
+IsNoFurther (Len k) value other = value ≤ other
+
+-- the set, with another value of a number of its task i
+abbrev pub numbered : List Task → ℕ → Number → ℕ → List Task
+numbered U i number value = slice_set U i (with_number number (task_at U i) value)
+
+-- task i may have the value: its sheet is then still valid
+abbrev pub MayHave : List Task → ℕ → Number → ℕ → Type 0
+MayHave U i number value = IsValidSheet (with_number number (task_at U i) value)
+
+-- the furthest value with which some order of the set passes, all else equal
+pub record IsFurthest (U : List Task) (i : ℕ) (number : Number) (value : ℕ) : Type 0 where
+  pub may : MayHave U i number value
+  pub feasible : IsFeasible (numbered U i number value)
+  pub furthest : (other : ℕ) → MayHave U i number other → IsFeasible (numbered U i number other)
+      → IsNoFurther number other value
+
+-- no value helps
+abbrev pub NoneHelps : List Task → ℕ → Number → Type 0
+NoneHelps U i number = (value : ℕ) → MayHave U i number value
+    → ¬ IsFeasible (numbered U i number value)
+
+-- the furthest value, or none where none helps
+abbrev pub AnswersFurthest : List Task → ℕ → Number → Option ℕ → Type 0
+AnswersFurthest U i number (Some value) = IsFurthest U i number value
+AnswersFurthest U i number None = NoneHelps U i number
+
+-- the value that is so far from the easiest one
+abbrev pub at_distance : Number → ℕ → ℕ → ℕ
+at_distance Cost easiest far = easiest + far
+at_distance Period easiest far = easiest - far
+at_distance Deadline easiest far = easiest - far
+at_distance Jitter easiest far = easiest + far
+at_distance (Len k) easiest far = easiest + far
+
+-- how far a value is from the easiest one
+abbrev pub distance : Number → (easiest value : ℕ) → ℕ
+distance Cost easiest value = value - easiest
+distance Period easiest value = easiest - value
+distance Deadline easiest value = easiest - value
+distance Jitter easiest value = value - easiest
+distance (Len k) easiest value = value - easiest
+
+-- the values that a sheet may have are those from the easiest one on, up to this distance
+pub record IsSpan (t : Task) (number : Number) (easiest length : ℕ) : Type 0 where
+  pub may : (far : ℕ) → far ≤ length → IsValidSheet (with_number number t (at_distance number easiest far))
+  pub all : (value : ℕ) → IsValidSheet (with_number number t value)
+      → (far : ℕ) × (far ≤ length) × (value ≡ at_distance number easiest far)
+  pub rises : (near far : ℕ) → near ≤ far
+      → IsNoFurther number (at_distance number easiest near) (at_distance number easiest far)
+
+-- another value of the number leaves the sections as they are
+abbrev pub KeepsSections : Number → Type 0
+KeepsSections Cost = Unit {0}
+KeepsSections Period = Unit {0}
+KeepsSections Deadline = Unit {0}
+KeepsSections Jitter = Unit {0}
+KeepsSections (Len k) = ⊥

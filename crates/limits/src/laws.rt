@@ -1,0 +1,44 @@
+//! Laws of numbers. Each is the clause of a function that does nothing, and its names are defined in `specs/`.
+
+ghost use Rattle.std.specs.Prelude.{◌≡◌, ◌≤◌, ◌<◌, ◌↔◌, ℕ, List, length};
+ghost use Rattle.task_sheet.specs.Sheet.{Task, AllTasks, task_at};
+ghost use Rattle.task_sheet.specs.TaskSet.{IsTaskSet};
+ghost use Rattle.task_sheet.specs.Indexes.{Indexes};
+ghost use Rattle.task_sheet.specs.Demand.{limit_of, blocking_of, demand_of, Passes};
+ghost use Rattle.task_sheet.specs.Orders.{Stands, IsPassingOrder, IsFeasible};
+ghost use Rattle.limits.specs.Easier.{AreEasier};
+ghost use Rattle.limits.specs.declared.number.Number.{Number};
+ghost use Rattle.limits.specs.Numbers.{HasNumber, value_of, numbered, MayHave, IsNoFurther, IsFurthest, NoneHelps};
+
+/// To ask less takes no order away: with no cost, no jitter and no section longer, no period shorter and no deadline
+/// earlier, no blocking and no demand is greater, no limit is less, and an order that passes still passes.
+pub fn easier_keeps_feasible()
+    ensures blocking { (V U : List Task) (i : ℕ) (H : Indexes) → AreEasier V U
+        → blocking_of V i H ≤ blocking_of U i H }
+    ensures demand { (V U : List Task) (i : ℕ) (H : Indexes) (t : ℕ) → AllTasks U → AreEasier V U
+        → demand_of V i H t ≤ demand_of U i H t }
+    ensures limit { (V U : List Task) (i : ℕ) → AreEasier V U
+        → limit_of (task_at U i) ≤ limit_of (task_at V i) }
+    ensures passes { (V U : List Task) (i : ℕ) (H : Indexes) → AllTasks U → AreEasier V U
+        → Passes U i H
+        → Passes V i H }
+    ensures order { (V U : List Task) (order : List ℕ) → AllTasks U → AreEasier V U
+        → IsPassingOrder U order → IsPassingOrder V order }
+    ensures feasible { (V U : List Task) → AllTasks U → AreEasier V U → IsFeasible U → IsFeasible V }
+{}
+
+/// The answer says all of a number: with a value that its sheet may have some order passes exactly where it is no further
+/// than the furthest, and so with its own. There is one furthest at most, and none only of a set that no order passes.
+pub fn furthest_decides()
+    ensures each { (U : List Task) (i : ℕ) (number : Number) (most value : ℕ) → IsTaskSet U
+        → i < length U
+        → IsFurthest U i number most → MayHave U i number value
+        → IsFeasible (numbered U i number value) ↔ IsNoFurther number value most }
+    ensures own { (U : List Task) (i : ℕ) (number : Number) (most : ℕ) → IsTaskSet U → i < length U
+        → HasNumber (task_at U i) number → IsFurthest U i number most
+        → IsFeasible U ↔ IsNoFurther number (value_of number (task_at U i)) most }
+    ensures one { (U : List Task) (i : ℕ) (number : Number) (first second : ℕ)
+        → IsFurthest U i number first → IsFurthest U i number second → first ≡ second }
+    ensures none { (U : List Task) (i : ℕ) (number : Number) → IsTaskSet U → i < length U
+        → HasNumber (task_at U i) number → NoneHelps U i number → ¬ IsFeasible U }
+{}

@@ -1,0 +1,16 @@
+//! The numbers of a task.
+
+/// A number of a task's sheet on which its set passes or not.
+#[derive(Clone, Copy, Debug, PartialEq, Eq)]
+pub enum Number {
+    /// The cost.
+    Cost,
+    /// The period.
+    Period,
+    /// The deadline.
+    Deadline,
+    /// The jitter.
+    Jitter,
+    /// The length of the section at a place, from 0.
+    Len(usize),
+}

@@ -1,0 +1,160 @@
+//! Sets with another value of one number of a task.
+ghost use Rattle.std.specs.Prelude.{◌≡◌, ◌<◌, length, IfOk, IsTrue};
+ghost use Rattle.task_sheet.specs.Sheet.{IsValidSheet, task_at};
+ghost use Rattle.limits.specs.Remade.{remade};
+ghost use Rattle.limits.specs.Numbers.{KeepsSections, HasNumber, with_len, with_number, numbered, MayHave};
+
+use crate::number::Number;
+use std::alloc::{AllocError, Global};
+use task_sheet::{Section, SetCause, Sheet, TaskSet, copy_sheets};
+
+// Sections that say the same.
+fn copy_sections(alloc: Global, sections: &[Section]) -> Result<Vec<Section>, AllocError>
+    ensures { IfOk result (λ copies. copies.items ≡ sections.now) }
+{
+    let mut copies = Vec::with_capacity(alloc, sections.len())?;
+    for section in sections {
+        let locks = Vec::from_slice(alloc, &section.locks)?;
+        copies.push(Section {
+            locks,
+            at: section.at,
+            len: section.len,
+        })?;
+    }
+    Ok(copies)
+}
+
+// The sections, with another length of the one at a place.
+fn with_len(
+    alloc: Global,
+    sections: &[Section],
+    place: usize,
+    len: u64,
+) -> Result<Vec<Section>, AllocError>
+    requires { place < length sections.now }
+    ensures { IfOk result (λ others. others.items ≡ with_len sections.now place len) }
+{
+    let mut others = copy_sections(alloc, sections)?;
+    others[place].len = len;
+    Ok(others)
+}
+
+// Numbers of a sheet.
+#[derive(Clone, Copy)]
+struct Times {
+    period: u64,
+    deadline: u64,
+    cost: u64,
+    jitter: u64,
+}
+
+// Those of this one.
+fn times_of(sheet: &Sheet) -> Times
+    ensures { result ≡ record { period = sheet.now.period; deadline = sheet.now.deadline; cost = sheet.now.cost; jitter = sheet.now.jitter } }
+{
+    Times {
+        period: sheet.period(),
+        deadline: sheet.deadline(),
+        cost: sheet.cost(),
+        jitter: sheet.jitter(),
+    }
+}
+
+// The sheet with other numbers and sections.
+fn remade(
+    alloc: Global,
+    sheet: &Sheet,
+    times: Times,
+    sections: Vec<Section>,
+) -> Result<Sheet, AllocError>
+    requires may { IsValidSheet (remade sheet.now times.period times.deadline times.cost times.jitter sections.items) }
+    ensures { IfOk result (λ other. other ≡ remade sheet.now times.period times.deadline times.cost times.jitter sections.items) }
+{
+    let outranks = Vec::from_slice(alloc, sheet.outranks())?;
+    let Ok(other) = Sheet::new(
+        sheet.name(),
+        sheet.weight(),
+        times.period,
+        times.deadline,
+        times.cost,
+        sections,
+    ) else {
+        unreachable!()
+    };
+    let Ok(other) = other.jittered(times.jitter) else {
+        unreachable!()
+    };
+    match other.outranking(outranks) {
+        Ok(other) => Ok(other),
+        Err(_) => unreachable!(),
+    }
+}
+
+// The sheet with another value of a number.
+fn with_number(
+    alloc: Global,
+    sheet: &Sheet,
+    number: Number,
+    value: u64,
+) -> Result<Sheet, AllocError>
+    requires has { HasNumber sheet.now number }
+    requires may { IsValidSheet (with_number number sheet.now value) }
+    ensures { IfOk result (λ other. other ≡ with_number number sheet.now value) }
+{
+    let mut times = times_of(sheet);
+    let sections = match number {
+        Number::Len(place) => with_len(alloc, sheet.sections(), place, value)?,
+        _ => copy_sections(alloc, sheet.sections())?,
+    };
+    match number {
+        Number::Cost => times.cost = value,
+        Number::Period => {
+            times.deadline = times.deadline.min(value);
+            times.period = value;
+        }
+        Number::Deadline => {
+            times.period = times.period.max(value);
+            times.deadline = value;
+        }
+        Number::Jitter => times.jitter = value,
+        Number::Len(_) => {}
+    }
+    remade(alloc, sheet, times, sections)
+}
+
+/// The set with another value of a number of one task. The error is want of memory.
+pub(crate) fn numbered(
+    alloc: Global,
+    set: &TaskSet,
+    task: usize,
+    number: Number,
+    value: u64,
+) -> Result<TaskSet, AllocError>
+    requires task { task < length set.now }
+    requires has { HasNumber (task_at set.now task) number }
+    requires may { MayHave set.now task number value }
+    ensures { IfOk result (λ other. other ≡ numbered set.now task number value) }
+{
+    let mut sheets = copy_sheets(alloc, set.sheets())?;
+    sheets[task] = with_number(alloc, &set.sheets()[task], number, value)?;
+    match TaskSet::new(alloc, sheets) {
+        Ok(other) => Ok(other),
+        Err(fault) => match fault.cause {
+            SetCause::OutOfMemory => Err(AllocError),
+            _ => unreachable!(),
+        },
+    }
+}
+
+/// Whether another value of the number leaves the sections as they are.
+pub(crate) fn keeps_sections(number: Number) -> bool
+    ensures { IsTrue result → KeepsSections number }
+{
+    match number {
+        Number::Cost => true,
+        Number::Period => true,
+        Number::Deadline => true,
+        Number::Jitter => true,
+        Number::Len(_) => false,
+    }
+}

@@ -1,0 +1,109 @@
+//! The values that a number of a sheet may have.
+ghost use Rattle.std.specs.Prelude.{◌≡◌, ◌+◌, ◌-◌, ◌<◌, ◌≤◌, length};
+ghost use Rattle.task_sheet.specs.Sheet.{IsValidSheet};
+ghost use Rattle.limits.specs.Numbers.{HasNumber, IsSpan, at_distance, distance, section_at, value_of};
+ghost use Rattle.limits.specs.Rooms.{room_end};
+
+use crate::number::Number;
+use headroom::last_end;
+use task_sheet::{Section, Sheet};
+
+/// The values from the easiest on.
+#[derive(Clone, Copy)]
+pub(crate) struct Span {
+    /// The easiest value.
+    pub easiest: u64,
+    /// How many there are beyond it.
+    pub length: u64,
+}
+
+/// The value that is so far from the easiest one.
+pub(crate) fn at_distance(number: Number, easiest: u64, far: u64) -> u64
+    requires fits { easiest + far < 18446744073709551616 }
+    ensures { result ≡ at_distance number easiest far }
+{
+    match number {
+        Number::Cost | Number::Jitter | Number::Len(_) => easiest + far,
+        Number::Period | Number::Deadline => easiest.saturating_sub(far),
+    }
+}
+
+/// How far a value is from the easiest one.
+pub(crate) fn distance(number: Number, easiest: u64, value: u64) -> u64
+    ensures { result ≡ distance number easiest value }
+{
+    match number {
+        Number::Cost | Number::Jitter | Number::Len(_) => value.saturating_sub(easiest),
+        Number::Period | Number::Deadline => easiest.saturating_sub(value),
+    }
+}
+
+/// What a number of a sheet is.
+pub fn value_of(sheet: &Sheet, number: Number) -> u64
+    requires { HasNumber sheet.now number }
+    ensures { result ≡ value_of number sheet.now }
+{
+    match number {
+        Number::Cost => sheet.cost(),
+        Number::Period => sheet.period(),
+        Number::Deadline => sheet.deadline(),
+        Number::Jitter => sheet.jitter(),
+        Number::Len(place) => {
+            let section = &sheet.sections()[place];
+            section.len
+        }
+    }
+}
+
+// How far the section at a place may reach: up to the next one, or the end of the task.
+fn room_end(cost: u64, sections: &[Section], place: usize) -> u64
+    requires { place < length sections.now }
+    ensures { result ≡ room_end cost sections.now place }
+{
+    if place + 1 < sections.len() {
+        let next = &sections[place + 1];
+        next.at
+    } else {
+        cost
+    }
+}
+
+/// Which values a number of a sheet may have.
+pub(crate) fn span_of(sheet: &Sheet, number: Number) -> Span
+    requires valid { IsValidSheet sheet.now }
+    requires has { HasNumber sheet.now number }
+    ensures span { IsSpan sheet.now number result.easiest result.length }
+    ensures short { result.easiest + result.length ≤ 20000000 }
+{
+    match number {
+        Number::Cost => {
+            let easiest = last_end(sheet).max(1);
+            Span {
+                easiest,
+                length: sheet.period() - easiest,
+            }
+        }
+        Number::Period => {
+            let least = sheet.cost().max(sheet.jitter() + 1).max(1000);
+            Span {
+                easiest: 10_000_000,
+                length: 10_000_000 - least,
+            }
+        }
+        Number::Deadline => Span {
+            easiest: 10_000_000,
+            length: 10_000_000 - (sheet.jitter() + 1),
+        },
+        Number::Jitter => Span {
+            easiest: 0,
+            length: sheet.deadline() - 1,
+        },
+        Number::Len(place) => {
+            let section = &sheet.sections()[place];
+            Span {
+                easiest: 1,
+                length: room_end(sheet.cost(), sheet.sections(), place) - section.at - 1,
+            }
+        }
+    }
+}
