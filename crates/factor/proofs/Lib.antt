@@ -1,2 +1,4 @@
-pub mod ScaleLaws
-pub mod RecostLaws
+pub mod SectionLaws
+pub mod ScaledTasks
+pub mod ScaledSets
+pub mod FreeLaws

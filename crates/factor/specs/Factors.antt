@@ -1,26 +1,61 @@
--- All costs of a set taken so many thousandths of themselves, and the greatest such factor with which some order passes.
-use Rattle.std.specs.Prelude.{ℕ, ◌*◌, ◌<◌, ◌≤◌, max, List, map, All, Option, Some, None}
+-- All execution of a set taken so many thousandths of itself, as on a slower processor, and the greatest such factor with
+-- which some order passes.
+use Rattle.std.specs.Prelude.{ℕ, ◌+◌, ◌*◌, ◌<◌, ◌≤◌, max, List, [], ◌∷◌, map, All, Option, Some, None}
 use Rattle.std.specs.Int.{div_ceil}
-use Rattle.task_sheet.specs.Sheet.{Task}
-use Rattle.task_sheet.specs.Orders.{IsFeasible}
-use Rattle.headroom.specs.Costs.{with_cost, last_end}
+use Rattle.task_sheet.specs.Sheet.{CriticalSection, Task}
+use Rattle.task_sheet.specs.Orders.{IsPassingOrder, IsFeasible}
 
 -- so many thousandths of a number, rounded up
 abbrev pub thousandths : (factor number : ℕ) → ℕ
 thousandths factor number = div_ceil (factor * number) 1000
 
--- a task's cost, taken so many thousandths of itself, and at least the end of its last section
-abbrev pub scaled_cost : ℕ → Task → ℕ
-scaled_cost factor t = max (thousandths factor t.cost) (last_end t)
+-- a section, scaled: where it begins and how long it is, each rounded up; no earlier than `from`
+abbrev pub scaled_section : (factor from : ℕ) → CriticalSection → CriticalSection
+scaled_section factor from s =
+    record {
+      locks = s.locks;
+      at = max from (thousandths factor s.at);
+      len = thousandths factor s.len;
+    }
 
--- the set with each cost scaled
+-- the end of a section
+abbrev pub section_end : CriticalSection → ℕ
+section_end s = s.at + s.len
+
+-- sections, scaled: each begins no earlier than the one before it ends
+abbrev pub scaled_sections : (factor from : ℕ) → List CriticalSection → List CriticalSection
+scaled_sections factor from [] = []
+scaled_sections factor from (s ∷ rest) =
+    scaled_section factor from s
+    ∷ scaled_sections factor (section_end (scaled_section factor from s)) rest
+
+-- the end of the last of them; `from` of none
+abbrev pub scaled_end : (factor from : ℕ) → List CriticalSection → ℕ
+scaled_end factor from [] = from
+scaled_end factor from (s ∷ rest) = scaled_end factor (section_end (scaled_section factor from s)) rest
+
+-- a task's cost, scaled, and at least the end of its last section
+abbrev pub scaled_cost : ℕ → Task → ℕ
+scaled_cost factor t = max (thousandths factor t.cost) (scaled_end factor 0 t.sections)
+
+-- a task, its cost and its sections scaled
+abbrev pub scaled_task : ℕ → Task → Task
+scaled_task factor t =
+    record t { cost = scaled_cost factor t; sections = scaled_sections factor 0 t.sections }
+
+-- the set with each task scaled
 abbrev pub scaled : ℕ → List Task → List Task
-scaled factor U = map (λ t. with_cost t (scaled_cost factor t)) U
+scaled factor U = map (scaled_task factor) U
 
 -- the factor is at least 1, and takes no cost past its period
 pub record MayScale (U : List Task) (factor : ℕ) : Type 0 where
   pub some : 1 ≤ factor
   pub within : All (λ t. scaled_cost factor t ≤ t.period) U
+
+-- the factor may be taken, and some order passes with it
+pub record Scales (U : List Task) (factor : ℕ) : Type 0 where
+  pub may : MayScale U factor
+  pub feasible : IsFeasible (scaled factor U)
 
 -- the greatest factor with which some order passes
 pub record IsFactor (U : List Task) (factor : ℕ) : Type 0 where
@@ -36,3 +71,16 @@ HasNoFactor U = (factor : ℕ) → MayScale U factor → ¬ IsFeasible (scaled f
 abbrev pub AnswersFactor : List Task → Option ℕ → Type 0
 AnswersFactor U (Some factor) = IsFactor U factor
 AnswersFactor U None = HasNoFactor U
+
+-- ---- in a given order
+-- the factor may be taken, and the order passes with it as it stands
+pub record ScalesIn (U : List Task) (order : List ℕ) (factor : ℕ) : Type 0 where
+  pub may : MayScale U factor
+  pub passes : IsPassingOrder (scaled factor U) order
+
+-- the greatest factor with which the order passes as it stands
+pub record IsFactorIn (U : List Task) (order : List ℕ) (factor : ℕ) : Type 0 where
+  pub may : MayScale U factor
+  pub passes : IsPassingOrder (scaled factor U) order
+  pub greatest : (more : ℕ) → factor < more → MayScale U more
+      → ¬ IsPassingOrder (scaled more U) order

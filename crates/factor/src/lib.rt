@@ -1,54 +1,59 @@
-//! How far all costs of a set may grow at once with some order still passing, or have to shrink for one to pass. A factor
-//! is in thousandths.
+//! How far all execution of a set may slow down at once with some order still passing, or has to become quicker for one to
+//! pass. A factor is in thousandths.
 #![tactic(auto)]
 
-ghost use Rattle.std.specs.Prelude.{◌≡◌, ◌↔◌, ◌<◌, ◌≤◌, ℕ, length, IsTrue, IfOk};
-ghost use Rattle.task_sheet.specs.Orders.{IsFeasible};
-ghost use Rattle.ceilings.specs.IsTableOf.{IsTableOf};
-ghost use Rattle.factor.specs.declared.scaling.TheConstants.{FACTOR_LIMIT};
-ghost use Rattle.factor.specs.Factors.{scaled, MayScale, AnswersFactor};
+ghost use Rattle.std.specs.Prelude.{◌↔◌, ◌<◌, ◌≤◌, length, IsTrue, IfOk};
+ghost use Rattle.task_sheet.specs.TaskSet.{IsTaskSet};
+ghost use Rattle.factor.specs.declared.scaling.TheConstants.{FACTOR_END};
+ghost use Rattle.factor.specs.Factors.{Scales, AnswersFactor};
 
+mod failing;
+mod in_order;
 pub mod laws;
 mod scaling;
 
-use crate::scaling::{factor_limit, scaled};
+pub use crate::failing::first_to_fail;
+pub use crate::in_order::factor_in_order;
+use crate::scaling::{FACTOR_END, first_past, scaled};
 use assignment::is_feasible;
 use ceilings::LockTable;
 use std::alloc::{AllocError, Global};
 use task_sheet::TaskSet;
 
-// Whether some order passes where each cost is taken so many thousandths of itself.
-fn passes_at(
-    alloc: Global,
-    set: &TaskSet,
-    table: &LockTable,
-    factor: u64,
-) -> Result<bool, AllocError>
-    requires table { IsTableOf set.now table.now }
-    requires may { MayScale set.now factor }
-    requires short { factor ≤ FACTOR_LIMIT }
-    ensures { IfOk result (λ passes. IsTrue passes ↔ IsFeasible (scaled factor set.now)) }
+// Whether the factor takes no cost past its period, and some order passes with it.
+fn passes_at(alloc: Global, set: &TaskSet, factor: u64) -> Result<bool, AllocError>
+    requires some { 1 ≤ factor }
+    requires short { factor < FACTOR_END }
+    ensures answer { IfOk result (λ passes. IsTrue passes ↔ Scales set.now factor) }
+    ensures kept { IsTaskSet set.now }
 {
+    match first_past(set, factor) {
+        Some(_) => return Ok(false),
+        None => {}
+    }
     let other = scaled(alloc, set, factor)?;
-    Ok(is_feasible(&other, table))
+    let table = LockTable::new(alloc, &other)?;
+    Ok(is_feasible(&other, &table))
 }
 
-/// The greatest factor, in thousandths and at least 1, with which some order of the set passes where each cost is taken
-/// that many thousandths of itself, rounded up, and at least the end of its last section; none where none helps. No cost
-/// is taken past its period. The set has a task, and the table is that of the set. The error is want of memory.
-pub fn factor(alloc: Global, set: &TaskSet, table: &LockTable) -> Result<Option<u64>, AllocError>
-    requires table { IsTableOf set.now table.now }
-    requires some { 0 < length set.now }
-    ensures { IfOk result (λ answer. AnswersFactor set.now answer) }
+/// The greatest factor, in thousandths and at least 1, with which some order of the set passes where each execution takes
+/// that many thousandths of its time, as on a slower processor: each cost, and the begin and the length of each section,
+/// rounded up. Where that takes a section into the next one, or past the cost, the next one begins later, or the cost is
+/// the section's end. No cost is taken past its period. None where no factor helps. The set has a task. The error is want
+/// of memory.
+pub fn factor(alloc: Global, set: &TaskSet) -> Result<Option<u64>, AllocError>
+    requires { 0 < length set.now }
+    ensures answer { IfOk result (λ answer. AnswersFactor set.now answer) }
+    ensures kept { IsTaskSet set.now }
 {
-    let mut failing = factor_limit(set) + 1;
+    let mut failing = FACTOR_END;
     let mut passing = 1;
-    if !passes_at(alloc, set, table, passing)? {
+    if !passes_at(alloc, set, passing)? {
         return Ok(None);
     }
     while failing - passing > 1 {
         let middle = passing + (failing - passing) / 2;
-        if passes_at(alloc, set, table, middle)? {
+        if passes_at(alloc, set, middle)? {
             passing = middle;
         } else {
             failing = middle;

@@ -1,15 +1,13 @@
 use Rattle.std.proofs.Common.{ℕ, ◌-◌, ◌<◌, ◌≤◌}
-use Rattle.task_sheet.specs.Orders.{IsFeasible}
-use Rattle.factor.specs.Factors.{scaled, MayScale}
+use Rattle.factor.specs.Factors.{Scales}
 use Rattle.factor.proofs.factor.Given as goal
 
 abbrev pub invariant-loop-failing : goal.invariant-loop-failing
 invariant-loop-failing l = record {
-  may : MayScale l.set l.passing;
-  passes : IsFeasible (scaled l.passing l.set);
-  fails : (more : ℕ) → l.failing ≤ more → MayScale l.set more → ¬ IsFeasible (scaled more l.set);
+  scales : Scales l.set l.passing;
+  some : 1 ≤ l.passing;
+  fails : (more : ℕ) → l.failing ≤ more → ¬ Scales l.set more;
   apart : l.passing < l.failing;
-  within : (more : ℕ) → 1 ≤ more → more < l.failing → MayScale l.set more;
   short : l.failing ≤ 10000000001;
 }
 

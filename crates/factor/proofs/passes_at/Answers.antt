@@ -1,9 +1,11 @@
 use Rattle.std.proofs.Common.{sym, subst, List}
 use Rattle.task_sheet.specs.Sheet.{Task}
-use Rattle.ceilings.specs.IsTableOf.{IsTableOf}
-use Rattle.factor.proofs.RecostLaws.{IsTableOf-scaled}
+use Rattle.task_sheet.specs.Orders.{IsFeasible}
 use Rattle.factor.proofs.passes_at.Goals as goal
 
-pub is_feasible-requires : goal.is_feasible-requires
-is_feasible-requires c =
-    subst (λ (V : List Task). IsTableOf V c.args.table.now) (sym c.in_ok-other.ensures) (IsTableOf-scaled c.args.factor c.args.set.now c.args.table.now c.requires.table)
+pub returns-clause-answer : goal.returns-clause-answer
+returns-clause-answer c =
+    let same = c.in_ok-other.ensures.other in (
+      λ passes. record { may = c.in-None.ensures.none; feasible = subst (λ (V : List Task). IsFeasible V) same (c.is_feasible.ensures.0 passes) },
+      λ scales. c.is_feasible.ensures.1 (subst (λ (V : List Task). IsFeasible V) (sym same) scales.feasible),
+    )

@@ -1,4 +1,4 @@
-use Rattle.factor.proofs.RecostLaws.{factor-each, scaled-same, factor-own, factor-one, factor-none}
+use Rattle.factor.proofs.ScaledSets.{factor-each, scaled-same, factor-own, factor-one, factor-none}
 use Rattle.factor.proofs.laws.factor_decides.Goals as goal
 
 pub returns : goal.returns

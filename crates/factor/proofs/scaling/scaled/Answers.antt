@@ -3,11 +3,11 @@ use Rattle.std.proofs.lemmas.Option.{none-some}
 use Rattle.task_sheet.specs.Sheet.{Task}
 use Rattle.task_sheet.specs.TaskSet.{IsByRank}
 use Rattle.task_sheet.specs.SheetsFault.{sheets_fault}
-use Rattle.factor.proofs.RecostLaws.{IsByRank-scaled, no_fault-scaled}
+use Rattle.factor.proofs.ScaledSets.{IsByRank-scaled, no_fault-scaled}
 use Rattle.factor.proofs.scaling.scaled.Goals as goal
 
-pub returns-in-Ok : goal.returns-in-Ok
-returns-in-Ok c =
+pub returns-in-Ok-clause-other : goal.returns-in-Ok-clause-other
+returns-in-Ok-clause-other c =
     IsByRank-scaled c.args.factor c.args.set.now c.in-Ok.other c.in_ok-sheets.ensures.kept (subst (λ (xs : List Task). IsByRank xs c.in-Ok.other) c.in_ok-sheets.ensures.sheets c.in-Ok.ensures.ok.1)
 
 -- the other sheets are a set: the names are the same, and as many
