@@ -1,0 +1,125 @@
+-- The lines that say how far the numbers of a set may go.
+use Rattle.std.specs.Prelude.{◌≡◌, ◌⊎◌, ℕ, zero, suc, ◌+◌, ◌-◌, ◌<◌, ◌==◌, List, [], ◌∷◌, ◌++◌, length, codes, Option, Some, None, if◌then◌else◌}
+use Rattle.std.specs.Fmt.{decimal}
+use Rattle.task_sheet.specs.Sheet.{Task, task_at}
+use Rattle.lines.specs.Naming.{name_at}
+use Rattle.assignment.specs.Places.{PlaceData}
+use Rattle.assignment.specs.Placings.{tasks_of_places}
+use Rattle.assignment.specs.declared.placing.Placing.{Placing}
+use Rattle.assignment.specs.declared.placing.Placing.TheVariants.{Best, Stuck}
+use Rattle.limits.specs.Numbers.{value_of, AnswersFurthest}
+use Rattle.limits.specs.InOrder.{IsFurthestIn}
+use Rattle.limits.specs.declared.number.Number.{Number}
+use Rattle.limits.specs.declared.number.Number.TheVariants.{Cost, Period, Deadline, Jitter, Len}
+use Rattle.factor.specs.Factors.{AnswersFactor, IsFactorIn}
+use Rattle.factor.specs.Failing.{FailsFirst}
+
+-- the places of a placing's order; none after a no
+abbrev pub places_in : Placing → Option (List PlaceData)
+places_in (Best places) = Some places.items
+places_in (Stuck members) = None
+
+-- the order of a placing; nothing after a no
+abbrev pub order_in : Placing → List ℕ
+order_in (Best places) = tasks_of_places places.items
+order_in (Stuck members) = []
+
+-- ---- a number
+-- the numbers of a task, one after the other: cost, period, deadline, jitter, and the lengths of its sections
+abbrev pub number_at : ℕ → Number
+number_at zero = Cost
+number_at (suc zero) = Period
+number_at (suc (suc zero)) = Deadline
+number_at (suc (suc (suc zero))) = Jitter
+number_at (suc (suc (suc (suc k)))) = Len k
+
+-- what a line calls a number; sections count from 1
+abbrev pub label_of : Number → List ℕ
+label_of Cost = codes " cost "
+label_of Period = codes " period "
+label_of Deadline = codes " deadline "
+label_of Jitter = codes " jitter "
+label_of (Len k) = codes " section " ++ decimal (k + 1) ++ codes " len "
+
+-- a number, or `-` for none
+abbrev pub some_words : Option ℕ → List ℕ
+some_words None = codes "-"
+some_words (Some n) = decimal n
+
+-- the furthest value of the number of task i with which the order passes, where there is an order
+abbrev pub AnswersIn : List Task → Option (List PlaceData) → ℕ → Number → Option ℕ → Type 0
+AnswersIn U (Some places) i number (Some value) =
+    IsFurthestIn U (tasks_of_places places) i number value
+AnswersIn U (Some places) i number None = ⊥
+AnswersIn U None i number answer = answer ≡ None
+
+-- a number: the name of its task, what it is, its value, the furthest in the order, and the furthest in any; nothing where
+-- no value helps
+abbrev pub number_line : List Task → ℕ → Number → Option ℕ → Option ℕ → List ℕ
+number_line U i number own None = []
+number_line U i number own (Some most) =
+    name_at U i ++ label_of number ++ decimal (value_of number (task_at U i)) ++ codes " "
+    ++ some_words own ++ codes " " ++ decimal most ++ codes "\n"
+
+-- the line of a number of task i
+abbrev pub IsNumberLine : List Task → Option (List PlaceData) → ℕ → Number → List ℕ → Type 0
+IsNumberLine U places i number text =
+    (own : Option ℕ) × (most : Option ℕ) × AnswersIn U places i number own
+    × AnswersFurthest U i number most
+    × (text ≡ number_line U i number own most)
+
+-- the text is a line for each of the first numbers of task i
+abbrev pub AreNumberLines : List Task → Option (List PlaceData) → ℕ → ℕ → List ℕ → Type 0
+AreNumberLines U places i zero text = text ≡ []
+AreNumberLines U places i (suc k) text =
+    (front : List ℕ) × (line : List ℕ) × AreNumberLines U places i k front
+    × IsNumberLine U places i (number_at k) line
+    × (text ≡ front ++ line)
+
+-- ---- a task
+-- what the response of a task in these places leaves of its deadline
+abbrev pub slack_in : ℕ → List PlaceData → ℕ → Option ℕ
+slack_in deadline [] i = None
+slack_in deadline (place ∷ places) i =
+    if place.task == i then Some (deadline - place.response) else slack_in deadline places i
+
+-- the same, where there is an order
+abbrev pub slack_of : List Task → Option (List PlaceData) → ℕ → Option ℕ
+slack_of U (Some places) i = slack_in (task_at U i).deadline places i
+slack_of U None i = None
+
+-- the slack of task i; nothing where there is none
+abbrev pub slack_line : List Task → ℕ → Option ℕ → List ℕ
+slack_line U i None = []
+slack_line U i (Some slack) = name_at U i ++ codes " slack " ++ decimal slack ++ codes "\n"
+
+-- the lines of task i: its numbers, and its slack
+abbrev pub AreTaskLines : List Task → Option (List PlaceData) → ℕ → List ℕ → Type 0
+AreTaskLines U places i text =
+    (numbers : List ℕ) × AreNumberLines U places i (4 + length (task_at U i).sections) numbers
+    × (text ≡ numbers ++ slack_line U i (slack_of U places i))
+
+-- ---- all at once
+-- the greatest factor on all execution with which the order passes, where there is an order
+abbrev pub AnswersFactorIn : List Task → Option (List PlaceData) → Option ℕ → Type 0
+AnswersFactorIn U (Some places) (Some factor) = IsFactorIn U (tasks_of_places places) factor
+AnswersFactorIn U (Some places) None = ⊥
+AnswersFactorIn U None answer = answer ≡ None
+
+-- that factor, the greatest with which some order passes, and the task that fails first past the latter; `-` where no
+-- factor helps
+abbrev pub IsFactorLine : List Task → (own most : Option ℕ) → List ℕ → Type 0
+IsFactorLine U own (Some most) text =
+    (i : ℕ) × FailsFirst U (most + 1) i
+    × (text
+    ≡ codes "all " ++ some_words own ++ codes " " ++ decimal most ++ codes " " ++ name_at U i
+    ++ codes "\n")
+IsFactorLine U own None text = text ≡ codes "all - -\n"
+
+-- the line of the factors, and nothing for the empty set
+abbrev pub IsLast : List Task → Option (List PlaceData) → List ℕ → Type 0
+IsLast U places text =
+    ((length U ≡ 0) × (text ≡ []))
+    ⊎ ((0 < length U)
+    × ((own : Option ℕ) × (most : Option ℕ) × AnswersFactorIn U places own × AnswersFactor U most
+    × IsFactorLine U own most text))

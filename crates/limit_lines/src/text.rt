@@ -1,0 +1,292 @@
+//! The lines of a task, and the last one.
+ghost use Rattle.std.specs.Prelude.{◌≡◌, ◌++◌, ◌<◌, ℕ, length, IfOk, OnOk, string_bytes};
+ghost use Rattle.task_sheet.specs.Sheet.{task_at};
+ghost use Rattle.task_sheet.specs.declared.sheet.TheConstants.{SECTION_LIMIT};
+ghost use Rattle.task_sheet.specs.TaskSet.{IsTaskSet};
+ghost use Rattle.ceilings.specs.IsTableOf.{IsTableOf};
+ghost use Rattle.assignment.specs.Placings.{IsPlacingOf};
+ghost use Rattle.factor.specs.Factors.{AnswersFactor};
+ghost use Rattle.limits.specs.Numbers.{HasNumber, value_of};
+ghost use Rattle.limit_lines.specs.Lines.{AnswersFactorIn, AnswersIn, AreTaskLines, IsFactorLine, IsLast, IsNumberLine, label_of, number_at, number_line, order_in, places_in, slack_in, slack_line, slack_of, some_words};
+
+use assignment::{Place, Placing};
+use ceilings::LockTable;
+use factor::{factor, factor_in_order, first_to_fail};
+use limits::{Number, furthest, furthest_in_order};
+use lines::push_name;
+use std::alloc::{AllocError, Global};
+use task_sheet::{Sheet, TaskSet};
+
+// The number of a task that stands at a place among its numbers, from 0.
+fn number_at(place: usize) -> Number
+    ensures { result ≡ number_at place }
+{
+    match place {
+        0 => Number::Cost,
+        1 => Number::Period,
+        2 => Number::Deadline,
+        3 => Number::Jitter,
+        _ => Number::Len(place - 4),
+    }
+}
+
+// What a number of a sheet is.
+fn value_of(sheet: &Sheet, number: Number) -> u64
+    requires { HasNumber sheet.now number }
+    ensures { result ≡ value_of number sheet.now }
+{
+    match number {
+        Number::Cost => sheet.cost(),
+        Number::Period => sheet.period(),
+        Number::Deadline => sheet.deadline(),
+        Number::Jitter => sheet.jitter(),
+        Number::Len(place) => {
+            let section = &sheet.sections()[place];
+            section.len
+        }
+    }
+}
+
+// What a line calls a number.
+fn push_label(text: &mut String, number: Number) -> Result<(), AllocError>
+    requires { (place : ℕ) → number ≡ Number.Len place → place < SECTION_LIMIT }
+    ensures { OnOk result (string_bytes text.new ≡ string_bytes text.old ++ label_of number) }
+{
+    match number {
+        Number::Cost => text.push_str(" cost "),
+        Number::Period => text.push_str(" period "),
+        Number::Deadline => text.push_str(" deadline "),
+        Number::Jitter => text.push_str(" jitter "),
+        Number::Len(place) => {
+            let count = place as u64 + 1;
+            write!(text, " section {count} len ")
+        }
+    }
+}
+
+// A number, or `-` for none.
+fn push_some(text: &mut String, number: Option<u64>) -> Result<(), AllocError>
+    ensures { OnOk result (string_bytes text.new ≡ string_bytes text.old ++ some_words number) }
+{
+    match number {
+        Some(number) => write!(text, "{number}"),
+        None => text.push_str("-"),
+    }
+}
+
+// The line of a number of a task; nothing where no value helps.
+fn push_number(
+    text: &mut String,
+    set: &TaskSet,
+    task: usize,
+    number: Number,
+    own: Option<u64>,
+    most: Option<u64>,
+) -> Result<(), AllocError>
+    requires task { task < length set.now }
+    requires has { HasNumber (task_at set.now task) number }
+    ensures { OnOk result (string_bytes text.new ≡ string_bytes text.old
+        ++ number_line set.now task number own most) }
+{
+    let Some(most) = most else {
+        return Ok(());
+    };
+    let value = value_of(&set.sheets()[task], number);
+    push_name(text, set, task)?;
+    push_label(text, number)?;
+    write!(text, "{value} ")?;
+    push_some(text, own)?;
+    write!(text, " {most}\n")
+}
+
+// The furthest value of a number with which the order of a placing passes; none after a no.
+fn in_order(
+    alloc: Global,
+    set: &TaskSet,
+    table: &LockTable,
+    placing: &Placing,
+    order: &[usize],
+    task: usize,
+    number: Number,
+) -> Result<Option<u64>, AllocError>
+    requires table { IsTableOf set.now table.now }
+    requires placing { IsPlacingOf set.now placing.now }
+    requires order { order.now ≡ order_in placing.now }
+    requires task { task < length set.now }
+    requires has { HasNumber (task_at set.now task) number }
+    ensures { IfOk result (λ own. AnswersIn set.now (places_in placing.now) task number own) }
+{
+    match placing {
+        Placing::Best(_) => {
+            let value = furthest_in_order(alloc, set, table, order, task, number)?;
+            Ok(Some(value))
+        }
+        Placing::Stuck(_) => Ok(None),
+    }
+}
+
+// The line of a number.
+fn number_text(
+    alloc: Global,
+    set: &TaskSet,
+    table: &LockTable,
+    placing: &Placing,
+    order: &[usize],
+    task: usize,
+    number: Number,
+) -> Result<String, AllocError>
+    requires table { IsTableOf set.now table.now }
+    requires placing { IsPlacingOf set.now placing.now }
+    requires order { order.now ≡ order_in placing.now }
+    requires task { task < length set.now }
+    requires has { HasNumber (task_at set.now task) number }
+    ensures { IfOk result (λ text. IsNumberLine set.now (places_in placing.now) task number
+        (string_bytes text)) }
+{
+    let own = in_order(alloc, set, table, placing, order, task, number)?;
+    let most = furthest(alloc, set, table, task, number)?;
+    let mut text = String::new(alloc);
+    push_number(&mut text, set, task, number, own, most)?;
+    Ok(text)
+}
+
+// What the response of a task in these places leaves of its deadline.
+fn slack_in(deadline: u64, places: &[Place], task: usize) -> Option<u64>
+    ensures { result ≡ slack_in deadline places.now task }
+{
+    for place in places {
+        if place.task == task {
+            return Some(deadline.saturating_sub(place.response));
+        }
+    }
+    None
+}
+
+// The same in the order of a placing; none after a no.
+fn slack_of(set: &TaskSet, placing: &Placing, task: usize) -> Option<u64>
+    requires { task < length set.now }
+    ensures { result ≡ slack_of set.now (places_in placing.now) task }
+{
+    match placing {
+        Placing::Best(places) => slack_in(set.sheets()[task].deadline(), places, task),
+        Placing::Stuck(_) => None,
+    }
+}
+
+// The line of a slack; nothing for none.
+fn push_slack(
+    text: &mut String,
+    set: &TaskSet,
+    task: usize,
+    slack: Option<u64>,
+) -> Result<(), AllocError>
+    ensures { OnOk result (string_bytes text.new ≡ string_bytes text.old
+        ++ slack_line set.now task slack) }
+{
+    match slack {
+        Some(slack) => {
+            push_name(text, set, task)?;
+            write!(text, " slack {slack}\n")
+        }
+        None => Ok(()),
+    }
+}
+
+/// The lines of a task of a placed set: for each of its numbers that may help its value, the furthest with which the
+/// order passes, and the furthest with which some order does; and after a yes its slack. `order` is that of the placing,
+/// the lowest first. The table is that of the set. The error is want of memory.
+pub fn task_text(
+    alloc: Global,
+    set: &TaskSet,
+    table: &LockTable,
+    placing: &Placing,
+    order: &[usize],
+    task: usize,
+) -> Result<String, AllocError>
+    requires table { IsTableOf set.now table.now }
+    requires placing { IsPlacingOf set.now placing.now }
+    requires order { order.now ≡ order_in placing.now }
+    requires task { task < length set.now }
+    ensures { IfOk result (λ text. AreTaskLines set.now (places_in placing.now) task
+        (string_bytes text)) }
+{
+    let count = 4 + set.sheets()[task].sections().len();
+    let mut text = String::new(alloc);
+    for place in 0..count {
+        let line = number_text(alloc, set, table, placing, order, task, number_at(place))?;
+        text.push_str(line.as_str())?;
+    }
+    let slack = slack_of(set, placing, task);
+    push_slack(&mut text, set, task, slack)?;
+    Ok(text)
+}
+
+// The greatest factor with which the order of a placing passes; none after a no.
+fn factor_in(
+    alloc: Global,
+    set: &TaskSet,
+    placing: &Placing,
+    order: &[usize],
+) -> Result<Option<u64>, AllocError>
+    requires kept { IsTaskSet set.now }
+    requires some { 0 < length set.now }
+    requires placing { IsPlacingOf set.now placing.now }
+    requires order { order.now ≡ order_in placing.now }
+    ensures { IfOk result (λ own. AnswersFactorIn set.now (places_in placing.now) own) }
+{
+    match placing {
+        Placing::Best(_) => {
+            let factor = factor_in_order(alloc, set, order)?;
+            Ok(Some(factor))
+        }
+        Placing::Stuck(_) => Ok(None),
+    }
+}
+
+// The line of the greatest factors in an order and in any, with the task that fails first past the latter; or that none
+// helps.
+fn factor_text(
+    alloc: Global,
+    set: &TaskSet,
+    own: Option<u64>,
+    most: Option<u64>,
+) -> Result<String, AllocError>
+    requires kept { IsTaskSet set.now }
+    requires some { 0 < length set.now }
+    requires most { AnswersFactor set.now most }
+    ensures { IfOk result (λ text. IsFactorLine set.now own most (string_bytes text)) }
+{
+    let mut text = String::new(alloc);
+    match most {
+        Some(most) => {
+            let task = first_to_fail(alloc, set, most)?;
+            text.push_str("all ")?;
+            push_some(&mut text, own)?;
+            write!(text, " {most} ")?;
+            push_name(&mut text, set, task)?;
+            text.push_str("\n")?;
+        }
+        None => text.push_str("all - -\n")?,
+    }
+    Ok(text)
+}
+
+/// The line of the factors on all execution, in the order of the placing and in any; nothing for the empty set. `order` is
+/// that of the placing, the lowest first. The error is want of memory.
+pub fn last_text(
+    alloc: Global,
+    set: &TaskSet,
+    placing: &Placing,
+    order: &[usize],
+) -> Result<String, AllocError>
+    requires placing { IsPlacingOf set.now placing.now }
+    requires order { order.now ≡ order_in placing.now }
+    ensures { IfOk result (λ text. IsLast set.now (places_in placing.now) (string_bytes text)) }
+{
+    if set.is_empty() {
+        return Ok(String::new(alloc));
+    }
+    let most = factor(alloc, set)?;
+    let own = factor_in(alloc, set, placing, order)?;
+    factor_text(alloc, set, own, most)
+}
