@@ -1,0 +1,2 @@
+pub mod BearingLaws
+pub mod ExtraLaws

@@ -1,0 +1,43 @@
+//! Laws of sets by deadlines. Each is the clause of a function that does nothing, and its names are defined in `specs/`.
+
+ghost use Rattle.std.specs.Prelude.{◌≡◌, ◌≤◌, ◌<◌, ◌↔◌, ℕ, List, length};
+ghost use Rattle.task_sheet.specs.Sheet.{Task, AllTasks};
+ghost use Rattle.task_sheet.specs.TaskSet.{IsTaskSet};
+ghost use Rattle.task_sheet.specs.Orders.{IsOrder, IsPassingOrder, IsFeasible, IsBest};
+ghost use Rattle.headroom.specs.Costs.{costed, MayCost, IsHeadroom, IsHeadroomIn};
+ghost use Rattle.factor.specs.Factors.{scaled, MayScale, IsFactor};
+ghost use Rattle.margins.specs.Bearing.{Bears};
+ghost use Rattle.latest_first.specs.LatestFirst.{AllPrompt, IsLatestFirst};
+ghost use Rattle.preferences.specs.Preferences.{IsPreferred};
+ghost use Rattle.task_sheet.specs.declared.prefer.Preference.TheVariants.{Deadline};
+
+/// Of a set by deadlines the best order bears as much as any: with all execution scaled it passes exactly where some order
+/// does, and so at the factor of the set; and no cost of one task may grow further with another order.
+pub fn preferred_is_greatest()
+    ensures scaled { (U V : List Task) (order : List ℕ) (factor : ℕ) → IsPreferred Deadline U V
+        → IsTaskSet V
+        → IsBest V order → MayScale V factor
+        → IsPassingOrder (scaled factor V) order ↔ IsFeasible (scaled factor V) }
+    ensures factor { (U V : List Task) (order : List ℕ) (most : ℕ) → IsPreferred Deadline U V
+        → IsTaskSet V
+        → IsBest V order → IsFactor V most → IsPassingOrder (scaled most V) order }
+    ensures costed { (U V : List Task) (order : List ℕ) (i cost : ℕ) → IsPreferred Deadline U V
+        → IsTaskSet V
+        → IsBest V order → i < length V → MayCost V i cost
+        → IsPassingOrder (costed V i cost) order ↔ IsFeasible (costed V i cost) }
+    ensures headroom { (U V : List Task) (order : List ℕ) (i inside any : ℕ)
+        → IsPreferred Deadline U V → IsTaskSet V
+        → IsBest V order → i < length V → IsHeadroomIn V order i inside → IsHeadroom V i any
+        → inside ≡ any }
+{}
+
+/// An order with the longest limits lowest bears each further demand on every task that some order bears (Davis, Burns
+/// 2007); of a set by deadlines the best order is such a one.
+pub fn latest_first_is_robust()
+    ensures most { (U : List Task) (extra : ℕ) (order other : List ℕ) → AllTasks U → AllPrompt U
+        → IsOrder U order
+        → IsLatestFirst U order → Bears U extra other → Bears U extra order }
+    ensures preferred { (U V : List Task) (extra : ℕ) (order other : List ℕ) → IsPreferred Deadline U V
+        → IsTaskSet V
+        → IsBest V order → Bears V extra other → Bears V extra order }
+{}
