@@ -1,0 +1,42 @@
+-- What two sheets of one name say differently.
+use Rattle.std.specs.Prelude.{ℕ, Bool, ◌||◌, ◌&&◌, not, nat_eq, List, [], ◌++◌, codes, if◌then◌else◌}
+use Rattle.std.specs.Cmp.Lexicographic.{pointwise}
+use Rattle.task_sheet.specs.Sheet.{Task, same_bytes, same_section}
+
+-- the weights differ, where weights count
+abbrev pub other_weight : Bool → Task → Task → Bool
+other_weight weighs s t = weighs && not (nat_eq s.weight t.weight)
+
+-- the sections differ
+abbrev pub other_sections : Task → Task → Bool
+other_sections s t = not (pointwise same_section s.sections t.sections)
+
+-- the names of the tasks that must be outranked differ
+abbrev pub other_outranks : Task → Task → Bool
+other_outranks s t = not (pointwise same_bytes s.outranks t.outranks)
+
+-- the sheets say something else, beside their names; a weight does only where weights count
+abbrev pub is_changed : Bool → Task → Task → Bool
+is_changed weighs s t =
+    other_weight weighs s t
+    || (not (nat_eq s.period t.period)
+    || (not (nat_eq s.deadline t.deadline)
+    || (not (nat_eq s.cost t.cost)
+    || (other_sections s t
+    || (not (nat_eq s.jitter t.jitter)
+    || other_outranks s t)))))
+
+-- the word of a key after one space, where the sheets differ in it
+abbrev pub key_word : List ℕ → Bool → List ℕ
+key_word word differs = if differs then codes " " ++ word else []
+
+-- the keys in which the sheets differ
+abbrev pub keys_words : Bool → Task → Task → List ℕ
+keys_words weighs s t =
+    codes " keys" ++ key_word (codes "weight") (other_weight weighs s t)
+    ++ key_word (codes "period") (not (nat_eq s.period t.period))
+    ++ key_word (codes "deadline") (not (nat_eq s.deadline t.deadline))
+    ++ key_word (codes "cost") (not (nat_eq s.cost t.cost))
+    ++ key_word (codes "section") (other_sections s t)
+    ++ key_word (codes "jitter") (not (nat_eq s.jitter t.jitter))
+    ++ key_word (codes "outranks") (other_outranks s t)

@@ -1,0 +1,4 @@
+pub mod Seats
+pub mod Keys
+pub mod Lines
+pub mod Unchanged

@@ -1,0 +1,27 @@
+-- Changes of which no line speaks.
+use Rattle.std.specs.Prelude.{◌≡◌, ◌<◌, ℕ, Bool, false, List, length, Option, Some}
+use Rattle.task_sheet.specs.Sheet.{Task, task_at}
+use Rattle.assignment.specs.declared.placing.Placing.{Placing}
+use Rattle.diff.specs.Keys.{is_changed}
+use Rattle.diff.specs.Lines.{index_in}
+use Rattle.diff.specs.Seats.{seat_of}
+use Rattle.diff.specs.declared.seats.Seat.{Seat}
+
+-- the same level and the same bound, where some order passes before and after
+abbrev pub IsSameSeat : Option Seat → Option Seat → Type 0
+IsSameSeat (Some old) (Some new) = (old.level ≡ new.level) × (old.bound ≡ new.bound)
+IsSameSeat _ _ = Unit {0}
+
+-- a new task that was there before, whose sheet says the same, at the same level with the same bound
+pub record IsKept (weighs : Bool) (U : List Task) (P : Placing) (V : List Task) (Q : Placing)
+    (task : ℕ) : Type 0 where
+  pub before : ℕ
+  pub index : index_in U V task ≡ Some before
+  pub sheet : is_changed weighs (task_at U before) (task_at V task) ≡ false
+  pub seat : IsSameSeat (seat_of U P before) (seat_of V Q task)
+
+-- no task is gone, and each of the new set is kept
+pub record IsUnchanged (weighs : Bool) (U : List Task) (P : Placing) (V : List Task) (Q : Placing)
+    : Type 0 where
+  pub none_gone : (task : ℕ) → task < length U → (after : ℕ) × (index_in V U task ≡ Some after)
+  pub all_kept : (task : ℕ) → task < length V → IsKept weighs U P V Q task

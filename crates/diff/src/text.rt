@@ -1,0 +1,378 @@
+//! The lines of a change.
+ghost use Rattle.std.specs.Prelude.{◌≡◌, ◌++◌, ◌<◌, length, OnOk, IfOk, Some, None, option_map, string_bytes};
+ghost use Rattle.task_sheet.specs.Sheet.{task_at};
+ghost use Rattle.diff.specs.Seats.{seat_of};
+ghost use Rattle.diff.specs.Lines.{added_line, change_lines, changed_line, edit_line, effect_line, effect_of, index_in, kept_line, lines_below, other_line, pair_words, removed_line, rest_line, seats_words, some_words, start_words, word_of};
+
+use crate::keys::{is_changed, push_keys};
+use crate::seats::{Seat, seat_of};
+use crate::side::Side;
+use lines::push_name;
+use std::alloc::{AllocError, Global};
+use task_sheet::{Sheet, TaskSet};
+
+// What becomes of a task.
+#[derive(Clone, Copy)]
+enum Kind {
+    Removed,
+    Added,
+    // Its sheet says something else.
+    Changed,
+    // Its sheet says the same, and its response is longer.
+    Slower,
+    // It is shorter.
+    Faster,
+    // It is the same, at another level.
+    Moved,
+}
+
+// Where a change is looked for that a task's sheet doesn't say.
+#[derive(Clone, Copy)]
+enum Effect {
+    OnBound,
+    // Where the bound stays.
+    OnLevel,
+}
+
+impl Kind {
+    fn word<'a>(self) -> &'a str
+        ensures { result.now ≡ word_of self }
+    {
+        match self {
+            Kind::Removed => "removed",
+            Kind::Added => "added",
+            Kind::Changed => "changed",
+            Kind::Slower => "slower",
+            Kind::Faster => "faster",
+            Kind::Moved => "moved",
+        }
+    }
+}
+
+// What becomes of a task whose sheet says the same, where anything does.
+fn effect_of(effect: Effect, old: Seat, new: Seat) -> Option<Kind>
+    ensures { result ≡ effect_of effect old new }
+{
+    match effect {
+        Effect::OnBound => {
+            if old.bound < new.bound {
+                Some(Kind::Slower)
+            } else if new.bound < old.bound {
+                Some(Kind::Faster)
+            } else {
+                None
+            }
+        }
+        Effect::OnLevel => {
+            if old.bound == new.bound && old.level != new.level {
+                Some(Kind::Moved)
+            } else {
+                None
+            }
+        }
+    }
+}
+
+// A number, or `-` for none.
+fn push_some(text: &mut String, number: Option<u64>) -> Result<(), AllocError>
+    ensures { OnOk result (string_bytes text.new ≡ string_bytes text.old ++ some_words number) }
+{
+    match number {
+        Some(number) => write!(text, "{number}"),
+        None => text.push_str("-"),
+    }
+}
+
+// A number before and after.
+fn push_pair(
+    text: &mut String,
+    word: &str,
+    old: Option<u64>,
+    new: Option<u64>,
+) -> Result<(), AllocError>
+    ensures { OnOk result (string_bytes text.new ≡ string_bytes text.old
+        ++ pair_words word.now old new) }
+{
+    text.push_str(word)?;
+    push_some(text, old)?;
+    text.push_str(" ")?;
+    push_some(text, new)
+}
+
+// The seats before and after.
+fn push_seats(text: &mut String, old: Option<Seat>, new: Option<Seat>) -> Result<(), AllocError>
+    ensures { OnOk result (string_bytes text.new ≡ string_bytes text.old ++ seats_words old new) }
+{
+    push_pair(
+        text,
+        " level ",
+        old.map(|seat| seat.level as u64),
+        new.map(|seat| seat.level as u64),
+    )?;
+    push_pair(
+        text,
+        " bound ",
+        old.map(|seat| seat.bound),
+        new.map(|seat| seat.bound),
+    )?;
+    push_pair(
+        text,
+        " slack ",
+        old.map(|seat| seat.slack),
+        new.map(|seat| seat.slack),
+    )
+}
+
+// A task's line, as far as its seats.
+fn push_start(
+    text: &mut String,
+    kind: Kind,
+    set: &TaskSet,
+    task: usize,
+    old: Option<Seat>,
+    new: Option<Seat>,
+) -> Result<(), AllocError>
+    ensures { OnOk result (string_bytes text.new ≡ string_bytes text.old
+        ++ start_words kind set.now task old new) }
+{
+    text.push_str(kind.word())?;
+    text.push_str(" ")?;
+    push_name(text, set, task)?;
+    push_seats(text, old, new)
+}
+
+// The index of a set's task in another set, by its name.
+fn index_in(other: &TaskSet, set: &TaskSet, task: usize) -> Option<usize>
+    requires { task < length set.now }
+    ensures { result ≡ index_in other.now set.now task }
+{
+    other.find(set.sheets()[task].name())
+}
+
+// The line of an old task that is gone.
+fn push_removed(
+    text: &mut String,
+    old: &Side<'_>,
+    new: &Side<'_>,
+    task: usize,
+) -> Result<(), AllocError>
+    requires { task < length old.now.set.now }
+    ensures { OnOk result (string_bytes text.new ≡ string_bytes text.old
+        ++ removed_line old.now.set.now old.now.placing.now new.now.set.now task) }
+{
+    match index_in(new.set, old.set, task) {
+        Some(_) => Ok(()),
+        None => {
+            let seat = seat_of(old, task);
+            push_start(text, Kind::Removed, old.set, task, seat, None)?;
+            text.push_str("\n")
+        }
+    }
+}
+
+// The line of a new task that was not there before.
+fn push_added(text: &mut String, new: &Side<'_>, task: usize) -> Result<(), AllocError>
+    ensures { OnOk result (string_bytes text.new ≡ string_bytes text.old
+        ++ added_line new.now.set.now new.now.placing.now task) }
+{
+    let seat = seat_of(new, task);
+    push_start(text, Kind::Added, new.set, task, None, seat)?;
+    text.push_str("\n")
+}
+
+// The line of a task whose sheet says something else.
+fn push_other(
+    text: &mut String,
+    weighs: bool,
+    set: &TaskSet,
+    task: usize,
+    sheets: (&Sheet, &Sheet),
+    seats: (Option<Seat>, Option<Seat>),
+) -> Result<(), AllocError>
+    ensures { OnOk result (string_bytes text.new ≡ string_bytes text.old
+        ++ other_line weighs set.now task sheets.entry.0.now sheets.entry.1.now seats.0 seats.1) }
+{
+    push_start(text, Kind::Changed, set, task, seats.0, seats.1)?;
+    push_keys(text, weighs, sheets.0, sheets.1)?;
+    text.push_str("\n")
+}
+
+// The line of a new task that was there before, where its sheet says something else.
+fn push_changed(
+    text: &mut String,
+    weighs: bool,
+    old: &Side<'_>,
+    before: usize,
+    new: &Side<'_>,
+    task: usize,
+) -> Result<(), AllocError>
+    requires before { before < length old.now.set.now }
+    requires task { task < length new.now.set.now }
+    ensures { OnOk result (string_bytes text.new ≡ string_bytes text.old
+        ++ changed_line weighs old.now.set.now old.now.placing.now before
+        new.now.set.now new.now.placing.now task) }
+{
+    let sheets = (&old.set.sheets()[before], &new.set.sheets()[task]);
+    if !is_changed(weighs, sheets.0, sheets.1) {
+        return Ok(());
+    }
+    let seats = (seat_of(old, before), seat_of(new, task));
+    push_other(text, weighs, new.set, task, sheets, seats)
+}
+
+// The line of a new task that was there before, where its sheet says the same and its seat is another.
+fn push_kept(
+    text: &mut String,
+    effect: Effect,
+    weighs: bool,
+    old: &Side<'_>,
+    before: usize,
+    new: &Side<'_>,
+    task: usize,
+) -> Result<(), AllocError>
+    requires before { before < length old.now.set.now }
+    requires task { task < length new.now.set.now }
+    ensures { OnOk result (string_bytes text.new ≡ string_bytes text.old
+        ++ kept_line effect weighs old.now.set.now old.now.placing.now before
+        new.now.set.now new.now.placing.now task) }
+{
+    let was = &old.set.sheets()[before];
+    let is = &new.set.sheets()[task];
+    if is_changed(weighs, was, is) {
+        return Ok(());
+    }
+    match (seat_of(old, before), seat_of(new, task)) {
+        (Some(from), Some(to)) => push_effect(text, effect, new.set, task, from, to),
+        _ => Ok(()),
+    }
+}
+
+// The line of a task whose sheet says the same, where its seat is another.
+fn push_effect(
+    text: &mut String,
+    effect: Effect,
+    set: &TaskSet,
+    task: usize,
+    from: Seat,
+    to: Seat,
+) -> Result<(), AllocError>
+    ensures { OnOk result (string_bytes text.new ≡ string_bytes text.old
+        ++ effect_line effect set.now task from to) }
+{
+    match effect_of(effect, from, to) {
+        Some(kind) => {
+            push_start(text, kind, set, task, Some(from), Some(to))?;
+            text.push_str("\n")
+        }
+        None => Ok(()),
+    }
+}
+
+// The line of what was done to a new task, where anything was.
+fn push_edit(
+    text: &mut String,
+    weighs: bool,
+    old: &Side<'_>,
+    new: &Side<'_>,
+    task: usize,
+) -> Result<(), AllocError>
+    requires { task < length new.now.set.now }
+    ensures { OnOk result (string_bytes text.new ≡ string_bytes text.old
+        ++ edit_line weighs old.now.set.now old.now.placing.now
+        new.now.set.now new.now.placing.now task) }
+{
+    match index_in(old.set, new.set, task) {
+        Some(before) => push_changed(text, weighs, old, before, new, task),
+        None => push_added(text, new, task),
+    }
+}
+
+// The line of what comes of the change to a task that it leaves as it was, where anything does.
+fn push_rest(
+    text: &mut String,
+    effect: Effect,
+    weighs: bool,
+    old: &Side<'_>,
+    new: &Side<'_>,
+    task: usize,
+) -> Result<(), AllocError>
+    requires { task < length new.now.set.now }
+    ensures { OnOk result (string_bytes text.new ≡ string_bytes text.old
+        ++ rest_line effect weighs old.now.set.now old.now.placing.now
+        new.now.set.now new.now.placing.now task) }
+{
+    match index_in(old.set, new.set, task) {
+        Some(before) => push_kept(text, effect, weighs, old, before, new, task),
+        None => Ok(()),
+    }
+}
+
+// The lines of the old tasks that are gone.
+fn push_all_removed(text: &mut String, old: &Side<'_>, new: &Side<'_>) -> Result<(), AllocError>
+    ensures { OnOk result (string_bytes text.new ≡ string_bytes text.old
+        ++ lines_below (length old.now.set.now)
+        (removed_line old.now.set.now old.now.placing.now new.now.set.now)) }
+{
+    for task in 0..old.set.len() {
+        push_removed(text, old, new, task)?;
+    }
+    Ok(())
+}
+
+// The lines of what was done to the new tasks.
+fn push_edits(
+    text: &mut String,
+    weighs: bool,
+    old: &Side<'_>,
+    new: &Side<'_>,
+) -> Result<(), AllocError>
+    ensures { OnOk result (string_bytes text.new ≡ string_bytes text.old
+        ++ lines_below (length new.now.set.now)
+        (edit_line weighs old.now.set.now old.now.placing.now
+        new.now.set.now new.now.placing.now)) }
+{
+    for task in 0..new.set.len() {
+        push_edit(text, weighs, old, new, task)?;
+    }
+    Ok(())
+}
+
+// The lines of what comes of the change to the others.
+fn push_rests(
+    text: &mut String,
+    effect: Effect,
+    weighs: bool,
+    old: &Side<'_>,
+    new: &Side<'_>,
+) -> Result<(), AllocError>
+    ensures { OnOk result (string_bytes text.new ≡ string_bytes text.old
+        ++ lines_below (length new.now.set.now)
+        (rest_line effect weighs old.now.set.now old.now.placing.now
+        new.now.set.now new.now.placing.now)) }
+{
+    for task in 0..new.set.len() {
+        push_rest(text, effect, weighs, old, new, task)?;
+    }
+    Ok(())
+}
+
+/// The lines of a change from one set to another: of the tasks that are gone, then of those that came and those whose
+/// sheets say something else, then of the others whose responses are other ones, and last of those whose levels alone are.
+/// Each by rank. A weight counts only where `weighs` says so. The error is want of memory.
+pub fn change_text(
+    alloc: Global,
+    weighs: bool,
+    old: &Side<'_>,
+    new: &Side<'_>,
+) -> Result<String, AllocError>
+    ensures { IfOk result (λ text. string_bytes text
+        ≡ change_lines weighs old.now.set.now old.now.placing.now
+        new.now.set.now new.now.placing.now) }
+{
+    let mut text = String::new(alloc);
+    push_all_removed(&mut text, old, new)?;
+    push_edits(&mut text, weighs, old, new)?;
+    push_rests(&mut text, Effect::OnBound, weighs, old, new)?;
+    push_rests(&mut text, Effect::OnLevel, weighs, old, new)?;
+    Ok(text)
+}
