@@ -6,3 +6,4 @@ pub mod Needs
 pub mod Explanations
 pub mod Load
 pub mod Lines
+pub mod TaskLines

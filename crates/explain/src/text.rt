@@ -79,7 +79,11 @@ fn push_parts(text: &mut String, set: &TaskSet, parts: &Parts) -> Result<(), All
 }
 
 // The lines of a task's time.
-fn push_account(text: &mut String, set: &TaskSet, account: &Account) -> Result<(), AllocError>
+pub(crate) fn push_account(
+    text: &mut String,
+    set: &TaskSet,
+    account: &Account,
+) -> Result<(), AllocError>
     ensures { OnOk result (string_bytes text.new ≡ string_bytes text.old
         ++ account_lines set.now account.now) }
 {
@@ -104,7 +108,7 @@ fn push_responses(text: &mut String, set: &TaskSet, accounts: &[Account]) -> Res
 }
 
 // The lines of a task of a conflict.
-fn push_need(text: &mut String, set: &TaskSet, need: &Need) -> Result<(), AllocError>
+pub(crate) fn push_need(text: &mut String, set: &TaskSet, need: &Need) -> Result<(), AllocError>
     ensures { OnOk result (string_bytes text.new ≡ string_bytes text.old
         ++ need_lines set.now need.now) }
 {
@@ -131,7 +135,11 @@ fn push_needs(text: &mut String, set: &TaskSet, needs: &[Need]) -> Result<(), Al
 }
 
 // The line of a conflict.
-fn push_conflict(text: &mut String, set: &TaskSet, left: Members) -> Result<(), AllocError>
+pub(crate) fn push_conflict(
+    text: &mut String,
+    set: &TaskSet,
+    left: Members,
+) -> Result<(), AllocError>
     ensures { OnOk result (string_bytes text.new
         ≡ string_bytes text.old ++ conflict_line set.now
         (listed_below (length set.now) (indexes_of left))) }
