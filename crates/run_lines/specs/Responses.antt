@@ -1,0 +1,34 @@
+-- The responses of a set's best order (Audsley et al. 1993), as bounds of what happens in a run.
+use Rattle.std.specs.Prelude.{◌≡◌, ℕ, ◌+◌, ◌<◌, ◌≤◌, Some, List, [], ◌∷◌, length, slice_index_or}
+use Rattle.task_sheet.specs.Sheet.{Task}
+use Rattle.task_sheet.specs.Demand.{greatest_of}
+use Rattle.lines.specs.Naming.{name_at}
+use Rattle.assignment.specs.Places.{PlaceData}
+use Rattle.ceiling_kernel.specs.Releases.{release_at, task_number}
+use Rattle.ceiling_kernel.specs.Runs.{no_record}
+use Rattle.ceiling_kernel.specs.declared.trace.JobRecord.{JobRecord}
+use Rattle.ceiling_kernel.specs.declared.trace.Release.{Release}
+use Rattle.ceiling_kernel.specs.declared.trace.Trace.{Trace}
+use Rattle.run_lines.specs.Reached.{done_of, response_of}
+
+-- a job of the task of a place whose bound lies in the run, its arrival and the place's response, is done by then
+abbrev pub DoneWithin : List Task → PlaceData → List Release → ℕ → Trace → Type 0
+DoneWithin U place rs until trace =
+    (j : ℕ) → j < length rs → task_number U (release_at rs j) ≡ place.task
+    → (release_at rs j).time + place.response ≤ until
+    → (f : ℕ)
+    × ((slice_index_or trace.jobs.items j no_record).finish ≡ Some f)
+    × (f ≤ (release_at rs j).time + place.response)
+
+-- that holds of each place
+abbrev pub AllDoneWithin : List Task → List PlaceData → List Release → ℕ → Trace → Type 0
+AllDoneWithin U [] rs until trace = Unit {0}
+AllDoneWithin U (place ∷ places) rs until trace =
+    DoneWithin U place rs until trace × AllDoneWithin U places rs until trace
+
+-- the greatest response of the jobs of each place's task that are done is within the place's response
+abbrev pub AllReachWithin : List Task → List JobRecord → List PlaceData → Type 0
+AllReachWithin U jobs [] = Unit {0}
+AllReachWithin U jobs (place ∷ places) =
+    (greatest_of response_of (done_of (name_at U place.task) jobs) ≤ place.response)
+    × AllReachWithin U jobs places

@@ -1,0 +1,8 @@
+//! What the jobs of each task came to in a run, as lines, and that it is within the bounds of the set.
+#![tactic(auto)]
+
+pub mod laws;
+mod outcome;
+mod text;
+
+pub use crate::text::tasks_text;
