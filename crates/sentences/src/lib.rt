@@ -2,6 +2,8 @@
 #![tactic(auto)]
 
 mod causes;
+mod choices;
+mod gathered;
 mod lists;
 mod notes;
 mod puts;
@@ -13,9 +15,10 @@ mod told;
 mod tree;
 mod values;
 
+pub use choices::{put_names_decide, put_override};
+pub use gathered::of_set_text;
 pub use lists::{of_release_line, of_run, of_settings};
 pub use notes::put_notes;
 pub use puts::of_script;
 pub use records::{of_certificate, of_check};
-pub use sets::of_set;
 pub use shown::push_clean;

@@ -84,6 +84,12 @@ fn push_run_fault(text: &mut String, bytes: &[u8], fault: RunFault) -> Result<()
                 " is later than the task's jitter allows",
             )
         }
+        RunFault::OutsideCost { place } => push_release(
+            text,
+            bytes,
+            place,
+            " runs for nothing, or for more than the task's cost",
+        ),
         RunFault::PastHorizon => push_horizon(text, bytes),
         RunFault::TooMany => write!(text, "more than {RELEASE_LIMIT} releases"),
         RunFault::Overrun { name, time } => write!(

@@ -16,7 +16,7 @@ use task_sheet::{
 use toml::{Table, Value};
 
 /// What a person is told of a set's fault, from the document's bytes; none where memory is wanting.
-pub fn of_set(alloc: Global, bytes: &[u8], fault: SetFault) -> Option<String> {
+pub(crate) fn of_set(alloc: Global, bytes: &[u8], fault: SetFault) -> Option<String> {
     if fault == SetFault::OutOfMemory {
         return None;
     }
@@ -71,7 +71,10 @@ fn place_of(fault: SetFault) -> (usize, usize) {
         SetFault::BadJitter { task } => (task, 0),
         SetFault::Outranks { task, .. } => (task, 0),
         SetFault::SameName { task } => (task, 0),
-        SetFault::Syntax | SetFault::TooManyTasks | SetFault::OutOfMemory => (0, 0),
+        SetFault::Syntax
+        | SetFault::BadPreference
+        | SetFault::TooManyTasks
+        | SetFault::OutOfMemory => (0, 0),
     }
 }
 
@@ -81,6 +84,7 @@ fn push_fault(text: &mut String, root: &Table, fault: SetFault) -> Result<(), Al
         SetFault::UnknownKey { task, section } => push_unknown(text, root, task, section),
         SetFault::MissingKey { section, key, .. } => push_missing(text, section, key),
         SetFault::WrongKind { task, section, key } => push_kind(text, root, task, section, key),
+        SetFault::BadPreference => push_preference(text, root),
         SetFault::BadName { task, section } => push_bad_name(text, root, task, section),
         SetFault::Sheet { task, cause } => push_sheet(text, root, task, cause),
         SetFault::BadJitter { task } => match table_of(root, task, 0) {
@@ -134,7 +138,9 @@ fn push_known(
     keys: &[Key],
 ) -> Result<(), AllocError> {
     match (task, section) {
-        (0, _) => text.push_str("; a set has tasks alone, each headed by [[task]]"),
+        (0, _) => text.push_str(
+            "; a set has tasks alone, each headed by [[task]], and may have prefer in front of them",
+        ),
         (_, 0) => {
             text.push_str("; a task has")?;
             push_keys(text, keys)
@@ -166,6 +172,7 @@ fn kind_of(key: Key) -> &'static str {
         Key::Task => "an array of tables, each headed by [[task]]",
         Key::Section => "an array of tables, each headed by [[task.section]]",
         Key::Name => "a string, in quotes",
+        Key::Prefer => "\"deadline\" or \"weight\"",
         Key::Locks | Key::Outranks => "an array of strings, as [\"a\", \"b\"]",
         Key::Weight => "a whole number from 0",
         Key::Period | Key::Deadline | Key::Cost | Key::Jitter | Key::At | Key::Len => {
@@ -243,6 +250,16 @@ fn push_kind(
             text.push_str("; it is ")?;
             push_found(text, key, value)
         }
+        None => Ok(()),
+    }
+}
+
+// A word that says no preference, and those that do.
+fn push_preference(text: &mut String, root: &Table) -> Result<(), AllocError> {
+    let kind = kind_of(Key::Prefer);
+    write!(text, "prefer has to be {kind}; it is ")?;
+    match root.get(Key::Prefer.word()) {
+        Some(value) => push_one(text, value),
         None => Ok(()),
     }
 }

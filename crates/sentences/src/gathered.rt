@@ -1,0 +1,57 @@
+//! Why a set's text is no task set.
+
+use crate::sets::of_set;
+use std::alloc::Global;
+use task_sheet::{Name, SetFault, read_set};
+use teams::{TeamsFault, first_part};
+
+/// What a person is told of the fault of a set's text, from its bytes; none where memory is wanting. What is said of a
+/// team's document names it as a file, `TEAM.toml`, and its own lines.
+pub fn of_set_text(alloc: Global, bytes: &[u8], fault: TeamsFault) -> Option<String> {
+    match fault {
+        TeamsFault::Alone { fault } => of_set(alloc, bytes, fault),
+        TeamsFault::Of { team, fault } => of_document(alloc, bytes, team, fault),
+        TeamsFault::BadHead { part } => {
+            format!(in alloc; "part {part}: no line `#% TEAM COUNT` that so many bytes follow").ok()
+        }
+        TeamsFault::Taken { team, task, other } => {
+            format!(in alloc; "{team}.toml: {task} is the name of a task of {other}").ok()
+        }
+        TeamsFault::OtherPreference { team, other } => {
+            format!(in alloc;
+                "{team}.toml: prefers otherwise than {other}.toml; one team says it for all"
+            ).ok()
+        }
+        TeamsFault::TooManyTasks => {
+            String::from_str(alloc, "the teams have more than 32 tasks together").ok()
+        }
+        TeamsFault::OutOfMemory => None,
+    }
+}
+
+// The document is one of the team, and is no set.
+fn is_faulty(alloc: Global, owner: Name, text: &[u8], team: Name) -> bool {
+    owner == team && read_set(alloc, text).is_err()
+}
+
+// The team's first document that is no set.
+fn document_of<'a>(alloc: Global, bytes: &'a [u8], team: Name) -> Option<&'a [u8]> {
+    let mut rest = bytes;
+    while !rest.is_empty() {
+        let Some((part, after)) = first_part(rest) else {
+            return None;
+        };
+        if is_faulty(alloc, part.team, part.text, team) {
+            return Some(part.text);
+        }
+        rest = after;
+    }
+    None
+}
+
+// What a person is told of the fault of a team's document.
+fn of_document(alloc: Global, bytes: &[u8], team: Name, fault: SetFault) -> Option<String> {
+    let document = document_of(alloc, bytes, team)?;
+    let said = of_set(alloc, document, fault)?;
+    format!(in alloc; "{team}.toml: {said}").ok()
+}
