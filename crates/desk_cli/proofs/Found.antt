@@ -1,7 +1,8 @@
 -- What is printed of what a command finds is what the command says.
-use Rattle.std.proofs.Common.{◌≡◌, ℕ, List, Option, Ok, Err, inl, inr}
+use Rattle.std.proofs.Common.{◌≡◌, ℕ, true, false, List, Option, Ok, Err, inl, inr}
 use Rattle.std.specs.Io.KnownBytes.{Appends}
 use Rattle.task_sheet.specs.Sheet.{Task}
+use Rattle.command_line.specs.declared.calls.Options.{Options}
 use Rattle.command_line.specs.declared.calls.OfTwo.{OfTwo}
 use Rattle.command_line.specs.declared.calls.OfTwo.TheVariants as command
 use Rattle.desk_cli.specs.Found.{FindsIn, found_said, found_status}
@@ -9,37 +10,48 @@ use Rattle.desk_cli.specs.Outcomes.{failed_read}
 use Rattle.desk_cli.specs.Printed.{IsPrinted}
 use Rattle.desk_cli.specs.Refusals.{refusal_line, status_of}
 use Rattle.desk_cli.specs.Saying.{SaysOfBoth}
+use Rattle.desk_cli.specs.Commands.{preference_of}
+use Rattle.desk_cli.specs.Sets.{HaveBoth}
+use Rattle.desk_cli.specs.Simulate.{SaysSimulation}
 use Rattle.desk_cli.specs.declared.of_two.Found.{Found}
-use Rattle.desk_cli.specs.declared.of_two.Found.TheVariants.{Shown, Judged, Simulated, Drawn}
+use Rattle.desk_cli.specs.declared.of_two.Found.TheVariants.{Shown, Compared, Judged, Simulated, Reached, Drawn}
 use Rattle.desk_cli.specs.declared.refusal.CommandRefusal.{CommandRefusal}
 use Rattle.desk_cli.specs.declared.refusal.CommandRefusal.TheVariants as refusal
 use Rattle.desk_cli.specs.declared.status.Status.{Status}
 use Rattle.desk_cli.proofs.Refused.{two_refused}
 
 -- no text is refused as an input that was not read
-pub never_unread : (c : OfTwo) (U : List Task) (text : List ℕ) → FindsIn c U text (Err failed_read) → ⊥
-never_unread command.Check U text never = never
-never_unread command.Judge U text never = never
-never_unread command.Simulate U text never = never
-never_unread command.Draw U text never = never
+pub never_unread : (c : OfTwo) (options : Options) (U : List Task) (text : List ℕ) → FindsIn c options U text (Err failed_read) → ⊥
+never_unread command.Check options U text never = never
+never_unread command.Diff options U text never = never
+never_unread command.Judge options U text never = never
+never_unread command.Simulate options U text never = never
+never_unread command.Draw options U text never = never
 
-module _ (U : List Task) (text : List ℕ) (before after : Option (List ℕ)) (s : Status) where
+module _ (options : Options) (U : List Task) (text : List ℕ) (before after : Option (List ℕ)) (s : Status) where
   -- a refusal was printed
-  pub refused_in : (c : OfTwo) (r : CommandRefusal) → FindsIn c U text (Err r) → Appends before after (refusal_line r) → s ≡ status_of r → SaysOfBoth c U text before after s
-  refused_in command.Check r why wrote is = λ preference set other both. (Err r, inr (U, text, both, why), wrote, is)
-  refused_in command.Judge r why wrote is = λ preference set other both. (Err r, inr (U, text, both, why), wrote, is)
-  refused_in command.Simulate r why wrote is = λ preference set other both. (Err r, inr (U, text, both, why), wrote, is)
-  refused_in command.Draw r why wrote is = λ preference set other both. (Err r, inr (U, text, both, why), wrote, is)
+  pub refused_in : (c : OfTwo) (r : CommandRefusal) → FindsIn c options U text (Err r) → Appends before after (refusal_line r) → s ≡ status_of r → SaysOfBoth c options U text before after s
+  refused_in command.Check r why wrote is = λ set other both. (Err r, inr (U, text, both, why), wrote, is)
+  refused_in command.Diff r why wrote is = λ set other both. (Err r, inr (U, text, both, why), wrote, is)
+  refused_in command.Judge r why wrote is = λ set other both. (Err r, inr (U, text, both, why), wrote, is)
+  refused_in command.Simulate r why wrote is =
+      elim options.by_task as (λ b. (set other : Option (List ℕ)) → HaveBoth (preference_of options) set other U text → SaysSimulation b (preference_of options) set other before after s) [
+        | true ↦ λ set other both. (Err r, inr (U, text, both, why), wrote, is)
+        | false ↦ λ set other both. (Err r, inr (U, text, both, why), wrote, is)
+      ]
+  refused_in command.Draw r why wrote is = λ set other both. (Err r, inr (U, text, both, why), wrote, is)
 
   -- what was found was printed
-  said_in : (c : OfTwo) (found : Found) → FindsIn c U text (Ok found) → Appends before after (found_said U found) → s ≡ found_status found → SaysOfBoth c U text before after s
-  said_in command.Check (Shown kind) finds wrote is = λ preference set other both. (Ok kind, (U, text, both, finds), wrote, is)
-  said_in command.Judge (Judged judged) finds wrote is = λ preference set other both. (Ok (U, judged), (text, both, finds), wrote, is)
-  said_in command.Simulate (Simulated answer) finds wrote is = λ preference set other both. (Ok (U, answer), (text, both, finds), wrote, is)
-  said_in command.Draw (Drawn answer) finds wrote is = λ preference set other both. (Ok (U, answer), (text, both, finds), wrote, is)
+  said_in : (c : OfTwo) (found : Found) → FindsIn c options U text (Ok found) → Appends before after (found_said U found) → s ≡ found_status found → SaysOfBoth c options U text before after s
+  said_in command.Check (Shown kind) finds wrote is = λ set other both. (Ok kind, (U, text, both, finds), wrote, is)
+  said_in command.Diff (Compared c) finds wrote is = λ set other both. (Ok (U, c), (text, both, finds), wrote, is)
+  said_in command.Judge (Judged judged) finds wrote is = λ set other both. (Ok (U, judged), (text, both, finds), wrote, is)
+  said_in command.Simulate (Simulated answer) finds wrote is = λ set other both. rw finds.0 (Ok (U, answer), (text, both, finds.1), wrote, is)
+  said_in command.Simulate (Reached answer) finds wrote is = λ set other both. rw finds.0 (Ok (U, answer), (text, both, finds.1), wrote, is)
+  said_in command.Draw (Drawn answer) finds wrote is = λ set other both. (Ok (U, answer), (text, both, finds), wrote, is)
   said_in _ _ finds wrote is = absurd finds
 
   -- the same; or that memory was wanting for it, which is an answer of its own
-  pub printed_in : (c : OfTwo) (found : Found) → FindsIn c U text (Ok found) → IsPrinted before after (found_said U found) (found_status found) s → SaysOfBoth c U text before after s
+  pub printed_in : (c : OfTwo) (found : Found) → FindsIn c options U text (Ok found) → IsPrinted before after (found_said U found) (found_status found) s → SaysOfBoth c options U text before after s
   printed_in c found finds (inl wrote) = said_in c found finds wrote.0 wrote.1
-  printed_in c found finds (inr want) = λ preference set other both. two_refused before after s refusal.OutOfMemory want.0 want.1 c preference set other tt
+  printed_in c found finds (inr want) = λ set other both. two_refused before after s refusal.OutOfMemory want.0 want.1 c options set other tt

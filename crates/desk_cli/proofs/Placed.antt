@@ -1,5 +1,5 @@
 -- A placing of a set says what the set's verdict says: the same lines, and the same status.
-use Rattle.std.proofs.Common.{◌≡◌, ◌++◌, ◌∙◌, ℕ, List, [], ◌∷◌, length, codes, Option, Ok, Err, inl, inr, refl, sym, ap, subst}
+use Rattle.std.proofs.Common.{◌≡◌, ◌++◌, ◌∙◌, ℕ, List, [], ◌∷◌, length, codes, Option, Some, Ok, Err, inl, inr, refl, sym, ap, subst}
 use Rattle.std.specs.Fmt.{decimal}
 use Rattle.std.specs.Io.KnownBytes.{Appends}
 use Rattle.std.proofs.lemmas.List.{length-map}
@@ -8,7 +8,7 @@ use Rattle.task_sheet.specs.TaskSet.{IsTaskSet}
 use Rattle.task_sheet.specs.Verdicts.{LevelData, VerdictData, IsVerdictOf, order_of}
 use Rattle.task_sheet.specs.Verdicts as data_of
 use Rattle.task_sheet.proofs.TaskLaws.{AllTasks-from_set}
-use Rattle.preferences.specs.declared.preferred.Preference.{Preference}
+use Rattle.task_sheet.specs.declared.prefer.Preference.{Preference}
 use Rattle.assignment.specs.Places.{PlaceData}
 use Rattle.assignment.specs.Placings.{IsPlacingOf, SaysSame, places_of, tasks_of_places}
 use Rattle.assignment.specs.Verdict.{verdict_set, verdict_of}
@@ -19,7 +19,8 @@ use Rattle.assignment.specs.declared.verdict.Verdict.TheVariants.{Admitted, Infe
 use Rattle.assignment.proofs.VerdictPlacings.{some_verdict_says}
 use Rattle.settings.specs.Settings.{settings_lines}
 use Rattle.desk_cli.specs.Admit.{Places, Says, admit_lines, placing_status, verdict_status}
-use Rattle.desk_cli.specs.Headroom.{first_line, placing_first}
+use Rattle.limit_lines.specs.Lines.{places_in}
+use Rattle.desk_cli.specs.Limits.{first_line, placing_first, verdict_places}
 use Rattle.desk_cli.specs.Lines.{admitted_lines, infeasible_line}
 use Rattle.desk_cli.specs.OrderParts.{placing_said}
 use Rattle.desk_cli.specs.Printed.{IsPrinted}
@@ -37,6 +38,7 @@ pub record IsSaidBy (U : List Task) (p : Placing) (v : Verdict) : Type 0 where
   pub settings : settings_of v ≡ placing_said Settings U p
   pub first : first_line v ≡ placing_first U p
   pub status : verdict_status v ≡ placing_status p
+  pub places : verdict_places v ≡ places_in p
 
 tasks_of_levels : (levels : List LevelData) → tasks_of_places (places_of levels) ≡ order_of levels
 tasks_of_levels [] = refl
@@ -60,16 +62,17 @@ said_by U kept p placing =
         settings = ap (λ tasks. settings_lines U tasks) (sym (ap tasks_of_places same ∙ tasks_of_levels levels));
         first = ap (λ (n : ℕ). codes "admitted " ++ decimal n ++ codes "\n") (sym (ap (λ (ps : List PlaceData). length ps) same ∙ length_of_levels levels));
         status = refl;
+        places = ap (λ (ps : List PlaceData). Some ps) (sym same);
       },
     )
     by (data_of.Infeasible members) (Stuck left) verdict same =
         let line = ap (λ tasks. infeasible_line U tasks) same in
-        (Infeasible (record { set = U; members = members }), record { set = refl; verdict = verdict; lines = line; settings = line; first = line; status = refl })
+        (Infeasible (record { set = U; members = members }), record { set = refl; verdict = verdict; lines = line; settings = line; first = line; status = refl; places = refl })
     by (data_of.Admitted levels) (Stuck left) verdict same = absurd same
     by (data_of.Infeasible members) (Best places) verdict same = absurd same
 
 -- what is printed of a placing is what its verdict says; want of memory for it is an answer of its own
-pub printed_says : (lines : Verdict → List ℕ) (preference : Preference) (known before after : Option (List ℕ)) (U : List Task) (p : Placing) (text : List ℕ) (due s : Status)
+pub printed_says : (lines : Verdict → List ℕ) (preference : Option Preference) (known before after : Option (List ℕ)) (U : List Task) (p : Placing) (text : List ℕ) (due s : Status)
     → IsTaskSet U → Places preference known (Ok (U, p)) → ((v : Verdict) → IsSaidBy U p v → lines v ≡ text) → due ≡ placing_status p → IsPrinted before after text due s
     → Says lines preference known before after s
 printed_says lines preference known before after U p text due s kept placed same status (inr want) = (Err refusal.OutOfMemory, tt, want.0, want.1)

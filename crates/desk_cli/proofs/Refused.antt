@@ -1,37 +1,61 @@
 -- A command that was refused says so.
-use Rattle.std.proofs.Common.{◌≡◌, ℕ, List, Option, Err, inl, refl}
+use Rattle.std.proofs.Common.{◌≡◌, ℕ, true, false, List, Option, Some, None, Err, inl, refl}
 use Rattle.std.specs.Io.KnownBytes.{Appends}
 use Rattle.command_line.specs.declared.calls.OfOne.{OfOne}
-use Rattle.command_line.specs.declared.calls.OfOne.TheVariants.{Admit, Certify, Headroom, Settings, Explain, Play}
+use Rattle.command_line.specs.declared.calls.OfOne.TheVariants.{Admit, Certify, Limits, Settings, Explain, Play}
 use Rattle.command_line.specs.declared.calls.OfTwo.{OfTwo}
-use Rattle.command_line.specs.declared.calls.OfTwo.TheVariants.{Check, Judge, Simulate, Draw}
-use Rattle.preferences.specs.declared.preferred.Preference.{Preference}
-use Rattle.desk_cli.specs.Commands.{OneSays, TwoSay}
+use Rattle.command_line.specs.declared.calls.OfTwo.TheVariants.{Check, Judge, Diff, Simulate, Draw}
+use Rattle.command_line.specs.declared.calls.Options.{Options}
+use Rattle.task_sheet.specs.declared.prefer.Preference.{Preference}
+use Rattle.desk_cli.specs.Commands.{OneSays, TwoSay, preference_of, task_of}
+use Rattle.desk_cli.specs.OneTask.{AnswersOfTask, SaysLimitsOf, SaysReasonsOf}
+use Rattle.desk_cli.specs.declared.one_task.TaskPart.{TaskPart}
+use Rattle.desk_cli.specs.declared.one_task.TaskPart.TheVariants as part
+use Rattle.desk_cli.specs.Simulate.{SaysSimulation}
 use Rattle.desk_cli.specs.Saying.{IsRefusalOf}
 use Rattle.desk_cli.specs.Refusals.{refusal_line, status_of}
 use Rattle.desk_cli.specs.Sets.{HasNoSet, HaveNotBoth}
 use Rattle.desk_cli.specs.declared.refusal.CommandRefusal.{CommandRefusal}
+use Rattle.desk_cli.specs.declared.refusal.CommandRefusal.TheVariants as refusal
 use Rattle.desk_cli.specs.declared.status.Status.{Status}
 
 module _ (before after : Option (List ℕ)) (s : Status) (r : CommandRefusal) (wrote : Appends before after (refusal_line r)) (is : s ≡ status_of r) where
-  pub one_refused : (c : OfOne) (preference : Preference) (known : Option (List ℕ)) → IsRefusalOf c known r → OneSays c preference known before after s
-  one_refused Admit preference known why = (Err r, why, wrote, is)
-  one_refused Certify preference known why = (Err r, why, wrote, is)
-  one_refused Headroom preference known why = (Err r, refusal_line r, why, (refl, is), wrote)
-  one_refused Settings preference known why = (Err r, why, wrote, is)
-  one_refused Explain preference known why = (Err r, why, wrote, is)
-  one_refused Play preference known why = (refusal_line r, wrote, inl (r, why, refl, is))
+  no_set : (part : TaskPart) (word : List ℕ) (preference : Option Preference) (known : Option (List ℕ)) (r : CommandRefusal) → HasNoSet known r
+      → AnswersOfTask part word preference known (Err r)
+  no_set part word preference known (refusal.NoSuchTask name) why = absurd why
+  no_set part word preference known _ why = why
 
-  pub placed_refused : (c : OfOne) (preference : Preference) (known : Option (List ℕ)) → (c ≡ Play → ⊥) → HasNoSet known r → OneSays c preference known before after s
-  placed_refused Admit preference known other why = one_refused Admit preference known why
-  placed_refused Certify preference known other why = one_refused Certify preference known why
-  placed_refused Headroom preference known other why = one_refused Headroom preference known why
-  placed_refused Settings preference known other why = one_refused Settings preference known why
-  placed_refused Explain preference known other why = one_refused Explain preference known why
-  placed_refused Play preference known other why = absurd (other refl)
+  limits_refused : (asked : Option (List ℕ)) (preference : Option Preference) (known : Option (List ℕ)) → HasNoSet known r → SaysLimitsOf asked preference known before after s
+  limits_refused None preference known why = (Err r, refusal_line r, why, (refl, is), wrote)
+  limits_refused (Some word) preference known why = (Err r, no_set part.Limits word preference known r why, wrote, is)
 
-  pub two_refused : (c : OfTwo) (preference : Preference) (first second : Option (List ℕ)) → HaveNotBoth first second r → TwoSay c preference first second before after s
-  two_refused Check preference first second why = (Err r, inl why, wrote, is)
-  two_refused Judge preference first second why = (Err r, inl why, wrote, is)
-  two_refused Simulate preference first second why = (Err r, inl why, wrote, is)
-  two_refused Draw preference first second why = (Err r, inl why, wrote, is)
+  reasons_refused : (asked : Option (List ℕ)) (preference : Option Preference) (known : Option (List ℕ)) → HasNoSet known r → SaysReasonsOf asked preference known before after s
+  reasons_refused None preference known why = (Err r, why, wrote, is)
+  reasons_refused (Some word) preference known why = (Err r, no_set part.Reasons word preference known r why, wrote, is)
+
+  pub one_refused : (c : OfOne) (options : Options) (known : Option (List ℕ)) → IsRefusalOf c known r → OneSays c options known before after s
+  one_refused Admit options known why = (Err r, why, wrote, is)
+  one_refused Certify options known why = (Err r, why, wrote, is)
+  one_refused Limits options known why = limits_refused (task_of options) (preference_of options) known why
+  one_refused Settings options known why = (Err r, why, wrote, is)
+  one_refused Explain options known why = reasons_refused (task_of options) (preference_of options) known why
+  one_refused Play options known why = (refusal_line r, wrote, inl (r, why, refl, is))
+
+  pub placed_refused : (c : OfOne) (options : Options) (known : Option (List ℕ)) → (c ≡ Play → ⊥) → HasNoSet known r → OneSays c options known before after s
+  placed_refused Admit options known other why = one_refused Admit options known why
+  placed_refused Certify options known other why = one_refused Certify options known why
+  placed_refused Limits options known other why = one_refused Limits options known why
+  placed_refused Settings options known other why = one_refused Settings options known why
+  placed_refused Explain options known other why = one_refused Explain options known why
+  placed_refused Play options known other why = absurd (other refl)
+
+  pub two_refused : (c : OfTwo) (options : Options) (first second : Option (List ℕ)) → HaveNotBoth first second r → TwoSay c options first second before after s
+  two_refused Check options first second why = (Err r, inl why, wrote, is)
+  two_refused Judge options first second why = (Err r, inl why, wrote, is)
+  two_refused Diff options first second why = (Err r, inl why, wrote, is)
+  two_refused Simulate options first second why =
+      elim options.by_task as (λ b. SaysSimulation b (preference_of options) first second before after s) [
+        | true ↦ (Err r, inl why, wrote, is)
+        | false ↦ (Err r, inl why, wrote, is)
+      ]
+  two_refused Draw options first second why = (Err r, inl why, wrote, is)

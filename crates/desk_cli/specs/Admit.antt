@@ -1,7 +1,7 @@
 -- What `desk admit` answers and prints.
 use Rattle.std.specs.Prelude.{ℕ, List, Option, Result, Ok, Err}
 use Rattle.task_sheet.specs.Sheet.{Task}
-use Rattle.preferences.specs.declared.preferred.Preference.{Preference}
+use Rattle.task_sheet.specs.declared.prefer.Preference.{Preference}
 use Rattle.task_sheet.specs.Verdicts.{IsVerdictOf}
 use Rattle.assignment.specs.Placings.{IsPlacingOf}
 use Rattle.assignment.specs.Verdict.{verdict_set, verdict_of}
@@ -17,13 +17,13 @@ use Rattle.desk_cli.specs.declared.status.Status.{Status}
 use Rattle.desk_cli.specs.declared.status.Status.TheVariants as status
 
 -- the answer on what a reader has: the verdict of its set, or why there is none
-abbrev pub Admits : Preference → Option (List ℕ) → Result Verdict CommandRefusal → Type 0
+abbrev pub Admits : Option Preference → Option (List ℕ) → Result Verdict CommandRefusal → Type 0
 Admits preference known (Ok v) =
     HasSet preference known (verdict_set v) × IsVerdictOf (verdict_set v) (verdict_of v)
 Admits preference known (Err r) = HasNoSet known r
 
 -- the same, where the answer is a set with its placing
-abbrev pub Places : Preference → Option (List ℕ) → Result (List Task × Placing) CommandRefusal
+abbrev pub Places : Option Preference → Option (List ℕ) → Result (List Task × Placing) CommandRefusal
     → Type 0
 Places preference known (Ok placed) =
     HasSet preference known placed.0 × IsPlacingOf placed.0 placed.1
@@ -41,7 +41,7 @@ placing_status (Stuck left) = status.Infeasible
 
 -- the answer on what the reader had is printed after what the writer held, where a verdict has some lines
 abbrev pub Says :
-    (Verdict → List ℕ) → Preference → Option (List ℕ) → (before after : Option (List ℕ)) → Status
+    (Verdict → List ℕ) → Option Preference → Option (List ℕ) → (before after : Option (List ℕ)) → Status
     → Type 0
 Says lines preference known before after s =
     Prints (Admits preference known) lines verdict_status before after s

@@ -1,6 +1,6 @@
 -- What `desk check` answers and prints.
 use Rattle.std.specs.Prelude.{◌≡◌, ℕ, List, codes, Option, Some, Result, Ok, Err}
-use Rattle.preferences.specs.declared.preferred.Preference.{Preference}
+use Rattle.task_sheet.specs.declared.prefer.Preference.{Preference}
 use Rattle.task_sheet.specs.Sheet.{Task}
 use Rattle.task_sheet.specs.Orders.{IsBest, IsFeasible}
 use Rattle.certificate.specs.Body.{Cert}
@@ -34,7 +34,7 @@ ChecksText U text (Err refusal.OutOfMemory) = Unit {0}
 ChecksText U text _ = ⊥
 
 -- the answer on what the readers have of a set and of a certificate
-abbrev pub Checks : Preference → Option (List ℕ) → Option (List ℕ) → Result Checked CommandRefusal
+abbrev pub Checks : Option Preference → Option (List ℕ) → Option (List ℕ) → Result Checked CommandRefusal
     → Type 0
 Checks preference set certificate answer = OnBoth ChecksText preference set certificate answer
 
@@ -45,7 +45,7 @@ checked_line NoOrder = codes "no order\n"
 
 -- the answer on what the readers had is printed after what the writer held, and the status is the answer's
 abbrev pub SaysChecked :
-    Preference → (set certificate : Option (List ℕ)) → (before after : Option (List ℕ)) → Status
+    Option Preference → (set certificate : Option (List ℕ)) → (before after : Option (List ℕ)) → Status
     → Type 0
 SaysChecked preference set certificate before after s =
     Prints (Checks preference set certificate) checked_line (λ _. status.Done) before after s

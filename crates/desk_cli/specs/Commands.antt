@@ -1,43 +1,67 @@
 -- What each command says of what its readers have.
-use Rattle.std.specs.Prelude.{ℕ, List, Option}
-use Rattle.preferences.specs.declared.preferred.Preference.{Preference}
+use Rattle.std.specs.Prelude.{ℕ, List, Option, Some, None, option_map}
+use Rattle.task_sheet.specs.declared.prefer.Preference.{Preference}
+use Rattle.task_sheet.specs.declared.prefer.Preference.TheVariants as preference
+use Rattle.command_line.specs.declared.calls.Options.{Options}
+use Rattle.command_line.specs.declared.calls.Preferred.{Preferred}
+use Rattle.command_line.specs.declared.calls.Preferred.TheVariants as preferred
 use Rattle.command_line.specs.declared.calls.OfOne.{OfOne}
-use Rattle.command_line.specs.declared.calls.OfOne.TheVariants.{Admit, Certify, Headroom, Settings, Explain, Play}
+use Rattle.command_line.specs.declared.calls.OfOne.TheVariants.{Admit, Certify, Limits, Settings, Explain, Play}
 use Rattle.command_line.specs.declared.calls.OfTwo.{OfTwo}
-use Rattle.command_line.specs.declared.calls.OfTwo.TheVariants.{Check, Judge, Simulate, Draw}
+use Rattle.command_line.specs.declared.calls.OfTwo.TheVariants.{Check, Judge, Diff, Simulate, Draw}
 use Rattle.desk_cli.specs.Admit.{Says, admit_lines}
 use Rattle.desk_cli.specs.Certify.{certificate_lines}
 use Rattle.desk_cli.specs.Check.{SaysChecked}
+use Rattle.desk_cli.specs.Diff.{SaysCompared}
 use Rattle.desk_cli.specs.Draw.{SaysDrawn}
-use Rattle.desk_cli.specs.Explain.{SaysExplained}
-use Rattle.desk_cli.specs.Headroom.{SaysHeadroom}
 use Rattle.desk_cli.specs.Judge.{SaysJudged}
+use Rattle.desk_cli.specs.OneTask.{SaysLimitsOf, SaysReasonsOf}
 use Rattle.desk_cli.specs.Play.{SaysPlayed}
 use Rattle.desk_cli.specs.Settings.{settings_of}
-use Rattle.desk_cli.specs.Simulate.{SaysSimulated}
+use Rattle.desk_cli.specs.Simulate.{SaysSimulation}
 use Rattle.desk_cli.specs.declared.status.Status.{Status}
 
--- what the writer held, what it holds then, and the status, are those of the command's answer on what a reader has, by a
--- preference where that is a set
-abbrev pub OneSays : OfOne → Preference → Option (List ℕ) → (before after : Option (List ℕ))
+-- what a call prefers, where its words say so
+abbrev pub preferred_by : Option Preferred → Option Preference
+preferred_by (Some preferred.Deadline) = Some preference.Deadline
+preferred_by (Some preferred.Weight) = Some preference.Weights
+preferred_by None = None
+
+-- the same of what a call's words choose
+abbrev pub preference_of : Options → Option Preference
+preference_of options = preferred_by options.prefer
+
+-- the word that names the task that is asked about
+abbrev pub task_of : Options → Option (List ℕ)
+task_of options = option_map (λ word. word.now) options.task
+
+-- what the writer held, what it holds then, and the status, are those of the command's answer on what a reader has, by
+-- what the words choose
+abbrev pub OneSays : OfOne → Options → Option (List ℕ) → (before after : Option (List ℕ))
     → Status → Type 0
-OneSays Admit preference known before after s = Says admit_lines preference known before after s
-OneSays Certify preference known before after s =
-    Says certificate_lines preference known before after s
-OneSays Headroom preference known before after s = SaysHeadroom preference known before after s
-OneSays Settings preference known before after s = Says settings_of preference known before after s
-OneSays Explain preference known before after s = SaysExplained preference known before after s
-OneSays Play preference known before after s = SaysPlayed known before after s
+OneSays Admit options known before after s =
+    Says admit_lines (preference_of options) known before after s
+OneSays Certify options known before after s =
+    Says certificate_lines (preference_of options) known before after s
+OneSays Limits options known before after s =
+    SaysLimitsOf (task_of options) (preference_of options) known before after s
+OneSays Settings options known before after s =
+    Says settings_of (preference_of options) known before after s
+OneSays Explain options known before after s =
+    SaysReasonsOf (task_of options) (preference_of options) known before after s
+OneSays Play options known before after s = SaysPlayed known before after s
 
 -- the same of a command of two inputs
 abbrev pub TwoSay :
-    OfTwo → Preference → (first second : Option (List ℕ)) → (before after : Option (List ℕ))
+    OfTwo → Options → (first second : Option (List ℕ)) → (before after : Option (List ℕ))
     → Status → Type 0
-TwoSay Check preference first second before after s =
-    SaysChecked preference first second before after s
-TwoSay Judge preference first second before after s =
-    SaysJudged preference first second before after s
-TwoSay Simulate preference first second before after s =
-    SaysSimulated preference first second before after s
-TwoSay Draw preference first second before after s =
-    SaysDrawn preference first second before after s
+TwoSay Check options first second before after s =
+    SaysChecked (preference_of options) first second before after s
+TwoSay Judge options first second before after s =
+    SaysJudged (preference_of options) first second before after s
+TwoSay Diff options first second before after s =
+    SaysCompared (preference_of options) first second before after s
+TwoSay Simulate options first second before after s =
+    SaysSimulation options.by_task (preference_of options) first second before after s
+TwoSay Draw options first second before after s =
+    SaysDrawn (preference_of options) first second before after s

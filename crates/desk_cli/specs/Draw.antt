@@ -1,11 +1,9 @@
 -- What `desk draw` prints: the answer of `desk simulate`, as a picture.
 use Rattle.std.specs.Prelude.{ℕ, List, [], ◌∷◌, ◌++◌, length, Option}
-use Rattle.preferences.specs.declared.preferred.Preference.{Preference}
+use Rattle.task_sheet.specs.declared.prefer.Preference.{Preference}
 use Rattle.task_sheet.specs.Sheet.{Task, task_at}
 use Rattle.task_sheet.specs.Indexes.{indexes_of, listed_below}
-use Rattle.task_sheet.specs.Orders.{IsOrder}
 use Rattle.assignment.specs.Places.{PlaceData}
-use Rattle.assignment.specs.Placings.{tasks_of_places}
 use Rattle.picture.specs.Document.{document}
 use Rattle.picture.specs.declared.rows.TaskRow.{TaskRow}
 use Rattle.desk_cli.specs.Lines.{infeasible_line}
@@ -28,17 +26,12 @@ rows_of U (place ∷ places) = rows_of U places ++ drawn_row U place ∷ []
 abbrev pub picture_of : List Task → Run → List ℕ
 picture_of U run = document (rows_of U run.places.items) run.until run.releases.items run.trace
 
--- a run is one in an order of the set
-abbrev pub IsInOrder : List Task → Simulated → Type 0
-IsInOrder U (Ran run) = IsOrder U (tasks_of_places run.places.items)
-IsInOrder U (Infeasible left) = Unit {0}
-
 -- what is printed of what came of a set
 abbrev pub drawing_said : List Task → Simulated → List ℕ
 drawing_said U (Ran run) = picture_of U run
 drawing_said U (Infeasible left) = infeasible_line U (listed_below (length U) (indexes_of left))
 
 -- the answer of `desk simulate` is printed as a picture
-abbrev pub SaysDrawn : Preference → (set releases : Option (List ℕ))
+abbrev pub SaysDrawn : Option Preference → (set releases : Option (List ℕ))
     → (before after : Option (List ℕ)) → Status → Type 0
 SaysDrawn = SaysRun drawing_said

@@ -1,13 +1,13 @@
 -- What `desk explain` answers and prints.
 use Rattle.std.specs.Prelude.{ℕ, List, ◌++◌, Option, Result, Ok, Err}
-use Rattle.preferences.specs.declared.preferred.Preference.{Preference}
+use Rattle.task_sheet.specs.declared.prefer.Preference.{Preference}
 use Rattle.task_sheet.specs.Sheet.{Task}
 use Rattle.assignment.specs.declared.placing.Placing.{Placing}
 use Rattle.explain.specs.Explanations.{Explains}
 use Rattle.explain.specs.Lines.{explanation_lines}
 use Rattle.explain.specs.declared.explanation.Explanation.{Explanation}
 use Rattle.desk_cli.specs.Admit.{Places, placing_status}
-use Rattle.desk_cli.specs.Headroom.{placing_first}
+use Rattle.desk_cli.specs.Limits.{placing_first}
 use Rattle.desk_cli.specs.Printed.{Prints}
 use Rattle.desk_cli.specs.declared.refusal.CommandRefusal.{CommandRefusal}
 use Rattle.desk_cli.specs.declared.status.Status.{Status}
@@ -19,7 +19,7 @@ pub record ExplainedData : Type 0 where
   pub explanation : Explanation
 
 -- the answer on what a reader has: that of `desk admit`, explained
-abbrev pub AnswersExplained : Preference → Option (List ℕ) → Result ExplainedData CommandRefusal
+abbrev pub AnswersExplained : Option Preference → Option (List ℕ) → Result ExplainedData CommandRefusal
     → Type 0
 AnswersExplained preference known (Ok e) =
     Places preference known (Ok (e.set, e.placing)) × Explains e.set e.placing e.explanation
@@ -30,7 +30,7 @@ abbrev pub explained_output : ExplainedData → List ℕ
 explained_output e = placing_first e.set e.placing ++ explanation_lines e.set e.explanation
 
 -- the answer on what the reader had is printed after what the writer held, and the status is the answer's
-abbrev pub SaysExplained : Preference → Option (List ℕ) → (before after : Option (List ℕ)) → Status
+abbrev pub SaysExplained : Option Preference → Option (List ℕ) → (before after : Option (List ℕ)) → Status
     → Type 0
 SaysExplained preference known before after s =
     Prints (AnswersExplained preference known) explained_output (λ e. placing_status e.placing)

@@ -1,51 +1,67 @@
 -- What a command finds of a set and a text, and what is printed of it.
-use Rattle.std.specs.Prelude.{ℕ, List, ◌<◌, All, Option, Result, Ok, Err}
+use Rattle.std.specs.Prelude.{◌≡◌, ℕ, true, false, List, ◌<◌, All, Option, Result, Ok, Err}
 use Rattle.task_sheet.specs.Sheet.{Task}
 use Rattle.task_sheet.specs.declared.set.TheConstants.{TASK_LIMIT}
+use Rattle.command_line.specs.declared.calls.Options.{Options}
+use Rattle.assignment.specs.Placings.{IsPlacingOf}
 use Rattle.command_line.specs.declared.calls.OfTwo.{OfTwo}
 use Rattle.command_line.specs.declared.calls.OfTwo.TheVariants as command
 use Rattle.judge.specs.Lines.{judged_lines}
 use Rattle.desk_cli.specs.Check.{ChecksText, checked_line}
-use Rattle.desk_cli.specs.Draw.{IsInOrder, drawing_said}
+use Rattle.desk_cli.specs.Admit.{placing_status}
+use Rattle.desk_cli.specs.Commands.{preference_of}
+use Rattle.desk_cli.specs.Diff.{ComparesText, compared_lines}
+use Rattle.desk_cli.specs.Draw.{drawing_said}
 use Rattle.desk_cli.specs.Judge.{JudgesText, judged_status}
 use Rattle.desk_cli.specs.Printed.{IsPrinted}
-use Rattle.desk_cli.specs.Simulate.{SimulatesText, simulation_said, simulation_status}
+use Rattle.desk_cli.specs.Simulate.{IsInOrder, SimulatesText, reached_said, simulation_said, simulation_status}
 use Rattle.desk_cli.specs.declared.of_two.Found.{Found}
-use Rattle.desk_cli.specs.declared.of_two.Found.TheVariants.{Shown, Judged, Simulated, Drawn}
+use Rattle.desk_cli.specs.declared.of_two.Found.TheVariants.{Shown, Compared, Judged, Simulated, Reached, Drawn}
 use Rattle.desk_cli.specs.declared.refusal.CommandRefusal.{CommandRefusal}
 use Rattle.desk_cli.specs.declared.status.Status.{Status}
 use Rattle.desk_cli.specs.declared.status.Status.TheVariants.{Done}
 
 -- the answer of a command on a set and a text
-abbrev pub FindsIn : OfTwo → List Task → List ℕ → Result Found CommandRefusal → Type 0
-FindsIn command.Check U text (Ok (Shown kind)) = ChecksText U text (Ok kind)
-FindsIn command.Check U text (Err r) = ChecksText U text (Err r)
-FindsIn command.Judge U text (Ok (Judged judged)) = JudgesText U text (Ok judged)
-FindsIn command.Judge U text (Err r) = JudgesText U text (Err r)
-FindsIn command.Simulate U text (Ok (Simulated answer)) = SimulatesText U text (Ok answer)
-FindsIn command.Simulate U text (Err r) = SimulatesText U text (Err r)
-FindsIn command.Draw U text (Ok (Drawn answer)) = SimulatesText U text (Ok answer)
-FindsIn command.Draw U text (Err r) = SimulatesText U text (Err r)
-FindsIn _ U text _ = ⊥
+abbrev pub FindsIn : OfTwo → Options → List Task → List ℕ → Result Found CommandRefusal → Type 0
+FindsIn command.Check options U text (Ok (Shown kind)) = ChecksText U text (Ok kind)
+FindsIn command.Check options U text (Err r) = ChecksText U text (Err r)
+FindsIn command.Diff options U text (Ok (Compared c)) = ComparesText (preference_of options) U text (Ok c)
+FindsIn command.Diff options U text (Err r) = ComparesText (preference_of options) U text (Err r)
+FindsIn command.Judge options U text (Ok (Judged judged)) = JudgesText U text (Ok judged)
+FindsIn command.Judge options U text (Err r) = JudgesText U text (Err r)
+FindsIn command.Simulate options U text (Ok (Simulated answer)) =
+    (options.by_task ≡ false) × SimulatesText U text (Ok answer)
+FindsIn command.Simulate options U text (Ok (Reached answer)) =
+    (options.by_task ≡ true) × SimulatesText U text (Ok answer)
+FindsIn command.Simulate options U text (Err r) = SimulatesText U text (Err r)
+FindsIn command.Draw options U text (Ok (Drawn answer)) = SimulatesText U text (Ok answer)
+FindsIn command.Draw options U text (Err r) = SimulatesText U text (Err r)
+FindsIn _ options U text _ = ⊥
 
 -- what was found speaks of tasks that a set may have, and of a run in an order of the set
 abbrev pub IsFoundOf : List Task → Found → Type 0
 IsFoundOf U (Judged judged) = All (λ j. j.task < TASK_LIMIT) judged.items
+IsFoundOf U (Compared c) = IsPlacingOf U c.was × IsPlacingOf c.set c.is
+IsFoundOf U (Reached answer) = IsInOrder U answer
 IsFoundOf U (Drawn answer) = IsInOrder U answer
 IsFoundOf U _ = Unit {0}
 
 -- what is printed of what was found of a set
 abbrev pub found_said : List Task → Found → List ℕ
 found_said U (Shown kind) = checked_line kind
+found_said U (Compared c) = compared_lines U c
 found_said U (Judged judged) = judged_lines U judged.items
 found_said U (Simulated answer) = simulation_said U answer
+found_said U (Reached answer) = reached_said U answer
 found_said U (Drawn answer) = drawing_said U answer
 
 -- the exit status of what was found
 abbrev pub found_status : Found → Status
 found_status (Shown kind) = Done
+found_status (Compared c) = placing_status c.is
 found_status (Judged judged) = judged_status judged.items
 found_status (Simulated answer) = simulation_status answer
+found_status (Reached answer) = simulation_status answer
 found_status (Drawn answer) = simulation_status answer
 
 -- that is printed after what the writer held, with its status; or that there was no memory for it

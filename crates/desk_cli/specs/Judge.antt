@@ -1,7 +1,7 @@
 -- What `desk judge` answers and prints.
 use Rattle.std.specs.Prelude.{ℕ, List, Option, Result, Ok, Err, if◌then◌else◌}
 use Rattle.std.specs.Global.{Vec}
-use Rattle.preferences.specs.declared.preferred.Preference.{Preference}
+use Rattle.task_sheet.specs.declared.prefer.Preference.{Preference}
 use Rattle.task_sheet.specs.Sheet.{Task}
 use Rattle.judge.specs.Faults.{IsSettingsFault, settings_fault}
 use Rattle.judge.specs.Judgements.{AllJudged, all_meet, order_judged}
@@ -27,7 +27,7 @@ JudgesText U text (Err (refusal.Settings fault)) = IsSettingsFault fault (settin
 JudgesText U text _ = ⊥
 
 -- the answer on what the readers have of a set and of settings, with the set
-abbrev pub Judges : Preference → Option (List ℕ) → Option (List ℕ)
+abbrev pub Judges : Option Preference → Option (List ℕ) → Option (List ℕ)
     → Result (List Task × Vec JudgedTask) CommandRefusal → Type 0
 Judges preference set settings (Ok judged) =
     (text : List ℕ) × HaveBoth preference set settings judged.0 text
@@ -40,7 +40,7 @@ judged_status judged = if all_meet judged then status.Done else status.Infeasibl
 
 -- the answer on what the readers had is printed after what the writer held, and the status is the answer's
 abbrev pub SaysJudged :
-    Preference → (set settings : Option (List ℕ)) → (before after : Option (List ℕ)) → Status
+    Option Preference → (set settings : Option (List ℕ)) → (before after : Option (List ℕ)) → Status
     → Type 0
 SaysJudged preference set settings before after s =
     Prints (Judges preference set settings) (λ found. judged_lines found.0 found.1.items)

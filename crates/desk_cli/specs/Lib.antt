@@ -2,12 +2,14 @@ pub mod Admit
 pub mod Certify
 pub mod Check
 pub mod Commands
+pub mod Diff
 pub mod Draw
 pub mod Explain
 pub mod Found
-pub mod Headroom
+pub mod Limits
 pub mod Judge
 pub mod Lines
+pub mod OneTask
 pub mod OrderParts
 pub mod Outcomes
 pub mod Play
@@ -17,6 +19,7 @@ pub mod Refusals
 pub mod Releases
 pub mod ReleasesText
 pub mod Rush
+pub mod Script
 pub mod Saying
 pub mod Sets
 pub mod Settings

@@ -1,6 +1,6 @@
 -- The line that a refused command prints: the name of the fault and then its fields, each after one space.
 -- A task or a section is its place, from 1; the root of a document is 0.
-use Rattle.std.specs.Prelude.{ℕ, List, ◌++◌, codes}
+use Rattle.std.specs.Prelude.{ℕ, List, ◌++◌, Some, None, codes}
 use Rattle.std.specs.Fmt.{decimal}
 use Rattle.task_sheet.specs.declared.sheet.SheetCause.{SheetCause}
 use Rattle.task_sheet.specs.declared.sheet.SheetCause.TheVariants as cause
@@ -10,6 +10,8 @@ use Rattle.task_sheet.specs.declared.keys.Key.{Key}
 use Rattle.task_sheet.specs.Tree.{word_of}
 use Rattle.task_sheet.specs.declared.read.SetFault.{SetFault}
 use Rattle.task_sheet.specs.declared.read.SetFault.TheVariants as fault
+use Rattle.teams.specs.declared.fault.TeamsFault.{TeamsFault}
+use Rattle.teams.specs.declared.fault.TeamsFault.TheVariants as teams
 use Rattle.certificate.specs.declared.fault.CertFault.{CertFault}
 use Rattle.certificate.specs.declared.fault.CertFault.TheVariants as text
 use Rattle.cert_checker.specs.declared.fault.CheckFault.{CheckFault}
@@ -91,6 +93,7 @@ fault_words fault.Syntax = codes "Syntax"
 fault_words (fault.UnknownKey task section) = at_section (codes "UnknownKey") task section
 fault_words (fault.MissingKey task section key) = at_key (codes "MissingKey") task section key
 fault_words (fault.WrongKind task section key) = at_key (codes "WrongKind") task section key
+fault_words fault.BadPreference = codes "BadPreference"
 fault_words (fault.BadName task section) = at_section (codes "BadName") task section
 fault_words (fault.Sheet task cause) = cause_words task cause
 fault_words (fault.BadJitter task) = at_task (codes "BadJitter") task
@@ -98,6 +101,18 @@ fault_words (fault.Outranks task cause) = at_task (outranks_words cause) task
 fault_words (fault.SameName task) = at_task (codes "SameName") task
 fault_words fault.TooManyTasks = codes "TooManyTasks"
 fault_words fault.OutOfMemory = codes "OutOfMemory"
+
+-- the fault of a set's text; that of a team's document stands behind the team
+abbrev pub teams_words : TeamsFault → List ℕ
+teams_words (teams.Alone fault) = fault_words fault
+teams_words (teams.BadHead part) = at_task (codes "BadHead") part
+teams_words (teams.Of team fault) = codes "team " ++ team ++ codes " " ++ fault_words fault
+teams_words (teams.Taken team task other) =
+    codes "TakenName " ++ team ++ codes " " ++ task ++ codes " " ++ other
+teams_words (teams.OtherPreference team other) =
+    codes "OtherPreference " ++ team ++ codes " " ++ other
+teams_words teams.TooManyTasks = codes "TooManyTasks"
+teams_words teams.OutOfMemory = codes "OutOfMemory"
 
 -- the fault of a certificate's text
 abbrev pub certificate_words : CertFault → List ℕ
@@ -127,6 +142,7 @@ run_words (run.Unsorted place) = at_task (codes "Unsorted") place
 run_words (run.UnknownTask place) = at_task (codes "UnknownTask") place
 run_words (run.TooSoon place) = at_task (codes "TooSoon") place
 run_words (run.TooLate place) = at_task (codes "TooLate") place
+run_words (run.OutsideCost place) = at_task (codes "OutsideCost") place
 run_words run.PastHorizon = codes "PastHorizon"
 run_words run.TooMany = codes "TooMany"
 run_words (run.Overrun name time) = codes "Overrun " ++ name ++ codes " " ++ decimal time
@@ -168,7 +184,9 @@ abbrev pub words_of : CommandRefusal → List ℕ
 words_of (refusal.Input input.TooLong) = codes "InputTooLong"
 words_of (refusal.Input input.OutOfMemory) = codes "OutOfMemory"
 words_of (refusal.Input input.ReadFailed) = codes "ReadFailed"
-words_of (refusal.Set fault) = fault_words fault
+words_of (refusal.Set fault) = teams_words fault
+words_of (refusal.New teams.OutOfMemory) = codes "OutOfMemory"
+words_of (refusal.New fault) = codes "new " ++ teams_words fault
 words_of (refusal.Certificate fault) = certificate_words fault
 words_of (refusal.Check fault) = check_words fault
 words_of (refusal.Text fault) = text_words fault
@@ -176,6 +194,8 @@ words_of (refusal.Run fault) = run_words fault
 words_of (refusal.Settings fault) = settings_words fault
 words_of (refusal.Script fault) = script_words fault
 words_of (refusal.Rush fault) = rush_words fault
+words_of (refusal.NoSuchTask (Some name)) = codes "NoSuchTask " ++ name
+words_of (refusal.NoSuchTask None) = codes "NoSuchTask"
 words_of refusal.OutOfMemory = codes "OutOfMemory"
 
 -- the line of a refusal
@@ -187,8 +207,10 @@ abbrev pub status_of : CommandRefusal → Status
 status_of (refusal.Input input.TooLong) = status.BadInput
 status_of (refusal.Input input.OutOfMemory) = status.OutOfMemory
 status_of (refusal.Input input.ReadFailed) = status.InputOrOutputFailed
-status_of (refusal.Set fault.OutOfMemory) = status.OutOfMemory
+status_of (refusal.Set teams.OutOfMemory) = status.OutOfMemory
 status_of (refusal.Set _) = status.BadInput
+status_of (refusal.New teams.OutOfMemory) = status.OutOfMemory
+status_of (refusal.New _) = status.BadInput
 status_of (refusal.Certificate text.OutOfMemory) = status.OutOfMemory
 status_of (refusal.Certificate _) = status.BadCertificate
 status_of (refusal.Check _) = status.BadCertificate
@@ -201,4 +223,5 @@ status_of (refusal.Settings _) = status.BadInput
 status_of (refusal.Script script.OutOfMemory) = status.OutOfMemory
 status_of (refusal.Script _) = status.BadInput
 status_of (refusal.Rush _) = status.OutOfMemory
+status_of (refusal.NoSuchTask _) = status.BadInput
 status_of refusal.OutOfMemory = status.OutOfMemory

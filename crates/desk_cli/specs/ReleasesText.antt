@@ -1,5 +1,5 @@
 -- Release lists as text.
-use Rattle.std.specs.Prelude.{ℕ, ◌+◌, List, [], ◌∷◌, ◌++◌, length, Option, Some, None, Result, Ok, Err, bytes_eq, codes, if◌then◌else◌}
+use Rattle.std.specs.Prelude.{ℕ, ◌+◌, List, [], ◌∷◌, ◌++◌, length, Option, option_map, Some, None, Result, Ok, Err, bytes_eq, codes, if◌then◌else◌}
 use Rattle.lines.specs.Lines.{kept_lines, lines_of}
 use Rattle.lines.specs.Words.{name_in, number_in, words}
 use Rattle.ceiling_kernel.specs.declared.trace.Release.{Release}
@@ -11,27 +11,46 @@ until_in (word ∷ []) = None
 until_in (word ∷ number ∷ []) = if bytes_eq word (codes "until") then number_in number else None
 until_in (word ∷ number ∷ more ∷ rest) = None
 
--- a release, where the words for its time, its name and how late it is are a number, a name and a number
-abbrev pub release_read : Option ℕ → Option (List ℕ) → Option ℕ → Option Release
-release_read None name late = None
-release_read (Some time) None late = None
+-- for how long a job executes, by the words `runs N`
+abbrev pub runs_in : List ℕ → List ℕ → Option ℕ
+runs_in word number = if bytes_eq word (codes "runs") then number_in number else None
+
+-- a lateness and how long a job executes, where the words for them say them
+abbrev pub pair_of : Option ℕ → Option (Option ℕ) → Option (ℕ × Option ℕ)
+pair_of None runs = None
+pair_of (Some late) None = None
+pair_of (Some late) (Some runs) = Some (late, runs)
+
+-- how late a release is, and for how long its job executes, by the words that may follow its name: `LATE`, `runs N`, or
+-- both
+abbrev pub rest_in : Option (List ℕ) → Option (List ℕ) → Option (List ℕ) → Option (ℕ × Option ℕ)
+rest_in None second third = Some (0, None)
+rest_in (Some late) None third = pair_of (number_in late) (Some None)
+rest_in (Some word) (Some number) None = pair_of (Some 0) (option_map Some (runs_in word number))
+rest_in (Some late) (Some word) (Some number) =
+    pair_of (number_in late) (option_map Some (runs_in word number))
+
+-- a release, where the words for its time, its name and the rest say them
+abbrev pub release_read : Option ℕ → Option (List ℕ) → Option (ℕ × Option ℕ) → Option Release
+release_read None name rest = None
+release_read (Some time) None rest = None
 release_read (Some time) (Some name) None = None
-release_read (Some time) (Some name) (Some late) =
-    Some (record { time = time; name = name; late = late })
+release_read (Some time) (Some name) (Some rest) =
+    Some (record { time = time; name = name; late = rest.0; runs = rest.1 })
 
--- how late a release is, by the word that may follow its name
-abbrev pub late_in : Option (List ℕ) → Option ℕ
-late_in None = Some 0
-late_in (Some word) = number_in word
-
--- the release of a line `TIME NAME`, which isn't late, or `TIME NAME LATE`
+-- the release of a line `TIME NAME`, which isn't late, or `TIME NAME LATE`; its job executes its task's cost, or with
+-- `runs N` behind that so long
 abbrev pub release_in : List (List ℕ) → Option Release
 release_in [] = None
 release_in (time ∷ []) = None
-release_in (time ∷ name ∷ []) = release_read (number_in time) (name_in name) (late_in None)
-release_in (time ∷ name ∷ late ∷ []) =
-    release_read (number_in time) (name_in name) (late_in (Some late))
-release_in (time ∷ name ∷ late ∷ more ∷ rest) = None
+release_in (time ∷ name ∷ []) = release_read (number_in time) (name_in name) (rest_in None None None)
+release_in (time ∷ name ∷ x ∷ []) =
+    release_read (number_in time) (name_in name) (rest_in (Some x) None None)
+release_in (time ∷ name ∷ x ∷ y ∷ []) =
+    release_read (number_in time) (name_in name) (rest_in (Some x) (Some y) None)
+release_in (time ∷ name ∷ x ∷ y ∷ z ∷ []) =
+    release_read (number_in time) (name_in name) (rest_in (Some x) (Some y) (Some z))
+release_in (time ∷ name ∷ x ∷ y ∷ z ∷ more ∷ rest) = None
 
 -- these, and then the releases that are found; a faulty line stays the fault
 abbrev pub before : List Release → Result (List Release) ℕ → Result (List Release) ℕ

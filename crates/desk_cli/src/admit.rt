@@ -19,7 +19,7 @@ use task_sheet::TaskSet;
 // The verdict of the set that the reader has, or why there is none.
 pub(crate) fn decide<R: Read + Drop, P: Audience>(
     alloc: Global,
-    preference: Preference,
+    preference: Option<Preference>,
     set: &mut Watched<R>,
     people: &mut P,
 ) -> Result<Verdict, CommandRefusal>
@@ -36,7 +36,7 @@ pub(crate) fn decide<R: Read + Drop, P: Audience>(
 // The set that the reader has, and what becomes of its tasks, with nothing that shows it; or why there is none.
 pub(crate) fn place<R: Read + Drop, P: Audience>(
     alloc: Global,
-    preference: Preference,
+    preference: Option<Preference>,
     set: &mut Watched<R>,
     people: &mut P,
 ) -> Result<(TaskSet, Placing), CommandRefusal>

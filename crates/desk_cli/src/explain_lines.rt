@@ -4,7 +4,7 @@ ghost use Rattle.assignment.specs.Placings.{IsPlacingOf};
 ghost use Rattle.explain.specs.Explanations.{Explains};
 ghost use Rattle.explain.specs.Lines.{explanation_lines};
 ghost use Rattle.explain.specs.declared.explanation.Explanation.{Explanation};
-ghost use Rattle.desk_cli.specs.Headroom.{placing_first};
+ghost use Rattle.desk_cli.specs.Limits.{placing_first};
 
 use crate::answer::{OrderPart, placing_text};
 use assignment::Placing;

@@ -4,6 +4,7 @@ ghost use Rattle.task_sheet.specs.Sheet.{Task};
 ghost use Rattle.task_sheet.specs.TaskSet.{IsTaskSet};
 ghost use Rattle.ceiling_kernel.specs.declared.trace.Release.{Release};
 ghost use Rattle.release_list.specs.Densest.{densest_of, list_refusal};
+ghost use Rattle.release_list.specs.Random.{random_of, random_refusal};
 ghost use Rattle.desk_cli.specs.ReadBack.{IsWritable, ReadsBack};
 
 /// The lines of a release list are read as that list: so are those that `desk releases` prints.
@@ -12,4 +13,6 @@ pub fn lists_are_read_back()
         → ReadsBack until rs }
     ensures densest { (U : List Task) (until : ℕ) → IsTaskSet U → list_refusal U until ≡ None
         → ReadsBack until (densest_of U until) }
+    ensures random { (U : List Task) (until seed : ℕ) → IsTaskSet U
+        → random_refusal U until seed ≡ None → ReadsBack until (random_of U until seed) }
 {}

@@ -9,14 +9,13 @@ use crate::admit::{decide, place, placing_status};
 use crate::answer::{OrderPart, placing_text};
 use crate::audience::Audience;
 use crate::certify::print_verdict;
-use crate::explain_lines::explained_text;
-use crate::headroom_lines::print_placing;
+use crate::one_task::{say_limits, say_reasons};
 use crate::output::{print_made, refuse};
 use crate::play::{lines_of, play};
+use crate::sets::preference_of;
 use crate::status::Status;
 use assignment::Placing;
-use command_line::OfOne;
-use preferences::Preference;
+use command_line::{OfOne, Options};
 use std::alloc::Global;
 use std::io::{Read, Write};
 use streams::Watched;
@@ -26,6 +25,7 @@ use task_sheet::TaskSet;
 fn say_placing<W: Write + Drop>(
     alloc: Global,
     command: OfOne,
+    options: Options<'_>,
     set: &TaskSet,
     placing: &Placing,
     output: &mut Watched<W>,
@@ -33,7 +33,7 @@ fn say_placing<W: Write + Drop>(
     requires command { IsOfPlacing command }
     requires kept { IsTaskSet set.now }
     requires placing { IsPlacingOf set.now placing.now }
-    ensures { IsSaidOn (SaysOfSet command set.now) W.contents output.old output.new result }
+    ensures { IsSaidOn (SaysOfSet command options.entry set.now) W.contents output.old output.new result }
 {
     let status = placing_status(placing);
     match command {
@@ -41,30 +41,31 @@ fn say_placing<W: Write + Drop>(
             let text = placing_text(alloc, OrderPart::Levels, set, placing);
             print_made(text, status, output)
         }
-        OfOne::Headroom => print_placing(alloc, set, placing, output),
+        OfOne::Limits => say_limits(alloc, options.task, set, placing, output),
         OfOne::Settings => {
             let text = placing_text(alloc, OrderPart::Settings, set, placing);
             print_made(text, status, output)
         }
-        OfOne::Explain => print_made(explained_text(alloc, set, placing), status, output),
+        OfOne::Explain => say_reasons(alloc, options.task, set, placing, output),
         OfOne::Certify => unreachable!(),
         OfOne::Play => unreachable!(),
     }
 }
 
-/// A command of one input: reads a task set by a preference, or a script, and prints what docs/FORMATS.md says of the
-/// command, or why the input was refused. Of a script that was refused nothing is played.
+/// A command of one input: reads a task set or a script, and prints what docs/FORMATS.md says of the command and of
+/// what the words choose, or why the input was refused. Of a script that was refused nothing is played.
 pub fn carry_out<R: Read + Drop, W: Write + Drop, P: Audience>(
     alloc: Global,
     command: OfOne,
-    preference: Preference,
+    options: Options<'_>,
     input: &mut Watched<R>,
     output: &mut Watched<W>,
     people: &mut P,
 ) -> Status
-    ensures { IsCarriedOut (OneSays command preference) R.remaining W.contents
+    ensures { IsCarriedOut (OneSays command options.entry) R.remaining W.contents
         input.old input.new output.old output.new result }
 {
+    let preference = preference_of(options);
     match command {
         OfOne::Certify => match decide(alloc, preference, input, people) {
             Ok(verdict) => print_verdict(alloc, &verdict, output),
@@ -75,7 +76,7 @@ pub fn carry_out<R: Read + Drop, W: Write + Drop, P: Audience>(
             Err(refusal) => refuse(refusal, output),
         },
         _ => match place(alloc, preference, input, people) {
-            Ok((tasks, placing)) => say_placing(alloc, command, &tasks, &placing, output),
+            Ok((tasks, placing)) => say_placing(alloc, command, options, &tasks, &placing, output),
             Err(refusal) => refuse(refusal, output),
         },
     }

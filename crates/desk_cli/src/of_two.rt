@@ -5,21 +5,22 @@ ghost use Rattle.desk_cli.specs.Found.{FindsIn, IsFoundOf, PrintsFound};
 ghost use Rattle.desk_cli.specs.Saying.{SaysOfBoth};
 ghost use Rattle.desk_cli.specs.Outcomes.{IsCarriedOutOnBoth, IsSaidOn};
 
+use crate::admit::placing_status;
 use crate::answer::print_stuck;
 use crate::audience::{Audience, Which};
 use crate::check::{check_text, line_of};
+use crate::diff_lines::{Compared, compare_text, compared_text};
 use crate::draw::draw_run;
 use crate::judge_lines::{judge_text, judged_status};
 use crate::output::{print, print_made, refuse};
 use crate::refusal::CommandRefusal;
-use crate::sets::{read_two, tell};
-use crate::simulate::{Simulated, simulate_text};
+use crate::sets::{preference_of, read_two, tell};
+use crate::simulate::{Simulated, reached_text, simulate_text};
 use crate::status::Status;
 use crate::trace::trace_text;
 use cert_checker::Checked;
-use command_line::OfTwo;
+use command_line::{OfTwo, Options};
 use judge::{JudgedTask, judged_text};
-use preferences::Preference;
 use std::alloc::Global;
 use std::io::{Read, Write};
 use streams::Watched;
@@ -30,10 +31,14 @@ use task_sheet::TaskSet;
 pub enum Found {
     /// What a certificate shows.
     Shown(Checked),
+    /// What becomes of a set and of a new one.
+    Compared(Compared),
     /// What becomes of the tasks in the order that settings give.
     Judged(Vec<JudgedTask>),
     /// What comes of a release list, to be shown as the lines of its trace.
     Simulated(Simulated),
+    /// The same, to be shown as the lines of what the tasks came to.
+    Reached(Simulated),
     /// The same, to be shown as an SVG 1.1 document.
     Drawn(Simulated),
 }
@@ -42,16 +47,30 @@ pub enum Found {
 fn find(
     alloc: Global,
     command: OfTwo,
+    options: Options<'_>,
     tasks: &TaskSet,
     text: &[u8],
 ) -> Result<Found, CommandRefusal>
-    ensures answer { FindsIn command tasks.now text.now result }
+    ensures answer { FindsIn command options.entry tasks.now text.now result }
     ensures found { IfOk result (IsFoundOf tasks.now) }
 {
     match command {
         OfTwo::Check => Ok(Found::Shown(check_text(alloc, tasks, text)?)),
+        OfTwo::Diff => Ok(Found::Compared(compare_text(
+            alloc,
+            preference_of(options),
+            tasks,
+            text,
+        )?)),
         OfTwo::Judge => Ok(Found::Judged(judge_text(alloc, tasks, text)?)),
-        OfTwo::Simulate => Ok(Found::Simulated(simulate_text(alloc, tasks, text)?)),
+        OfTwo::Simulate => {
+            let answer = simulate_text(alloc, tasks, text)?;
+            if options.by_task {
+                Ok(Found::Reached(answer))
+            } else {
+                Ok(Found::Simulated(answer))
+            }
+        }
         OfTwo::Draw => Ok(Found::Drawn(simulate_text(alloc, tasks, text)?)),
     }
 }
@@ -68,6 +87,11 @@ fn print_found<W: Write + Drop>(
 {
     match found {
         Found::Shown(checked) => print(line_of(*checked), Status::Done, output),
+        Found::Compared(compared) => print_made(
+            compared_text(alloc, tasks, compared),
+            placing_status(&compared.is),
+            output,
+        ),
         Found::Judged(judged) => print_made(
             judged_text(alloc, tasks, judged),
             judged_status(judged),
@@ -76,8 +100,14 @@ fn print_found<W: Write + Drop>(
         Found::Simulated(Simulated::Ran(run)) => {
             print_made(trace_text(alloc, &run.trace), Status::Done, output)
         }
+        Found::Reached(Simulated::Ran(run)) => {
+            print_made(reached_text(alloc, tasks, run), Status::Done, output)
+        }
         Found::Drawn(Simulated::Ran(run)) => draw_run(alloc, tasks, run, output),
         Found::Simulated(Simulated::Infeasible(members)) => {
+            print_stuck(alloc, tasks, *members, output)
+        }
+        Found::Reached(Simulated::Infeasible(members)) => {
             print_stuck(alloc, tasks, *members, output)
         }
         Found::Drawn(Simulated::Infeasible(members)) => print_stuck(alloc, tasks, *members, output),
@@ -88,15 +118,16 @@ fn print_found<W: Write + Drop>(
 fn say_both<W: Write + Drop, P: Audience>(
     alloc: Global,
     command: OfTwo,
+    options: Options<'_>,
     tasks: &TaskSet,
     text: &[u8],
     output: &mut Watched<W>,
     people: &mut P,
 ) -> Status
-    ensures { IsSaidOn (SaysOfBoth command tasks.now text.now)
+    ensures { IsSaidOn (SaysOfBoth command options.entry tasks.now text.now)
         W.contents output.old output.new result }
 {
-    let answer = find(alloc, command, tasks, text);
+    let answer = find(alloc, command, options, tasks, text);
     tell(&answer, tasks, Which::Second, text, people);
     match answer {
         Ok(found) => print_found(alloc, tasks, &found, output),
@@ -104,22 +135,23 @@ fn say_both<W: Write + Drop, P: Audience>(
     }
 }
 
-/// A command of two inputs: reads a task set by a preference and a text, and prints what docs/FORMATS.md says of the
-/// command, or why one of them was refused. Both are read before either is parsed, the set first.
+/// A command of two inputs: reads a task set and a text, and prints what docs/FORMATS.md says of the command and of
+/// what the words choose, or why one of them was refused. Both are read before either is parsed, the set first.
 pub fn carry_out_on_both<R: Read + Drop, S: Read + Drop, W: Write + Drop, P: Audience>(
     alloc: Global,
     command: OfTwo,
-    preference: Preference,
+    options: Options<'_>,
     set: &mut Watched<R>,
     other: &mut Watched<S>,
     output: &mut Watched<W>,
     people: &mut P,
 ) -> Status
-    ensures { IsCarriedOutOnBoth (TwoSay command preference) R.remaining S.remaining W.contents
+    ensures { IsCarriedOutOnBoth (TwoSay command options.entry) R.remaining S.remaining W.contents
         set.old set.new other.old other.new output.old output.new result }
 {
+    let preference = preference_of(options);
     match read_two(alloc, preference, set, other, people) {
-        Ok((tasks, text)) => say_both(alloc, command, &tasks, &text, output, people),
+        Ok((tasks, text)) => say_both(alloc, command, options, &tasks, &text, output, people),
         Err(refusal) => refuse(refusal, output),
     }
 }

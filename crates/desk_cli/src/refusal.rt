@@ -2,7 +2,7 @@
 ghost use Rattle.std.specs.Prelude.{◌≡◌, Some};
 ghost use Rattle.std.specs.Fmt.{DisplaysOnOk};
 ghost use Rattle.desk_cli.specs.declared.refusal.CommandRefusal.TheVariants.{OutOfMemory};
-ghost use Rattle.desk_cli.specs.Refusals.{cause_words, certificate_words, check_words, fault_words, lone_cause_words, outranks_words, refusal_line, run_words, rush_words, script_words, settings_words, status_of, text_words, words_of};
+ghost use Rattle.desk_cli.specs.Refusals.{cause_words, certificate_words, check_words, fault_words, lone_cause_words, outranks_words, refusal_line, run_words, rush_words, script_words, settings_words, status_of, teams_words, text_words, words_of};
 
 use crate::release_text::TextFault;
 use crate::status::Status;
@@ -15,7 +15,8 @@ use scripts::ScriptFault;
 use std::alloc::AllocError;
 use std::fmt;
 use streams::InputFault;
-use task_sheet::{OutranksCause, SetFault, SheetCause};
+use task_sheet::{Name, OutranksCause, SetFault, SheetCause};
+use teams::TeamsFault;
 
 /// Why a command was refused. Its `Display` is the line that the command prints.
 #[derive(Clone, Copy)]
@@ -23,7 +24,9 @@ pub enum CommandRefusal {
     /// An input was not read.
     Input(InputFault),
     /// The set's input is no set.
-    Set(SetFault),
+    Set(TeamsFault),
+    /// The new set's input is no set.
+    New(TeamsFault),
     /// The certificate's input is no certificate.
     Certificate(CertFault),
     /// The certificate does not show what it says.
@@ -38,6 +41,8 @@ pub enum CommandRefusal {
     Script(ScriptFault),
     /// The lines of a script were not run to the end of all teams.
     Rush(RushFault),
+    /// No task of the set has the name that was asked about; none where the word is no name.
+    NoSuchTask { name: Option<Name> },
     /// Memory ran out after the inputs were read.
     OutOfMemory,
 }
@@ -59,8 +64,10 @@ impl CommandRefusal {
             CommandRefusal::Input(InputFault::TooLong) => Status::BadInput,
             CommandRefusal::Input(InputFault::OutOfMemory) => Status::OutOfMemory,
             CommandRefusal::Input(InputFault::ReadFailed) => Status::InputOrOutputFailed,
-            CommandRefusal::Set(SetFault::OutOfMemory) => Status::OutOfMemory,
+            CommandRefusal::Set(TeamsFault::OutOfMemory) => Status::OutOfMemory,
             CommandRefusal::Set(_) => Status::BadInput,
+            CommandRefusal::New(TeamsFault::OutOfMemory) => Status::OutOfMemory,
+            CommandRefusal::New(_) => Status::BadInput,
             CommandRefusal::Certificate(CertFault::OutOfMemory) => Status::OutOfMemory,
             CommandRefusal::Certificate(_) => Status::BadCertificate,
             CommandRefusal::Check(_) => Status::BadCertificate,
@@ -73,6 +80,7 @@ impl CommandRefusal {
             CommandRefusal::Script(ScriptFault::OutOfMemory) => Status::OutOfMemory,
             CommandRefusal::Script(_) => Status::BadInput,
             CommandRefusal::Rush(_) => Status::OutOfMemory,
+            CommandRefusal::NoSuchTask { .. } => Status::BadInput,
             CommandRefusal::OutOfMemory => Status::OutOfMemory,
         }
     }
@@ -169,6 +177,7 @@ fn write_fault<W: fmt::Write>(fault: SetFault, f: &mut fmt::Formatter<W>) -> fmt
             let word = key.word();
             write!(f, "WrongKind {task} {section} {word}")
         }
+        SetFault::BadPreference => f.write_str("BadPreference"),
         SetFault::BadName { task, section } => write!(f, "BadName {task} {section}"),
         SetFault::Sheet { task, cause } => write_cause(task, cause, f),
         SetFault::BadJitter { task } => write!(f, "BadJitter {task}"),
@@ -179,6 +188,38 @@ fn write_fault<W: fmt::Write>(fault: SetFault, f: &mut fmt::Formatter<W>) -> fmt
         SetFault::SameName { task } => write!(f, "SameName {task}"),
         SetFault::TooManyTasks => f.write_str("TooManyTasks"),
         SetFault::OutOfMemory => f.write_str("OutOfMemory"),
+    }
+}
+
+// The name of the fault of a set's text, with its fields: that of a team's document stands behind the team.
+fn write_teams_fault<W: fmt::Write>(fault: TeamsFault, f: &mut fmt::Formatter<W>) -> fmt::Result
+    ensures { DisplaysOnOk W.write_str_gives f.old result (Some (teams_words fault)) f.new }
+{
+    match fault {
+        TeamsFault::Alone { fault } => write_fault(fault, f),
+        TeamsFault::BadHead { part } => write!(f, "BadHead {part}"),
+        TeamsFault::Of { team, fault } => {
+            write!(f, "team {team} ")?;
+            write_fault(fault, f)
+        }
+        TeamsFault::Taken { team, task, other } => write!(f, "TakenName {team} {task} {other}"),
+        TeamsFault::OtherPreference { team, other } => write!(f, "OtherPreference {team} {other}"),
+        TeamsFault::TooManyTasks => f.write_str("TooManyTasks"),
+        TeamsFault::OutOfMemory => f.write_str("OutOfMemory"),
+    }
+}
+
+// The same of the new set's text, which the line says; want of memory stands alone.
+fn write_new_fault<W: fmt::Write>(fault: TeamsFault, f: &mut fmt::Formatter<W>) -> fmt::Result
+    ensures { DisplaysOnOk W.write_str_gives f.old result (Some (words_of (CommandRefusal.New fault)))
+        f.new }
+{
+    match fault {
+        TeamsFault::OutOfMemory => f.write_str("OutOfMemory"),
+        _ => {
+            f.write_str("new ")?;
+            write_teams_fault(fault, f)
+        }
     }
 }
 
@@ -231,6 +272,7 @@ fn write_run_fault<W: fmt::Write>(fault: RunFault, f: &mut fmt::Formatter<W>) ->
         RunFault::UnknownTask { place } => write!(f, "UnknownTask {place}"),
         RunFault::TooSoon { place } => write!(f, "TooSoon {place}"),
         RunFault::TooLate { place } => write!(f, "TooLate {place}"),
+        RunFault::OutsideCost { place } => write!(f, "OutsideCost {place}"),
         RunFault::PastHorizon => f.write_str("PastHorizon"),
         RunFault::TooMany => f.write_str("TooMany"),
         RunFault::Overrun { name, time } => write!(f, "Overrun {name} {time}"),
@@ -280,7 +322,8 @@ fn write_words<W: fmt::Write>(refusal: CommandRefusal, f: &mut fmt::Formatter<W>
         CommandRefusal::Input(InputFault::TooLong) => f.write_str("InputTooLong"),
         CommandRefusal::Input(InputFault::OutOfMemory) => f.write_str("OutOfMemory"),
         CommandRefusal::Input(InputFault::ReadFailed) => f.write_str("ReadFailed"),
-        CommandRefusal::Set(fault) => write_fault(fault, f),
+        CommandRefusal::Set(fault) => write_teams_fault(fault, f),
+        CommandRefusal::New(fault) => write_new_fault(fault, f),
         CommandRefusal::Certificate(fault) => write_certificate_fault(fault, f),
         CommandRefusal::Check(fault) => write_check_fault(fault, f),
         CommandRefusal::Text(fault) => write_text_fault(fault, f),
@@ -288,6 +331,8 @@ fn write_words<W: fmt::Write>(refusal: CommandRefusal, f: &mut fmt::Formatter<W>
         CommandRefusal::Settings(fault) => write_settings_fault(fault, f),
         CommandRefusal::Script(fault) => write_script_fault(fault, f),
         CommandRefusal::Rush(fault) => write_rush_fault(fault, f),
+        CommandRefusal::NoSuchTask { name: Some(name) } => write!(f, "NoSuchTask {name}"),
+        CommandRefusal::NoSuchTask { name: None } => f.write_str("NoSuchTask"),
         CommandRefusal::OutOfMemory => f.write_str("OutOfMemory"),
     }
 }

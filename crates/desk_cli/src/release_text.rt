@@ -1,8 +1,9 @@
-//! Release lists as text: `until N`, and then a line `TIME NAME` or `TIME NAME LATE` for each release.
+//! Release lists as text: `until N`, and then for each release a line `TIME NAME` or `TIME NAME LATE`, perhaps with `runs N`
+//! behind it.
 ghost use Rattle.std.specs.Prelude.{◌≡◌, Ok, MatchResult, option_map};
 ghost use Rattle.lines.specs.Lines.{kept_from, lines_of};
 ghost use Rattle.lines.specs.Words.{words};
-ghost use Rattle.desk_cli.specs.ReleasesText.{late_in, list_in, release_in, releases_from, until_in};
+ghost use Rattle.desk_cli.specs.ReleasesText.{list_in, release_in, releases_from, rest_in, runs_in, until_in};
 ghost use Rattle.desk_cli.specs.TextFaults.{IsTextFault};
 ghost use Rattle.desk_cli.specs.declared.release_text.TextFault.TheVariants.{OutOfMemory};
 
@@ -41,31 +42,59 @@ fn until_of(line: &[u8]) -> Option<u64>
     }
 }
 
-// How late a release is, by the word that may follow its name.
-fn late_of(word: Option<&[u8]>) -> Option<u64>
-    ensures { result ≡ late_in (option_map (λ w. w.now) word.entry) }
+// For how long a job executes, by the words `runs N`.
+fn runs_of(word: &[u8], number: &[u8]) -> Option<u64>
+    ensures { result ≡ runs_in word.now number.now }
 {
-    match word {
-        Some(word) => number_of(word),
-        None => Some(0),
+    if word == b"runs".as_slice() {
+        number_of(number)
+    } else {
+        None
     }
 }
 
-// The release of a line `TIME NAME` or `TIME NAME LATE`.
+// How late a release is, and for how long its job executes, by the words that may follow its name: `LATE`, `runs N`, or
+// both.
+fn rest_of(
+    first: Option<&[u8]>,
+    second: Option<&[u8]>,
+    third: Option<&[u8]>,
+) -> Option<(u64, Option<u64>)>
+    ensures { result ≡ rest_in (option_map (λ w. w.now) first.entry) (option_map (λ w. w.now) second.entry)
+        (option_map (λ w. w.now) third.entry) }
+{
+    match (first, second, third) {
+        (None, _, _) => Some((0, None)),
+        (Some(late), None, _) => Some((number_of(late)?, None)),
+        (Some(word), Some(number), None) => Some((0, Some(runs_of(word, number)?))),
+        (Some(late), Some(word), Some(number)) => {
+            Some((number_of(late)?, Some(runs_of(word, number)?)))
+        }
+    }
+}
+
+// The release of a line `TIME NAME` or `TIME NAME LATE`, perhaps with `runs N` behind it.
 fn release_of(line: &[u8]) -> Option<Release>
     ensures { result ≡ release_in (words line.now) }
 {
     let mut words = Words::of(line);
     let time = words.next()?;
     let name = words.next()?;
-    let late = words.next();
+    let first = words.next();
+    let second = words.next();
+    let third = words.next();
     match words.next() {
         Some(_more) => None,
         None => {
             let time = number_of(time)?;
             let name = name_of(name)?;
-            let late = late_of(late)?;
-            Some(Release { time, name, late })
+            let (late, runs) = rest_of(first, second, third)?;
+            Some(Release {
+                time,
+                name,
+                late,
+                runs,
+            })
         }
     }
 }

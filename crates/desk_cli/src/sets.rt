@@ -1,17 +1,21 @@
 //! Reading the inputs of a command: a set, or a set and a text.
 ghost use Rattle.std.specs.Prelude.{◌≡◌, Err, IfOk, MatchResult};
-ghost use Rattle.preferences.specs.ReadsPreferred.{ReadsPreferred};
+ghost use Rattle.preferences.specs.ReadsPreferred.{SaysPreferred};
+ghost use Rattle.teams.specs.ReadsText.{ReadsText};
+ghost use Rattle.desk_cli.specs.Commands.{preference_of};
 ghost use Rattle.desk_cli.specs.Sets.{HasNoSet, HasSet, HaveBoth, HaveNotBoth};
 ghost use Rattle.desk_cli.specs.Outcomes.{AreRead, IsRead, failed_read};
 ghost use Rattle.streams.specs.Inputs.{IsReadFrom, IsTooLong};
 
 use crate::audience::{Audience, Which};
 use crate::refusal::CommandRefusal;
+use command_line::{Options, Preferred};
 use preferences::{Preference, read_preferred};
 use std::alloc::Global;
 use std::io::Read;
 use streams::{InputFault, Watched, read_input};
-use task_sheet::{SetFault, TaskSet};
+use task_sheet::TaskSet;
+use teams::TeamsFault;
 
 // All that an input has; or why it was not read, which the audience is told.
 pub(crate) fn read_told<R: Read + Drop, P: Audience>(
@@ -31,26 +35,42 @@ pub(crate) fn read_told<R: Read + Drop, P: Audience>(
     bytes
 }
 
-// The set that bytes say, by a preference; or why there is none, which the audience is told.
+// What a call prefers, where its words say so.
+pub(crate) fn preference_of(options: Options<'_>) -> Option<Preference>
+    ensures { result ≡ preference_of options.entry }
+{
+    match options.prefer {
+        Some(Preferred::Deadline) => Some(Preference::Deadline),
+        Some(Preferred::Weight) => Some(Preference::Weights),
+        None => None,
+    }
+}
+
+// The set that bytes say, by what the call prefers, or else the set; or why there is none. The audience is told either.
 fn set_told<P: Audience>(
     alloc: Global,
-    preference: Preference,
+    preference: Option<Preference>,
     bytes: &[u8],
     people: &mut P,
-) -> Result<TaskSet, SetFault>
-    ensures { ReadsPreferred preference bytes.now result }
+) -> Result<TaskSet, TeamsFault>
+    ensures { MatchResult result (λ tasks. SaysPreferred preference bytes.now tasks)
+        (λ fault. ReadsText bytes.now (Err fault)) }
 {
-    let tasks = read_preferred(alloc, bytes, preference);
-    if let Err(fault) = &tasks {
-        people.refused(Which::First, bytes, CommandRefusal::Set(*fault));
+    let read = read_preferred(alloc, bytes, preference);
+    match &read {
+        Ok(preferred) => people.preferred(&preferred.set, preferred.choice),
+        Err(fault) => people.refused(Which::First, bytes, CommandRefusal::Set(*fault)),
     }
-    tasks
+    match read {
+        Ok(preferred) => Ok(preferred.set),
+        Err(fault) => Err(fault),
+    }
 }
 
 // The set that the reader has, by a preference; or why there is none, which the audience is told.
 pub(crate) fn read_one<R: Read + Drop, P: Audience>(
     alloc: Global,
-    preference: Preference,
+    preference: Option<Preference>,
     set: &mut Watched<R>,
     people: &mut P,
 ) -> Result<TaskSet, CommandRefusal>
@@ -68,7 +88,7 @@ pub(crate) fn read_one<R: Read + Drop, P: Audience>(
 // of the second.
 pub(crate) fn read_two<R: Read + Drop, S: Read + Drop, P: Audience>(
     alloc: Global,
-    preference: Preference,
+    preference: Option<Preference>,
     set: &mut Watched<R>,
     other: &mut Watched<S>,
     people: &mut P,

@@ -1,6 +1,8 @@
 //! `desk simulate`.
-ghost use Rattle.task_sheet.specs.Orders.{IsBest};
+ghost use Rattle.std.specs.Prelude.{◌≡◌, IfOk, string_bytes};
+ghost use Rattle.task_sheet.specs.Orders.{IsBest, IsOrder};
 ghost use Rattle.assignment.specs.Placings.{tasks_of_places};
+ghost use Rattle.run_lines.specs.Lines.{task_lines};
 ghost use Rattle.desk_cli.specs.Simulate.{RunsOrder, SimulatesText};
 
 use crate::refusal::CommandRefusal;
@@ -8,7 +10,8 @@ use crate::release_text::read_releases;
 use assignment::{Place, Placing, place_all, tasks_of_places};
 use ceiling_kernel::{Kernel, KernelFault, Release, Trace};
 use ceilings::LockTable;
-use std::alloc::Global;
+use run_lines::tasks_text;
+use std::alloc::{AllocError, Global};
 use task_sheet::{Members, TaskSet};
 
 /// A run of a set's tasks at the levels of their best order.
@@ -62,6 +65,8 @@ pub(crate) fn simulate_text(
 ) -> Result<Simulated, CommandRefusal>
     ensures { SimulatesText tasks.now text.now result }
 {
+    // The set is valid: the proof has it from its sheets.
+    let _ = tasks.sheets();
     let (until, releases) = match read_releases(alloc, text) {
         Ok(list) => list,
         Err(fault) => return Err(CommandRefusal::Text(fault)),
@@ -79,4 +84,13 @@ pub(crate) fn simulate_text(
             }))
         }
     }
+}
+
+// The lines of what the tasks of a set came to in a run of it.
+pub(crate) fn reached_text(alloc: Global, set: &TaskSet, run: &Run) -> Result<String, AllocError>
+    requires { IsOrder set.now (tasks_of_places run.now.places.items) }
+    ensures { IfOk result (λ text. string_bytes text
+        ≡ task_lines set.now run.now.trace.jobs.items run.now.places.items) }
+{
+    tasks_text(alloc, set, &run.places, &run.trace.jobs)
 }

@@ -1,5 +1,5 @@
 use Rattle.std.proofs.Common.{◌++◌, ◌∙◌, ℕ, List, ap}
-use Rattle.desk_cli.specs.Headroom.{placing_first}
+use Rattle.desk_cli.specs.Limits.{placing_first}
 use Rattle.desk_cli.proofs.explain_lines.explained_text.Goals as goal
 
 pub returns : goal.returns

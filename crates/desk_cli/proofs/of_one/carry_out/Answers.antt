@@ -1,6 +1,6 @@
 use Rattle.std.proofs.Common.{◌≡◌, Ok, Err, inl, inr, refl}
 use Rattle.command_line.specs.declared.calls.OfOne.{OfOne}
-use Rattle.command_line.specs.declared.calls.OfOne.TheVariants.{Admit, Certify, Headroom, Settings, Explain, Play}
+use Rattle.command_line.specs.declared.calls.OfOne.TheVariants.{Admit, Certify, Limits, Settings, Explain, Play}
 use Rattle.desk_cli.specs.Saying.{IsOfPlacing}
 use Rattle.desk_cli.specs.declared.refusal.CommandRefusal.TheVariants as refusal
 use Rattle.desk_cli.proofs.CarriedOut.{carried_out, refused, said_as}
@@ -11,7 +11,7 @@ use Rattle.desk_cli.proofs.of_one.carry_out.Goals as goal
 of_placing : (c : OfOne) → (c ≡ Certify → ⊥) → (c ≡ Play → ⊥) → IsOfPlacing c
 of_placing Admit one other = tt
 of_placing Certify one other = absurd (one refl)
-of_placing Headroom one other = tt
+of_placing Limits one other = tt
 of_placing Settings one other = tt
 of_placing Explain one other = tt
 of_placing Play one other = absurd (other refl)
@@ -22,14 +22,15 @@ say_placing-requires-clause-command g c = of_placing c.args.command c.in_default
 -- want of memory for what is printed is an answer of its own
 pub returns-in-Ok : goal.returns-in-Ok
 returns-in-Ok g c =
+    let answer = rw c.preference_of-preference.ensures at c.in-Ok.ensures.answer in
     rw c.in-Certify.is (carried_out c.in-Ok.ensures.read (said_as c.print_verdict.ensures (λ told. elim told [
-      | inl wrote ↦ (Ok c.in-Ok.verdict, c.in-Ok.ensures.answer, wrote.0, wrote.1)
+      | inl wrote ↦ (Ok c.in-Ok.verdict, answer, wrote.0, wrote.1)
       | inr want ↦ (Err refusal.OutOfMemory, tt, want.0, want.1)
     ])))
 
 pub returns-in-Err : goal.returns-in-Err
 returns-in-Err g c =
-    rw c.in-Certify.is (refused c.in-Err.ensures.read c.refuse.ensures (λ wrote is. one_refused _ _ _ c.in-Err.refusal wrote is Certify c.args.preference _ c.in-Err.ensures.answer))
+    rw c.in-Certify.is (refused c.in-Err.ensures.read c.refuse.ensures (λ wrote is. one_refused _ _ _ c.in-Err.refusal wrote is Certify c.args.options _ c.in-Err.ensures.answer))
 
 pub returns-in-Ok-lines_of : goal.returns-in-Ok-lines_of
 returns-in-Ok-lines_of g c =
@@ -38,13 +39,14 @@ returns-in-Ok-lines_of g c =
 
 pub returns-in-Err-lines_of : goal.returns-in-Err-lines_of
 returns-in-Err-lines_of g c =
-    rw c.in-Play.is (refused c.in-Err-lines_of.ensures.read c.refuse-in-Err-lines_of.ensures (λ wrote is. one_refused _ _ _ c.in-Err-lines_of.refusal wrote is Play c.args.preference _ c.in-Err-lines_of.ensures.answer))
+    rw c.in-Play.is (refused c.in-Err-lines_of.ensures.read c.refuse-in-Err-lines_of.ensures (λ wrote is. one_refused _ _ _ c.in-Err-lines_of.refusal wrote is Play c.args.options _ c.in-Err-lines_of.ensures.answer))
 
 pub returns-in-Ok-place : goal.returns-in-Ok-place
 returns-in-Ok-place g c =
-    carried_out c.in-Ok-place.ensures.read (said_as c.say_placing.ensures (λ told. told c.args.preference _ c.in-Ok-place.ensures.answer.0))
+    let placed = rw c.preference_of-preference.ensures at c.in-Ok-place.ensures.answer in
+    carried_out c.in-Ok-place.ensures.read (said_as c.say_placing.ensures (λ told. told _ placed.0))
 
 pub returns-in-Err-place : goal.returns-in-Err-place
 returns-in-Err-place g c =
     refused c.in-Err-place.ensures.read c.refuse-in-Err-place.ensures
-    (λ wrote is. placed_refused _ _ _ c.in-Err-place.refusal wrote is c.args.command c.args.preference _ c.in_default.not-Play c.in-Err-place.ensures.answer)
+    (λ wrote is. placed_refused _ _ _ c.in-Err-place.refusal wrote is c.args.command c.args.options _ c.in_default.not-Play c.in-Err-place.ensures.answer)

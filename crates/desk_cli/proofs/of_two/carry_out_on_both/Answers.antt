@@ -1,4 +1,5 @@
 use Rattle.std.proofs.Common.{ℕ, List, sym, subst}
+use Rattle.desk_cli.specs.Commands.{preference_of}
 use Rattle.desk_cli.specs.Sets.{HaveBoth}
 use Rattle.desk_cli.proofs.CarriedOut.{carried_out_on_both, refused_on_both, said_as}
 use Rattle.desk_cli.proofs.Refused.{two_refused}
@@ -8,9 +9,10 @@ pub returns-in-Ok : goal.returns-in-Ok
 returns-in-Ok g c =
     let set = g.R.Read.remaining c.args.set.now.inner in
     let other = g.S.Read.remaining c.args.other.now.inner in
-    let both : HaveBoth c.args.preference set other c.in-Ok.tasks c.deref.result.now = subst (λ (text : List ℕ). HaveBoth c.args.preference set other c.in-Ok.tasks text) (sym c.deref.ensures.value) c.in-Ok.ensures.answer in
-    carried_out_on_both c.in-Ok.ensures.read (said_as c.say_both.ensures (λ told. told c.args.preference set other both))
+    let answer = rw c.preference_of-preference.ensures at c.in-Ok.ensures.answer in
+    let both : HaveBoth (preference_of c.args.options) set other c.in-Ok.tasks c.deref.result.now = subst (λ (text : List ℕ). HaveBoth (preference_of c.args.options) set other c.in-Ok.tasks text) (sym c.deref.ensures.value) answer in
+    carried_out_on_both c.in-Ok.ensures.read (said_as c.say_both.ensures (λ told. told set other both))
 
 pub returns-in-Err : goal.returns-in-Err
 returns-in-Err g c =
-    refused_on_both c.in-Err.ensures.read c.refuse.ensures (λ wrote is. two_refused _ _ _ _ wrote is c.args.command c.args.preference _ _ c.in-Err.ensures.answer)
+    refused_on_both c.in-Err.ensures.read c.refuse.ensures (λ wrote is. two_refused _ _ _ _ wrote is c.args.command c.args.options _ _ c.in-Err.ensures.answer)

@@ -1,5 +1,5 @@
 use Rattle.std.proofs.Common.{◌≡◌, ◌∙◌, Ok, ap, subst, List, ℕ}
-use Rattle.ceiling_kernel.specs.Runs.{Runs}
+use Rattle.ceiling_kernel.specs.Runs.{MeetsTighterBounds, Runs}
 use Rattle.ceiling_kernel.specs.Tick.{node_in}
 use Rattle.assignment.specs.Placings.{tasks_of_places}
 use Rattle.desk_cli.proofs.simulate.run_best.Goals as goal
@@ -7,5 +7,7 @@ use Rattle.desk_cli.proofs.simulate.run_best.Goals as goal
 pub returns-in-Ok-run : goal.returns-in-Ok-run
 returns-in-Ok-run c =
     let node : c.in-Ok.kernel ≡ node_in c.args.set.now (tasks_of_places c.args.places.now) =
-    c.in-Ok.ensures.ok.0 ∙ ap (λ (order : List ℕ). node_in c.args.set.now order) (c.deref.ensures.value ∙ c.in_ok-order.ensures) in
-    subst (λ n. Runs n c.args.releases.now c.args.until (Ok c.in-Ok-run.trace)) node c.in-Ok-run.ensures.trace
+    c.in-Ok.ensures.ok.0 ∙ ap (λ (order : List ℕ). node_in c.args.set.now order) (c.deref.ensures.value ∙ c.in_ok-order.ensures) in (
+      subst (λ n. Runs n c.args.releases.now c.args.until (Ok c.in-Ok-run.trace)) node c.in-Ok-run.ensures.trace,
+      subst (λ n. MeetsTighterBounds n c.args.releases.now c.args.until c.in-Ok-run.trace) node c.in-Ok-run.ensures.tighter,
+    )

@@ -1,9 +1,10 @@
 use Rattle.std.proofs.Common.{◌≡◌, ◌∙◌, ◌++◌, ℕ, List, [], length, refl, sym, subst, arith, append_assoc, append-nil, string_bytes}
 use Rattle.std.specs.Io.KnownBytes.{Appends, append_known}
 use Rattle.std.proofs.KnownBytes.{Appends-trans}
-use Rattle.desk_cli.specs.Headroom.{AreLines, order_in}
-use Rattle.desk_cli.proofs.Headrooms.{lines_more, where_sound}
-use Rattle.desk_cli.proofs.headroom_lines.put_lines.Goals as goal
+use Rattle.limit_lines.specs.Lines.{places_in}
+use Rattle.desk_cli.specs.Limits.{AreLines}
+use Rattle.desk_cli.proofs.ListedLimits.{lines_more, where_sound}
+use Rattle.desk_cli.proofs.limits_lines.put_lines.Goals as goal
 
 pub loop-task-init : goal.loop-task-init
 loop-task-init g c =
@@ -28,7 +29,7 @@ loop-task-preserved g c =
     record {
       said = (
         said.0 ++ line,
-        lines_more c.args.listing.now.set.now (order_in c.args.listing.now.order) c.loop-task.task said.0 line said.1 c.in-Ok.ensures,
+        lines_more c.args.listing.now.set.now (places_in c.args.listing.now.placing.now) c.loop-task.task said.0 line said.1 c.in-Ok.ensures,
         subst (λ bs. Appends before after bs) (append_assoc (string_bytes c.args.listing.now.first) said.0 line) (Appends-trans before between after ((string_bytes c.args.listing.now.first) ++ said.0) line said.2 wrote),
       );
       same_flag = where_sound c.put-in-loop-task.result (c.put-in-loop-task.new.out.has_failed ≡ c.loop-task.output.has_failed) ok c.put-in-loop-task.ensures.ok ∙ c.loop-task.invariant.same_flag;
@@ -37,7 +38,7 @@ loop-task-preserved g c =
 pub returns-in-Ok-put-clause-all : goal.returns-in-Ok-put-clause-all
 returns-in-Ok-put-clause-all g c =
     let U = c.args.listing.now.set.now in
-    let order = order_in c.args.listing.now.order in
+    let order = places_in c.args.listing.now.placing.now in
     let said = c.loop-task.invariant.said in
     let last : List ℕ = string_bytes c.in-Ok-last_text.text in
     let before = append_known (g.W.Write.contents c.args.output.now.inner) c.args.held.now in

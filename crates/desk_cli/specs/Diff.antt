@@ -1,0 +1,65 @@
+-- What `desk diff` answers and prints.
+use Rattle.std.specs.Prelude.{◌≡◌, ℕ, Bool, true, false, List, ◌++◌, codes, Option, Result, Ok, Err}
+use Rattle.task_sheet.specs.declared.prefer.Preference.{Preference}
+use Rattle.task_sheet.specs.declared.prefer.Preference.TheVariants.{Weights}
+use Rattle.task_sheet.specs.declared.read.Document.{Document}
+use Rattle.preferences.specs.Preferences.{IsPreferred}
+use Rattle.preferences.specs.ReadsPreferred.{chosen}
+use Rattle.task_sheet.specs.Sheet.{Task}
+use Rattle.teams.specs.ReadsText.{ReadsText}
+use Rattle.assignment.specs.Placings.{IsPlacingOf}
+use Rattle.diff.specs.Lines.{change_lines}
+use Rattle.desk_cli.specs.Admit.{placing_status}
+use Rattle.desk_cli.specs.Limits.{placing_first}
+use Rattle.desk_cli.specs.Printed.{Prints}
+use Rattle.desk_cli.specs.Sets.{HaveBoth, OnBoth}
+use Rattle.desk_cli.specs.declared.diff_lines.Compared.{Compared}
+use Rattle.desk_cli.specs.declared.refusal.CommandRefusal.{CommandRefusal}
+use Rattle.desk_cli.specs.declared.refusal.CommandRefusal.TheVariants as refusal
+use Rattle.desk_cli.specs.declared.status.Status.{Status}
+
+-- weights are the sheets' own
+abbrev pub does_weigh : Preference → Bool
+does_weigh Weights = true
+does_weigh _ = false
+
+-- the text says this set, by what the call prefers or else the text; weights are the sheets' own where that is by weights
+abbrev pub IsNew : Option Preference → List ℕ → List Task → Bool → Type 0
+IsNew preference text V weighs =
+    (d : Document) × ReadsText text (Ok d) × IsPreferred (chosen preference d.prefers) d.set V
+    × (weighs ≡ does_weigh (chosen preference d.prefers))
+
+-- the text says the new set, and this becomes of both
+pub record IsComparison (preference : Option Preference) (U : List Task) (text : List ℕ) (c : Compared) : Type 0 where
+  pub new : IsNew preference text c.set c.weighs
+  pub was : IsPlacingOf U c.was
+  pub is : IsPlacingOf c.set c.is
+
+-- the answer on a set and the text of the new one
+abbrev pub ComparesText : Option Preference → List Task → List ℕ → Result Compared CommandRefusal → Type 0
+ComparesText preference U text (Ok c) = IsComparison preference U text c
+ComparesText preference U text (Err (refusal.New fault)) = ReadsText text (Err fault)
+ComparesText preference U text (Err refusal.OutOfMemory) = Unit {0}
+ComparesText preference U text _ = ⊥
+
+-- the answer on what the readers have of the two, with the first
+abbrev pub Compares : Option Preference → Option (List ℕ) → Option (List ℕ)
+    → Result (List Task × Compared) CommandRefusal → Type 0
+Compares preference set other (Ok both) =
+    (text : List ℕ) × HaveBoth preference set other both.0 text
+    × ComparesText preference both.0 text (Ok both.1)
+Compares preference set other (Err r) = OnBoth (ComparesText preference) preference set other (Err r)
+
+-- what becomes of the new set, what became of the old one, and then the change
+abbrev pub compared_lines : List Task → Compared → List ℕ
+compared_lines U c =
+    placing_first c.set c.is ++ codes "was " ++ placing_first U c.was
+    ++ change_lines c.weighs U c.was c.set c.is
+
+-- the answer on what the readers had is printed after what the writer held, and the status is that of the new set
+abbrev pub SaysCompared :
+    Option Preference → (set other : Option (List ℕ)) → (before after : Option (List ℕ)) → Status
+    → Type 0
+SaysCompared preference set other before after s =
+    Prints (Compares preference set other) (λ both. compared_lines both.0 both.1)
+    (λ both. placing_status both.1.is) before after s

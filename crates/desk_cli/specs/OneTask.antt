@@ -1,0 +1,92 @@
+-- What is said of one task of a set, where the words ask about it.
+use Rattle.std.specs.Prelude.{◌≡◌, ℕ, List, ◌++◌, Option, Some, None, Result, Ok, Err}
+use Rattle.task_sheet.specs.declared.prefer.Preference.{Preference}
+use Rattle.task_sheet.specs.Sheet.{Task}
+use Rattle.lines.specs.Words.{name_in}
+use Rattle.assignment.specs.declared.placing.Placing.{Placing}
+use Rattle.ceiling_kernel.specs.Releases.{task_named}
+use Rattle.explain.specs.Explanations.{Explains}
+use Rattle.explain.specs.TaskLines.{task_lines}
+use Rattle.explain.specs.declared.explanation.Explanation.{Explanation}
+use Rattle.limit_lines.specs.Lines.{AreTaskLines, places_in}
+use Rattle.desk_cli.specs.Admit.{Places, placing_status}
+use Rattle.desk_cli.specs.Explain.{SaysExplained}
+use Rattle.desk_cli.specs.Limits.{SaysLimits, placing_first}
+use Rattle.desk_cli.specs.Printed.{Prints}
+use Rattle.desk_cli.specs.Sets.{HasSet}
+use Rattle.desk_cli.specs.declared.one_task.TaskPart.{TaskPart}
+use Rattle.desk_cli.specs.declared.one_task.TaskPart.TheVariants.{Limits, Reasons}
+use Rattle.desk_cli.specs.declared.refusal.CommandRefusal.{CommandRefusal}
+use Rattle.desk_cli.specs.declared.refusal.CommandRefusal.TheVariants as refusal
+use Rattle.desk_cli.specs.declared.status.Status.{Status}
+
+-- a text is what is said of a task of a placed set: how far its numbers may go, or what explains its response
+abbrev pub AreLinesOf : TaskPart → List Task → Placing → ℕ → List ℕ → Type 0
+AreLinesOf Limits U placing task text = AreTaskLines U (places_in placing) task text
+AreLinesOf Reasons U placing task text =
+    (explanation : Explanation) × Explains U placing explanation
+    × (text ≡ task_lines U task explanation)
+
+-- the task of a set that has the name that a word is
+abbrev pub named_task : List Task → Option (List ℕ) → Option ℕ
+named_task U None = None
+named_task U (Some name) = task_named U name
+
+-- the same by the word
+abbrev pub asked_task : List Task → List ℕ → Option ℕ
+asked_task U word = named_task U (name_in word)
+
+-- no task has the name; where the word is no name, it isn't repeated
+abbrev pub no_such_task : List ℕ → CommandRefusal
+no_such_task word = refusal.NoSuchTask (name_in word)
+
+-- a set and its placing, and what is said of a task
+pub record OfTaskData : Type 0 where
+  pub set : List Task
+  pub placing : Placing
+  pub lines : List ℕ
+
+-- the answer on what a reader has: what is said of the task that a word names; or that there is none
+abbrev pub AnswersOfTask : TaskPart → List ℕ → Option Preference → Option (List ℕ)
+    → Result OfTaskData CommandRefusal → Type 0
+AnswersOfTask part word preference known (Ok d) =
+    Places preference known (Ok (d.set, d.placing))
+    × ((task : ℕ) × (asked_task d.set word ≡ Some task)
+    × AreLinesOf part d.set d.placing task d.lines)
+AnswersOfTask part word preference known (Err (refusal.NoSuchTask name)) =
+    (U : List Task) × (placing : Placing) × Places preference known (Ok (U, placing))
+    × (asked_task U word ≡ None) × (name ≡ name_in word)
+AnswersOfTask part word preference known (Err r) = Places preference known (Err r)
+
+-- what is printed of such an answer: the first line of the verdict, and then what is said of the task
+abbrev pub task_said : OfTaskData → List ℕ
+task_said d = placing_first d.set d.placing ++ d.lines
+
+-- the answer on what the reader had is printed after what the writer held, and the status is the answer's
+abbrev pub SaysTask : TaskPart → List ℕ → Option Preference → Option (List ℕ)
+    → (before after : Option (List ℕ)) → Status → Type 0
+SaysTask part word preference known before after s =
+    Prints (AnswersOfTask part word preference known) task_said (λ d. placing_status d.placing)
+    before after s
+
+-- how far the numbers of all tasks may go, or those of the task that the words ask about
+abbrev pub SaysLimitsOf : Option (List ℕ) → Option Preference → Option (List ℕ)
+    → (before after : Option (List ℕ)) → Status → Type 0
+SaysLimitsOf None preference known before after s = SaysLimits preference known before after s
+SaysLimitsOf (Some word) preference known before after s =
+    SaysTask Limits word preference known before after s
+
+-- what explains the placing of all tasks, or of the task that the words ask about
+abbrev pub SaysReasonsOf : Option (List ℕ) → Option Preference → Option (List ℕ)
+    → (before after : Option (List ℕ)) → Status → Type 0
+SaysReasonsOf None preference known before after s = SaysExplained preference known before after s
+SaysReasonsOf (Some word) preference known before after s =
+    SaysTask Reasons word preference known before after s
+
+-- this is said of each reader that has a set
+abbrev pub OfPlaced :
+    (Option Preference → Option (List ℕ) → (before after : Option (List ℕ)) → Status → Type 0)
+    → List Task → (before after : Option (List ℕ)) → Status → Type 0
+OfPlaced says U before after s =
+    (preference : Option Preference) → (known : Option (List ℕ)) → HasSet preference known U
+    → says preference known before after s
