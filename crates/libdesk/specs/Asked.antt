@@ -1,7 +1,7 @@
 -- What a command says of what it is given.
 use Rattle.std.specs.Prelude.{ℕ, List, Option, Some}
-use Rattle.preferences.specs.declared.preferred.Preference.TheVariants.{Weights}
-use Rattle.desk_cli.specs.Commands.{OneSays, TwoSay}
+use Rattle.command_line.specs.Calls.{no_options}
+use Rattle.desk_cli.specs.Commands.{OneSays, TwoSay, preference_of}
 use Rattle.desk_cli.specs.Releases.{SaysList}
 use Rattle.desk_cli.specs.declared.status.Status.{Status}
 use Rattle.libdesk.specs.declared.asked.Asked.{Asked}
@@ -10,8 +10,8 @@ use Rattle.libdesk.specs.declared.asked.Asked.TheVariants.{One, Two, Releases}
 -- what a writer held, what it holds then, and the status, are those of the command's answer
 abbrev pub AskedSays : Asked → (before after : Option (List ℕ)) → Status → Type 0
 AskedSays (One command input) before after s =
-    OneSays command Weights (Some input.now) before after s
+    OneSays command no_options (Some input.now) before after s
 AskedSays (Two command first second) before after s =
-    TwoSay command Weights (Some first.now) (Some second.now) before after s
+    TwoSay command no_options (Some first.now) (Some second.now) before after s
 AskedSays (Releases set until) before after s =
-    SaysList Weights until (Some set.now) before after s
+    SaysList (preference_of no_options) no_options.seed until (Some set.now) before after s

@@ -4,13 +4,12 @@ ghost use Rattle.libdesk.specs.Answers.{AnswersCall};
 ghost use Rattle.libdesk.specs.Asked.{AskedSays};
 
 use crate::hand_out::hand_out;
-use command_line::{OfOne, OfTwo};
+use command_line::{OfOne, OfTwo, Options};
 use desk_cli::{Nobody, Status, carry_out, carry_out_on_both, run_releases};
-use preferences::Preference;
 use std::alloc::Global;
 use streams::Watched;
 
-/// A command with its inputs. A set is preferred by its weights.
+/// A command with its inputs, where nothing is chosen beside them.
 #[derive(Clone, Copy)]
 pub enum Asked<'a> {
     One(OfOne, &'a [u8]),
@@ -26,21 +25,29 @@ fn run<'a>(alloc: Global, asked: Asked<'a>, output: &mut Watched<Vec<u8>>) -> St
     ensures unwritten { output.old.has_failed ≡ false → output.new.has_failed ≡ true
         → result ≡ Status.InputOrOutputFailed }
 {
-    let by = Preference::Weights;
+    let options = Options::none();
     match asked {
         Asked::One(command, input) => {
             let mut input = Watched::new(input);
-            carry_out(alloc, command, by, &mut input, output, &mut Nobody)
+            carry_out(alloc, command, options, &mut input, output, &mut Nobody)
         }
         Asked::Two(command, first, second) => {
             let mut first = Watched::new(first);
             let mut second = Watched::new(second);
             let people = &mut Nobody;
-            carry_out_on_both(alloc, command, by, &mut first, &mut second, output, people)
+            carry_out_on_both(
+                alloc,
+                command,
+                options,
+                &mut first,
+                &mut second,
+                output,
+                people,
+            )
         }
         Asked::Releases(set, until) => {
             let mut set = Watched::new(set);
-            run_releases(alloc, by, &mut set, until, output, &mut Nobody)
+            run_releases(alloc, options, &mut set, until, output, &mut Nobody)
         }
     }
 }

@@ -1,17 +1,17 @@
 //! The functions that a program in C calls: a command each.
-ghost use Rattle.std.specs.Prelude.{◌≡◌, length, Some};
+ghost use Rattle.std.specs.Prelude.{◌≡◌, length, None, Some};
 ghost use Rattle.desk_cli.specs.Admit.{Says, admit_lines};
 ghost use Rattle.desk_cli.specs.Certify.{certificate_lines};
 ghost use Rattle.desk_cli.specs.Check.{SaysChecked};
+ghost use Rattle.desk_cli.specs.Diff.{SaysCompared};
 ghost use Rattle.desk_cli.specs.Draw.{SaysDrawn};
 ghost use Rattle.desk_cli.specs.Explain.{SaysExplained};
-ghost use Rattle.desk_cli.specs.Headroom.{SaysHeadroom};
+ghost use Rattle.desk_cli.specs.Limits.{SaysLimits};
 ghost use Rattle.desk_cli.specs.Judge.{SaysJudged};
 ghost use Rattle.desk_cli.specs.Play.{SaysPlayed};
 ghost use Rattle.desk_cli.specs.Releases.{SaysList};
 ghost use Rattle.desk_cli.specs.Settings.{settings_of};
 ghost use Rattle.desk_cli.specs.Simulate.{SaysSimulated};
-ghost use Rattle.preferences.specs.declared.preferred.Preference.TheVariants.{Weights};
 ghost use Rattle.libdesk.specs.Answers.{AnswersCall};
 
 use crate::asked::{Asked, answer};
@@ -22,7 +22,7 @@ use std::alloc::Global;
 #[unsafe(no_mangle)]
 pub extern "C" fn desk_admit(alloc: Global, set: &[u8], room: &mut [u8], status: &mut u8) -> usize
     ensures room { length room.new ≡ length room.old }
-    ensures answer { AnswersCall (Says admit_lines Weights
+    ensures answer { AnswersCall (Says admit_lines None
         (Some set.now)) room.old room.new result status.new }
 {
     answer(alloc, Asked::One(OfOne::Admit, set), room, status)
@@ -32,25 +32,20 @@ pub extern "C" fn desk_admit(alloc: Global, set: &[u8], room: &mut [u8], status:
 #[unsafe(no_mangle)]
 pub extern "C" fn desk_certify(alloc: Global, set: &[u8], room: &mut [u8], status: &mut u8) -> usize
     ensures room { length room.new ≡ length room.old }
-    ensures answer { AnswersCall (Says certificate_lines Weights
+    ensures answer { AnswersCall (Says certificate_lines None
         (Some set.now)) room.old room.new result status.new }
 {
     answer(alloc, Asked::One(OfOne::Certify, set), room, status)
 }
 
-/// What `desk headroom` prints of a task set.
+/// What `desk limits` prints of a task set.
 #[unsafe(no_mangle)]
-pub extern "C" fn desk_headroom(
-    alloc: Global,
-    set: &[u8],
-    room: &mut [u8],
-    status: &mut u8,
-) -> usize
+pub extern "C" fn desk_limits(alloc: Global, set: &[u8], room: &mut [u8], status: &mut u8) -> usize
     ensures room { length room.new ≡ length room.old }
-    ensures answer { AnswersCall (SaysHeadroom Weights
+    ensures answer { AnswersCall (SaysLimits None
         (Some set.now)) room.old room.new result status.new }
 {
-    answer(alloc, Asked::One(OfOne::Headroom, set), room, status)
+    answer(alloc, Asked::One(OfOne::Limits, set), room, status)
 }
 
 /// What `desk settings` prints of a task set.
@@ -62,7 +57,7 @@ pub extern "C" fn desk_settings(
     status: &mut u8,
 ) -> usize
     ensures room { length room.new ≡ length room.old }
-    ensures answer { AnswersCall (Says settings_of Weights
+    ensures answer { AnswersCall (Says settings_of None
         (Some set.now)) room.old room.new result status.new }
 {
     answer(alloc, Asked::One(OfOne::Settings, set), room, status)
@@ -72,7 +67,7 @@ pub extern "C" fn desk_settings(
 #[unsafe(no_mangle)]
 pub extern "C" fn desk_explain(alloc: Global, set: &[u8], room: &mut [u8], status: &mut u8) -> usize
     ensures room { length room.new ≡ length room.old }
-    ensures answer { AnswersCall (SaysExplained Weights
+    ensures answer { AnswersCall (SaysExplained None
         (Some set.now)) room.old room.new result status.new }
 {
     answer(alloc, Asked::One(OfOne::Explain, set), room, status)
@@ -97,7 +92,7 @@ pub extern "C" fn desk_releases(
     status: &mut u8,
 ) -> usize
     ensures room { length room.new ≡ length room.old }
-    ensures answer { AnswersCall (SaysList Weights until
+    ensures answer { AnswersCall (SaysList None None until
         (Some set.now)) room.old room.new result status.new }
 {
     answer(alloc, Asked::Releases(set, until), room, status)
@@ -113,7 +108,7 @@ pub extern "C" fn desk_check(
     status: &mut u8,
 ) -> usize
     ensures room { length room.new ≡ length room.old }
-    ensures answer { AnswersCall (SaysChecked Weights (Some set.now)
+    ensures answer { AnswersCall (SaysChecked None (Some set.now)
         (Some certificate.now)) room.old room.new result status.new }
 {
     answer(
@@ -134,10 +129,26 @@ pub extern "C" fn desk_judge(
     status: &mut u8,
 ) -> usize
     ensures room { length room.new ≡ length room.old }
-    ensures answer { AnswersCall (SaysJudged Weights (Some set.now)
+    ensures answer { AnswersCall (SaysJudged None (Some set.now)
         (Some settings.now)) room.old room.new result status.new }
 {
     answer(alloc, Asked::Two(OfTwo::Judge, set, settings), room, status)
+}
+
+/// What `desk diff` prints of a task set and the one that it becomes.
+#[unsafe(no_mangle)]
+pub extern "C" fn desk_diff(
+    alloc: Global,
+    set: &[u8],
+    changed: &[u8],
+    room: &mut [u8],
+    status: &mut u8,
+) -> usize
+    ensures room { length room.new ≡ length room.old }
+    ensures answer { AnswersCall (SaysCompared None (Some set.now)
+        (Some changed.now)) room.old room.new result status.new }
+{
+    answer(alloc, Asked::Two(OfTwo::Diff, set, changed), room, status)
 }
 
 /// What `desk simulate` prints of a task set and a release list.
@@ -150,7 +161,7 @@ pub extern "C" fn desk_simulate(
     status: &mut u8,
 ) -> usize
     ensures room { length room.new ≡ length room.old }
-    ensures answer { AnswersCall (SaysSimulated Weights (Some set.now)
+    ensures answer { AnswersCall (SaysSimulated None (Some set.now)
         (Some releases.now)) room.old room.new result status.new }
 {
     answer(
@@ -171,7 +182,7 @@ pub extern "C" fn desk_draw(
     status: &mut u8,
 ) -> usize
     ensures room { length room.new ≡ length room.old }
-    ensures answer { AnswersCall (SaysDrawn Weights (Some set.now)
+    ensures answer { AnswersCall (SaysDrawn None (Some set.now)
         (Some releases.now)) room.old room.new result status.new }
 {
     answer(alloc, Asked::Two(OfTwo::Draw, set, releases), room, status)

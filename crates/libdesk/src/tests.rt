@@ -1,6 +1,6 @@
 //! That an answer comes where there is memory, and none into a room that is too small.
 use crate::exports::{
-    desk_admit, desk_certify, desk_check, desk_draw, desk_explain, desk_headroom, desk_judge,
+    desk_admit, desk_certify, desk_check, desk_draw, desk_explain, desk_judge, desk_limits,
     desk_play, desk_releases, desk_settings, desk_simulate,
 };
 use std::alloc::Global;
@@ -17,7 +17,7 @@ enum Call {
     Admit(&'static [u8]),
     Certify(&'static [u8]),
     Explain(&'static [u8]),
-    Headroom(&'static [u8]),
+    Limits(&'static [u8]),
     Settings(&'static [u8]),
     Play(&'static [u8]),
     Releases(&'static [u8], u64),
@@ -33,7 +33,7 @@ fn made(alloc: Global, call: Call, room: &mut [u8], status: &mut u8) -> usize {
         Call::Admit(set) => desk_admit(alloc, set, room, status),
         Call::Certify(set) => desk_certify(alloc, set, room, status),
         Call::Explain(set) => desk_explain(alloc, set, room, status),
-        Call::Headroom(set) => desk_headroom(alloc, set, room, status),
+        Call::Limits(set) => desk_limits(alloc, set, room, status),
         Call::Settings(set) => desk_settings(alloc, set, room, status),
         Call::Play(script) => desk_play(alloc, script, room, status),
         Call::Releases(set, until) => desk_releases(alloc, set, until, room, status),
@@ -61,8 +61,8 @@ const ANSWERS: [(Call, &[u8], u8); 11] = [
     (Call::Certify(b""), CERTIFICATE, 0),
     (Call::Check(b"", CERTIFICATE), b"best\n", 0),
     (
-        Call::Headroom(SET),
-        b"admitted 1\nx 1000 1000 1000\nall 1000\n",
+        Call::Limits(SET),
+        b"admitted 1\nx cost 1000 1000 1000\nx period 1000 1000 1000\nx deadline 1000 1000 1000\nx jitter 0 0 0\nx slack 0\nall 1000 1000 x\n",
         0,
     ),
     (Call::Settings(SET), b"thread x 1\n", 0),
@@ -89,7 +89,7 @@ const ANSWERS: [(Call, &[u8], u8); 11] = [
 fn answers_each_call(rt: HostRuntime) {
     for (call, text, wanted) in ANSWERS {
         assert!(rt;
-            holds(rt.alloc(), call, &mut [0; 64], text, wanted),
+            holds(rt.alloc(), call, &mut [0; 256], text, wanted),
             "not {text:?}"
         );
     }
