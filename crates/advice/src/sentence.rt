@@ -2,7 +2,7 @@
 
 use desk_cli::{CommandRefusal, TextFault};
 use sentences::{
-    of_certificate, of_check, of_release_line, of_run, of_script, of_set, of_settings,
+    of_certificate, of_check, of_release_line, of_run, of_script, of_set_text, of_settings,
 };
 use std::alloc::Global;
 use streams::InputFault;
@@ -22,7 +22,7 @@ fn of_input(alloc: Global, fault: InputFault) -> Option<String> {
 pub(crate) fn sentence_of(alloc: Global, bytes: &[u8], refusal: CommandRefusal) -> Option<String> {
     match refusal {
         CommandRefusal::Input(fault) => of_input(alloc, fault),
-        CommandRefusal::Set(fault) => of_set(alloc, bytes, fault),
+        CommandRefusal::Set(fault) | CommandRefusal::New(fault) => of_set_text(alloc, bytes, fault),
         CommandRefusal::Certificate(fault) => of_certificate(alloc, bytes, fault),
         CommandRefusal::Check(fault) => of_check(alloc, fault),
         CommandRefusal::Text(TextFault::BadLine { line }) => of_release_line(alloc, bytes, line),
@@ -31,6 +31,7 @@ pub(crate) fn sentence_of(alloc: Global, bytes: &[u8], refusal: CommandRefusal) 
         CommandRefusal::Script(fault) => of_script(alloc, bytes, fault),
         CommandRefusal::Text(TextFault::OutOfMemory)
         | CommandRefusal::Rush(_)
+        | CommandRefusal::NoSuchTask { .. }
         | CommandRefusal::OutOfMemory => None,
     }
 }
