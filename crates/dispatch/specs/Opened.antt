@@ -14,18 +14,18 @@ IsUnread refused input (Some reader) = IsDisturbed reader
 -- this holds of an input that the call names, with its reader
 abbrev pub AreUnread : {S : Type 0} → (Input → Type 0) → Call → Option (WatchedData S)
     → Option (WatchedData S) → Type 0
-AreUnread refused (One command input by_deadline) first second = IsUnread refused input first
-AreUnread refused (Two command one other by_deadline) first second =
+AreUnread refused (One command input options) first second = IsUnread refused input first
+AreUnread refused (Two command one other options) first second =
     IsUnread refused one first ⊎ IsUnread refused other second
-AreUnread refused (Number command input number by_deadline) first second =
+AreUnread refused (Number command input number options) first second =
     IsUnread refused input first
 
 -- each input that the call names has its reader
 abbrev pub AreOpened : {S : Type 0} → Call → Option (WatchedData S) → Option (WatchedData S)
     → Type 0
-AreOpened (One command input by_deadline) first second = IsSome first
-AreOpened (Two command one other by_deadline) first second = IsSome first × IsSome second
-AreOpened (Number command input number by_deadline) first second = IsSome first
+AreOpened (One command input options) first second = IsSome first
+AreOpened (Two command one other options) first second = IsSome first × IsSome second
+AreOpened (Number command input number options) first second = IsSome first
 
 -- a read of it failed
 abbrev pub HasFailed : {S : Type 0} → Option (WatchedData S) → Type 0

@@ -4,18 +4,17 @@ ghost use Rattle.std.specs.Io.KnownBytes.{Appends};
 ghost use Rattle.command_line.specs.declared.calls.Input.{Input};
 ghost use Rattle.command_line.specs.Calls.{HasNumber};
 ghost use Rattle.command_line.specs.Commands.{least_of, most_of};
-ghost use Rattle.dispatch.specs.Running.{CallSays, MayTell, NumberSays, NumberTells, preference_of};
+ghost use Rattle.dispatch.specs.Running.{CallSays, MayTell, NumberSays, NumberTells};
 ghost use Rattle.streams.specs.Inputs.{IsDisturbed};
 ghost use Rattle.desk_cli.specs.Commands.{OneSays, TwoSay};
 ghost use Rattle.desk_cli.specs.Refusals.{refusal_line};
 ghost use Rattle.dispatch.specs.Opened.{AreOpened, AreUnread, HasFailed};
 
-use command_line::{Call, Input, OfNumber, OfOne, OfTwo};
+use command_line::{Call, Input, OfNumber, OfOne, OfTwo, Options};
 use desk_cli::{
     Audience, CommandRefusal, Status, Which, carry_out, carry_out_on_both, refuse, run_releases,
-    run_rush,
+    run_rush, run_script,
 };
-use preferences::Preference;
 use std::alloc::Global;
 use std::io::{Read, Write};
 use std::sync::Wait;
@@ -54,17 +53,6 @@ pub struct CallEnd<S: Read + Drop> {
     pub first: Option<Watched<S>>,
     /// The input that it names second. None also where it names one alone.
     pub second: Option<Watched<S>>,
-}
-
-// By what a set is preferred.
-fn preference_of(by_deadline: bool) -> Preference
-    ensures { result ≡ preference_of by_deadline }
-{
-    if by_deadline {
-        Preference::Deadline
-    } else {
-        Preference::Weights
-    }
 }
 
 // An input, where it is opened.
@@ -156,7 +144,7 @@ fn run_number<
     rt: &R,
     alloc: Global,
     command: OfNumber,
-    preference: Preference,
+    options: Options<'_>,
     input: &mut Watched<S>,
     number: usize,
     output: &mut Watched<W>,
@@ -165,7 +153,7 @@ fn run_number<
 ) -> Status
     requires { (least_of command ≤ number) × (number ≤ most_of command) }
     ensures printed { output.new.has_failed ≡ false
-        → NumberSays command preference number (S.remaining input.old.inner)
+        → NumberSays command options.entry number (S.remaining input.old.inner)
         (W.contents output.old.inner)
         (W.contents output.new.inner) (λ e. E.contents e) errors.old errors.new result }
     ensures quiet { (NumberTells command → ⊥) ⊎ (output.new.has_failed ≡ true)
@@ -180,7 +168,8 @@ fn run_number<
         → result ≡ Status.InputOrOutputFailed }
 {
     match command {
-        OfNumber::Releases => run_releases(alloc, preference, input, number as u64, output, people),
+        OfNumber::Releases => run_releases(alloc, options, input, number as u64, output, people),
+        OfNumber::Script => run_script(alloc, options, input, number as u64, output, people),
         OfNumber::Rush => run_rush(rt, alloc, input, number, output, errors, people),
     }
 }
@@ -218,11 +207,10 @@ pub fn run_call<O: Opens, W: Write + Drop, E: Write + Drop, P: Audience, R: Thre
         Call::One {
             command,
             input,
-            by_deadline,
+            options,
         } => match open_one(inputs, input) {
             Some(mut input) => {
-                let preference = preference_of(by_deadline);
-                let status = carry_out(alloc, command, preference, &mut input, output, people);
+                let status = carry_out(alloc, command, options, &mut input, output, people);
                 ran_one(status, input)
             }
             None => not_opened(Which::First, output, people),
@@ -231,13 +219,13 @@ pub fn run_call<O: Opens, W: Write + Drop, E: Write + Drop, P: Audience, R: Thre
             command,
             first,
             second,
-            by_deadline,
+            options,
         } => match open_both(inputs, first, second) {
             Ok((mut first, mut second)) => {
                 let status = carry_out_on_both(
                     alloc,
                     command,
-                    preference_of(by_deadline),
+                    options,
                     &mut first,
                     &mut second,
                     output,
@@ -251,19 +239,11 @@ pub fn run_call<O: Opens, W: Write + Drop, E: Write + Drop, P: Audience, R: Thre
             command,
             input,
             number,
-            by_deadline,
+            options,
         } => match open_one(inputs, input) {
             Some(mut input) => {
                 let status = run_number(
-                    rt,
-                    alloc,
-                    command,
-                    preference_of(by_deadline),
-                    &mut input,
-                    number,
-                    output,
-                    errors,
-                    people,
+                    rt, alloc, command, options, &mut input, number, output, errors, people,
                 );
                 ran_one(status, input)
             }
