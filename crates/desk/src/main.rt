@@ -3,6 +3,9 @@
 
 ghost use Rattle.std.specs.Prelude.{None};
 
+mod folder;
+
+use crate::folder::{Documents, open_folder};
 use advice::Advice;
 use command_line::{Input, read_words};
 use desk_cli::{CommandRefusal, Status, refuse, refuse_words};
@@ -16,8 +19,8 @@ use std::thread::Threads;
 use std::{env, fs};
 use streams::Watched;
 
-/// An input, opened.
-type Source = Either<File, Stdin>;
+/// An input, opened: a file, standard input, or the documents of a folder.
+type Source = Either<File, Either<Stdin, Documents>>;
 
 fn main(rt: HostRuntime) -> ExitCode {
     ExitCode::from(run(&rt, &rt).code())
@@ -86,6 +89,16 @@ fn refuse_system(
     }
 }
 
+// The file at a path, or the documents of the folder there.
+fn open_path(rt: &HostRuntime, path: &str) -> io::Result<Source> {
+    if fs::metadata(rt, path)?.is_dir() {
+        let documents = open_folder(rt, path)?;
+        return Ok(Right(Right(documents)));
+    }
+    let file = fs::open(rt, path)?;
+    Ok(Left(file))
+}
+
 // The files and the standard input of a process. No file is opened unless it is guarded: one that got the number of a
 // closed standard stream would be read as that stream.
 #[derive(Clone, Copy)]
@@ -105,10 +118,10 @@ impl<'a> Opens for Process<'a> {
 
     fn open(&self, input: Input<'_>) -> Result<Source, NotOpened> {
         match input {
-            Input::Standard => Ok(Right(self.rt.stdin())),
+            Input::Standard => Ok(Right(Left(self.rt.stdin()))),
             Input::File(_) if !self.is_guarded => Err(NotOpened),
-            Input::File(path) => match fs::open(self.rt, path) {
-                Ok(file) => Ok(Left(file)),
+            Input::File(path) => match open_path(self.rt, path) {
+                Ok(source) => Ok(source),
                 Err(_) => Err(NotOpened),
             },
         }
