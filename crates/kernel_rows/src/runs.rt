@@ -13,6 +13,7 @@ fn releases_of(alloc: Global, list: &[(u64, &str, u64)]) -> Result<Vec<Release>,
             time: *time,
             name: name(*task)?,
             late: *late,
+            runs: None,
         })?;
     }
     Ok(releases)
@@ -25,6 +26,7 @@ fn push_fault(line: &mut String, fault: RunFault) -> Result<(), AllocError> {
         RunFault::UnknownTask { place } => write!(line, "UnknownTask {place}"),
         RunFault::TooSoon { place } => write!(line, "TooSoon {place}"),
         RunFault::TooLate { place } => write!(line, "TooLate {place}"),
+        RunFault::OutsideCost { place } => write!(line, "OutsideCost {place}"),
         RunFault::PastHorizon => write!(line, "PastHorizon"),
         RunFault::TooMany => write!(line, "TooMany"),
         RunFault::Overrun { name, time } => write!(line, "Overrun {name} {time}"),
@@ -241,6 +243,66 @@ fn runs_of_the_examples(rt: HostRuntime) -> Result<(), Fail> {
     Ok(())
 }
 
+// Releases that are not late, and until when they run: each a time, a task's name, and for how long its job executes.
+type Early = (&'static [(u64, &'static str, u64)], u64);
+
+// What comes of such releases in the kernel of the set that shares a lock.
+fn line_of_early(alloc: Global, kernel: &Kernel, early: Early) -> Result<String, Fail> {
+    let mut releases = Vec::new(alloc);
+    for (time, task, runs) in early.0 {
+        releases.push(Release {
+            time: *time,
+            name: name(*task)?,
+            late: 0,
+            runs: Some(*runs),
+        })?;
+    }
+    Ok(line_of(alloc, ran(alloc, kernel, &releases, early.1))?)
+}
+
+// Jobs that end inside a section, before it, with it, and behind it; that execute their cost; and that don't run.
+const ENDS: [(Early, &str); 8] = [
+    (
+        (
+            &[(0, "lo", 2000), (200, "mid", 2000), (300, "hi", 1000)],
+            100_000,
+        ),
+        "0 2000 0;2000 3000 2;3000 5000 1; 2000 5000 3000",
+    ),
+    (
+        (&[(0, "lo", 100), (50, "mid", 500)], 100_000),
+        "0 50 0;50 550 1;550 600 0; 600 550",
+    ),
+    (
+        (&[(0, "lo", 4100), (200, "hi", 1)], 100_000),
+        "0 4100 0;4100 4101 1; 4100 4101",
+    ),
+    (
+        (&[(0, "lo", 4101), (200, "hi", 1)], 100_000),
+        "0 4100 0;4100 4101 1;4101 4102 0; 4102 4101",
+    ),
+    ((&[(0, "lo", 20_000)], 100_000), "0 20000 0; 20000"),
+    (
+        (&[(0, "hi", 1), (0, "lo", 20_001)], 100_000),
+        "OutsideCost 2",
+    ),
+    ((&[(0, "lo", 0)], 0), "OutsideCost 1"),
+    ((&[(0, "lo", 1), (1, "lo", 0)], 0), "TooSoon 2"),
+];
+
+#[test]
+fn jobs_that_end_early(rt: HostRuntime) -> Result<(), Fail> {
+    let set = set_of(rt.alloc(), example_sets::SHARED_LOCK)?;
+    let kernel = kernel_of(rt.alloc(), &set, &[0, 1, 2])
+        .ok()
+        .ok_or("a wrong order")?;
+    for (early, want) in ENDS {
+        let found = line_of_early(rt.alloc(), &kernel, early)?;
+        assert_eq!(rt; found.as_str(), want);
+    }
+    Ok(())
+}
+
 #[test]
 fn wrong_orders(rt: HostRuntime) -> Result<(), Fail> {
     let set = set_of(rt.alloc(), example_sets::THREE_TASKS)?;
@@ -261,6 +323,7 @@ fn long_run(alloc: Global, count: u64) -> Result<Result<Trace, RunFault>, Fail> 
             time: place.saturating_mul(1000),
             name: name("x")?,
             late: 0,
+            runs: None,
         })?;
     }
     Ok(ran(alloc, &kernel, &releases, 20_000_000))
