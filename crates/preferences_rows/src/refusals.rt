@@ -1,15 +1,19 @@
 //! What is refused, the same by each preference.
-use preferences::{Preference, read_preferred};
+use preferences::read_preferred;
 use std::alloc::Global;
 use std::test::Fail;
-use task_sheet::{Key, SetFault, SheetCause};
+use task_sheet::{Key, Preference, SetFault, SheetCause};
+use teams::TeamsFault;
 
-// Why a document is no set by a preference; none where it is one. It is read again where memory was wanting.
-fn fault_of(alloc: Global, document: &str, preference: Preference) -> Option<SetFault> {
-    match read_preferred(alloc, document.as_bytes(), preference) {
-        Ok(_) => None,
-        Err(SetFault::OutOfMemory) => read_preferred(alloc, document.as_bytes(), preference).err(),
-        Err(fault) => Some(fault),
+// Why a document is no set by what a call prefers; none where it is one. It is read again where memory was wanting.
+fn fault_of(alloc: Global, document: &str, call: Option<Preference>) -> Option<SetFault> {
+    let mut read = read_preferred(alloc, document.as_bytes(), call);
+    if let Err(TeamsFault::OutOfMemory) = &read {
+        read = read_preferred(alloc, document.as_bytes(), call);
+    }
+    match read {
+        Err(TeamsFault::Alone { fault }) => Some(fault),
+        _ => None,
     }
 }
 
@@ -46,8 +50,41 @@ fn refused_as_ever(rt: HostRuntime) -> Result<(), Fail> {
             Some(SetFault::SameName { task }),
         ),
     ] {
-        assert_eq!(rt; fault_of(rt.alloc(), document, Preference::Weights), want);
-        assert_eq!(rt; fault_of(rt.alloc(), document, Preference::Deadline), want);
+        assert_eq!(rt; fault_of(rt.alloc(), document, None), want);
+        assert_eq!(rt;
+            fault_of(rt.alloc(), document, Some(Preference::Deadline)),
+            want
+        );
+    }
+    Ok(())
+}
+
+// A value at a key of the root is of another kind.
+fn wrong_kind(key: Key) -> Option<SetFault> {
+    Some(SetFault::WrongKind {
+        task: 0,
+        section: 0,
+        key,
+    })
+}
+
+#[test]
+fn preferences_that_are_none(rt: HostRuntime) -> Result<(), Fail> {
+    for (document, want) in [
+        ("prefer = 'deadline'", None),
+        ("prefer = 'weight'", None),
+        ("prefer = 'deadlines'", Some(SetFault::BadPreference)),
+        ("prefer = 'Deadline'", Some(SetFault::BadPreference)),
+        ("prefer = ''", Some(SetFault::BadPreference)),
+        ("prefer = 1", wrong_kind(Key::Prefer)),
+        ("prefer = ['deadline']", wrong_kind(Key::Prefer)),
+        ("prefer = 1\ntask = 1", wrong_kind(Key::Task)),
+        (
+            "prefer = 'name'\ntask = [{ name = 'a' }]",
+            Some(SetFault::BadPreference),
+        ),
+    ] {
+        assert_eq!(rt; fault_of(rt.alloc(), document, None), want);
     }
     Ok(())
 }

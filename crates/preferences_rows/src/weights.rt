@@ -4,10 +4,10 @@ use example_sets::{
     EXCHANGE_WITH_EQUALITY, FILLS_ITS_PERIOD, SHARED_DEADLINES, SHARED_LOCK, THREE_TASKS,
     match_both, set_of,
 };
-use preferences::{Preference, prefer, read_preferred};
+use preferences::{prefer, read_preferred};
 use std::alloc::{AllocError, AllocFailed, Global};
 use std::test::Fail;
-use task_sheet::TaskSet;
+use task_sheet::{Preference, TaskSet};
 
 // The set by a preference, taken again with the set that is handed back where memory was wanting.
 fn taken(
@@ -66,9 +66,9 @@ fn weights_by_hand(rt: HostRuntime) -> Result<(), Fail> {
 // The sets that reading and taking give are the same, and by deadlines once more nothing changes.
 fn is_settled(alloc: Global, document: &str, preference: Preference) -> Result<bool, Fail> {
     let set = taken(alloc, set_of(alloc, document)?, preference)?;
-    let read = read_preferred(alloc, document.as_bytes(), preference)?;
+    let read = read_preferred(alloc, document.as_bytes(), Some(preference))?;
     let twice = taken(alloc, set.copy(alloc)?, preference)?;
-    Ok(set.is_same(&read) && set.is_same(&twice))
+    Ok(set.is_same(&read.set) && set.is_same(&twice))
 }
 
 #[test]
