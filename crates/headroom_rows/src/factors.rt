@@ -1,19 +1,17 @@
-//! The greatest factor on all costs.
+//! The greatest factor on all execution.
 use crate::headrooms::{ADMITTED, ALONE, TOO_LATE, TOO_MUCH};
-use ceilings::LockTable;
 use example_sets::{again, set_of};
 use factor::factor;
 use std::alloc::Global;
 use std::test::Fail;
 
-// The greatest factor on all costs of a document's set, in thousandths.
+// The greatest factor on all execution of a document's set, in thousandths.
 fn factor_of(alloc: Global, document: &str) -> Result<Option<u64>, Fail> {
     let set = set_of(alloc, document)?;
     if set.is_empty() {
         return Err("a task")?;
     }
-    let table = again!(LockTable::new(alloc, &set))?;
-    Ok(again!(factor(alloc, &set, &table))?)
+    Ok(again!(factor(alloc, &set))?)
 }
 
 #[test]
@@ -27,8 +25,8 @@ fn factors_by_hand(rt: HostRuntime) -> Result<(), Fail> {
         (example_sets::DEMAND_OF_THE_DEADLINE, Some(1111)),
         (example_sets::OBSTRUCTION_OF_ONE, Some(666)),
         (example_sets::THREE_TASKS, Some(1000)),
-        (example_sets::SHARED_LOCK, Some(2500)),
-        (example_sets::BLOCKED_OUT, Some(950)),
+        (example_sets::SHARED_LOCK, Some(2000)),
+        (example_sets::BLOCKED_OUT, Some(977)),
         (example_sets::C_OVER_A, Some(857)),
         (example_sets::A_OVER_B_OVER_A, None),
     ] {
