@@ -1,8 +1,7 @@
 //! What the commands print, and the statuses that they end with.
-use command_line::{OfOne, OfTwo};
+use command_line::{OfOne, OfTwo, Options};
 use desk_cli::{Nobody, Status, carry_out, carry_out_on_both};
 use example_sets::{BLOCKED_OUT_REPAIRED, THREE_TASKS};
-use preferences::Preference;
 use std::alloc::Global;
 use std::test::Fail;
 use streams::Watched;
@@ -21,11 +20,11 @@ pub fn printed_by<F: FnOnce(&mut Watched<Vec<u8>>) -> Status>(
 
 // What a command prints of a text, and its status.
 fn printed_of_one(alloc: Global, command: OfOne, text: &[u8]) -> Result<(String, Status), Fail> {
-    let by = Preference::Weights;
+    let options = Options::none();
     let mut input = Watched::new(text);
     printed_by(
         alloc,
-        |output| carry_out(alloc, command, by, &mut input, output, &mut Nobody),
+        |output| carry_out(alloc, command, options, &mut input, output, &mut Nobody),
     )
 }
 
@@ -36,13 +35,13 @@ fn printed_of_two<'a>(
     set: &'a [u8],
     other: &'a [u8],
 ) -> Result<(String, Status), Fail> {
-    let by = Preference::Weights;
+    let options = Options::none();
     let (mut set, mut other) = (Watched::new(set), Watched::new(other));
     printed_by(alloc, |output| {
         carry_out_on_both(
             alloc,
             command,
-            by,
+            options,
             &mut set,
             &mut other,
             output,

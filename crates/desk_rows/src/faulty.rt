@@ -1,8 +1,7 @@
 //! Readers and writers that fail, are interrupted or take little at a time.
-use command_line::OfOne;
+use command_line::{OfOne, Options};
 use desk_cli::{Nobody, Status, carry_out};
 use example_sets::THREE_TASKS;
-use preferences::Preference;
 use std::alloc::Global;
 use std::io::{self, ErrorKind, Read, Write};
 use std::test::Fail;
@@ -58,7 +57,7 @@ fn admit<R: Read + Drop, W: Write + Drop>(alloc: Global, set: R, output: W) -> S
     carry_out(
         alloc,
         OfOne::Admit,
-        Preference::Weights,
+        Options::none(),
         &mut Watched::new(set),
         &mut Watched::new(output),
         &mut Nobody,

@@ -1,15 +1,47 @@
 //! The calls that words name.
-use command_line::{Call, Input, OfNumber, OfOne, OfTwo, WordsFault, read_words};
+use command_line::{
+    Call, Input, OfNumber, OfOne, OfTwo, Options, Preferred, WordsFault, read_words,
+};
 use std::test::Fail;
 
+// Where nothing is chosen.
+const PLAIN: Options<'static> = Options {
+    prefer: None,
+    task: None,
+    base: None,
+    lower_is_higher: false,
+    seed: None,
+    by_task: false,
+};
+
+// Where deadlines are preferred.
+const BY_DEADLINE: Options<'static> = Options {
+    prefer: Some(Preferred::Deadline),
+    task: None,
+    base: None,
+    lower_is_higher: false,
+    seed: None,
+    by_task: false,
+};
+
+// Where weights are.
+const BY_WEIGHT: Options<'static> = Options {
+    prefer: Some(Preferred::Weight),
+    task: None,
+    base: None,
+    lower_is_higher: false,
+    seed: None,
+    by_task: false,
+};
+
 // Words, and the call that they name.
-const CALLS: [(&[&str], Call<'static>); 13] = [
+const CALLS: [(&[&str], Call<'static>); 17] = [
     (
         &[],
         Call::One {
             command: OfOne::Admit,
             input: Input::Standard,
-            by_deadline: false,
+            options: PLAIN,
         },
     ),
     (
@@ -17,7 +49,7 @@ const CALLS: [(&[&str], Call<'static>); 13] = [
         Call::One {
             command: OfOne::Admit,
             input: Input::File("a.toml"),
-            by_deadline: false,
+            options: PLAIN,
         },
     ),
     (
@@ -25,7 +57,7 @@ const CALLS: [(&[&str], Call<'static>); 13] = [
         Call::One {
             command: OfOne::Certify,
             input: Input::Standard,
-            by_deadline: false,
+            options: PLAIN,
         },
     ),
     (
@@ -34,7 +66,7 @@ const CALLS: [(&[&str], Call<'static>); 13] = [
             command: OfTwo::Check,
             first: Input::File("s"),
             second: Input::Standard,
-            by_deadline: false,
+            options: PLAIN,
         },
     ),
     (
@@ -43,7 +75,7 @@ const CALLS: [(&[&str], Call<'static>); 13] = [
             command: OfTwo::Simulate,
             first: Input::File("s"),
             second: Input::File("r"),
-            by_deadline: false,
+            options: PLAIN,
         },
     ),
     (
@@ -52,7 +84,7 @@ const CALLS: [(&[&str], Call<'static>); 13] = [
             command: OfTwo::Simulate,
             first: Input::Standard,
             second: Input::File("r"),
-            by_deadline: false,
+            options: PLAIN,
         },
     ),
     (
@@ -61,7 +93,7 @@ const CALLS: [(&[&str], Call<'static>); 13] = [
             command: OfNumber::Rush,
             input: Input::File("s"),
             number: 3,
-            by_deadline: false,
+            options: PLAIN,
         },
     ),
     (
@@ -70,7 +102,7 @@ const CALLS: [(&[&str], Call<'static>); 13] = [
             command: OfNumber::Rush,
             input: Input::Standard,
             number: 8,
-            by_deadline: false,
+            options: PLAIN,
         },
     ),
     (
@@ -78,7 +110,16 @@ const CALLS: [(&[&str], Call<'static>); 13] = [
         Call::One {
             command: OfOne::Admit,
             input: Input::File("s"),
-            by_deadline: true,
+            options: BY_DEADLINE,
+        },
+    ),
+    (
+        &["diff", "a", "b", "--prefer", "weight"],
+        Call::Two {
+            command: OfTwo::Diff,
+            first: Input::File("a"),
+            second: Input::File("b"),
+            options: BY_WEIGHT,
         },
     ),
     (
@@ -86,7 +127,7 @@ const CALLS: [(&[&str], Call<'static>); 13] = [
         Call::One {
             command: OfOne::Explain,
             input: Input::Standard,
-            by_deadline: true,
+            options: BY_DEADLINE,
         },
     ),
     (
@@ -95,7 +136,7 @@ const CALLS: [(&[&str], Call<'static>); 13] = [
             command: OfTwo::Judge,
             first: Input::File("s"),
             second: Input::Standard,
-            by_deadline: true,
+            options: BY_DEADLINE,
         },
     ),
     (
@@ -104,7 +145,43 @@ const CALLS: [(&[&str], Call<'static>); 13] = [
             command: OfNumber::Releases,
             input: Input::File("s"),
             number: 100,
-            by_deadline: true,
+            options: BY_DEADLINE,
+        },
+    ),
+    (
+        &["releases", "s", "100", "--seed", "0"],
+        Call::Number {
+            command: OfNumber::Releases,
+            input: Input::File("s"),
+            number: 100,
+            options: Options {
+                seed: Some(0),
+                ..PLAIN
+            },
+        },
+    ),
+    (
+        &["releases", "--seed=4294967295", "s", "100"],
+        Call::Number {
+            command: OfNumber::Releases,
+            input: Input::File("s"),
+            number: 100,
+            options: Options {
+                seed: Some(4_294_967_295),
+                ..PLAIN
+            },
+        },
+    ),
+    (
+        &["simulate", "s", "--tasks", "r"],
+        Call::Two {
+            command: OfTwo::Simulate,
+            first: Input::File("s"),
+            second: Input::File("r"),
+            options: Options {
+                by_task: true,
+                ..PLAIN
+            },
         },
     ),
     (
@@ -112,7 +189,7 @@ const CALLS: [(&[&str], Call<'static>); 13] = [
         Call::One {
             command: OfOne::Admit,
             input: Input::File("--prefer"),
-            by_deadline: false,
+            options: PLAIN,
         },
     ),
 ];
@@ -126,8 +203,9 @@ const OTHERS: [&[&str]; 5] = [
     &["check", "-", "-", "--prefer", "x"],
 ];
 
-// Words that the option is no part of: twice, with no word, before the command, at a script, by half its name.
-const NONE: [&[&str]; 7] = [
+// Words that an option is no part of: twice, with no word or number, before the command, at another command, by half its
+// name, with a number that it doesn't take.
+const NONE: [&[&str]; 12] = [
     &["admit", "--prefer", "deadline", "--prefer", "deadline", "s"],
     &["admit", "s", "--prefer"],
     &["--prefer", "deadline", "admit", "s"],
@@ -135,6 +213,11 @@ const NONE: [&[&str]; 7] = [
     &["rush", "s", "3", "--prefer", "deadline"],
     &["admit", "--pref", "deadline", "s"],
     &["admit", "--prefer-deadline", "s"],
+    &["releases", "s", "100", "--seed"],
+    &["releases", "s", "100", "--seed", "4294967296"],
+    &["releases", "s", "100", "--seed", "-1"],
+    &["draw", "s", "r", "--tasks"],
+    &["simulate", "s", "r", "--tasks", "--tasks"],
 ];
 
 #[test]
