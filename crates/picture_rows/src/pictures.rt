@@ -123,7 +123,12 @@ fn rows_of(alloc: Global, set: &TaskSet, bounds: &[(usize, u64)]) -> Result<Vec<
 
 fn released(time: u64, text: &str, late: u64) -> Result<Release, Fail> {
     let name = name(text)?;
-    Ok(Release { time, name, late })
+    Ok(Release {
+        time,
+        name,
+        late,
+        runs: None,
+    })
 }
 
 // What a kernel of a set in an order makes of releases.
