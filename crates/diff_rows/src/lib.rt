@@ -1,0 +1,7 @@
+//! What changes of sets do, and the sets of several teams, worked out by hand, as tests.
+#![tactic(auto)]
+
+#[cfg(test)]
+mod changes;
+#[cfg(test)]
+mod teams_texts;
