@@ -21,6 +21,9 @@ Inputs
   $ said check examples/three-tasks.toml nosuch.cert
   nosuch.cert: can't be opened or read
   [7]
+  $ said check nosuch.toml nosuch.cert
+  nosuch.toml: can't be opened or read
+  [7]
   $ head -c 16777217 /dev/zero > long
   $ said admit long
   long: longer than the 16777216 bytes that an input may have
@@ -64,7 +67,7 @@ Keys
 ----
 
   $ document 'tasks = []'
-  standard input: unknown key tasks; a set has tasks alone, each headed by [[task]]
+  standard input: unknown key tasks; a set has tasks alone, each headed by [[task]], and may have prefer in front of them
   [4]
   $ more 'deadlin = 3'
   standard input: task 1 (a): unknown key deadlin; a task has name, weight, period, deadline, cost, section, jitter, outranks

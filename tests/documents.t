@@ -200,6 +200,19 @@ MissingKey: a needed key isn't there
   refused: MissingKey 1 1 len
   [4]
 
+BadPreference: a word that is no preference
+-------------------------------------------
+
+  $ document 'prefer = "deadlines"'
+  refused: BadPreference
+  [4]
+  $ document 'prefer = ""\ntask = [{}]'
+  refused: BadPreference
+  [4]
+  $ document 'prefer = "weight"\ntask = [{}]'
+  refused: MissingKey 1 0 name
+  [4]
+
 WrongKind: a value of another kind
 ----------------------------------
 
@@ -207,6 +220,12 @@ WrongKind: a value of another kind
   refused: WrongKind 0 0 task
   [4]
   $ document 'task = [1]'
+  refused: WrongKind 0 0 task
+  [4]
+  $ document 'prefer = 1'
+  refused: WrongKind 0 0 prefer
+  [4]
+  $ document 'prefer = ["deadline"]\ntask = 1'
   refused: WrongKind 0 0 task
   [4]
   $ task 'name = 1, period = 10000, deadline = 10000, cost = 5000'

@@ -112,17 +112,63 @@ def tasks_of(data):
         root = tomllib.loads(data.decode("utf-8"))
     except (UnicodeDecodeError, tomllib.TOMLDecodeError):
         refuse("Syntax")
-    if any(key != "task" for key in root):
+    if any(key not in ("task", "prefer") for key in root):
         refuse("UnknownKey", 0, 0)
     tasks = root.get("task", [])
     if not are_all(dict, tasks):
         refuse("WrongKind", 0, 0, "task")
+    prefer = root.get("prefer", "weight")
+    if not isinstance(prefer, str):
+        refuse("WrongKind", 0, 0, "prefer")
+    if prefer not in ("weight", "deadline"):
+        refuse("BadPreference")
     for number, task in enumerate(tasks, 1):
         check_task(number, task)
     names = [task["name"] for task in tasks]
     for number, name in enumerate(names, 1):
         if name in names[: number - 1]:
             refuse("SameName", number)
+    if len(tasks) > 32:
+        refuse("TooManyTasks")
+    weight = {
+        "weight": lambda it: it.get("weight", 0),
+        "deadline": lambda it: it.get("jitter", 0) - it["deadline"],
+    }[prefer]
+    return sorted(tasks, key=lambda it: (weight(it), it["name"].encode()))
+
+
+def parts_of(data):
+    """The documents of teams that a text is, each with its team and its tasks by rank."""
+    parts, rest = [], data
+    while rest:
+        line, end, after = rest.partition(b"\n")
+        words = line.decode("latin-1").split(" ")
+        try:
+            team, count = name_in(words[1]), number_in(words[2])
+            is_head = words[0] == "#%" and len(words) == 3 and end and count <= len(after)
+        except (IndexError, ValueError):
+            is_head = False
+        if not is_head:
+            refuse("BadHead", len(parts) + 1)
+        try:
+            parts.append((team, tasks_of(after[:count])))
+        except Refused as why:
+            refuse("team", team, why)
+        rest = after[count:]
+    return parts
+
+
+def tasks_of_text(data):
+    """The tasks of a document, or of the documents of teams, by rank."""
+    if not data.startswith(b"#% "):
+        return tasks_of(data)
+    tasks, owners = [], {}
+    for team, own in parts_of(data):
+        for task in own:
+            if task["name"] in owners:
+                refuse("TakenName", team, task["name"], owners[task["name"]])
+            owners[task["name"]] = team
+        tasks += own
     if len(tasks) > 32:
         refuse("TooManyTasks")
     return sorted(tasks, key=lambda it: (it.get("weight", 0), it["name"].encode()))
@@ -151,7 +197,7 @@ def response_of(task, above, others):
 def admit(data):
     """The lines that `admit` prints, and its status."""
     try:
-        tasks = tasks_of(data)
+        tasks = tasks_of_text(data)
     except Refused as why:
         return f"refused: {why}\n", 4
     left, lines = tasks, []

@@ -34,28 +34,30 @@ A file that isn't there
   refused: ReadFailed
   [7]
 
-A folder
---------
+A folder with a file `.toml` that has no name of a team
+------------------------------------------------------
 
-  $ desk admit examples
+  $ mkdir folder && : > folder/-.toml
+
+  $ desk admit folder
   refused: ReadFailed
   [7]
-  $ desk certify examples
+  $ desk certify folder
   refused: ReadFailed
   [7]
-  $ desk check examples $cert
+  $ desk check folder $cert
   refused: ReadFailed
   [7]
-  $ desk check $set examples
+  $ desk check $set folder
   refused: ReadFailed
   [7]
-  $ desk simulate examples $list
+  $ desk simulate folder $list
   refused: ReadFailed
   [7]
-  $ desk simulate $node examples
+  $ desk simulate $node folder
   refused: ReadFailed
   [7]
-  $ desk admit - < examples
+  $ desk admit - < folder
   refused: ReadFailed
   [7]
 
@@ -200,7 +202,7 @@ Also where the status would be another one:
   $ desk simulate examples/blocked-out.toml $list > /dev/full
   [7]
   $ echo 'x = 1' | desk admit - > /dev/full
-  (on standard error) standard input: unknown key x; a set has tasks alone, each headed by [[task]]
+  (on standard error) standard input: unknown key x; a set has tasks alone, each headed by [[task]], and may have prefer in front of them
   [7]
   $ desk check empty $cert > /dev/full
   (on standard error) examples/three-tasks.cert: its levels don't name each task of the set once, or a member is no task or named twice
@@ -292,16 +294,16 @@ All inputs are opened, then all are read, then all are parsed, the set first eac
   $ desk check longer missing
   refused: ReadFailed
   [7]
-  $ desk check longer examples
-  refused: InputTooLong
-  [4]
-  $ desk check examples longer
+  $ desk check longer folder
+  refused: ReadFailed
+  [7]
+  $ desk check folder longer
   refused: ReadFailed
   [7]
   $ desk check faulty longer
   refused: InputTooLong
   [4]
-  $ desk check faulty examples
+  $ desk check faulty folder
   refused: ReadFailed
   [7]
   $ desk check faulty empty
@@ -310,9 +312,9 @@ All inputs are opened, then all are read, then all are parsed, the set first eac
   $ desk simulate faulty missing
   refused: ReadFailed
   [7]
-  $ desk simulate longer examples
-  refused: InputTooLong
-  [4]
+  $ desk simulate longer folder
+  refused: ReadFailed
+  [7]
   $ desk simulate faulty longer
   refused: InputTooLong
   [4]

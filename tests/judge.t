@@ -46,6 +46,9 @@ Refused, each over the whole text before the next:
   $ judge 'thread lo 1\nthread x 0\n'
   refused: BadLine 2
   [4]
+  $ judge 'thread lo 1000000\nthread hi 1000001\n'
+  refused: BadLine 2
+  [4]
   $ judge 'thread lo 1\nthread x 1\nmutex n 1\n'
   refused: UnknownTask 2
   [4]

@@ -65,13 +65,14 @@ static size_t ask(const struct question *it, uint8_t *room, size_t length, uint8
     const char *command = it->command;
     if (!strcmp(command, "admit")) return desk_admit(a.at, a.length, room, length, status);
     if (!strcmp(command, "certify")) return desk_certify(a.at, a.length, room, length, status);
-    if (!strcmp(command, "headroom")) return desk_headroom(a.at, a.length, room, length, status);
+    if (!strcmp(command, "limits")) return desk_limits(a.at, a.length, room, length, status);
     if (!strcmp(command, "settings")) return desk_settings(a.at, a.length, room, length, status);
     if (!strcmp(command, "explain")) return desk_explain(a.at, a.length, room, length, status);
     if (!strcmp(command, "play")) return desk_play(a.at, a.length, room, length, status);
     if (!strcmp(command, "releases")) return desk_releases(a.at, a.length, it->until, room, length, status);
     if (!strcmp(command, "check")) return desk_check(a.at, a.length, b.at, b.length, room, length, status);
     if (!strcmp(command, "judge")) return desk_judge(a.at, a.length, b.at, b.length, room, length, status);
+    if (!strcmp(command, "diff")) return desk_diff(a.at, a.length, b.at, b.length, room, length, status);
     if (!strcmp(command, "simulate")) return desk_simulate(a.at, a.length, b.at, b.length, room, length, status);
     if (!strcmp(command, "draw")) return desk_draw(a.at, a.length, b.at, b.length, room, length, status);
     hold(0, command);

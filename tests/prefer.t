@@ -1,5 +1,5 @@
-`--prefer deadline` takes a set by its deadlines in place of its weights: of the orders that pass the best is then the one
-nearest to deadline-monotonic, the latest deadline lowest. Each command that reads a set has the option.
+`--prefer deadline` takes a set by its deadlines, less jitter, in place of its weights: of the orders that pass the best is
+then the one nearest to the longest such limit lowest. Each command that reads a set has the option.
 
 Three tasks that pass in each order, each with one job of each other above it. By their names a, of the shortest deadline,
 comes lowest; by their deadlines c does:
@@ -30,12 +30,11 @@ comes lowest; by their deadlines c does:
 c lowest may cost 20000 - 1000 - 2000; b below a 15000 - 1000; a its deadline. All three together fill c's 20000 at the
 factor 20 / 6, rounded down:
 
-  $ desk headroom --prefer deadline set.toml
-  admitted 3
-  c 3000 17000 17000
-  b 2000 14000 14000
-  a 1000 10000 10000
-  all 3333
+  $ desk limits --prefer deadline set.toml | grep -e cost -e all
+  c cost 3000 17000 17000
+  b cost 2000 14000 14000
+  a cost 1000 10000 10000
+  all 3333 3333 c
 
 By deadlines no task of a certificate has to fail; by weights a, of least rank, has to, below b and c:
 
@@ -82,3 +81,102 @@ Another word is refused before an input is opened:
   $ desk admit --prefer names no-such-file 2>&1
   no such preference
   [2]
+
+The jitter counts. a has the later deadline, 10000, and b 9000; but a may become ready 5000 late, so that 5000 is left. By
+deadlines, less jitter, b is the lower one, and all of it may take longer:
+
+  $ printf '[[task]]\nname = "a"\nperiod = 10000\ndeadline = 10000\njitter = 5000\ncost = 1000\n' > late.toml
+  $ printf '[[task]]\nname = "b"\nperiod = 10000\ndeadline = 9000\ncost = 1000\n' >> late.toml
+  $ desk admit --prefer deadline late.toml
+  admitted 2
+  1 b 2000
+  2 a 6000
+
+A set may say so itself. Each command then takes it so, and what one prints means the same order to the next:
+
+  $ (echo 'prefer = "deadline"'; cat set.toml) > own.toml
+  $ desk admit own.toml
+  admitted 3
+  1 c 6000
+  2 b 3000
+  3 a 1000
+  $ desk certify own.toml | desk check own.toml -
+  best
+  $ desk releases own.toml 6000 | desk simulate own.toml - | grep job
+  job c 0 6000
+  job b 0 3000
+  job a 0 1000
+  $ desk settings own.toml
+  thread c 1
+  thread b 2
+  thread a 3
+
+By weights it is as if it said nothing:
+
+  $ (echo 'prefer = "weight"'; cat set.toml) > plain.toml
+  $ desk admit plain.toml
+  admitted 3
+  1 a 6000
+  2 b 5000
+  3 c 3000
+
+The words of a call come before what the set says, and a note tells of it where they differ:
+
+  $ desk admit --prefer deadline plain.toml
+  admitted 3
+  1 c 6000
+  2 b 3000
+  3 a 1000
+  (on standard error) note: --prefer deadline overrides the set's prefer = "weight"
+  $ desk admit --prefer weight own.toml
+  admitted 3
+  1 a 6000
+  2 b 5000
+  3 c 3000
+  (on standard error) note: --prefer weight overrides the set's prefer = "deadline"
+  $ desk admit --prefer deadline own.toml 2>&1 | grep -c note
+  0
+  [1]
+
+Where nobody prefers anything, no task has a weight, and names put a task lower than one of a longer deadline, less jitter, a
+note says so; in the set of two tasks above names put a, of the shorter one, lower:
+
+  $ desk admit late.toml
+  admitted 2
+  1 a 7000
+  2 b 1000
+  (on standard error) note: names decide the order; prefer = "deadline" in front of the tasks bears most
+  $ for command in limits settings explain; do desk $command late.toml 2>&1 > /dev/null; done
+  note: names decide the order; prefer = "deadline" in front of the tasks bears most
+  note: names decide the order; prefer = "deadline" in front of the tasks bears most
+  note: names decide the order; prefer = "deadline" in front of the tasks bears most
+  $ desk certify late.toml 2>&1 > /dev/null
+  $ for set in own.toml plain.toml; do desk admit $set 2>&1 > /dev/null; done
+  $ sed 's/^cost/weight = 1\ncost/' late.toml | desk admit - 2>&1 > /dev/null
+  $ sed 's/^name = "b"/name = "A"/' late.toml | desk admit - 2>&1 > /dev/null
+
+What one team's document says holds for all, whoever has the tasks; another one may say the same, and nothing else:
+
+  $ mkdir node
+  $ sed 1,10d set.toml > node/arm.toml
+  $ sed 11,99d set.toml > node/base.toml
+  $ desk admit node
+  admitted 3
+  1 a 6000
+  2 b 5000
+  3 c 3000
+  $ echo 'prefer = "deadline"' > node/node.toml
+  $ desk admit node
+  admitted 3
+  1 c 6000
+  2 b 3000
+  3 a 1000
+  $ echo 'prefer = "deadline"' > node/other.toml
+  $ desk settings node
+  thread c 1
+  thread b 2
+  thread a 3
+  $ echo 'prefer = "weight"' > node/cam.toml
+  $ desk admit node
+  refused: OtherPreference node cam
+  [4]

@@ -43,20 +43,3 @@ An infeasible set prints as in `admit`, and so does a refused one:
   [4]
   $ desk settings a b 2> /dev/null
   [2]
-
-`examples/posix/node.c` sets up these threads and mutexes, and prints what the system reports back. A thread may be refused
-where the user may not ask for SCHED_FIFO. Where there is no compiler `cat` stands in its place, and nothing is shown of it.
-
-  $ if command -v cc > cc.path; then cc -std=c11 -Wall -Wextra -Werror -pthread -o node examples/posix/node.c
-  > else echo 'cat' > node; chmod +x node; fi
-  $ desk settings examples/shared-lock.toml | ./node > node.out; grep mutex node.out
-  mutex m 3
-  $ grep -c -E '^thread (lo 1|mid 2|hi 3)$|^thread (lo|mid|hi) refused: errno [0-9]+ \(.+\)$' node.out
-  3
-
-A line that is no setting ends it:
-
-  $ if test -s cc.path; then desk settings examples/blocked-out.toml | ./node 2>&1
-  > else echo 'no setting: infeasible hi'; (exit 2); fi
-  no setting: infeasible hi
-  [2]

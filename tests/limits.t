@@ -1,0 +1,212 @@
+`desk limits SET` prints the first line of `desk admit`; then for each task by rank and each of its numbers, cost, period,
+deadline, jitter and the length of each section, its value, the furthest with which the order of `desk admit` passes as it
+stands (`-` after a no), and the furthest with which some order passes, all else equal; after a yes each task's slack, too.
+Where no value of a number helps, it has no line. The last line has the greatest factors on all execution, in thousandths,
+with which that order passes and with which some order does, and the task that fails first past the latter.
+
+The empty set has no task, and no factor:
+
+  $ desk limits examples/empty-set.toml
+  admitted 0
+
+One task may fill its period, which is its deadline, too:
+
+  $ desk limits examples/fills-its-period.toml
+  admitted 1
+  x cost 1000 1000 1000
+  x period 1000 1000 1000
+  x deadline 1000 1000 1000
+  x jitter 0 0 0
+  x slack 0
+  all 1000 1000 x
+
+With c lowest the three tasks need 3 jobs of a, 2 of b and one of c within 20000: 9000 + 6000 + 5000, all of it. With a or b
+lowest each may take less still. a has a third job within 20000 as long as its period is below 10000, and a fourth where it
+is below 20000 / 3. With b above it a needs 6000, alone on top 3000.
+
+  $ desk limits examples/three-tasks.toml
+  admitted 3
+  a cost 3000 3000 3000
+  a period 7000 6667 6667
+  a deadline 7000 6000 3000
+  a jitter 0 1000 1000
+  a slack 1000
+  b cost 3000 3000 3000
+  b period 12000 10000 10000
+  b deadline 12000 3000 3000
+  b jitter 0 4000 4000
+  b slack 9000
+  c cost 5000 5000 5000
+  c period 20000 20000 20000
+  c deadline 20000 20000 20000
+  c jitter 0 0 0
+  c slack 0
+  all 1000 1000 c
+
+With a deadline of 19000 one of them has to give up 1000: a a third of it for each of its jobs, b half of it, c all. Or all
+of them a twentieth: 3 * 2850 + 2 * 2850 + 4750. Or a comes every 8500, and b lowest has 14000; or b so, or every 14000. No
+jitter can be less, and no period of c helps.
+
+  $ desk limits examples/three-tasks-too-tight.toml
+  infeasible a b c
+  a cost 3000 - 2666
+  a period 7000 - 8500
+  a deadline 7000 - 8500
+  b cost 3000 - 2500
+  b period 12000 - 14000
+  b deadline 12000 - 14000
+  c cost 5000 - 4000
+  c deadline 19000 - 20000
+  all - 950 c
+  [3]
+
+lo has 100000 and leaves 5 jobs of mid and 10 of hi: 80000. mid has 20000, less the section of lo and two jobs of hi; and lo
+lets it have as much: 100000 - 20000 - 10000 for five jobs. hi has 10000, less the section of lo, and 2000 makes 2000 + 8000
+of it. Sections grow with the factor.
+
+  $ desk limits examples/shared-lock.toml | grep -e cost -e section -e slack -e all
+  lo cost 20000 80000 80000
+  lo section 1 len 4000 9000 9000
+  lo slack 73000
+  mid cost 2000 14000 14000
+  mid slack 13000
+  hi cost 1000 6000 6000
+  hi section 1 len 200 1000 1000
+  hi slack 5000
+  all 2000 2000 hi
+
+hi has 4400, less the section of lo: its cost, that section or the deadline has to give 100. lo's cost can't help: its
+section stays as long, and above hi it takes 3500 at least.
+
+  $ desk limits examples/blocked-out.toml
+  infeasible hi
+  hi cost 2000 - 1900
+  hi deadline 4400 - 4500
+  lo section 1 len 2500 - 2400
+  all - 977 hi
+  [3]
+
+With such a value some order passes, with one less none does:
+
+  $ sed 's/len = 2500/len = 2400/' examples/blocked-out.toml > set.toml
+  $ desk limits set.toml | grep -e cost -e section -e all
+  hi cost 2000 2000 2000
+  hi section 1 len 500 2000 2000
+  lo cost 10000 40000 40000
+  lo section 1 len 2400 2400 2400
+  all 1000 1000 hi
+  $ sed 's/len = 2500/len = 2401/' examples/blocked-out.toml | desk limits -
+  infeasible hi
+  hi cost 2000 - 1999
+  hi deadline 4400 - 4401
+  lo section 1 len 2401 - 2400
+  all - 999 hi
+  [3]
+
+The printed order is that of the names here, and a may take what b leaves of 1000. With b lowest it may take more, half of
+what b leaves of 2000. All together they may take 1816 thousandths: 545 and 908 in 2 * 545 + 908; 1817 makes 546 and 909.
+
+  $ desk limits - << END
+  > [[task]]
+  > name = "a"
+  > period = 1000
+  > deadline = 1000
+  > cost = 300
+  > [[task]]
+  > name = "b"
+  > period = 2000
+  > deadline = 2000
+  > cost = 500
+  > END
+  admitted 2
+  a cost 300 500 750
+  a period 1000 1000 1000
+  a deadline 1000 800 300
+  a jitter 0 200 700
+  a slack 200
+  b cost 500 700 1400
+  b period 2000 1000 1000
+  b deadline 2000 500 500
+  b jitter 0 1200 1200
+  b slack 1500
+  all 1250 1816 b
+
+A cost may be as short as the end of the last section: that of y is 12, and y has 10. A deadline of 20 helps; and a node that
+is twice as fast.
+
+  $ desk limits - << END
+  > [[task]]
+  > name = "x"
+  > period = 1000
+  > deadline = 1000
+  > cost = 1
+  > [[task]]
+  > name = "y"
+  > period = 2000
+  > deadline = 10
+  > cost = 20
+  > section = [{ locks = ["m"], at = 4, len = 8 }]
+  > END
+  infeasible y
+  y deadline 10 - 20
+  all - 500 y
+  (on standard error) note: lock m has one user, y
+  [3]
+
+No single number mends two tasks that are too late each; all of it together does:
+
+  $ desk limits - << END
+  > [[task]]
+  > name = "x"
+  > period = 1000
+  > deadline = 10
+  > cost = 20
+  > [[task]]
+  > name = "y"
+  > period = 2000
+  > deadline = 10
+  > cost = 20
+  > END
+  infeasible x y
+  all - 250 x
+  [3]
+
+A section's length is rounded up for itself, so that a lesser factor is never worse. hi has 3, its own 1 and the 1 that lo
+keeps the lock; each thousandth more makes 2 of both:
+
+  $ desk limits - << END | tail -n 1
+  > [[task]]
+  > name = "hi"
+  > period = 1000
+  > deadline = 3
+  > cost = 1
+  > section = [{ locks = ["m"], at = 0, len = 1 }]
+  > [[task]]
+  > name = "lo"
+  > period = 1000
+  > deadline = 1000
+  > cost = 4
+  > section = [{ locks = ["m"], at = 3, len = 1 }]
+  > END
+  all 1000 1000 hi
+
+A refused set prints as in `admit`:
+
+  $ echo x = 1 | desk limits -
+  refused: UnknownKey 0 0
+  [4]
+  $ desk limits no-such-file
+  refused: ReadFailed
+  [7]
+  $ desk limits 2> /dev/null
+  [2]
+
+Names alone put a below b, where it has to wait for all of b: that order bears a ninth more, the other one far more:
+
+  $ printf 'task = [{ name = "a", period = 10000, deadline = 10000, cost = 1000 }, { name = "b", period = 100000, deadline = 100000, cost = 8000 }]' > named.toml
+  $ desk limits named.toml | grep -e cost -e all
+  a cost 1000 2000 9200
+  b cost 8000 9000 90000
+  all 1111 5555 b
+  $ desk limits --prefer deadline named.toml | grep all
+  all 5555 5555 b

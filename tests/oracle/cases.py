@@ -1,0 +1,225 @@
+"""A case: the words of a call and its inputs; how it is made, what is wanted of it, and how it is made smaller."""
+
+import random
+import time
+from dataclasses import dataclass, replace
+
+import analysis
+import calls
+import commands
+import make_lines
+import make_sets
+import picture
+import rushes
+import sets
+
+# how often each command is asked
+SHARES = {
+    "admit": 12, "certify": 8, "check": 16, "explain": 8, "limits": 8, "settings": 5, "judge": 12, "diff": 10, "simulate": 12,
+    "releases": 8, "draw": 4, "script": 3, "play": 20, "rush": 6, "words": 4,
+}  # fmt: skip
+
+
+@dataclass(frozen=True)
+class Case:
+    words: tuple
+    files: dict  # bytes by path; a path that ends with `/` is that of an empty folder
+    stdin: bytes = b""
+
+    def subject(self):
+        return self.words[0] if self.words and self.words[0] in commands.COMMANDS else "words"
+
+    def wanted(self):
+        return commands.answer(self.words, self.files, self.stdin)
+
+
+def make(seed, number):
+    rng = random.Random(f"{seed} {number}")
+    subject = rng.choices(list(SHARES), SHARES.values())[0]
+    if subject == "words":
+        return deep(rng) if rng.random() < 0.2 else wrong_words(rng)
+    if subject in ("play", "rush"):
+        return called(rng, subject, [make_lines.script(rng, 0.15 if subject == "play" else 0.05)])
+    return of_set(rng, subject)
+
+
+SECOND_INPUTS = {
+    "check": make_lines.certificate_of,
+    "judge": make_lines.settings_of,
+    "simulate": make_lines.releases_of,
+    "draw": make_lines.releases_of,
+}
+
+
+def of_set(rng, subject):
+    sheets = sheets_for(rng, subject)
+    prefer = rng.choice([None] * 12 + ["deadline"] * 3 + ["weight"])  # what the words say
+    own = rng.choice([None] * 6 + ["deadline"] * 2 + ["weight"])  # what the set says
+    inputs = [set_input(rng, sheets, 0.08 if subject in SECOND_INPUTS else 0.3, own)]
+    if subject in SECOND_INPUTS:
+        tasks = sets.by_limits(sheets) if (prefer or own) == "deadline" else sets.by_rank(sheets)
+        inputs.append(SECOND_INPUTS[subject](rng, tasks))
+    if subject == "diff":
+        inputs.append(set_input(rng, make_sets.changed(rng, sheets), 0.1, rng.choice([own, own, None])))
+    options = [] if prefer is None or rng.random() < 0.05 else [("prefer", prefer)]
+    if subject in ("explain", "limits") and rng.random() < 0.3:
+        options.append(("task", rng.choice([*(sheet.name for sheet in sheets), "none", "0", ""])))
+    if subject == "releases" and rng.random() < 0.6:
+        options.append(("seed", str(rng.choice([0, 1, rng.getrandbits(32), 2**32 - 1, 2**32]))))
+    if subject == "simulate" and rng.random() < 0.3:
+        options.append(("tasks", None))
+    return called(rng, subject, inputs, options)
+
+
+def sheets_for(rng, subject):
+    """Small sets where an answer takes long; mostly sets with an order where a command needs one."""
+    most = 6 if subject == "limits" and rng.random() < 0.95 else 32
+    sheets = make_sets.some_sheets(rng, most)
+    if subject in ("simulate", "draw", "settings"):
+        for _ in range(4):
+            if not analysis.is_feasible(sets.by_rank(sheets)):
+                sheets = make_sets.some_sheets(rng, most)
+    return sheets
+
+
+def set_input(rng, sheets, damaged, own=None):
+    """The set as one document, as several of teams, or as a folder's files by their names; some are damaged."""
+    if rng.random() < 0.88:
+        return set_text(rng, sheets, damaged, own)
+    owns = [None, own, own, own, rng.choice([None, "weight"])]
+    parts = make_sets.teams_of(rng, sheets, lambda part: set_text(rng, part, damaged / 3, rng.choice(owns)))
+    if rng.random() < 0.5:
+        return make_sets.gathered(rng, parts)
+    return make_sets.folder(rng, parts)
+
+
+def set_text(rng, sheets, damaged, own=None):
+    """The set as TOML with what it prefers, if anything; one of two ways of damage at the given rate."""
+    tables = [make_sets.table_of(sheet) for sheet in sheets]
+    prefers = {} if own is None else {"prefer": own}
+    kind = rng.random()
+    if kind < damaged / 2:
+        if own is not None and rng.random() < 0.3:
+            prefers = {"prefer": rng.choice(["", "deadlines", "name", 1, ["deadline"], True])}
+        return make_sets.toml(rng, prefers | make_sets.with_faults(rng, tables))
+    text = make_sets.toml(rng, prefers | {"task": tables})
+    return make_sets.damaged_bytes(rng, text) if kind < damaged else text
+
+
+def called(rng, subject, inputs, options=()):
+    """A call on inputs, of which one may come by standard input, and rarely one is missing; with options by name."""
+    words, files, stdin = [subject], {}, b""
+    piped = rng.randrange(len(inputs)) if rng.random() < 0.3 else None
+    for place, data in enumerate(inputs):
+        if place == piped and isinstance(data, bytes):
+            stdin = data
+            words.append("-")
+            continue
+        path = f"input{place + 1}"
+        words.append(path)
+        if isinstance(data, dict):
+            files |= {f"{path}/{name}": document for name, document in data.items()}
+        elif rng.random() < 0.995:
+            files[path] = data
+    if subject == "releases":
+        words.append(str(rng.choice([0, 1, 1000, 60_000_000, rng.randint(0, 60_000), rng.randint(0, 2_000_000), 60_000_001])))
+    if subject == "script":
+        words.append(str(rng.choice([1, 2, 3, 8, 8, 0, 9] if rng.random() < 0.1 else [1, 2, 8])))
+    if subject == "rush":
+        words.append(str(rng.choice([1, 1, 2, 3, 8, 8, 0, 9] if rng.random() < 0.1 else [1, 2, 3, 8])))
+    for name, value in options:
+        place = rng.choice([1, len(words)])
+        spelled = [[f"--{name}"]] if value is None else [[f"--{name}", value], [f"--{name}={value}"]]
+        words[place:place] = rng.choice(spelled)
+    return Case(tuple(words), files, stdin)
+
+
+WORDS = ["-", "--", "set", "set", "none", "folder", "--prefer", "deadline", "--prefer=deadline", "--prefer=weight", "--prefer=name", "--prefer=",
+         "--task", "--task=a", "--task=", "--seed", "--seed=8", "--seed=4294967296", "--tasks", "--tasks=", "--base=1", "-x", "--x",
+         "", "0", "1", "8", "9", "+8", "007", "+", "++8", "0x8", "-8", " 8", "8_0", "60000000", "60000001", "1" * 25]  # fmt: skip
+
+
+def wrong_words(rng):
+    """Words that no call has, and some that one has."""
+    if rng.random() < 0.1:
+        return Case(rng.choice(sorted(commands.HELP)), {})
+    subject = rng.choice([*commands.COMMANDS, "Admit", "headroom", "set"])
+    command = commands.COMMANDS.get(subject, commands.COMMANDS["admit"])
+    words = [subject, *["set"] * len(command.readers), *["8"] * bool(command.number)]
+    for _ in range(rng.choice([1, 1, 1, 2, 2, 3])):
+        place = rng.randrange(len(words) + 1)
+        words[place : place + rng.choice([0, 1, 1])] = rng.choice([[], [rng.choice(WORDS)], [rng.choice(WORDS)]])
+    text = make_sets.toml(rng, {"task": [make_sets.table_of(sheet) for sheet in make_sets.some_sheets(rng, 3)]})
+    return Case(tuple(words), {"set": text, "folder/": b""}, text)
+
+
+def deep(rng):
+    """A document with brackets in brackets."""
+    deep = rng.choice([2, 70, 79, 80, 81, 82, 200])
+    text = rng.choice(["x = " + "[" * deep + "]" * deep, "[[task]]\nx = " + "{ a = " * deep + "1" + "}" * deep])
+    return Case(("admit", "deep"), {"deep": text.encode()})
+
+
+def fault_of(case, stdout, stderr, status):
+    """What is wrong with what the program printed; None where nothing is."""
+    wanted = case.wanted()
+    printed, told = stdout.decode("latin-1"), stderr.decode("latin-1")
+    if status != wanted.status:
+        return f"status {status}, not {wanted.status}"
+    if wanted.text is commands.RUSHED:
+        is_possible = rushes.is_possible(*inputs_of(case), printed.splitlines(), told.splitlines())
+        return None if is_possible else "no log of these lines"
+    if told != wanted.told and (wanted.told is not commands.SAID or not told):
+        return "something else on standard error"
+    if wanted.text is commands.HELPED:
+        return None if printed else "no help"
+    if wanted.text is commands.DRAWN:
+        tasks, said = inputs_of(case)
+        return picture.fault(stdout, tasks, *said)
+    return None if printed == wanted.text else "other bytes"
+
+
+def inputs_of(case):
+    """What the inputs of a picture or a rush say, where none is refused."""
+    return commands.read_inputs(calls.call_of(case.words, commands.COMMANDS), case.files, case.stdin)
+
+
+# Smaller cases
+
+
+def smaller(case, still_differs, end):
+    """A case that still differs and from which no one line, word or byte may go; or as far as it came by the end."""
+    for splits in (lines_of, words_of, bytes_of):
+        for path in [*case.files, None]:
+            pieces = splits(case.stdin if path is None else case.files[path])
+            size = len(pieces) // 2
+            while size > 0:
+                start = 0
+                while start < len(pieces):
+                    if time.monotonic() > end:
+                        return case
+                    attempt = with_input(case, path, b"".join(pieces[:start] + pieces[start + size :]))
+                    if still_differs(attempt):
+                        case, pieces = attempt, pieces[:start] + pieces[start + size :]
+                    else:
+                        start += size
+                size //= 2
+    return case
+
+
+def with_input(case, path, data):
+    if path is None:
+        return replace(case, stdin=data)
+    return replace(case, files={**case.files, path: data})
+
+
+def lines_of(data):
+    return data.splitlines(keepends=True)
+
+
+def words_of(data):
+    return [piece for word in data.split(b" ") for piece in (word, b" ")][:-1]
+
+
+def bytes_of(data):
+    return [data[k : k + 1] for k in range(len(data))]

@@ -1,0 +1,299 @@
+"""What each command answers: FORMATS.md."""
+
+from typing import NamedTuple
+
+import analysis
+import calls
+import certificate
+import desk
+import differences
+import kernel
+import limits
+import scripts
+import settings
+import teams
+from refusals import Refused
+from sets import is_name
+
+INPUT_MOST = 16_777_216
+INFEASIBLE = 3
+# stand for a text that the documents don't pin
+DRAWN, RUSHED, HELPED, SAID = "a picture", "a log", "help", "a sentence to a person"
+
+
+class Answer(NamedTuple):
+    text: str  # what is printed to standard output
+    status: int
+    told: str  # what stands on standard error
+
+
+def admitted(tasks, order):
+    """The first line, of `admit` and others: the order's, or the greatest obstruction where it is None."""
+    if order is None:
+        return desk.infeasible(tasks, analysis.greatest_obstruction(tasks, range(len(tasks)))) + "\n"
+    return f"admitted {len(tasks)}\n"
+
+
+def with_order(command):
+    """A command on the best order of a set; where no order passes, the first line and its status stand alone."""
+
+    def on_set(tasks, *inputs, **options):
+        order = analysis.best_order(tasks)
+        if order is None:
+            return admitted(tasks, None), INFEASIBLE
+        return command(tasks, order, *inputs, **options), 0
+
+    return on_set
+
+
+@with_order
+def admit(tasks, order):
+    levels = analysis.levels_of(order)
+    responses = [f"{level} {tasks[i].name} {analysis.response_of(tasks, i, above)}\n" for level, i, above in levels]
+    return admitted(tasks, order) + "".join(responses)
+
+
+def certify(tasks):
+    return certificate.certify(tasks), 0 if analysis.is_feasible(tasks) else INFEASIBLE
+
+
+def check(tasks, said):
+    return certificate.check(tasks, *said), 0
+
+
+def of_task(command):
+    """A command that with the name of a task says that task's lines alone."""
+
+    def on_set(tasks, task=None):
+        if task is None:
+            return command(tasks, None)
+        index = next((i for i, sheet in enumerate(tasks) if sheet.name == task), None)
+        if index is None:
+            return " ".join(["refused: NoSuchTask", *[task] * is_name(task)]) + "\n", 4
+        return command(tasks, index)
+
+    return on_set
+
+
+@of_task
+def explain(tasks, task):
+    order = analysis.best_order(tasks)
+    text = [admitted(tasks, order)]
+    if order is not None:
+        for level, i, above in analysis.levels_of(order):
+            if task not in (None, i):
+                continue
+            time = analysis.response_of(tasks, i, above)
+            text.append(f"{level} {tasks[i].name} {time} of {tasks[i].deadline}\n")
+            text += parts(tasks, i, [k for k in reversed(order) if k in above], time - tasks[i].jitter)
+    else:
+        conflict = analysis.least_conflict(tasks, analysis.greatest_obstruction(tasks, range(len(tasks))))
+        text.append(" ".join(["conflict", *(tasks[i].name for i in sorted(conflict))]) + "\n")
+        for i in sorted(conflict):
+            if task in (None, i):
+                text += needs(tasks, i, conflict - {i})
+    if task is None:
+        text.append(f"load {analysis.load(tasks)}\n")
+    return "".join(text), 0 if order is not None else INFEASIBLE
+
+
+def needs(tasks, i, above):
+    """What a task of a conflict needs below the others of it."""
+    over, chain = analysis.reason_of(tasks, i, above)
+    if over:
+        return [f"{tasks[i].name} must be above {over}\n"]
+    first = f"{tasks[i].name} {chain[-1] + tasks[i].jitter} of {tasks[i].deadline}\n"
+    return [first, *parts(tasks, i, sorted(above, reverse=True), chain[-2])]
+
+
+def parts(tasks, i, above, window):
+    """What the demand of a window comes to, and the jitter; `above` in the order in which it is printed."""
+    said = [f"cost {tasks[i].cost}"]
+    if tasks[i].jitter:
+        said.append(f"jitter {tasks[i].jitter}")
+    if blocked := analysis.blocking_of(tasks, i, set(above)):
+        task, section, lock = analysis.first_blocker(tasks, i, set(above))
+        said.append(f"blocked {blocked} by {task} section {section} lock {lock}")
+    for k in above:
+        jobs = analysis.releases_within(tasks[k], window)
+        said.append(f"above {tasks[k].name} {jobs} jobs {jobs * tasks[k].cost}")
+    return [f"  {line}\n" for line in said]
+
+
+@of_task
+def limits_of(tasks, task):
+    order = analysis.best_order(tasks)
+    text = [admitted(tasks, order)]
+    in_order = lambda other: order is not None and analysis.is_passing_order(other, order)
+    bounds = {} if order is None else bounds_of(tasks, order)
+    for i, sheet in enumerate(tasks):
+        if task not in (None, i):
+            continue
+        for number in limits.numbers_of(sheet):
+            most = limits.furthest(tasks, i, number)
+            if most is not None:
+                own = or_dash(limits.furthest(tasks, i, number, in_order))
+                text.append(f"{sheet.name} {number.words()} {number.value(sheet)} {own} {most}\n")
+        if order is not None:
+            text.append(f"{sheet.name} slack {sheet.deadline - bounds[i]}\n")
+    if tasks and task is None:
+        greatest = limits.factor(tasks)
+        fails = "" if greatest is None else f" {tasks[limits.first_to_fail(tasks, greatest + 1)].name}"
+        own = None if order is None else limits.factor(tasks, in_order)
+        text.append(f"all {or_dash(own)} {or_dash(greatest)}{fails}\n")
+    return "".join(text), 0 if order is not None else INFEASIBLE
+
+
+def or_dash(number):
+    return "-" if number is None else number
+
+
+def bounds_of(tasks, order):
+    """The bound of each task of an order that passes."""
+    return {i: analysis.response_of(tasks, i, above) for _, i, above in analysis.levels_of(order)}
+
+
+def diff(old, change):
+    new, weighs = change
+    old, new = differences.Side(old), differences.Side(new)
+    first = admitted(new.tasks, new.order) + "was " + admitted(old.tasks, old.order)
+    lines = "".join(line + "\n" for line in differences.lines_of(old, new, weighs))
+    return first + lines, 0 if new.order is not None else INFEASIBLE
+
+
+def read_change(data, preference):
+    """The new set of `diff`, and whether a weight is a key of it."""
+    try:
+        new = teams.read_set(data, preference)
+        return new, (preference or new.own) != "deadline"
+    except Refused as refusal:
+        raise refusal.behind("new") from None
+
+
+@with_order
+def settings_of(tasks, order):
+    return settings.settings(tasks, order)
+
+
+def judge(tasks, rows):
+    return settings.judge(tasks, settings.node_order(tasks, rows))
+
+
+@with_order
+def simulate(tasks, order, said, by_task=False):
+    kernel.check_releases(tasks, *said)
+    slices, jobs = kernel.run(tasks, order, analysis.ceilings(tasks, order), *said)
+    if not by_task:
+        return kernel.simulated(slices, jobs)
+    return "".join(kernel.came_to(tasks[i], bound, jobs) for i, bound in bounds_of(tasks, order).items())
+
+
+def releases(tasks, until, seed=None):
+    said = kernel.densest(tasks, until) if seed is None else kernel.random_list(tasks, until, seed)
+    return kernel.release_list(until, said), 0
+
+
+def script(tasks, team):
+    puts = [f"put 1 {scripts.sheet_words(task)}\n" for task in tasks]
+    return "".join([f"open {team}\n", *puts, "commit 1\n"]), 0
+
+
+def draw(tasks, said):
+    """Refusals as those of `simulate`; what a picture has to show is another module's."""
+    text, status = simulate(tasks, said)
+    return (DRAWN if status == 0 else text), status
+
+
+def play(rows):
+    return desk.played(rows), 0
+
+
+def rush(rows, workers):
+    return RUSHED, 0
+
+
+PREFERS = {"prefer": calls.one_of("weight", "deadline")}
+OF_TASK = {**PREFERS, "task": calls.any_word}
+
+
+def on_set(run, *readers, number=(), options=PREFERS):
+    return calls.Command(run, (teams.read_set, *readers), number, options)
+
+
+COMMANDS = {
+    "admit": on_set(admit),
+    "certify": on_set(certify),
+    "check": on_set(check, certificate.read),
+    "explain": on_set(explain, options=OF_TASK),
+    "limits": on_set(limits_of, options=OF_TASK),
+    "settings": on_set(settings_of),
+    "judge": on_set(judge, settings.read_settings),
+    "diff": on_set(diff, read_change),
+    "simulate": on_set(simulate, kernel.read_releases, options={**PREFERS, "tasks": calls.FLAG}),
+    "releases": on_set(releases, number=(0, kernel.HORIZON), options={**PREFERS, "seed": calls.number_within(0, 2**32 - 1)}),
+    "draw": on_set(draw, kernel.read_releases),
+    "script": on_set(script, number=(1, scripts.TEAMS)),
+    "play": calls.Command(play, (scripts.read_script,)),
+    "rush": calls.Command(rush, (scripts.read_script,), (1, scripts.TEAMS)),
+}
+KEYWORDS = {"tasks": "by_task"}  # options by another name
+OF_THE_ORDER = ("admit", "explain", "limits", "settings")  # commands whose answer speaks of the order alone
+OF_A_PREFERENCE = (teams.read_set, read_change)  # readers that are told it
+HELP = {(word,) for word in ("help", "-h", "--help", "-V", "--version")}
+HELP |= {words for name in COMMANDS for words in ((name, "-h"), (name, "--help"), ("help", name))}
+
+
+def answer(words, files, stdin=b""):
+    """The answer to a call. `files` has the bytes of each by its path."""
+    if tuple(words) in HELP:
+        return Answer(HELPED, 0, "")
+    try:
+        call = calls.call_of(words, COMMANDS)
+        said = read_inputs(call, files, stdin)
+        options = {KEYWORDS.get(name, name): value for name, value in call.options.items() if name != "prefer"}
+        text, status = call.command.run(*said, *call.numbers, **options)
+    except calls.Wrong:
+        return Answer("", 2, SAID)
+    except Refused as refusal:
+        return Answer(refusal.line, refusal.status, SAID)
+    if call.command.readers[0] is not teams.read_set:
+        return Answer(text, status, "")
+    return Answer(text, status, choice_note(call, said[0]) + notes(said[0]))
+
+
+def choice_note(call, tasks):
+    """A line where the call prefers otherwise than the set; or where nothing is preferred, no task has a weight, and
+    names put a task lower than one of a longer limit."""
+    prefer = call.options.get("prefer")
+    if prefer is not None and tasks.own not in (None, prefer):
+        return f'note: --prefer {prefer} overrides the set\'s prefer = "{tasks.own}"\n'
+    if prefer is not None or tasks.own is not None or call.command not in (COMMANDS[name] for name in OF_THE_ORDER):
+        return ""
+    against = any(lower.limit < higher.limit for lower, higher in zip(tasks, tasks[1:]))
+    if not against or any(task.weight for task in tasks):
+        return ""
+    return 'note: names decide the order; prefer = "deadline" in front of the tasks bears most\n'
+
+
+def notes(tasks):
+    """A line for each lock that has one user."""
+    lines = []
+    for lock in analysis.ceilings(tasks, range(len(tasks))):
+        users = [task.name for i, task in enumerate(tasks) if lock in analysis.uses(tasks, i)]
+        if len(users) == 1:
+            lines.append(f"note: lock {lock} has one user, {users[0]}\n")
+    return "".join(lines)
+
+
+def read_inputs(call, files, stdin):
+    """All are opened, then all are read, then all are parsed."""
+    data = [stdin if path == "-" else teams.text_of(path, files) for path in call.paths]
+    if None in data:
+        raise Refused(7, "ReadFailed")
+    if any(len(text) > INPUT_MOST for text in data):
+        raise Refused(4, "InputTooLong")
+    preference = call.options.get("prefer")
+    return [
+        reader(text, preference) if reader in OF_A_PREFERENCE else reader(text)
+        for reader, text in zip(call.command.readers, data)
+    ]

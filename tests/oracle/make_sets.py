@@ -1,0 +1,347 @@
+"""Random sets: valid ones, ones at the edge of a limit or of passing, and damaged ones, as TOML in many spellings."""
+
+import copy
+
+import analysis
+import limits
+from sets import Section, Sheet, by_rank, sheet_fault
+
+NAMES = [*"abcdefgh", "B", "Z9", "a-1", "a_1", "a1", "hi", "lo", "mid", "x" * 24, "until", "over", "thread", "end"]
+LOCKS = ["m", "n", "bus", "L-2", "a", "k" * 24]
+
+
+def some_sheets(rng, most=12):
+    """A valid set's sheets, in no order."""
+    count = min(most, rng.choice([0, 1, 1, 2, 2, 3, 3, 3, 4, 4, 5, 5, 6, 7, 8, 10, 12, 16, 32]))
+    names = rng.sample(NAMES, count) if count <= len(NAMES) else [f"t{k}" for k in range(count)]
+    locks = rng.sample(LOCKS, rng.choice([0, 1, 1, 2, 3]))
+    weights = rng.choice([[0], [0, 1], [0, 5, 1000], range(1001)])
+    late, bound = rng.random() < 0.35, rng.random() < 0.3
+    period_of = rng.choice([small_period, harmonic_period, any_period])
+    total = rng.uniform(0.2, 1.1)
+    shares = [rng.expovariate(1) for _ in names]
+    out = []
+    for name, share in zip(names, shares):
+        period = period_of(rng)
+        cost = min(period, max(1, int(period * total * share / sum(shares))))
+        deadline = rng.choice([period, period, rng.randint(max(1, period // 2), period), rng.randint(1, period)])
+        sheet = Sheet(name, rng.choice(weights), period, deadline, cost, sections(rng, cost, locks))
+        if late and rng.random() < 0.5:
+            most_late = rng.choice([1, 10, deadline // 10, deadline - 1])
+            sheet = sheet._replace(jitter=rng.randint(0, min(most_late, deadline - 1)))
+        if bound and rng.random() < 0.4:
+            others = [other for other in names if other != name] + ["absent"]
+            sheet = sheet._replace(outranks=tuple(rng.sample(others, min(len(others), rng.choice([1, 1, 2, 8])))))
+        assert not sheet_fault(sheet)
+        out.append(sheet)
+    if out and rng.random() < 0.5:
+        out = at_edge(rng, out)
+    return out
+
+
+def small_period(rng):
+    return rng.randint(1000, 9000)
+
+
+def harmonic_period(rng):
+    return 1000 * rng.choice([1, 2, 4, 5, 10, 20, 50, 100])
+
+
+def any_period(rng):
+    return min(10_000_000, int(1000 * 10 ** rng.uniform(0, 4.01)))
+
+
+def sections(rng, cost, locks):
+    out, end = [], 0
+    for _ in range(rng.choice([0, 0, 1, 1, 2, 3, 8]) if locks else 0):
+        at = end + rng.choice([0, 0, 1, rng.randint(0, cost)])
+        if at >= cost:
+            break
+        length = rng.choice([1, rng.randint(1, cost - at), rng.randint(1, max(1, (cost - at) // 4)), cost - at])
+        out.append(Section(tuple(rng.sample(locks, rng.randint(1, min(4, len(locks))))), at, length))
+        end = at + length
+    return tuple(out)
+
+
+def at_edge(rng, out):
+    """One number moved to where the answer turns, or one past it."""
+    tasks = by_rank(out)
+    i = rng.randrange(len(tasks))
+    task = tasks[i]
+    if rng.random() < 0.5:
+        number = rng.choice(limits.numbers_of(task))
+        most = limits.furthest(tasks, i, number)
+        value = number.value(task) if most is None else most
+        changed = number.with_value(task, max(0, value + rng.choice([0, 1, -1])))
+    else:
+        order = analysis.best_order(tasks)
+        if order is None:
+            return out
+        above = set(order[order.index(i) + 1 :])
+        spare = task.deadline - analysis.response_of(tasks, i, above)
+        changed = task._replace(deadline=task.deadline - spare - rng.randint(0, 1))
+        if rng.random() < 0.4:
+            changed = task._replace(jitter=task.jitter + spare + rng.randint(0, 1))
+    if sheet_fault(changed):
+        return out
+    return [changed if sheet.name == task.name else sheet for sheet in out]
+
+
+# Changes of sets
+
+
+def near(rng, sheets):
+    """One sheet with another number."""
+    place = rng.randrange(len(sheets))
+    number = rng.choice([*limits.numbers_of(sheets[place]), None])
+    step = rng.choice([-1, 1, -100, 100])
+    changed = sheets[place]
+    if number is None:
+        changed = changed._replace(weight=max(0, changed.weight + step))
+    else:
+        changed = number.with_value(changed, max(0, number.value(changed) + step))
+    return sheets if sheet_fault(changed) else [*sheets[:place], changed, *sheets[place + 1 :]]
+
+
+def changed(rng, sheets):
+    """A set near another: numbers, names, locks, and whole tasks that come, go or swap their names."""
+    sheets = list(sheets)
+    for _ in range(rng.choice([0, 1, 1, 1, 2, 2, 3])):
+        kind = rng.randrange(7)
+        if kind == 0 or not sheets:
+            fresh = [sheet for sheet in some_sheets(rng, 3) if sheet.name not in [other.name for other in sheets]]
+            sheets = [*sheets, *fresh][:32]
+        elif kind == 1:
+            sheets.pop(rng.randrange(len(sheets)))
+        elif kind == 2 and len(sheets) > 1:
+            one, other = rng.sample(range(len(sheets)), 2)
+            names = sheets[one].name, sheets[other].name
+            sheets[one], sheets[other] = sheets[one]._replace(name=names[1]), sheets[other]._replace(name=names[0])
+        elif kind == 3:
+            sheets = [without_order(rng, sheet) for sheet in sheets]
+        else:
+            sheets = near(rng, sheets)
+    return [sheet._replace(outranks=()) if sheet_fault(sheet) else sheet for sheet in sheets]
+
+
+def without_order(rng, sheet):
+    """The same locks and names to outrank in another order."""
+    parts = [part._replace(locks=tuple(rng.sample(part.locks, len(part.locks)))) for part in sheet.sections]
+    return sheet._replace(sections=tuple(parts), outranks=tuple(rng.sample(sheet.outranks, len(sheet.outranks))))
+
+
+# Documents of several teams
+
+TEAMS = ["arm", "cam", "a", "a-", "a1", "B", "x" * 24]
+
+
+def teams_of(rng, sheets, text_of):
+    """Some teams with a document of each; the sheets are dealt out, and rarely one stands in two."""
+    teams = rng.sample(TEAMS, rng.choice([1, 2, 2, 3, 5]))
+    hands = {team: [] for team in teams}
+    for sheet in sheets:
+        hands[rng.choice(teams)].append(sheet)
+    if sheets and rng.random() < 0.15:
+        sheet = rng.choice(sheets)
+        hand = hands[rng.choice(teams)]
+        if sheet not in hand:
+            hand.append(sheet)
+    return [(team, text_of(hand)) for team, hand in hands.items()]
+
+
+def gathered(rng, parts):
+    """One text of documents; some heads are wrong."""
+    out = b""
+    for team, document in parts:
+        head = f"#% {team} {len(document)}\n"
+        if rng.random() < 0.06:
+            head = rng.choice([
+                head[1:], head[:-1], head.replace(" ", "  "), f"#% {team} {len(document) + rng.choice([-1, 1])}\n",
+                f"#% {team} 0{len(document)}\n", f"#% {team} +{len(document)}\n", f"#% {rng.choice(NAMES)} {len(document)}\n",
+                f"#% 1{team} {len(document)}\n", f"#% {team} {len(document)} \n", f"#% {team} {len(document)}\r\n", f"#% {team}\n",
+                f"#% {team} 99999999999\n", f"\ufeff{head}", f"# {head}",
+            ])  # fmt: skip
+        out += head.encode() + document
+    return damaged_bytes(rng, out) if rng.random() < 0.05 else out
+
+
+def folder(rng, parts):
+    """The files of a folder by their names; some aren't a team's document."""
+    files = {f"{team}.toml": document for team, document in parts}
+    if rng.random() < 0.2:
+        files[rng.choice(["README", "a.tom", "toml", ".toml", "1.toml", "a.b.toml", "b.TOML", "sub/c.toml", "d.toml/x", "e.toml/"])] = b"x"
+    return files or {"": b""}
+
+
+# As tables, with faults
+
+
+def table_of(sheet):
+    table = {key: getattr(sheet, key) for key in ("name", "weight", "period", "deadline", "cost", "jitter")}
+    table["section"] = [{"locks": list(s.locks), "at": s.at, "len": s.len} for s in sheet.sections]
+    table["outranks"] = list(sheet.outranks)
+    for key in ("weight", "jitter", "section", "outranks"):
+        if not table[key]:
+            del table[key]
+    return table
+
+
+NUMBERS = [0, 1, 2, 999, 1000, 1001, 9_999_999, 10_000_000, 10_000_001, -1, 2**31, 2**63 - 1, 2**63, -(2**63)]
+VALUES = [*NUMBERS, 0.0, 1.5, True, "", "a", "9z", "x" * 25, "\u00e9", "a b", [], {}, [1], ["a"], ["a", "a"], [{}], [{}, 1]]
+
+
+def with_faults(rng, tables):
+    """Some faults in the tables of a set; the first in the fixed order is to be answered."""
+    root = {"task": tables}
+    for _ in range(rng.choice([1, 1, 1, 2, 3, 5])):
+        whole = [table for table in tables if isinstance(table, dict)]
+        table = rng.choice([root, *whole * 3])
+        parts = [part for part in listed(table.get("section")) if isinstance(part, dict)]
+        if parts and rng.random() < 0.5:
+            table = rng.choice(parts)
+        if whole and rng.random() < 0.5:
+            past_limit(rng, rng.choice(whole), whole)
+        else:
+            one_fault(rng, table, whole, is_root=table is root)
+    return root
+
+
+def past_limit(rng, task, whole):
+    """A number or list of a task at a limit or one past it."""
+    number = lambda key: task[key] if type(task.get(key)) is int else 0
+    key, value = rng.choice([
+        ("weight", 1000), ("weight", 1001), ("period", 999), ("period", 10_000_000), ("period", 10_000_001), ("deadline", 0),
+        ("deadline", number("period") + 1), ("cost", 0), ("cost", number("period")), ("cost", number("period") + 1),
+        ("jitter", number("deadline") - 1), ("jitter", number("deadline")), ("name", rng.choice(whole).get("name", "a")),
+        ("name", "x" * 25), ("outranks", [f"z{k}" for k in range(rng.choice([8, 9]))]), ("outranks", ["z", "y", "z"]),
+        ("outranks", [task.get("name", "a")]), ("outranks", ["1z"]), *[("section", None)] * 6,
+    ])  # fmt: skip
+    task[key] = value if key != "section" else sections_past_limit(rng, number("cost"))
+
+
+def sections_past_limit(rng, cost):
+    count = rng.choice([1, 2, 3, 8, 9])
+    parts = [{"locks": ["m"], "at": 2 * k, "len": 2} for k in range(count)]
+    part = rng.choice(parts)
+    key, value = rng.choice([
+        ("at", 2 * count - 1), ("at", 2 * count - 3), ("len", 0), ("len", cost), ("len", max(0, cost - part["at"])),
+        ("len", max(0, cost - part["at"] + 1)), ("locks", []), ("locks", ["m", "n", "m"]), ("locks", ["L1", "L2", "L3", "L4"]),
+        ("locks", ["L1", "L2", "L3", "L4", "L5"]), ("locks", ["m", ""]), ("at", 2**63 - 1), ("len", 2**63 - 1),
+    ])  # fmt: skip
+    part[key] = value
+    return parts
+
+
+def listed(value):
+    return value if isinstance(value, list) else []
+
+
+def one_fault(rng, table, whole, is_root):
+    key = rng.choice(list(table) or ["name"])
+    value = table.get(key)
+    kind = rng.randrange(8)
+    if kind == 0:
+        key = rng.choice(["x", "tasks", "Name", "lock", "at", "task", "section", "jitter", "outranks"])
+        table[key] = copy.deepcopy(rng.choice(VALUES))
+    elif kind == 1:
+        table.pop(key, None)
+    elif kind == 2 and (not is_root or rng.random() < 0.2):
+        table[key] = copy.deepcopy(rng.choice(VALUES))
+    elif kind == 3 and type(value) is int:
+        table[key] = max(0, value + rng.choice([-1, 1]))
+    elif kind == 4 and type(value) is int:
+        table[key] = rng.choice([other for other in table.values() if type(other) is int]) + rng.choice([-1, 0, 1])
+    elif kind == 5 and isinstance(value, list):
+        table[key] = copy.deepcopy(value * rng.choice([2, 5, 9, 33]))
+    elif kind == 6 and listed(value):
+        value[rng.randrange(len(value))] = copy.deepcopy(rng.choice(VALUES))
+    elif kind == 7 and whole and not is_root:
+        table["name"] = rng.choice(whole).get("name", "a")
+
+
+# As TOML
+
+
+def toml(rng, root):
+    """The root's text in one of many spellings."""
+    plain = rng.random() < 0.5
+    text = "" if plain else rng.choice(["", "# a set\n", "\n", "\ufeff"])
+    tables = root.get("task")
+    blocks = isinstance(tables, list) and all(isinstance(t, dict) for t in tables) and rng.random() < 0.8
+    for key, value in root.items():
+        if key != "task" or not blocks:
+            text += f"{spelled_key(rng, key, plain)} = {spelled(rng, value, plain)}\n"
+    if blocks and tables:
+        text += "\n".join(block(rng, table, plain) for table in tables)
+    elif blocks and rng.random() < 0.5 and "task" in root:
+        text += "task = []\n"
+    if not plain and rng.random() < 0.1:
+        text = text.replace("\n", "\r\n")
+    return text.encode()
+
+
+def block(rng, table, plain):
+    parts = table.get("section")
+    below = isinstance(parts, list) and parts and all(isinstance(p, dict) for p in parts) and rng.random() < 0.3
+    lines = [rng.choice(["[[task]]", "[[task]]", "[[ task ]]", '[["task"]] # one']) if not plain else "[[task]]"]
+    for key, value in table.items():
+        if not (below and key == "section"):
+            lines.append(f"{spelled_key(rng, key, plain)} = {spelled(rng, value, plain)}")
+    if below:
+        for part in parts:
+            lines.append("[[task.section]]")
+            lines += [f"{spelled_key(rng, key, plain)} = {spelled(rng, value, plain)}" for key, value in part.items()]
+    return "\n".join(lines) + "\n"
+
+
+def spelled_key(rng, key, plain):
+    return key if plain or rng.random() < 0.8 else rng.choice([f'"{key}"', f"'{key}'"])
+
+
+def spelled(rng, value, plain):
+    if isinstance(value, bool):
+        return "true" if value else "false"
+    if isinstance(value, int):
+        if plain or value < 0 or rng.random() < 0.8:
+            return str(value)
+        return rng.choice([f"{value:_}", hex(value), oct(value), bin(value), f"+{value}", f"0x{value:X}"]) if value else "-0"
+    if isinstance(value, float):
+        return str(value)
+    if isinstance(value, str):
+        if plain or rng.random() < 0.8:
+            return '"' + value + '"'
+        escaped = "".join(rng.choice([c, c, f"\\u{ord(c):04x}", f"\\U{ord(c):08X}", f"\\x{ord(c):02x}"]) for c in value)
+        return rng.choice([f"'{value}'", f'"{escaped}"', f'"""{value}"""', f"'''\n{value}'''"])
+    gap = "" if plain else rng.choice(["", " ", "\n", " # why\n", "\t"])
+    if isinstance(value, list):
+        inner = ", ".join(spelled(rng, part, plain) for part in value)
+        return f"[{gap}{inner}{',' if gap and value else ''}{gap}]"
+    gap = gap if rng.random() < 0.3 else " "
+    inner = ", ".join(f"{spelled_key(rng, key, plain)} = {spelled(rng, part, plain)}" for key, part in value.items())
+    return f"{{{gap}{inner}{',' if '#' in gap and value else ''}{gap}}}"
+
+
+# Damaged bytes
+
+SIGNS = b'[]{}=,."\'#\n\r\t _-+0123456789abetkx\\\xc3\xa9\x00\x7f:'
+
+
+def damaged_bytes(rng, data):
+    data = bytearray(data)
+    for _ in range(rng.choice([1, 1, 2, 3])):
+        place = rng.randrange(len(data) + 1)
+        kind = rng.randrange(6)
+        if kind == 0:
+            data[place:place] = bytes([rng.choice(SIGNS)])
+        elif kind == 1:
+            del data[place : place + rng.choice([1, 1, 2, 10])]
+        elif kind == 2:
+            data[place : place + 1] = bytes([rng.choice([rng.choice(SIGNS), rng.randrange(256)])])
+        elif kind == 3:
+            other = rng.randrange(len(data) + 1)
+            data[place:place] = data[other : other + rng.choice([1, 5, 30])]
+        elif kind == 4 and rng.random() < 0.3:
+            del data[place:]
+        elif kind == 5 and len(data) > place + 1:
+            data[place], data[place + 1] = data[place + 1], data[place]
+    return bytes(data)

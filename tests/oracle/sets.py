@@ -1,0 +1,191 @@
+"""Sheets and sets, as DEFINITIONS.md says, and what a TOML document says of them, as FORMATS.md says."""
+
+import re
+from typing import NamedTuple
+
+from refusals import Refused
+from toml_tree import tree_of
+
+TASKS_MOST = 32
+NAME = re.compile(r"[A-Za-z][A-Za-z0-9_-]{0,23}")
+
+
+def is_name(text):
+    """Name: 1 to 24 ASCII letters, digits, `_` and `-`, beginning with a letter."""
+    return NAME.fullmatch(text) is not None
+
+
+class Section(NamedTuple):
+    locks: tuple
+    at: int
+    len: int
+
+    @property
+    def end(self):
+        return self.at + self.len
+
+
+class Sheet(NamedTuple):
+    name: str
+    weight: int
+    period: int
+    deadline: int
+    cost: int
+    sections: tuple = ()
+    jitter: int = 0
+    outranks: tuple = ()
+
+    @property
+    def rank(self):
+        return self.weight, self.name
+
+    @property
+    def limit(self):
+        """The longest time from the latest release that serves the task."""
+        return self.deadline - self.jitter
+
+    @property
+    def last_end(self):
+        return self.sections[-1].end if self.sections else 0
+
+
+def sheet_fault(sheet):
+    """The first fault of a sheet, as a name and the number of its section, if it is of one; else ()."""
+    if sheet.weight > 1000:
+        return ("BadWeight",)
+    if not 1000 <= sheet.period <= 10_000_000:
+        return ("BadPeriod",)
+    if sheet.deadline == 0:
+        return ("DeadlineZero",)
+    if sheet.deadline > sheet.period:
+        return ("DeadlinePastPeriod",)
+    if sheet.cost == 0:
+        return ("CostZero",)
+    if sheet.cost > sheet.period:
+        return ("CostPastPeriod",)
+    if len(sheet.sections) > 8:
+        return ("TooManySections",)
+    end = 0
+    for number, section in enumerate(sheet.sections, 1):
+        if len(section.locks) == 0:
+            return ("NoLocks", number)
+        if len(section.locks) > 4:
+            return ("TooManyLocks", number)
+        if len(set(section.locks)) < len(section.locks):
+            return ("LockTwice", number)
+        if section.len == 0:
+            return ("LenZero", number)
+        if section.at < end:
+            return ("Overlap", number)
+        if section.end > sheet.cost:
+            return ("SectionPastCost", number)
+        end = section.end
+    if sheet.jitter >= sheet.deadline:
+        return ("BadJitter",)
+    if len(sheet.outranks) > 8:
+        return ("TooManyOutranks",)
+    if len(set(sheet.outranks)) < len(sheet.outranks):
+        return ("OutranksTwice",)
+    if sheet.name in sheet.outranks:
+        return ("OutranksSelf",)
+    return ()
+
+
+def by_rank(sheets):
+    """A task set: a task's index is its place."""
+    return tuple(sorted(sheets, key=lambda sheet: sheet.rank))
+
+
+def by_limits(tasks):
+    """By deadlines, less jitter: the set in which each weight is the number of tasks of a longer limit."""
+    longer = lambda sheet: sum(other.limit > sheet.limit for other in tasks)
+    return by_rank(sheet._replace(weight=longer(sheet)) for sheet in tasks)
+
+
+PREFERENCES = ("weight", "deadline")
+
+
+def read_document(data):
+    """What a document prefers, if it says so, and its sheets, as they stand; or the first refusal."""
+    tree = tree_of(data)
+    if set(tree) - {"task", "prefer"}:
+        raise Refused(4, "UnknownKey", 0, 0)
+    tables = tree.get("task", [])
+    if not are(tables, dict):
+        raise Refused(4, "WrongKind", 0, 0, "task")
+    prefer = tree.get("prefer")
+    if prefer is not None and not isinstance(prefer, str):
+        raise Refused(4, "WrongKind", 0, 0, "prefer")
+    if prefer is not None and prefer not in PREFERENCES:
+        raise Refused(4, "BadPreference")
+    sheets = [read_task(table, number) for number, table in enumerate(tables, 1)]
+    names = [sheet.name for sheet in sheets]
+    for number, name in enumerate(names, 1):
+        if name in names[: number - 1]:
+            raise Refused(4, "SameName", number)
+    if len(sheets) > TASKS_MOST:
+        raise Refused(4, "TooManyTasks")
+    return prefer, sheets
+
+
+def are(value, kind):
+    return isinstance(value, list) and all(isinstance(part, kind) for part in value)
+
+
+def is_number(value):
+    """A TOML integer that isn't negative."""
+    return type(value) is int and value >= 0
+
+
+KINDS = {
+    "name": lambda value: isinstance(value, str),
+    "weight": is_number,
+    "period": is_number,
+    "deadline": is_number,
+    "cost": is_number,
+    "section": lambda value: are(value, dict),
+    "jitter": is_number,
+    "outranks": lambda value: are(value, str),
+    "locks": lambda value: are(value, str),
+    "at": is_number,
+    "len": is_number,
+}
+TASK_KEYS = ("name", "weight", "period", "deadline", "cost", "section", "jitter", "outranks")
+NEEDED_KEYS = ("name", "period", "deadline", "cost")
+SECTION_KEYS = ("locks", "at", "len")
+
+
+def check_keys(table, task, section, allowed, needed):
+    if set(table) - set(allowed):
+        raise Refused(4, "UnknownKey", task, section)
+    for key in needed:
+        if key not in table:
+            raise Refused(4, "MissingKey", task, section, key)
+    for key in allowed:
+        if key in table and not KINDS[key](table[key]):
+            raise Refused(4, "WrongKind", task, section, key)
+
+
+def read_task(table, task):
+    check_keys(table, task, 0, TASK_KEYS, NEEDED_KEYS)
+    tables = table.get("section", [])
+    for number, part in enumerate(tables, 1):
+        check_keys(part, task, number, SECTION_KEYS, SECTION_KEYS)
+    sections = tuple(Section(tuple(part["locks"]), part["at"], part["len"]) for part in tables)
+    sheet = Sheet(
+        *(table.get(key, 0) for key in ("name", "weight", "period", "deadline", "cost")),
+        sections,
+        table.get("jitter", 0),
+        tuple(table.get("outranks", ())),
+    )
+    if not is_name(sheet.name):
+        raise Refused(4, "BadName", task, 0)
+    for number, section in enumerate(sections, 1):
+        if not all(map(is_name, section.locks)):
+            raise Refused(4, "BadName", task, number)
+    if not all(map(is_name, sheet.outranks)):
+        raise Refused(4, "BadName", task, 0)
+    fault = sheet_fault(sheet)
+    if fault:
+        raise Refused(4, fault[0], task, *fault[1:])
+    return sheet

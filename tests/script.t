@@ -1,0 +1,60 @@
+`desk script SET TEAM` prints a set as the script of a team: it opens a draft, puts each task by rank, and commits.
+
+  $ desk script examples/three-tasks-weighted.toml 3
+  open 3
+  put 1 b 1 12000 12000 3000
+  put 1 c 1 20000 20000 5000
+  put 1 a 10 7000 7000 3000
+  commit 1
+  $ desk script examples/jitter.toml 8
+  open 8
+  put 1 a 0 7000 7000 3000 j=1000
+  put 1 b 0 12000 12000 3000
+  put 1 c 0 20000 20000 5000
+  commit 1
+
+The names that a task must outrank, and sections:
+
+  $ desk script examples/watchdog.toml 1
+  open 1
+  put 1 log 0 200000 200000 30000 bus@0:1000
+  put 1 watchdog 1 100000 100000 500 over=motion+sensors
+  put 1 sensors 2 20000 20000 5000 bus@1000:500
+  put 1 motion 3 10000 10000 3000
+  commit 1
+
+The empty set:
+
+  $ desk script examples/empty-set.toml 1
+  open 1
+  commit 1
+
+By deadlines the weights are those that compare deadlines less jitter, also where the set says so:
+
+  $ desk script examples/three-tasks.toml 1 --prefer deadline | grep put | cut -d ' ' -f 3,4
+  c 0
+  b 1
+  a 2
+  $ { echo 'prefer = "deadline"'; cat examples/three-tasks.toml; } | desk script - 1 > own
+  $ desk script examples/three-tasks.toml 1 --prefer deadline | cmp - own
+
+Played, it admits as `admit` does, with the same levels and responses, and refuses as that does:
+
+  $ for set in shared-lock watchdog robot robot-mended blocked-out-repaired; do
+  >   desk admit examples/$set.toml | sed 's/^\([0-9]* [a-z]*\) /level \1 1 /' | sed 1d > wanted
+  >   desk script examples/$set.toml 1 | desk play - | grep level | cmp - wanted
+  > done
+  $ desk script examples/robot.toml 1 | desk play - | grep infeasible
+  infeasible motor
+  $ desk script examples/shared-lock.toml 2 | desk rush - 2 | head -n 1
+  1 team 2 admitted 1
+
+A set that is none, and numbers that no team has:
+
+  $ echo 'task = [{}]' | desk script - 1
+  refused: MissingKey 1 0 name
+  [4]
+  $ desk script examples/shared-lock.toml 0 2> said
+  [2]
+  $ desk script examples/shared-lock.toml 9 2> said
+  [2]
