@@ -116,7 +116,7 @@ impl Bench {
         self.print(name, desk.pair(first, second, false));
     }
 
-    // `explain`, `judge` and `headroom` beside `admit`. Of a set without an order `judge` reads no settings.
+    // `explain`, `judge` and `limits` beside `admit`. Of a set without an order `judge` reads no settings.
     fn beside_admit(&self) {
         for set in [
             "chains", "harmonic", "late-no", "longest", "sections", "document",
@@ -129,7 +129,7 @@ impl Bench {
             for (command, words) in [
                 ("explain", self.words("explain", &[&file])),
                 ("judge", judge),
-                ("headroom", self.words("headroom", &[&file])),
+                ("limits", self.words("limits", &[&file])),
             ] {
                 self.beside(&format!("{command} {set}, beside admit"), &admit, &words);
             }

@@ -51,8 +51,8 @@ size_t desk_certify(const uint8_t *set, size_t set_length, uint8_t *room, size_t
 size_t desk_check(const uint8_t *set, size_t set_length, const uint8_t *certificate, size_t certificate_length,
                   uint8_t *room, size_t room_length, uint8_t *status);
 
-/* How far each cost may grow, and all costs together. */
-size_t desk_headroom(const uint8_t *set, size_t set_length, uint8_t *room, size_t room_length, uint8_t *status);
+/* How far each number may go, and all execution together. */
+size_t desk_limits(const uint8_t *set, size_t set_length, uint8_t *room, size_t room_length, uint8_t *status);
 
 /* The level of each thread and the ceiling of each mutex. */
 size_t desk_settings(const uint8_t *set, size_t set_length, uint8_t *room, size_t room_length, uint8_t *status);
@@ -63,6 +63,10 @@ size_t desk_explain(const uint8_t *set, size_t set_length, uint8_t *room, size_t
 /* Which tasks miss their deadlines at the levels and ceilings that settings give. */
 size_t desk_judge(const uint8_t *set, size_t set_length, const uint8_t *settings, size_t settings_length, uint8_t *room,
                   size_t room_length, uint8_t *status);
+
+/* What a change of a task set does to each task. */
+size_t desk_diff(const uint8_t *set, size_t set_length, const uint8_t *changed, size_t changed_length, uint8_t *room,
+                 size_t room_length, uint8_t *status);
 
 /* The densest release list that a task set allows up to a time in microseconds. */
 size_t desk_releases(const uint8_t *set, size_t set_length, uint64_t until, uint8_t *room, size_t room_length,
