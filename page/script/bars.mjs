@@ -1,0 +1,232 @@
+// A bar for each task: its bound against its deadline, made of the parts that `explain` prints; below it the cost as a grip,
+// with how far `limits` lets it go.
+import { limit_of } from './answers.mjs';
+import { coloured, element, grouped, plural, us } from './dom.mjs';
+
+const LETTER = 7.4;
+const percent = (time, deadline) => `${(100 * time / deadline).toFixed(1)} %`;
+
+export function part_told(part) {
+  if (part.kind === 'above') return `${part.by} above: ${plural(part.jobs, 'job')}, ${us(part.time)}`;
+  if (part.kind === 'blocked') return `blocked by ${part.by}, section ${part.section}, lock ${part.lock}: ${us(part.time)}`;
+  return `${part.kind === 'cost' ? 'own cost' : part.kind}: ${us(part.time)}`;
+}
+const label_of = part => part.kind === 'above' ? part.by : part.kind === 'blocked' ? `${part.lock} · ${part.by}` : part.kind;
+
+function bound_told(account, deadline) {
+  if (account?.over) return [`must stand above ${account.over}`];
+  if (!account) return [deadline === null ? '' : `deadline ${us(deadline)}`];
+  const late = account.time - deadline;
+  return [element('b', grouped(account.time)), ` of ${us(deadline)}`, late > 0 ? element('span.beyond', ` ${grouped(late)} too long`) : ''];
+}
+const NO_COST = 'no cost of its own would do';
+function reach_told({ in_order, most }, cost) {
+  if (most < cost) return `at most ${grouped(most)} would do`;
+  if (in_order === null) return `up to ${grouped(most)} in some order`;
+  return `up to ${grouped(in_order)} in this order` + (most === in_order ? '' : `, ${grouped(most)} in another`);
+}
+function moved_told(before, now) {
+  const by = now.time - before.time, told = [];
+  if (now.level !== before.level) told.push(`${now.level > before.level ? '▲' : '▼'} level ${before.level} → ${now.level}`);
+  if (by) told.push(`bound ${by > 0 ? '+' : '−'}${grouped(Math.abs(by))}`);
+  return told.join(', ');
+}
+// A number of a task as it is called.
+export const number_told = ({ key, section }) => section === null ? key : `length of section ${section}`;
+const PULL = 'Pull: the cost of the task (arrows: a hundredth, with shift a tenth; End: as far as this order lets it)';
+
+export class Bars {
+  // `grow` sets a task's cost, `point` shows a section in the table, `tip` says what a pointer is on.
+  constructor(host, { grow, point, tip }) {
+    Object.assign(this, { host, grow, point, tip, rows: new Map(), pulled: null, given: null });
+    for (const it of ['pointerover', 'pointerdown']) host.addEventListener(it, event => this.hover(event));
+    host.addEventListener('pointerleave', () => this.tip(null));
+    new ResizeObserver(() => { if (this.given && this.width !== this.host.clientWidth) this.show(this.given); }).observe(host);
+  }
+
+  hover(event) {
+    const part = event.target.closest('[data-tip]');
+    this.tip(part && { text: part.dataset.tip, of: part.dataset.of ?? '', x: event.clientX, y: event.clientY });
+  }
+
+  // What stands for a task that no line of `explain` accounts for: others than those of a conflict.
+  show(given) {
+    this.given = given;
+    this.width = this.host.clientWidth;
+    const { explained, limits, deadlines } = given, accounts = new Map(explained.accounts.map(it => [it.name, it]));
+    const accounted = [...accounts.keys()], others = [...deadlines.keys()].filter(it => !accounts.has(it));
+    const names = explained.conflict ? [...accounted, ...others] : accounted.reverse();
+    for (const [name, row] of this.rows) {
+      if (names.includes(name)) continue;
+      row.item.remove();
+      this.rows.delete(name);
+    }
+    for (const name of names) {
+      if (!this.rows.has(name)) this.rows.set(name, this.row(name));
+      this.draw(this.rows.get(name), name, accounts.get(name), limit_of(limits, name, 'cost'));
+    }
+    this.order(names);
+  }
+
+  // Rows move only where nobody is pulling a grip, and the focus stays.
+  order(names) {
+    if (this.pulled) return;
+    const wanted = names.map(it => this.rows.get(it).item);
+    if (wanted.every((it, at) => this.host.children[at] === it)) return;
+    const focused = this.host.contains(document.activeElement) ? document.activeElement : null;
+    this.host.append(...wanted);
+    if (focused && focused !== document.activeElement) focused.focus({ preventScroll: true });
+  }
+
+  row(name) {
+    const row = {
+      level: element('span.level'), who: element('button.who', { type: 'button', 'aria-expanded': 'false' }),
+      delta: element('span.delta'), room: element('span.room'), told: element('span.told'),
+      track: element('div.track', { role: 'img' }), sum: element('div.sum', { hidden: true }),
+      grip: element('input', { type: 'range', min: 0, step: 1, 'aria-label': `cost of ${name}`, title: PULL }),
+      reach: element('i.reach'), any: element('i.reach.any'),
+    };
+    row.title = element('div.title', row.who, row.delta, row.room, row.told);
+    row.growth = element('div.growth', element('i.line'), row.any, row.reach, row.grip);
+    row.item = coloured(element('li.bar', { 'data-task': name }, row.title, row.track, row.growth, row.sum), name);
+    row.who.append(element('span', { className: 'unseen' }, 'level '), row.level, name);
+    row.who.onclick = () => {
+      row.sum.hidden = !row.sum.hidden;
+      row.who.setAttribute('aria-expanded', !row.sum.hidden);
+    };
+    row.grip.oninput = () => this.pull(row, name, Number(row.grip.value));
+    row.grip.onkeydown = event => this.step(row, name, event);
+    row.grip.onpointerdown = () => { this.pulled = row; };
+    for (const it of ['pointerup', 'pointercancel', 'lostpointercapture'])
+      row.grip.addEventListener(it, () => this.let_go(row));
+    row.grip.onchange = () => this.let_go(row);
+    return row;
+  }
+  let_go(row) {
+    if (this.pulled !== row) return;
+    this.pulled = null;
+    if (this.given) this.show(this.given);
+  }
+
+  // A pulled grip stops at what the desk says that the cost may be; arrows go by a hundredth.
+  pull(row, name, value) {
+    const near = row.scale / 70, stops = [row.in_order, row.most].filter(it => it !== null && it !== undefined);
+    const stop = stops.find(it => Math.abs(it - value) < near);
+    this.grow(name, Math.max(1, Math.round(stop ?? value)));
+  }
+  step(row, name, event) {
+    const { key, shiftKey } = event, one = Math.max(1, Math.round(row.cost / (shiftKey ? 10 : 100)));
+    const more = row.cost + one, less = row.cost - one;
+    const to = { ArrowRight: more, ArrowUp: more, ArrowLeft: less, ArrowDown: less, End: row.in_order ?? row.most, Home: 1 }[key];
+    if (to === undefined || to === null) return;
+    event.preventDefault();
+    this.grow(name, Math.max(1, to));
+  }
+
+  draw(row, name, account, growth) {
+    const { explained, limits, deadlines, costs, was, can_edit } = this.given, before = was?.accounts.get(name);
+    const deadline = account?.deadline ?? deadlines.get(name) ?? null, time = account?.time ?? null, is_refused = explained.conflict !== null;
+    const scale = this.pulled === row ? row.scale : Math.max(deadline ?? 1, time ?? 0, 1);
+    // What is drawn already stays.
+    const drawn = JSON.stringify([account, limits?.tasks.get(name), limits?.is_whole, deadline, scale, costs.get(name), before,
+      was?.conflict, can_edit, is_refused, this.width]);
+    if (drawn === row.drawn) {
+      if (this.pulled !== row) row.grip.value = row.cost;
+      return;
+    }
+    const cost = costs.get(name) ?? growth?.value ?? 1;
+    Object.assign(row, { drawn, scale, cost, in_order: growth?.in_order ?? null, most: growth?.most ?? null });
+    row.level.textContent = account?.level ?? '';
+    row.item.classList.toggle('is-bad', is_refused && !!account);
+    row.told.replaceChildren(...bound_told(account, deadline));
+    this.draw_track(row, name, account, deadline, before, scale);
+    this.draw_growth(row, growth, can_edit, !!account);
+    this.draw_delta(row, account, before, is_refused);
+    row.sum.replaceChildren(this.sum(name, account, deadline), ...this.reaches(name, limits));
+  }
+
+  draw_track(row, name, account, deadline, before, scale) {
+    row.track.hidden = !account || account.time === undefined;
+    if (row.track.hidden) return;
+    const wide = (this.width - 12) / scale, pieces = [];
+    let from = 0;
+    for (const part of account.parts) {
+      const text = label_of(part), tip = `${part_told(part)} (${percent(part.time, deadline)} of the deadline)`;
+      const fits = text.length * LETTER < part.time * wide - 4 ? text : '';
+      const of = part.by ?? name, piece = coloured(element(`i.part.${part.kind}`, { 'data-tip': tip, 'data-of': of }, fits), of);
+      piece.style.left = `${100 * from / scale}%`;
+      piece.style.width = `${100 * part.time / scale}%`;
+      from += part.time;
+      pieces.push(piece);
+    }
+    if (account.time > deadline) {
+      const past = element('i.past');
+      past.style.left = `${100 * deadline / scale}%`;
+      past.style.width = `${100 * (account.time - deadline) / scale}%`;
+      past.style.opacity = .55;
+      pieces.push(past);
+    }
+    const end = element('i.end');
+    end.style.left = `${100 * deadline / scale}%`;
+    pieces.push(end);
+    if (before?.time !== undefined && before.time !== account.time) {
+      const ghost = element('i.before');
+      ghost.style.width = `${Math.min(100, 100 * before.time / scale)}%`;
+      pieces.push(ghost);
+    }
+    row.track.replaceChildren(...pieces);
+    const label = `${name}: ${account.time} of ${deadline} microseconds: ${account.parts.map(part_told).join('; ')}`;
+    if (row.track.getAttribute('aria-label') !== label) row.track.setAttribute('aria-label', label);
+  }
+
+  draw_growth(row, growth, can_edit, is_accounted) {
+    const { cost, scale, in_order, most, grip } = row;
+    grip.max = scale;
+    grip.value = cost;
+    grip.disabled = !can_edit;
+    for (const [it, value] of [[row.reach, in_order], [row.any, most]]) {
+      it.hidden = value === null;
+      if (value !== null) it.style.width = `${Math.min(100, 100 * value / scale)}%`;
+    }
+    row.any.hidden ||= most === in_order;
+    const reach = growth ? reach_told(growth, cost) : this.given.limits?.is_whole === false && is_accounted ? NO_COST : '';
+    const brief = in_order === null ? reach && `; ${reach}` : ` ≤ ${grouped(in_order)}${most === in_order ? '' : ` (${grouped(most)})`}`;
+    row.room.textContent = `cost ${grouped(cost)}${brief}`;
+    row.room.title = reach;
+    grip.setAttribute('aria-valuetext', `${cost} microseconds${reach ? `, ${reach.replaceAll('\u202f', '')}` : ''}`);
+  }
+
+  // What has changed since the baseline; of a conflict there are no levels to compare.
+  draw_delta(row, account, before, is_refused) {
+    const { was } = this.given, is_compared = was && !was.conflict && account && !is_refused;
+    const by = is_compared && before ? account.time - before.time : 0;
+    row.delta.textContent = !is_compared ? '' : before ? moved_told(before, account) : 'new';
+    row.delta.className = by > 0 ? 'delta worse' : by < 0 ? 'delta better' : 'delta';
+  }
+
+  // The parts as a table, for whoever opens the row.
+  sum(name, account, deadline) {
+    if (account?.over) return element('p.faint', `It misses nothing itself: it must stand above ${account.over}.`);
+    if (!account) return element('p.faint', 'The conflict does not need this task.');
+    const head = element('tr', ...['part', 'µs', 'of the deadline'].map(it => element('th', { scope: 'col' }, it)));
+    const cells = it => [element('td', this.part_named(it)), element('td', grouped(it.time)), element('td.faint', percent(it.time, deadline))];
+    const rows = account.parts.map(it => element('tr', ...cells(it)));
+    return element('table', { 'aria-label': `parts of the bound of ${name}` }, head, ...rows);
+  }
+  // How far each number of the task may go.
+  reaches(name, limits) {
+    const rows = limits?.is_whole ? limits.tasks.get(name) ?? [] : [];
+    if (!rows.length) return [];
+    const head = element('tr', ...['number', 'value', 'this order', 'some order'].map(it => element('th', { scope: 'col' }, it)));
+    const cells = it => [number_told(it), ...[it.value, it.in_order, it.most].map(value => value === null ? '–' : grouped(value))];
+    const body = rows.map(it => element('tr', ...cells(it).map(text => element('td', text))));
+    return [element('table', { 'aria-label': `how far the numbers of ${name} may go` }, head, ...body)];
+  }
+  part_named(part) {
+    if (part.kind === 'above') return `${part.by} above, ${plural(part.jobs, 'job')}`;
+    if (part.kind !== 'blocked') return part.kind === 'cost' ? 'own cost' : part.kind;
+    const onclick = () => this.point(part.by, part.section);
+    const button = element('button.small', { type: 'button', onclick }, `${part.by}, section ${part.section}`);
+    return element('span', 'blocked by ', button, ` lock ${part.lock}`);
+  }
+}
