@@ -1,7 +1,7 @@
 //! Runs of the core.
 
 use assignment::{AnswerFault, Finding};
-use desk_core::{Core, Event, Reply, Standing, StepFault, run};
+use desk_core::{Cause, Core, Event, Reply, Standing, StepFault, run};
 use drafts::Team;
 use example_sets::{again, name};
 use std::alloc::Global;
@@ -157,5 +157,103 @@ fn a_draft_is_asked_for_its_task(rt: HostRuntime) -> Result<(), Fail> {
     let finding = found(alloc, &mut core)?;
     let _ = stepped(alloc, &mut core, Event::Found { draft: 1, finding })?;
     assert!(rt; is_tested(alloc, &mut core)?);
+    Ok(())
+}
+
+// What is answered to an event, with the cause where it is refused.
+fn answer_of(reply: &Reply) -> &'static str {
+    match reply {
+        Reply::Refused {
+            cause: Cause::NoSuchDraft,
+        } => "no such draft",
+        Reply::Refused {
+            cause: Cause::Stranger,
+        } => "stranger",
+        Reply::Refused {
+            cause: Cause::Twice,
+        } => "twice",
+        _ => word_of(reply),
+    }
+}
+
+// Opens a draft of a team, the next by number, and puts sheets, each by its name, its period and its cost.
+fn drafted(
+    alloc: Global,
+    core: &mut Core,
+    draft: usize,
+    tasks: &[(&'static str, u64, u64)],
+) -> Result<(), Fail> {
+    let _ = stepped(alloc, core, open(1)?)?;
+    for (name, period, cost) in tasks {
+        let sheet = sheet(alloc, *name, *period, *cost)?;
+        let _ = stepped(alloc, core, Event::Put { draft, sheet })?;
+    }
+    Ok(())
+}
+
+// Draft 1 has three tasks, and draft 2 a alone.
+fn two_drafts(alloc: Global) -> Result<Core, Fail> {
+    let mut core = again!(Core::new(alloc))?;
+    let tasks = [
+        ("a", 7_000, 3_000),
+        ("b", 12_000, 3_000),
+        ("c", 20_000, 5_000),
+    ];
+    drafted(alloc, &mut core, 1, &tasks)?;
+    drafted(alloc, &mut core, 2, &[("a", 7_000, 3_000)])?;
+    Ok(core)
+}
+
+// What draft 1 answers to the finding on a name at the present level of a draft.
+fn brought(alloc: Global, core: &mut Core, text: &str, from: usize) -> Result<&'static str, Fail> {
+    let name = name(text)?;
+    let Some(question) = again!(core.question(alloc, from, name))? else {
+        return Ok("no question");
+    };
+    let answer = again!(core.answer(alloc, from, question), AnswerFault { question });
+    let finding = answer.ok().ok_or("a finding")?;
+    let reply = stepped(alloc, core, Event::Found { draft: 1, finding })?;
+    Ok(answer_of(&reply))
+}
+
+// Findings in any order, twice, and from another draft: the name, the draft whose question it answers, and what is said.
+const FINDINGS: [(&str, usize, &str); 9] = [
+    ("c", 1, "taken"),
+    ("b", 1, "taken"),
+    ("b", 1, "twice"),
+    ("a", 2, "stranger"),
+    ("a", 1, "level"),
+    ("c", 1, "no question"),
+    ("b", 1, "taken"),
+    ("a", 1, "level"),
+    ("b", 1, "tested"),
+];
+
+// Brings them, and tells the first that is answered otherwise.
+fn bring_all(alloc: Global, core: &mut Core) -> Result<(), Fail> {
+    for (text, from, want) in &FINDINGS {
+        let said = brought(alloc, core, *text, *from)?;
+        if said != *want {
+            return Err(Fail::new(format_args!("{said}, not {want}, at {text}")));
+        }
+    }
+    Ok(())
+}
+
+// What two commits of draft 1 are answered.
+fn committed_twice(alloc: Global, core: &mut Core) -> Result<[&'static str; 2], Fail> {
+    let first = stepped(alloc, core, Event::Commit { draft: 1 })?;
+    let second = stepped(alloc, core, Event::Commit { draft: 1 })?;
+    Ok([answer_of(&first), answer_of(&second)])
+}
+
+#[test]
+fn findings_in_any_order(rt: HostRuntime) -> Result<(), Fail> {
+    let alloc = rt.alloc();
+    let mut core = two_drafts(alloc)?;
+    bring_all(alloc, &mut core)?;
+    assert!(rt; committed_twice(alloc, &mut core)? == ["decided", "no such draft"]);
+    let levels = levels_of(alloc, &core)?;
+    assert!(rt; levels.as_slice() == [(2, 20_000), (0, 6_000), (1, 3_000)].as_slice());
     Ok(())
 }
