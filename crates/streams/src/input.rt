@@ -1,8 +1,7 @@
 //! Reading inputs whole.
-ghost use Rattle.std.specs.Prelude.{◌≡◌, ◌≢◌, ◌⊎◌, ◌<◌, ℕ, List, [], length, Some, true, false, Err, IfOk};
+ghost use Rattle.std.specs.Prelude.{◌≡◌, true, false, Err, IfOk};
 ghost use Rattle.std.specs.Io.KnownBytes.{IsAtEnd};
 ghost use Rattle.streams.specs.Inputs.{AreTurnsSpent, IsDisturbed, IsReadFrom, IsTooLong, IsWithinTurns};
-ghost use Rattle.streams.specs.declared.input.TheConstants.{INPUT_LIMIT};
 
 use crate::watched::{ReadFault, Watched};
 use std::alloc::Global;
@@ -62,37 +61,4 @@ pub fn read_input<R: Read + Drop>(
         }
     }
     Err(InputFault::ReadFailed)
-}
-
-/// Reads all that two readers have, the first one first: where it is too long, where a read of it failed or where its
-/// turns were spent before its end, nothing is read of the second.
-pub fn read_both<R: Read + Drop, S: Read + Drop>(
-    alloc: Global,
-    first: &mut Watched<R>,
-    second: &mut Watched<S>,
-) -> Result<(Vec<u8>, Vec<u8>), InputFault>
-    ensures whole { IfOk result (λ both. IsReadFrom (R.remaining first.old.inner) both.0.items
-        × IsReadFrom (S.remaining second.old.inner) both.1.items) }
-    ensures too_long { result ≡ Err InputFault.TooLong
-        → IsTooLong (R.remaining first.old.inner) ⊎ IsTooLong (S.remaining second.old.inner) }
-    ensures failed { result ≡ Err InputFault.ReadFailed
-        → IsDisturbed first.new ⊎ IsDisturbed second.new }
-    ensures answered { first.old.has_failed ≡ false → second.old.has_failed ≡ false
-        → (first.new.has_failed ≡ true) ⊎ (second.new.has_failed ≡ true)
-        → result ≡ Err InputFault.ReadFailed }
-    ensures tried_again { result ≡ Err InputFault.ReadFailed
-        → first.new.has_failed ≡ false → second.new.has_failed ≡ false
-        → AreTurnsSpent first.old first.new ⊎ AreTurnsSpent second.old second.new }
-    ensures turns { IsWithinTurns first.old first.new × IsWithinTurns second.old second.new }
-    ensures first_too_long { (all : List ℕ) → R.remaining first.old.inner ≡ Some all
-        → INPUT_LIMIT < length all
-        → second.new ≡ second.old }
-    ensures first_left { (rest : List ℕ) → R.remaining first.new.inner ≡ Some rest → rest ≢ []
-        → second.new ≡ second.old }
-    ensures first_failed { first.old.has_failed ≡ false → first.new.has_failed ≡ true
-        → second.new ≡ second.old }
-{
-    let front = read_input(alloc, first)?;
-    let back = read_input(alloc, second)?;
-    Ok((front, back))
 }

@@ -8,6 +8,6 @@ mod patient;
 mod watched;
 
 pub use held::Held;
-pub use input::{InputFault, read_both, read_input};
+pub use input::{InputFault, read_input};
 pub use outlet::Outlet;
 pub use watched::{ReadFault, Watched, WriteFailed};
