@@ -7,7 +7,7 @@ import { name_of, number_in, put_key, sections_in } from './toml.mjs';
 // What the factor is of: the cost and the sections of each task.
 export const execution_of = ({ tasks }) => new Map(tasks.map(it => [name_of(it), { cost: number_in(it, 'cost'), sections: sections_in(it) }]));
 
-const changed = (document, table, key, value) => value === number_in(table, key) ? [] : put_key(document, table, key, String(value));
+const put_where_changed = (document, table, key, value) => value === number_in(table, key) ? [] : put_key(document, table, key, String(value));
 export function scaled(document, base, permille) {
   const times = value => Math.ceil(value * permille / 1000);
   return document.tasks.flatMap(task => {
@@ -17,9 +17,9 @@ export function scaled(document, base, permille) {
     const edits = was.sections.flatMap(({ at, len }, place) => {
       const begin = Math.max(end, times(at ?? 0)), table = task.sections[place];
       end = begin + times(len ?? 0);
-      return [...changed(document, table, 'at', begin), ...changed(document, table, 'len', end - begin)];
+      return [...put_where_changed(document, table, 'at', begin), ...put_where_changed(document, table, 'len', end - begin)];
     });
-    return [...edits, ...changed(document, task, 'cost', Math.max(1, end, times(was.cost)))];
+    return [...edits, ...put_where_changed(document, task, 'cost', Math.max(1, end, times(was.cost)))];
   });
 }
 
