@@ -1,6 +1,6 @@
-// Drives the page in headless Chromium with keys and a pointer, and compares what it shows with what the program prints:
-// node drive.mjs [COUNT [SEED]], with PAGE, DESK and CHROMIUM in the environment (page/test). SHOTS names a folder for
-// pictures of the page.
+// Drives the page in headless Chromium with keys and a pointer, and compares what it shows with
+// what the program prints: node drive.mjs [COUNT [SEED]], with PAGE, DESK and CHROMIUM in the
+// environment (page/test). SHOTS names a folder for pictures of the page.
 import { spawnSync } from 'child_process';
 import { readFileSync, readdirSync, statSync, writeFileSync } from 'fs';
 import { join } from 'path';
@@ -9,14 +9,17 @@ import { Browser, soon } from './driving/browser.mjs';
 import { random_script, random_set, seed as sow } from './driving/random.mjs';
 
 const [count = '100', seed = String(Date.now() % 1000000)] = process.argv.slice(2);
-const { PAGE, DESK, CHROMIUM, SHOTS } = process.env, EXAMPLES = new URL('../examples/', import.meta.url).pathname;
+const { PAGE, DESK, CHROMIUM, SHOTS } = process.env;
+const EXAMPLES = new URL('../examples/', import.meta.url).pathname;
 let passed = 0, failed = 0;
 const kinds = {};
 function expect(is_so, what) {
   if (is_so) passed++;
   else if (++failed <= 30) console.log(`failed: ${what}`);
 }
-const equal = (found, wanted, what) => expect(found === wanted, `${what}: ${JSON.stringify(found)?.slice(0, 300)}, and not ${JSON.stringify(wanted)?.slice(0, 300)}`);
+const equal = (found, wanted, what) =>
+  expect(found === wanted,
+  `${what}: ${JSON.stringify(found)?.slice(0, 300)}, and not ${JSON.stringify(wanted)?.slice(0, 300)}`);
 const example = name => readFileSync(`${EXAMPLES}${name}.toml`, 'utf8');
 
 // The program's answer to a command over inputs, of which the last is its standard input.
@@ -25,7 +28,9 @@ function native(command, inputs, words = []) {
     writeFileSync(`${browser.room}/${at}`, text);
     return `${browser.room}/${at}`;
   });
-  const { stdout, status } = spawnSync(DESK, [command, ...files, '-', ...words], { input: inputs.at(-1), maxBuffer: 1 << 28 });
+  const { stdout, status } =
+    spawnSync(DESK, [command, ...files, '-', ...words],
+    { input: inputs.at(-1), maxBuffer: 1 << 28 });
   return { text: stdout.toString('utf8'), status };
 }
 
@@ -34,19 +39,32 @@ function native(command, inputs, words = []) {
 function looked() {
   const text = it => document.getElementById(it).textContent;
   const bars = [...document.querySelectorAll('#bars > .bar')].map(it => ({
-    name: it.dataset.task, level: it.querySelector('.level').textContent, told: it.querySelector('.told').textContent, room: it.querySelector('.room').textContent,
-    delta: it.querySelector('.delta').textContent, is_bad: it.classList.contains('is-bad'), is_drawn: !it.querySelector('.track').hidden,
+    name: it.dataset.task, level: it.querySelector('.level').textContent,
+    told: it.querySelector('.told').textContent, room: it.querySelector('.room').textContent,
+    delta: it.querySelector('.delta').textContent, is_bad: it.classList.contains('is-bad'),
+    is_drawn: !it.querySelector('.track').hidden,
     parts: [...it.querySelectorAll('.track > .part')].map(part => part.dataset.tip),
-    places: [...it.querySelectorAll('.track > .part')].map(part => [parseFloat(part.style.left), parseFloat(part.style.width)]),
-    reach: ['.reach:not(.any)', '.reach.any'].map(mark => it.querySelector(mark)).map(mark => mark.hidden ? null : parseFloat(mark.style.width)),
-    width: [...it.querySelectorAll('.track > .part')].reduce((sum, part) => sum + parseFloat(part.style.width), 0), end: parseFloat(it.querySelector('.track > .end')?.style.left),
+    places: [...it.querySelectorAll('.track > .part')]
+      .map(part => [parseFloat(part.style.left), parseFloat(part.style.width)]),
+    reach: ['.reach:not(.any)', '.reach.any'].map(mark => it.querySelector(mark))
+      .map(mark => mark.hidden ? null : parseFloat(mark.style.width)),
+    width: [...it.querySelectorAll('.track > .part')]
+      .reduce((sum, part) => sum + parseFloat(part.style.width), 0),
+      end: parseFloat(it.querySelector('.track > .end')?.style.left),
   }));
-  const rows = [...document.querySelectorAll('#table [data-row]')].map(it => Object.fromEntries([...it.querySelectorAll('[data-cell]')].map(cell => [cell.dataset.cell, cell.value])));
-  const shown = Object.fromEntries([...document.querySelectorAll('[id]')].map(it => [it.id, it.textContent]));
-  const slices = [...document.getElementById('picture').shadowRoot.querySelectorAll('.e > title')].map(it => it.textContent);
-  return { answers: desk.state.answers, bars, rows, shown, slices, verdict: text('verdict'), trouble: text('trouble'), conflict: document.getElementById('conflict').hidden ? '' : text('conflict'),
+  const rows = [...document.querySelectorAll('#table [data-row]')]
+    .map(it => Object.fromEntries(
+    [...it.querySelectorAll('[data-cell]')].map(cell => [cell.dataset.cell, cell.value])));
+  const shown = Object.fromEntries(
+    [...document.querySelectorAll('[id]')].map(it => [it.id, it.textContent]));
+  const slices = [...document.getElementById('picture').shadowRoot.querySelectorAll('.e > title')]
+    .map(it => it.textContent);
+  return { answers: desk.state.answers, bars, rows, shown, slices, verdict: text('verdict'),
+    trouble: text('trouble'), conflict: document.getElementById('conflict').hidden ? '' :
+    text('conflict'),
     mends: [...document.querySelectorAll('#mends button')].map(it => it.textContent),
-    set: document.getElementById('set').value, is_tabled: !document.getElementById('table').hidden, strip: document.getElementById('strip').className };
+    set: document.getElementById('set').value, is_tabled: !document.getElementById('table').hidden,
+      strip: document.getElementById('strip').className };
 }
 const look = () => browser.run(looked);
 // Puts texts where they are typed, at once.
@@ -65,28 +83,41 @@ const digits = text => text.replaceAll('\u202f', '');
 
 // ---- the page beside the program
 
-const PARTS = { cost: it => `own cost: ${it[1]} µs`, jitter: it => `jitter: ${it[1]} µs`, blocked: it => `blocked by ${it[3]}, section ${it[5]}, lock ${it[7]}: ${it[1]} µs`,
+const PARTS = { cost: it => `own cost: ${it[1]} µs`, jitter: it => `jitter: ${it[1]} µs`,
+  blocked: it => `blocked by ${it[3]}, section ${it[5]}, lock ${it[7]}: ${it[1]} µs`,
   above: it => `${it[1]} above: ${it[2]} job${it[2] === '1' ? '' : 's'}, ${it[4]} µs` };
 
 // Each bar has the account's numbers, a part for each part of it, and their widths.
 function compare_bars(what, explain, { bars }) {
-  const blocks = explain.text.trimEnd().split(/\n(?! )/).slice(1).filter(it => !/^(load|conflict) /.test(it)), drawn = bars.filter(it => it.is_drawn);
+  const blocks = explain.text.trimEnd().split(/\n(?! )/).slice(1)
+    .filter(it => !/^(load|conflict) /.test(it));
+  const drawn = bars.filter(it => it.is_drawn);
   const timed = blocks.filter(it => / \d+ of \d+(\n|$)/.test(it));
   equal(drawn.length, timed.length, `${what}: bars`);
   for (const block of timed) {
-    const [head, ...parts] = block.split('\n'), [, level, name, time, deadline] = head.match(/^(?:(\d+) )?(\S+) (\d+) of (\d+)$/), bar = bars.find(it => it.name === name);
+    const [head, ...parts] = block.split('\n');
+    const [, level, name, time, deadline] = head.match(/^(?:(\d+) )?(\S+) (\d+) of (\d+)$/);
+    const bar = bars.find(it => it.name === name);
     if (!bar) return expect(false, `${what}: no bar of ${name}`);
     const late = Number(time) - Number(deadline);
-    equal(digits(bar.told), `${time} of ${deadline} µs${late > 0 ? ` ${late} too long` : ''}`, `${what}: ${name}`);
+    equal(digits(bar.told), `${time} of ${deadline} µs${late > 0 ? ` ${late} too long` : ''}`,
+      `${what}: ${name}`);
     equal(bar.level, level ?? '', `${what}: level of ${name}`);
-    equal(digits(bar.parts.join('|')).replace(/ \([\d.]+ % of the deadline\)/g, ''), parts.map(it => it.trim().split(' ')).map(it => PARTS[it[0]](it)).join('|'), `${what}: parts of ${name}`);
+    equal(digits(bar.parts.join('|')).replace(/ \([\d.]+ % of the deadline\)/g, ''),
+      parts.map(it => it.trim().split(' ')).map(it => PARTS[it[0]](it)).join('|'),
+      `${what}: parts of ${name}`);
     const scale = Math.max(time, deadline);
-    expect(Math.abs(bar.width - 100 * time / scale) < .01 && Math.abs(bar.end - 100 * deadline / scale) < .01, `${what}: ${name} is ${bar.width} wide, ends at ${bar.end}`);
+    expect(Math.abs(bar.width - 100 * time / scale) < .01 &&
+      Math.abs(bar.end - 100 * deadline / scale) < .01,
+      `${what}: ${name} is ${bar.width} wide, ends at ${bar.end}`);
     const ends = bar.places.map(([left, width]) => left + width);
-    expect(bar.places.every(([left], at) => Math.abs(left - (ends[at - 1] ?? 0)) < .01), `${what}: the parts of ${name} don't touch: ${bar.places}`);
+    expect(bar.places.every(([left], at) => Math.abs(left - (ends[at - 1] ?? 0)) < .01),
+      `${what}: the parts of ${name} don't touch: ${bar.places}`);
     equal(bar.is_bad, explain.status === 3, `${what}: red of ${name}`);
   }
-  if (explain.status === 0) equal(bars.map(it => it.name).join(), blocks.map(it => it.split(' ')[1]).reverse().join(), `${what}: order of the bars`);
+  if (explain.status === 0)
+    equal(bars.map(it => it.name).join(), blocks.map(it => it.split(' ')[1]).reverse().join(),
+      `${what}: order of the bars`);
 }
 // Each change that mends a refused set has its button.
 function compare_mends(what, limits, mends) {
@@ -99,37 +130,55 @@ function compare_mends(what, limits, mends) {
 }
 function same(name, found, wanted, shown) {
   const head = it => `[${it?.status}] ${JSON.stringify(it?.text?.slice(0, 80))}`;
-  expect((shown === undefined || shown === wanted.text) && found?.text === wanted.text && found.status === wanted.status, `${name}: ${head(found)}, and not ${head(wanted)}`);
+  expect((shown === undefined || shown === wanted.text) && found?.text === wanted.text &&
+    found.status === wanted.status, `${name}: ${head(found)}, and not ${head(wanted)}`);
 }
 function compare_set(what, set, seen) {
   const { answers, shown, slices, bars } = seen;
-  const wanted = Object.fromEntries(['admit', 'explain', 'settings', 'certify', 'limits'].map(it => [it, native(it, [set])]));
+  const wanted = Object.fromEntries(
+    ['admit', 'explain', 'settings', 'certify', 'limits'].map(it => [it, native(it, [set])]));
   if (wanted.certify.status !== 4) wanted.check = native('check', [set, wanted.certify.text]);
   if (wanted.admit.status === 0) {
     wanted.releases = native('releases', [set], [answers.releases.text.split(/\s/)[1]]);
     wanted.simulate = native('simulate', [set, wanted.releases.text]);
     wanted.draw = native('draw', [set, wanted.releases.text]);
   }
-  for (const [name, it] of Object.entries(wanted)) same(`${what}: ${name}`, answers[name], it, it.text.length < 200000 ? shown[`printed-${name}`] : undefined);
+  for (const [name, it] of Object.entries(wanted))
+    same(`${what}: ${name}`, answers[name], it, it.text.length < 200000 ? shown[`printed-${name}`] :
+      undefined);
   const kind = wanted.admit.text.split(/\s/)[0];
   kinds[kind] = (kinds[kind] ?? 0) + 1;
-  expect(Object.keys(answers).every(it => wanted[it] || ['play', 'judge'].includes(it)), `${what}: more answers than wanted: ${Object.keys(answers)}`);
-  equal(shown.settings, wanted.settings.status === 0 ? wanted.settings.text : '', `${what}: settings to copy`);
+  expect(Object.keys(answers).every(it => wanted[it] || ['play', 'judge'].includes(it)),
+    `${what}: more answers than wanted: ${Object.keys(answers)}`);
+  equal(shown.settings, wanted.settings.status === 0 ? wanted.settings.text : '',
+    `${what}: settings to copy`);
   equal(seen.trouble, '', `${what}: trouble`);
   if (wanted.explain.status !== 4) compare_bars(what, wanted.explain, seen);
   if (wanted.admit.status === 0 && seen.is_tabled)
-    for (const [name, , cost, in_order, most] of wanted.limits.text.split('\n').slice(1).map(it => it.split(' ')).filter(it => it[1] === 'cost')) {
-      const deadline = Number(wanted.explain.text.match(new RegExp(`^\\d+ ${name} \\d+ of (\\d+)$`, 'm'))[1]), at = it => Math.min(100, 100 * it / deadline);
+    for (const [name, , cost, in_order, most] of wanted.limits.text.split('\n').slice(1)
+      .map(it => it.split(' ')).filter(it => it[1] === 'cost')) {
+      const deadline =
+        Number(wanted.explain.text.match(new RegExp(`^\\d+ ${name} \\d+ of (\\d+)$`, 'm'))[1]);
+      const at = it => Math.min(100, 100 * it / deadline);
       const [reach, any] = bars.find(it => it.name === name)?.reach ?? [];
-      expect(Math.abs(reach - at(in_order)) < .01 && (most === in_order ? any === null : Math.abs(any - at(most)) < .01), `${what}: marks of ${name} at ${reach}, ${any}`);
-      equal(digits(bars.find(it => it.name === name)?.room ?? ''), `cost ${cost} ≤ ${in_order}${most === in_order ? '' : ` (${most})`}`, `${what}: how far the cost of ${name} may go`);
+      expect(Math.abs(reach - at(in_order)) < .01 &&
+        (most === in_order ? any === null : Math.abs(any - at(most)) < .01),
+        `${what}: marks of ${name} at ${reach}, ${any}`);
+      equal(digits(bars.find(it => it.name === name)?.room ?? ''),
+        `cost ${cost} ≤ ${in_order}${most === in_order ? '' : ` (${most})`}`,
+        `${what}: how far the cost of ${name} may go`);
     }
   if (wanted.admit.status === 3) compare_mends(what, wanted.limits.text, seen.mends);
-  if (wanted.admit.status === 3) expect(seen.verdict === `No order passes: ${wanted.admit.text.trim().split(' ').slice(1).join(', ')}` && seen.conflict, `${what}: ${seen.verdict}`);
-  if (wanted.admit.status === 4) expect(/^(Refused|Not read|Done)/.test(seen.verdict) && !/no|yes/.test(seen.strip), `${what}: ${seen.verdict} ${wanted.admit.text}`);
+  if (wanted.admit.status === 3)
+    expect(seen.verdict === `No order passes: ${wanted.admit.text.trim().split(' ').slice(1).join(', ')}` && seen.conflict, `${what}: ${seen.verdict}`);
+  if (wanted.admit.status === 4)
+    expect(/^(Refused|Not read|Done)/.test(seen.verdict) && !/no|yes/.test(seen.strip),
+      `${what}: ${seen.verdict} ${wanted.admit.text}`);
   if (wanted.admit.status !== 0) return equal(slices.length, 0, `${what}: a picture of no run`);
-  const run = [...wanted.simulate.text.matchAll(/^(\d+) (\d+) (\S+)$/gm)].map(it => `${it[3]} ${it[1]} to ${it[2]} us`);
-  expect(wanted.draw.text.length > 4000000 || slices.sort().join() === run.sort().join(), `${what}: ${slices.length} slices of ${run.length}`);
+  const run = [...wanted.simulate.text.matchAll(/^(\d+) (\d+) (\S+)$/gm)]
+    .map(it => `${it[3]} ${it[1]} to ${it[2]} us`);
+  expect(wanted.draw.text.length > 4000000 || slices.sort().join() === run.sort().join(),
+    `${what}: ${slices.length} slices of ${run.length}`);
 }
 
 // ---- scenes: each begins with a page as it opens
@@ -137,7 +186,11 @@ function compare_set(what, set, seen) {
 const cell = (row, key) => `#table [data-row="${row}"] [data-cell="${key}"]`;
 const lines_changed = (a, b) => {
   const rest = b.split('\n');
-  return a.split('\n').filter(it => { const at = rest.indexOf(it); if (at >= 0) rest.splice(at, 1); return at < 0; }).length + rest.length;
+  return a.split('\n').filter(it => {
+    const at = rest.indexOf(it);
+    if (at >= 0) rest.splice(at, 1);
+    return at < 0;
+  }).length + rest.length;
 };
 
 async function the_table() {
@@ -145,13 +198,15 @@ async function the_table() {
   await put({ set });
   await browser.write(cell(0, 'cost'), '90');
   let seen = await look();
-  equal(seen.set, set.replace('cost = 150 #', 'cost = 90 #'), 'a cost typed into the table is the one change of the text');
+  equal(seen.set, set.replace('cost = 150 #', 'cost = 90 #'),
+    'a cost typed into the table is the one change of the text');
   compare_set('a typed cost', seen.set, seen);
   await browser.write(cell(6, 'deadline'), '90ms');
   seen = await look();
   equal(seen.rows[6].deadline, '90000', 'a time in ms');
   await browser.write(cell(3, 'jitter'), '250');
-  expect((await look()).set.includes('cost = 5000\njitter = 250\n'), 'a new jitter stands behind the cost');
+  expect((await look()).set.includes('cost = 5000\njitter = 250\n'),
+    'a new jitter stands behind the cost');
   await browser.write(cell(3, 'jitter'), '');
   expect(!(await look()).set.includes('jitter = 250'), 'an empty jitter goes');
   await browser.write(cell(0, 'name'), 'engine');
@@ -162,8 +217,11 @@ async function the_table() {
   const before = seen.set;
   await browser.click('#add');
   seen = await look();
-  equal(seen.set, `${before}\n[[task]]\nname = "task-2"\nperiod = 100000\ndeadline = 100000\ncost = 1000\n`, 'a task comes at the end');
-  equal(await browser.evaluate('document.activeElement.dataset.cell'), 'name', 'and its name has the focus');
+  equal(seen.set,
+    `${before}\n[[task]]\nname = "task-2"\nperiod = 100000\ndeadline = 100000\ncost = 1000\n`,
+    'a task comes at the end');
+  equal(await browser.evaluate('document.activeElement.dataset.cell'), 'name',
+    'and its name has the focus');
   await browser.click('#table [data-row="0"] .acts button:nth-child(1)');
   seen = await look();
   equal(seen.rows.map(it => it.name).slice(0, 3).join(), 'engine,engine-2,balance', 'a task twice');
@@ -185,7 +243,8 @@ async function the_table() {
   equal((await look()).rows[0].name, 'motor', 'undo by its button');
   await browser.click(cell(0, 'period'));
   await browser.press('ArrowDown');
-  equal(await browser.evaluate(`document.activeElement.getAttribute('aria-label')`), 'period of balance', 'arrows walk through a column');
+  equal(await browser.evaluate(`document.activeElement.getAttribute('aria-label')`),
+    'period of balance', 'arrows walk through a column');
 }
 
 async function sections() {
@@ -196,37 +255,49 @@ async function sections() {
   equal(lines_changed(seen.set, example('robot')), 2, 'a length changes one line');
   compare_set('a shorter section', seen.set, seen);
   equal(seen.strip, 'verdict is-yes', 'which mends the robot');
-  await browser.evaluate(`[...document.querySelectorAll('#editor-6 button')].find(it => it.textContent === 'Add a section').click()`);
+  await browser.evaluate(
+    `[...document.querySelectorAll('#editor-6 button')].find(it => it.textContent === 'Add a section').click()`);
   await browser.settled();
-  equal(await browser.evaluate(`document.activeElement.getAttribute('aria-label')`), 'locks of section 2 of battery', 'the new section has the focus');
+  equal(await browser.evaluate(`document.activeElement.getAttribute('aria-label')`),
+    'locks of section 2 of battery', 'the new section has the focus');
   await browser.write('#editor-6 .line[aria-label="section 2"] input', 'bus log');
   seen = await look();
-  expect(seen.set.includes('section = [{ locks = ["bus"], at = 100, len = 300 }, { locks = ["bus", "log"], at = 400, len = 100 }]'), 'two sections in one line');
+  expect(seen.set.includes(
+    'section = [{ locks = ["bus"], at = 100, len = 300 }, { locks = ["bus", "log"], at = 400, len = 100 }]'), 'two sections in one line');
   await browser.write('#over-6', 'upload');
   seen = await look();
   expect(seen.set.includes('outranks = ["upload"]'), 'outranks');
   compare_set('two sections', seen.set, seen);
   await browser.write('#editor-6 .line[aria-label="section 2"] input:nth-of-type(2)', '350');
   seen = await look();
-  equal(seen.verdict, 'Refused: task 7 (battery), section 2, begins before the one before it ends.', 'a section over another');
-  expect(await browser.evaluate(`document.querySelector('#editor-6 .line[aria-label="section 2"] input:nth-of-type(2)').getAttribute('aria-invalid') === 'true'`), 'is marked in the table');
+  equal(seen.verdict, 'Refused: task 7 (battery), section 2, begins before the one before it ends.',
+    'a section over another');
+  expect(await browser.evaluate(
+    `document.querySelector('#editor-6 .line[aria-label="section 2"] input:nth-of-type(2)').getAttribute('aria-invalid') === 'true'`), 'is marked in the table');
   await browser.click('#editor-6 .line[aria-label="section 2"] button');
   seen = await look();
-  expect(seen.set.includes('section = [{ locks = ["bus"], at = 100, len = 300 }]\n'), 'a removed section');
+  expect(seen.set.includes('section = [{ locks = ["bus"], at = 100, len = 300 }]\n'),
+    'a removed section');
 }
 
 async function other_forms() {
-  const inline = `task = [ # all\n  { name = "a", period = 5000, deadline = 5000, cost = 1000 }, # first\n  { name = "b", period = 9000, deadline = 9000, cost = 2000, section = [{ locks = ["m"], at = 0, len = 10 }] },\n]\n`;
+  const inline =
+    `task = [ # all\n  { name = "a", period = 5000, deadline = 5000, cost = 1000 }, # first\n  { name = "b", period = 9000, deadline = 9000, cost = 2000, section = [{ locks = ["m"], at = 0, len = 10 }] },\n]\n`;
   await put({ set: inline });
   await browser.write(cell(0, 'cost'), '1500');
   let seen = await look();
   equal(seen.set, inline.replace('cost = 1000', 'cost = 1500'), 'tasks in one array');
-  for (const [what, set, why] of [['a dotted key', '[[task]]\nname = "a"\nx.y = 1\n', 'line 3'], ['another table', '[x]\n', 'line 1'], ['no TOML', '[[task]\n', 'line 1']]) {
+  for (const [what, set, why] of [
+    ['a dotted key', '[[task]]\nname = "a"\nx.y = 1\n', 'line 3'],
+    ['another table', '[x]\n', 'line 1'], ['no TOML', '[[task]\n', 'line 1']]) {
     seen = await put({ set });
     expect(!seen.is_tabled && seen.shown.untabled.includes(why), `${what}: ${seen.shown.untabled}`);
   }
-  seen = await put({ set: '[[task]]\nname = "a"\nperiod = 5000\ndeadline = """5"""\ncost = "x"\n' });
-  expect(seen.is_tabled && /^Refused: task 1 \(a\) has another kind of value than it should at deadline/.test(seen.verdict), seen.verdict);
+  seen = await put(
+    { set: '[[task]]\nname = "a"\nperiod = 5000\ndeadline = """5"""\ncost = "x"\n' });
+  expect(seen.is_tabled &&
+    /^Refused: task 1 \(a\) has another kind of value than it should at deadline/.test(
+    seen.verdict), seen.verdict);
   seen = await put({ set: '# nothing\n' });
   equal(seen.verdict, 'Admitted: no tasks', 'no tasks');
   await browser.click('#add');
@@ -236,12 +307,17 @@ async function other_forms() {
 async function grips() {
   await put({ set: example('robot-mended') });
   let during = null;
-  await browser.pull('[data-task="motor"] .growth input', .15, .6, async () => { await browser.settled(); during = await look(); });
+  await browser.pull('[data-task="motor"] .growth input', .15, .6, async () => {
+    await browser.settled();
+    during = await look();
+  });
   let seen = await look();
   const cost = Number(seen.rows[0].cost);
   expect(cost > 590 && cost < 610, `a pulled cost: ${cost}`);
   equal(lines_changed(seen.set, example('robot-mended')), 2, 'a pulled cost changes one line');
-  equal(during.bars.map(it => it.name).join(), 'motor,imu,balance,planner,lidar,camera,upload,battery,diagnostics', 'rows stay while the grip is pulled');
+  equal(during.bars.map(it => it.name).join(),
+    'motor,imu,balance,planner,lidar,camera,upload,battery,diagnostics',
+    'rows stay while the grip is pulled');
   compare_set('a pulled cost', seen.set, seen);
   await browser.click('#undo');
   equal((await look()).set, example('robot-mended'), 'one undo takes a whole pull back');
@@ -251,7 +327,8 @@ async function grips() {
   seen = await look();
   equal(seen.rows[0].cost, '157', 'End goes as far as the order lets it');
   equal(seen.strip, 'verdict is-yes', 'which still passes');
-  equal(await browser.evaluate(`document.activeElement.getAttribute('aria-label')`), 'cost of motor', 'the grip keeps the focus');
+  equal(await browser.evaluate(`document.activeElement.getAttribute('aria-label')`),
+    'cost of motor', 'the grip keeps the focus');
   await browser.press('ArrowRight');
   await browser.settled();
   seen = await look();
@@ -266,21 +343,28 @@ async function all_execution() {
   await browser.settled();
   let seen = await look();
   const times = it => Math.ceil(it * 1006 / 1000);
-  equal(seen.rows.map(it => it.cost).join(), [150, 900, 250, 5000, 3000, 5000, 1200, 8000, 15000].map(times).join(), 'all costs times the factor');
+  equal(seen.rows.map(it => it.cost).join(),
+    [150, 900, 250, 5000, 3000, 5000, 1200, 8000, 15000].map(times).join(),
+    'all costs times the factor');
   const lengths = text => [...text.matchAll(/len = (\d+)/g)].map(it => Number(it[1]));
-  equal(lengths(seen.set).join(), lengths(example('robot-mended')).map(times).join(), 'and all sections');
+  equal(lengths(seen.set).join(), lengths(example('robot-mended')).map(times).join(),
+    'and all sections');
   equal(seen.strip, 'verdict is-yes', 'still pass');
   compare_set('all execution', seen.set, seen);
   await browser.press('ArrowRight');
   await browser.settled();
   seen = await look();
-  equal(`${seen.rows[3].cost} ${seen.strip}`, '5035 verdict is-no', 'and a thousandth more does not');
+  equal(`${seen.rows[3].cost} ${seen.strip}`, '5035 verdict is-no',
+    'and a thousandth more does not');
   await browser.press('Tab');
-  for (let steps = 0; steps < 2 && (await look()).set !== example('robot-mended'); steps++) await browser.click('#undo');
-  equal((await look()).set, example('robot-mended'), 'undo takes it back, a step for what came quickly');
+  for (let steps = 0; steps < 2 && (await look()).set !== example('robot-mended'); steps++)
+    await browser.click('#undo');
+  equal((await look()).set, example('robot-mended'),
+    'undo takes it back, a step for what came quickly');
   await browser.pull('#scale input', .5, .3);
   seen = await look();
-  expect(Number(seen.rows[8].cost) > 8500 && Number(seen.rows[8].cost) < 9500, `pulled to ${seen.rows[8].cost}`);
+  expect(Number(seen.rows[8].cost) > 8500 && Number(seen.rows[8].cost) < 9500,
+    `pulled to ${seen.rows[8].cost}`);
   expect(/× 1\.000/.test(seen.shown.scale), `then it is one again: ${seen.shown.scale}`);
 }
 
@@ -288,8 +372,11 @@ async function conflicts() {
   const seen = await put({ set: example('robot') });
   expect(/motor needs 1050 of 1000 µs, 50 too long; blocked 900 by battery, section 1 that holds bus/.test(digits(seen.conflict)), `the conflict: ${seen.conflict}`);
   await browser.click('#conflict button');
-  equal(await browser.evaluate(`document.activeElement.getAttribute('aria-label')`), 'len of section 1 of battery', 'the blocker is shown in the table');
-  const over = await put({ set: '[[task]]\nname = "a"\nperiod = 5000\ndeadline = 5000\ncost = 10\noutranks = ["b"]\n[[task]]\nname = "b"\nperiod = 5000\ndeadline = 5000\ncost = 10\noutranks = ["a"]\n' });
+  equal(await browser.evaluate(`document.activeElement.getAttribute('aria-label')`),
+    'len of section 1 of battery', 'the blocker is shown in the table');
+  const over =
+    await put(
+    { set: '[[task]]\nname = "a"\nperiod = 5000\ndeadline = 5000\ncost = 10\noutranks = ["b"]\n[[task]]\nname = "b"\nperiod = 5000\ndeadline = 5000\ncost = 10\noutranks = ["a"]\n' });
   compare_set('each above the other', over.set, over);
   expect(/a must stand above b/.test(over.conflict), over.conflict);
 }
@@ -297,7 +384,8 @@ async function conflicts() {
 // From a no to a yes by the page alone: one click.
 async function mending() {
   let seen = await put({ set: example('robot') });
-  equal(seen.mends.map(digits).join('|'), 'battery: length of section 1 900 → 850|motor: deadline 1000 → 1050', 'what mends the robot');
+  equal(seen.mends.map(digits).join('|'),
+    'battery: length of section 1 900 → 850|motor: deadline 1000 → 1050', 'what mends the robot');
   await browser.click('#mends li:nth-child(1) button');
   seen = await look();
   equal(lines_changed(seen.set, example('robot')), 2, 'a click changes one line');
@@ -306,7 +394,8 @@ async function mending() {
   await browser.click('#undo');
   await browser.click('#mends li:nth-child(2) button');
   seen = await look();
-  expect(/deadline = 1050/.test(seen.set) && /period = 1050/.test(seen.set), 'a later deadline takes the period along');
+  expect(/deadline = 1050/.test(seen.set) && /period = 1050/.test(seen.set),
+    'a later deadline takes the period along');
   equal(seen.strip, 'verdict is-yes', 'which mends it, too');
 }
 
@@ -316,7 +405,8 @@ async function baseline() {
   await browser.click('#by-deadline');
   let seen = await look();
   const preferred = native('admit', [example('robot-mended')], ['--prefer', 'deadline']);
-  if (preferred.status === 0) equal(seen.answers.admit.text, preferred.text, 'weights by deadline are --prefer deadline');
+  if (preferred.status === 0)
+    equal(seen.answers.admit.text, preferred.text, 'weights by deadline are --prefer deadline');
   compare_set('weights by deadline', seen.set, seen);
   const row = seen.bars.find(it => it.name === 'planner');
   expect(/▼ level \d → \d, bound \+/.test(row.delta), `planner: ${row.delta}`);
@@ -326,7 +416,8 @@ async function baseline() {
   await browser.click('#restore');
   seen = await look();
   equal(seen.set, example('robot-mended'), 'back to the baseline');
-  expect(/No level, bound or limit of a cost has changed/.test(seen.shown.compared), 'nothing has changed');
+  expect(/No level, bound or limit of a cost has changed/.test(seen.shown.compared),
+    'nothing has changed');
   await browser.click('#unpin');
   expect(await browser.evaluate(`document.getElementById('compared').hidden`), 'unpinned');
 }
@@ -336,21 +427,26 @@ async function judging() {
   await browser.click('#fill');
   let seen = await look();
   equal(seen.shown.judgement, 'Each deadline is met: 9 tasks', 'the desk\'s own settings');
-  const settings = seen.shown.settings.replace(/^mutex.*\n/gm, '').replace('motor 9', 'motor 1').replace('diagnostics 1', 'diagnostics 9');
+  const settings = seen.shown.settings.replace(/^mutex.*\n/gm, '').replace('motor 9', 'motor 1')
+    .replace('diagnostics 1', 'diagnostics 9');
   seen = await put({ judged: settings });
   same('judge', seen.answers.judge, native('judge', [seen.set, settings]));
   const misses = seen.answers.judge.text.split('\n')[0].split(' ').slice(1);
   equal(seen.shown.judgement, `Misses: ${misses.join(', ')}`, 'who misses');
-  equal(await browser.evaluate(`[...document.querySelectorAll('#fates .is-bad')].length`), misses.length, 'in red');
+  equal(await browser.evaluate(`[...document.querySelectorAll('#fates .is-bad')].length`),
+    misses.length, 'in red');
   seen = await put({ judged: 'thread x 1\n' });
   equal(seen.shown.judgement, 'Refused: no task of the set has the name in line 1.', 'a stranger');
   await put({ judged: '' });
 }
 
 async function files() {
-  const crlf = '\ufeff' + example('shared-lock').replaceAll('\n', '\r\n'), path = `${browser.room}/node-7.toml`;
+  const crlf = '\ufeff' + example('shared-lock').replaceAll('\n', '\r\n');
+  const path = `${browser.room}/node-7.toml`;
   writeFileSync(path, crlf);
-  const { root } = await browser.send('DOM.getDocument'), { nodeId } = await browser.send('DOM.querySelector', { nodeId: root.nodeId, selector: '#file' });
+  const { root } = await browser.send('DOM.getDocument');
+  const { nodeId } = await browser.send(
+    'DOM.querySelector', { nodeId: root.nodeId, selector: '#file' });
   await browser.send('DOM.setFileInputFiles', { nodeId, files: [path] });
   await soon(200);
   await browser.settled();
@@ -361,10 +457,12 @@ async function files() {
   writeFileSync(path, '');
   await browser.press('s', { ctrl: true });
   for (let tries = 0; tries < 60 && statSync(path).size === 0; tries++) await soon(50);
-  equal(readFileSync(path, 'utf8'), crlf.replace('cost = 20000', 'cost = 19999'), 'a saved file keeps its mark and its line ends');
+  equal(readFileSync(path, 'utf8'), crlf.replace('cost = 20000', 'cost = 19999'),
+    'a saved file keeps its mark and its line ends');
   // A link.
   await browser.click('#share');
-  for (let tries = 0; tries < 60 && !await browser.evaluate(`location.hash`); tries++) await soon(50);
+  for (let tries = 0; tries < 60 && !await browser.evaluate(`location.hash`); tries++)
+    await soon(50);
   const link = await browser.evaluate('location.href'), text = (await look()).set;
   expect(link.includes('#set='), `a link: ${link.slice(0, 80)}`);
   await browser.evaluate('sessionStorage.clear()');
@@ -375,13 +473,15 @@ async function files() {
   await browser.evaluate(`location.hash = '#set=%%%'`);
   await browser.open(PAGE_URL + '#set=AAAA');
   seen = await look();
-  expect(/no set that can be read/.test(seen.shown.notice) && seen.verdict.startsWith('Admitted'), `a broken link: ${seen.shown.notice}`);
+  expect(/no set that can be read/.test(seen.shown.notice) && seen.verdict.startsWith('Admitted'),
+    `a broken link: ${seen.shown.notice}`);
 }
 
 async function the_run() {
   await browser.open(PAGE_URL);
   await put({ set: example('robot-mended') });
-  const state = () => browser.evaluate(`(() => { const it = document.getElementById('picture'); return { width: it.shadowRoot.querySelector('svg').getBoundingClientRect().width, left: it.scrollLeft, zoom: document.getElementById('zoom').textContent, wide: it.clientWidth }; })()`);
+  const state = () => browser.evaluate(
+    `(() => { const it = document.getElementById('picture'); return { width: it.shadowRoot.querySelector('svg').getBoundingClientRect().width, left: it.scrollLeft, zoom: document.getElementById('zoom').textContent, wide: it.clientWidth }; })()`);
   await browser.click('#fit');
   const fit = await state();
   expect(Math.abs(fit.width - fit.wide) < 20, `fit: ${fit.width} of ${fit.wide}`);
@@ -395,11 +495,15 @@ async function the_run() {
   compare_set('until', seen.set, seen);
   await browser.click('#longer');
   expect((await look()).answers.releases.text.startsWith('until 60000\n'), 'longer');
-  expect((await put({ until: '99999999' })).shown.undrawn !== '', 'a time past the horizon is refused');
+  expect((await put({ until: '99999999' })).shown.undrawn !== '',
+    'a time past the horizon is refused');
   expect((await put({ until: 'soon' })).trouble !== '', 'a word for a time');
   await put({ until: '' });
   await browser.hover('[data-task="camera"] .part.blocked');
-  expect(/^blocked by /.test(await browser.evaluate(`document.getElementById('tip').hidden ? '' : document.getElementById('tip').textContent`)), 'a pointer on a part is told of it');
+  expect(/^blocked by /.test(
+    await browser.evaluate(
+    `document.getElementById('tip').hidden ? '' : document.getElementById('tip').textContent`)),
+    'a pointer on a part is told of it');
 }
 
 // By keys alone each field is reached, and parts are shown.
@@ -410,14 +514,18 @@ async function keys() {
   let opened = false;
   for (let i = 0; i < 220; i++) {
     await browser.press('Tab');
-    const [id, name] = await browser.evaluate('[document.activeElement.id, document.activeElement.className]');
+    const [id, name] = await browser.evaluate(
+      '[document.activeElement.id, document.activeElement.className]');
     if (name === 'who' && !opened) {
       await browser.press('Enter');
-      opened = await browser.evaluate(`document.activeElement.getAttribute('aria-expanded') === 'true'`);
+      opened = await browser.evaluate(
+        `document.activeElement.getAttribute('aria-expanded') === 'true'`);
     }
     reached.add(id);
   }
-  for (const id of ['open', 'save', 'share', 'examples', 'add', 'set', 'pin', 'until', 'larger', 'picture', 'copy', 'settings', 'certificate', 'lines', 'judged', 'fill']) expect(reached.has(id), `Tab reaches ${id}`);
+  for (const id of ['open', 'save', 'share', 'examples', 'add', 'set', 'pin', 'until', 'larger',
+    'picture', 'copy', 'settings', 'certificate', 'lines', 'judged', 'fill'])
+    expect(reached.has(id), `Tab reaches ${id}`);
   expect(opened, 'Enter opens the parts of a bound');
 }
 
@@ -426,50 +534,73 @@ async function names() {
   await browser.open(PAGE_URL);
   await put({ set: example('robot-mended') });
   const { nodes } = await browser.send('Accessibility.getFullAXTree');
-  const found = nodes.filter(it => !it.ignored && ['button', 'textbox', 'slider', 'combobox', 'link', 'spinbutton', 'image', 'columnheader', 'table'].includes(it.role?.value));
+  const found = nodes.filter(
+    it => !it.ignored &&
+    ['button', 'textbox', 'slider', 'combobox', 'link', 'spinbutton', 'image', 'columnheader',
+    'table'].includes(it.role?.value));
   const nameless = found.filter(it => !it.name?.value);
   expect(found.length > 100, `controls: ${found.length}`);
   equal(nameless.map(it => it.role.value).join(), '', 'controls without a name');
   equal(nodes.filter(it => !it.ignored && it.role?.value === 'slider').length, 10, 'sliders');
-  equal(nodes.filter(it => !it.ignored && it.role?.value === 'row').length, 10, 'rows of the table');
+  equal(nodes.filter(it => !it.ignored && it.role?.value === 'row').length, 10,
+    'rows of the table');
 }
 
-// The contrast of each text with what is behind it, as WCAG counts it; colours that lie on one another are mixed.
+// The contrast of each text with what is behind it, as WCAG counts it; colours that lie on one
+// another are mixed.
 function contrasts() {
-  const canvas = Object.assign(document.createElement('canvas'), { width: 1, height: 1 }).getContext('2d', { willReadFrequently: true });
+  const canvas = Object.assign(
+    document.createElement('canvas'),
+    { width: 1, height: 1 }).getContext('2d', { willReadFrequently: true });
   const mix = colours => {
     canvas.clearRect(0, 0, 1, 1);
     for (const it of colours) { canvas.fillStyle = it; canvas.fillRect(0, 0, 1, 1); }
     return [...canvas.getImageData(0, 0, 1, 1).data].slice(0, 3);
   };
-  const light = rgb => rgb.map(it => it / 255).map(it => it <= .04045 ? it / 12.92 : ((it + .055) / 1.055) ** 2.4).reduce((sum, it, at) => sum + it * [.2126, .7152, .0722][at], 0);
+  const light = rgb => rgb.map(it => it / 255)
+    .map(it => it <= .04045 ? it / 12.92 : ((it + .055) / 1.055) ** 2.4)
+    .reduce((sum, it, at) => sum + it * [.2126, .7152, .0722][at], 0);
   const faults = new Map();
   let seen = 0;
   const walk = document.createTreeWalker(document.body, NodeFilter.SHOW_TEXT);
   while (walk.nextNode()) {
     const it = walk.currentNode.parentElement;
-    if (!walk.currentNode.data.trim() || !it.checkVisibility({ opacityProperty: true, visibilityProperty: true }) || it.closest(':disabled, .unseen, a:not([href])')) continue;
+    if (!walk.currentNode.data.trim() ||
+      !it.checkVisibility({ opacityProperty: true, visibilityProperty: true }) ||
+      it.closest(':disabled, .unseen, a:not([href])'))
+      continue;
     const behind = [];
-    for (let at = it; at; at = at.parentElement) behind.unshift(getComputedStyle(at).backgroundColor);
-    const ink = getComputedStyle(it).color, [a, b] = [light(mix(['#fff', ...behind])), light(mix(['#fff', ...behind, ink]))], ratio = (Math.max(a, b) + .05) / (Math.min(a, b) + .05);
+    for (let at = it; at; at = at.parentElement)
+      behind.unshift(getComputedStyle(at).backgroundColor);
+    const ink = getComputedStyle(it).color;
+    const [a, b] = [light(mix(['#fff', ...behind])), light(mix(['#fff', ...behind, ink]))];
+    const ratio = (Math.max(a, b) + .05) / (Math.min(a, b) + .05);
     seen++;
-    if (ratio < 4.5) faults.set(`${it.className || it.id || it.tagName}: ${ratio.toFixed(2)}`, walk.currentNode.data.trim().slice(0, 20));
+    if (ratio < 4.5)
+      faults.set(`${it.className || it.id || it.tagName}: ${ratio.toFixed(2)}`,
+        walk.currentNode.data.trim().slice(0, 20));
   }
   return { seen, faults: [...faults].map(it => it.join(' ')) };
 }
 async function looks() {
-  for (const [width, height] of [[420, 900], [1400, 1000]]) for (const scheme of ['light', 'dark']) {
+  for (const [width, height] of [[420, 900], [1400, 1000]])
+    for (const scheme of ['light', 'dark']) {
     await browser.looks(width, height, scheme);
     for (const name of ['robot-mended', 'robot']) {
       await browser.open(PAGE_URL);
       await put({ set: example(name) });
-      expect(await browser.evaluate('document.documentElement.scrollWidth') <= width, `nothing is wider than ${width} pixels`);
+      expect(await browser.evaluate('document.documentElement.scrollWidth') <= width,
+        `nothing is wider than ${width} pixels`);
       const { seen, faults } = await browser.run(contrasts);
-      expect(seen > 100 && !faults.length, `${width} ${scheme}: contrast of ${seen} texts: ${faults.join(', ')}`);
-      const [ink, paper] = await browser.evaluate(`['color', 'backgroundColor'].map(it => Number(getComputedStyle(document.body)[it].match(/\\d+/)[0]))`);
-      expect(scheme === 'dark' ? ink > 200 && paper < 60 : ink < 60 && paper > 200, `${scheme}: ink ${ink} on ${paper}`);
+      expect(seen > 100 && !faults.length,
+        `${width} ${scheme}: contrast of ${seen} texts: ${faults.join(', ')}`);
+      const [ink, paper] = await browser.evaluate(
+        `['color', 'backgroundColor'].map(it => Number(getComputedStyle(document.body)[it].match(/\\d+/)[0]))`);
+      expect(scheme === 'dark' ? ink > 200 && paper < 60 : ink < 60 && paper > 200,
+        `${scheme}: ink ${ink} on ${paper}`);
       if (SHOTS) await browser.picture(`${SHOTS}/${name}-${width}-${scheme}.png`);
-      if (SHOTS && name === 'robot-mended') await browser.picture(`${SHOTS}/${name}-${width}-${scheme}-whole.png`, true);
+      if (SHOTS && name === 'robot-mended')
+        await browser.picture(`${SHOTS}/${name}-${width}-${scheme}-whole.png`, true);
     }
   }
   await browser.looks(1400, 1000, 'light');
@@ -480,8 +611,11 @@ async function looks() {
 
 // A page of the same script over another module: its bytes as the function leaves them.
 function variant(name, change) {
-  const [before, base64, after] = readFileSync(PAGE, 'latin1').split(/(?<=<script type="text\/plain" id="wasm">)([^<]*)/);
-  writeFileSync(`${browser.room}/${name}.html`, before + gzipSync(change(gunzipSync(Buffer.from(base64, 'base64')))).toString('base64') + after, 'latin1');
+  const [before, base64, after] =
+    readFileSync(PAGE, 'latin1').split(/(?<=<script type="text\/plain" id="wasm">)([^<]*)/);
+  writeFileSync(`${browser.room}/${name}.html`,
+    before + gzipSync(change(gunzipSync(Buffer.from(base64, 'base64')))).toString('base64') +
+    after, 'latin1');
   return `file://${browser.room}/${name}.html`;
 }
 // The greatest memory of a module, as so many pages of 64 KiB above its least.
@@ -495,7 +629,8 @@ function with_memory(bytes, more) {
     const id = bytes[at], [length, start] = number_at(at + 1);
     if (id === 5) {
       const [least, most] = number_at(start + 2), pages = least + more, end = number_at(most)[1];
-      for (let byte = most; byte < end; byte++) bytes[byte] = pages >> 7 * (byte - most) & 127 | (byte < end - 1 ? 128 : 0);
+      for (let byte = most; byte < end; byte++)
+        bytes[byte] = pages >> 7 * (byte - most) & 127 | (byte < end - 1 ? 128 : 0);
       return bytes;
     }
     at = start + length;
@@ -507,44 +642,69 @@ async function goes_on(what) {
   compare_set(`after ${what}`, SMALL, await put({ set: SMALL }));
 }
 async function troubles() {
-  const LONG = 1 << 24, binary = readFileSync(CHROMIUM_BYTES).subarray(0, 100000).toString('utf8').replace(/\r\n?/g, '\n');
-  for (const [what, set] of [['16 MB of text', '#'.padEnd(LONG - 1, 'x') + '\n'], ['a byte more', '#'.padEnd(LONG, 'x') + '\n'], ['16 MB of brackets', '['.repeat(LONG)],
-    ['deep brackets', `x = ${'['.repeat(200000)}`], ['a binary', binary], ['half a character', 'name = "\ud800"']]) {
-    const { answers, trouble, verdict } = await put({ set }), wanted = native('admit', [Buffer.from(set.toWellFormed?.() ?? set)]);
-    if (trouble) expect(verdict === 'no answer' || /failed/.test(trouble), `${what}: ${trouble}, and ${verdict}`);
+  const LONG = 1 << 24;
+  const binary = readFileSync(CHROMIUM_BYTES).subarray(0, 100000).toString('utf8')
+    .replace(/\r\n?/g, '\n');
+  for (const [what, set] of [
+    ['16 MB of text', '#'.padEnd(LONG - 1, 'x') + '\n'],
+    ['a byte more', '#'.padEnd(LONG, 'x') + '\n'], ['16 MB of brackets', '['.repeat(LONG)],
+    ['deep brackets', `x = ${'['.repeat(200000)}`], ['a binary', binary],
+      ['half a character', 'name = "\ud800"']]) {
+    const { answers, trouble, verdict } = await put({ set });
+    const wanted = native('admit', [Buffer.from(set.toWellFormed?.() ?? set)]);
+    if (trouble)
+      expect(verdict === 'no answer' || /failed/.test(trouble),
+        `${what}: ${trouble}, and ${verdict}`);
     else same(what, answers.admit, wanted);
     await goes_on(what);
   }
-  await browser.evaluate(`for (let i = 0; i < 50; i++) { const it = document.getElementById('set'); it.value += '#'; it.dispatchEvent(new Event('input')); }`);
+  await browser.evaluate(
+    `for (let i = 0; i < 50; i++) { const it = document.getElementById('set'); it.value += '#'; it.dispatchEvent(new Event('input')); }`);
   await goes_on('fast typing');
   // An error of the script.
   browser.complaints.length = 0;
   await browser.evaluate(`setTimeout(() => { throw Error('a planted fault'); })`);
   await soon(100);
-  expect(/a planted fault.*The text is kept/.test((await look()).trouble), 'an error of the script is shown');
+  expect(/a planted fault.*The text is kept/.test((await look()).trouble),
+    'an error of the script is shown');
   expect(browser.complaints.length > 0, 'and stands in the console');
   browser.complaints.length = 0;
   await goes_on('an error of the script');
-  // A trap that leaves the instance broken, and a call that never ends: by words in the set, in workers made here.
+  // A trap that leaves the instance broken, and a call that never ends: by words in the set, in
+  // workers made here.
   await browser.run(() => {
-    const faulty = `const { id, kind } = data, set = new TextDecoder().decode(data.set ?? new Uint8Array());
-      if (set.includes('# trap')) desk = { page_room() { throw new WebAssembly.RuntimeError('unreachable'); } };
+    const faulty =
+      `const { id, kind } = data, set = new TextDecoder().decode(data.set ?? new Uint8Array());
+      if (set.includes('# trap'))
+        desk = { page_room() { throw new WebAssembly.RuntimeError('unreachable'); } };
       while (set.includes('# forever'));`;
-    const source = document.getElementById('worker').textContent.replace('const { id, kind } = data;', faulty);
+    const source = document.getElementById('worker').textContent
+      .replace('const { id, kind } = data;', faulty);
     for (const it of desk.lanes) it.source = URL.createObjectURL(new Blob([source]));
   });
   await browser.run(() => { for (const it of desk.lanes) it.break_off(); });
   await goes_on('new workers');
-  expect(/The module failed at (admit|limits)/.test((await put({ set: '# trap\n' })).trouble), 'a module that fails is told of');
+  expect(/The module failed at (admit|limits)/.test((await put({ set: '# trap\n' })).trouble),
+    'a module that fails is told of');
   await goes_on('a module that failed');
-  await browser.run(() => { const it = document.getElementById('set'); it.value = '# forever\n'; it.dispatchEvent(new Event('input')); });
+  await browser.run(() => {
+    const it = document.getElementById('set');
+    it.value = '# forever\n';
+    it.dispatchEvent(new Event('input'));
+  });
   await soon(900);
-  expect(await browser.evaluate(`!document.getElementById('busy').hidden && document.getElementById('verdict').textContent === '…'`), 'what takes long is told of');
+  expect(await browser.evaluate(
+    `!document.getElementById('busy').hidden && document.getElementById('verdict').textContent === '…'`), 'what takes long is told of');
   await browser.evaluate(`document.getElementById('stop').click()`);
   await soon(50);
-  expect(/Stopped/.test(await browser.evaluate(`document.getElementById('notice').textContent`)), 'and can be stopped');
+  expect(/Stopped/.test(await browser.evaluate(`document.getElementById('notice').textContent`)),
+    'and can be stopped');
   await goes_on('a stop');
-  await browser.run(() => { const it = document.getElementById('set'); it.value = '# forever\n'; it.dispatchEvent(new Event('input')); });
+  await browser.run(() => {
+    const it = document.getElementById('set');
+    it.value = '# forever\n';
+    it.dispatchEvent(new Event('input'));
+  });
   await soon(100);
   await goes_on('a text while another took long');
   browser.complaints.length = 0;
@@ -554,9 +714,11 @@ async function troubles() {
   const { trouble, verdict } = await put({ set: '#'.padEnd(3000000) + '\n' });
   expect(/memory/.test(trouble) && verdict === 'no answer', `small memory: ${trouble}, ${verdict}`);
   await goes_on('want of memory');
-  await browser.send('Page.navigate', { url: variant('broken', it => it.subarray(0, it.length >> 1)) });
+  await browser.send('Page.navigate',
+    { url: variant('broken', it => it.subarray(0, it.length >> 1)) });
   await soon(1500);
-  expect(/The module failed/.test(await browser.evaluate(`document.getElementById('trouble').textContent`)), 'half a module');
+  expect(/The module failed/.test(
+    await browser.evaluate(`document.getElementById('trouble').textContent`)), 'half a module');
   browser.complaints.length = 0;
 }
 
@@ -569,8 +731,11 @@ try {
   await browser.open(PAGE_URL);
   const first = await look();
   compare_set('the page as it opens', first.set, first);
-  same('the script as it opens', first.answers.play, native('play', [await browser.evaluate(`document.getElementById('script').value`)]), first.shown.play);
-  for (const scene of [the_table, sections, other_forms, grips, all_execution, conflicts, mending, baseline, judging, files, the_run, keys, names, looks]) {
+  same('the script as it opens', first.answers.play,
+    native('play', [await browser.evaluate(`document.getElementById('script').value`)]),
+    first.shown.play);
+  for (const scene of [the_table, sections, other_forms, grips, all_execution, conflicts, mending,
+    baseline, judging, files, the_run, keys, names, looks]) {
     const before = failed;
     try {
       await scene();
@@ -590,7 +755,8 @@ try {
   for (let i = 0; i < count; i++) {
     const set = random_set(), script = random_script(), found = await put({ set, script });
     compare_set(`seed ${seed}, set ${i}`, set, found);
-    same(`seed ${seed}, script ${i}`, found.answers.play, native('play', [script]), found.shown.play);
+    same(`seed ${seed}, script ${i}`, found.answers.play, native('play', [script]),
+      found.shown.play);
   }
   equal(browser.complaints.join(' | '), '', 'complaints of the page');
   await troubles();

@@ -15,13 +15,17 @@ import { Table } from './table.mjs';
 import { conflict_told, facts_told, lines_told, mends_told, verdict_told } from './words.mjs';
 import { name_of, number_in, put_key, read_document, sections_in, set_number, spliced } from './toml.mjs';
 
-// What is shown as text, and at most so much of it. A longer text, or one with more tasks, has no table.
+// What is shown as text, and at most so much of it. A longer text, or one with more tasks, has no
+// table.
 const SHOWN = 200000, TABLED = 300000, ROWS = 100;
-const shown = text => text.length > SHOWN ? text.slice(0, SHOWN) + `\n(cut here: the whole has ${text.length} bytes)\n` : text;
+const shown = text => text.length > SHOWN ? text.slice(0, SHOWN) +
+  `\n(cut here: the whole has ${text.length} bytes)\n` : text;
 
 const state = {
-  text: at('set').value, document: null, file: { name: 'robot-mended.toml', has_mark: false, has_crlf: false },
-  answers: {}, admit: null, explained: null, limits: null, is_stale: false, is_waiting: true, is_growing: true, question: 0,
+  text: at('set').value, document: null,
+  file: { name: 'robot-mended.toml', has_mark: false, has_crlf: false },
+  answers: {}, admit: null, explained: null, limits: null, is_stale: false, is_waiting: true,
+  is_growing: true, question: 0,
   baseline: null,
 };
 const past = new History(state.text);
@@ -53,13 +57,19 @@ addEventListener('unhandledrejection', it => fallen(it.reason));
 
 // ---- the lanes
 
-const SOURCE = URL.createObjectURL(new Blob([at('worker').textContent], { type: 'text/javascript' }));
+const SOURCE = URL.createObjectURL(
+  new Blob([at('worker').textContent], { type: 'text/javascript' }));
 const failed = ({ name, trouble: why }) => {
-  if (name === 'admit' || !name && state.is_waiting) show_verdict({ kind: 'refused', refusal: null });
+  if (name === 'admit' || !name && state.is_waiting)
+    show_verdict({ kind: 'refused', refusal: null });
   trouble(`The module failed${name ? ` at ${name}` : ''}: ${why}. It starts anew: change the text to ask again.`);
 };
-const lane = heard => new Lane(SOURCE, { heard: safely(heard), failed: safely(failed), moved: safely(moved) });
-const of_set = lane(heard_of_set), of_growth = lane(heard_of_set), of_node = lane(heard_of_node), of_script = lane(heard_of_script);
+const lane = heard => new Lane(
+  SOURCE, { heard: safely(heard), failed: safely(failed), moved: safely(moved) });
+const of_set = lane(heard_of_set);
+const of_growth = lane(heard_of_set);
+const of_node = lane(heard_of_node);
+const of_script = lane(heard_of_script);
 const LANES = [of_set, of_growth, of_node, of_script];
 
 let busy_since = 0, busy_timer = 0;
@@ -79,7 +89,9 @@ function moved() {
 function show_busy() {
   const since = busy_since ? Date.now() - busy_since : 0;
   at('busy').hidden = since < 500;
-  if (since >= 500) write(at('busy-text'), `working${of_set.is_busy ? '' : ' on the limits'}, ${Math.floor(since / 1000)} s`);
+  if (since >= 500)
+    write(at('busy-text'),
+      `working${of_set.is_busy ? '' : ' on the limits'}, ${Math.floor(since / 1000)} s`);
   if (since >= 500 && state.is_waiting) {
     at('strip').className = 'verdict';
     write(at('verdict'), '…');
@@ -94,8 +106,11 @@ function show_busy() {
 }
 
 function ask() {
-  const set = new TextEncoder().encode(state.text), typed = at('until').value.trim(), until = /^\d{1,10}$/.test(typed) ? BigInt(typed) : null;
-  write(at('trouble'), typed && until === null ? 'Until when the run goes is a whole number of µs.' : '');
+  const set = new TextEncoder().encode(state.text);
+  const typed = at('until').value.trim();
+  const until = /^\d{1,10}$/.test(typed) ? BigInt(typed) : null;
+  write(at('trouble'), typed && until === null ?
+    'Until when the run goes is a whole number of µs.' : '');
   state.is_waiting = state.is_growing = true;
   of_set.ask({ kind: 'set', set, until });
   of_growth.ask({ kind: 'limits', set });
@@ -104,9 +119,12 @@ function ask() {
 function ask_node() {
   const settings = at('judged').value;
   if (!settings.trim()) return show_judgement(null);
-  of_node.ask({ kind: 'judge', set: new TextEncoder().encode(state.text), settings: new TextEncoder().encode(settings) });
+  of_node.ask(
+    { kind: 'judge', set: new TextEncoder().encode(state.text),
+    settings: new TextEncoder().encode(settings) });
 }
-const ask_script = () => of_script.ask({ kind: 'play', script: new TextEncoder().encode(at('script').value) });
+const ask_script = () => of_script.ask(
+  { kind: 'play', script: new TextEncoder().encode(at('script').value) });
 
 // ---- answers
 
@@ -132,7 +150,8 @@ function heard_of_set({ id, name, text, status }) {
     state.question = id;
     const { limits, judge, play } = state.answers;
     state.answers = { ...limits && { limits }, ...judge && { judge }, ...play && { play } };
-    for (const it of ['settings', 'certify', 'check', 'releases', 'simulate', 'draw']) at(`printed-${it}`)?.parentElement.remove();
+    for (const it of ['settings', 'certify', 'check', 'releases', 'simulate', 'draw'])
+      at(`printed-${it}`)?.parentElement.remove();
   }
   state.answers[name] = { text, status };
   if (status === 6) trouble(`${name}: no memory for the whole answer.`);
@@ -140,13 +159,16 @@ function heard_of_set({ id, name, text, status }) {
   show_printed(name, text, status);
 }
 
-const PRINTED = ['admit', 'explain', 'settings', 'certify', 'check', 'releases', 'simulate', 'draw', 'limits'];
+const PRINTED = ['admit', 'explain', 'settings', 'certify', 'check', 'releases', 'simulate',
+  'draw', 'limits'];
 function show_printed(name, text, status) {
   let place = at(`printed-${name}`);
   if (!place) {
     place = element('pre', { id: `printed-${name}`, tabIndex: 0 });
-    const behind = PRINTED.slice(PRINTED.indexOf(name) + 1).map(it => at(`printed-${it}`)?.parentElement).find(it => it) ?? null;
-    at('printed').insertBefore(element('div', {}, element('h3', { className: 'code' }), place), behind);
+    const behind = PRINTED.slice(PRINTED.indexOf(name) + 1)
+      .map(it => at(`printed-${it}`)?.parentElement).find(it => it) ?? null;
+    at('printed').insertBefore(
+      element('div', {}, element('h3', { className: 'code' }), place), behind);
   }
   write(place.previousSibling, `desk ${name}${status ? ` [${status}]` : ''}`);
   write(place, shown(text));
@@ -155,11 +177,14 @@ function show_printed(name, text, status) {
 function show_verdict(admit) {
   state.admit = admit;
   if (!of_set.waiting) state.is_waiting = false;
-  const refused = admit.kind === 'refused' && admit.refusal ? told(admit.refusal, state.document.tasks.map(name_of)) : null;
+  const refused = admit.kind === 'refused' && admit.refusal ?
+    told(admit.refusal, state.document.tasks.map(name_of)) : null;
   write(at('verdict'), verdict_told(admit, refused));
-  at('strip').className = `verdict ${admit.kind === 'admitted' ? 'is-yes' : admit.kind === 'infeasible' ? 'is-no' : ''}`;
+  at('strip').className =
+    `verdict ${admit.kind === 'admitted' ? 'is-yes' : admit.kind === 'infeasible' ? 'is-no' : ''}`;
   state.is_stale = admit.kind === 'refused';
-  table.show(state.document, { wrong: refused?.cell, bad: admit.kind === 'infeasible' ? admit.names : [] });
+  table.show(state.document,
+    { wrong: refused?.cell, bad: admit.kind === 'infeasible' ? admit.names : [] });
   at('answer').classList.toggle('is-stale', state.is_stale);
   at('stale').hidden = !state.is_stale || !state.explained;
   if (admit.kind !== 'admitted') no_run();
@@ -182,7 +207,9 @@ function show_explained(explained) {
 function show_conflict(explained) {
   at('conflict').hidden = !explained?.conflict;
   show_mends();
-  if (explained?.conflict) at('conflict').replaceChildren(...conflict_told(explained, (name, section) => table.point(name, section)));
+  if (explained?.conflict)
+    at('conflict').replaceChildren(
+      ...conflict_told(explained, (name, section) => table.point(name, section)));
 }
 
 // The changes that mend a refused set, beside its conflict.
@@ -204,19 +231,26 @@ function show_limits(limits) {
 function hold_against(limits) {
   const { document, explained, is_stale } = state;
   if (document.why !== null) return;
-  const costs = table.costs(), deadlines = new Map(document.tasks.map(it => [name_of(it), number_in(it, 'deadline')]));
+  const costs = table.costs();
+  const deadlines = new Map(document.tasks.map(it => [name_of(it), number_in(it, 'deadline')]));
   const cost_read = name => limit_of(limits, name, 'cost')?.value;
-  const other = [...limits.tasks.keys()].find(it => cost_read(it) !== undefined && costs.get(it) !== cost_read(it)) ??
-    [...costs.keys()].find(it => limits.is_whole && !limits.tasks.has(it)) ?? (is_stale || of_set.is_busy ? null : explained?.accounts.find(it => it.deadline !== undefined && deadlines.get(it.name) !== it.deadline)?.name);
+  const other = [...limits.tasks.keys()]
+    .find(it => cost_read(it) !== undefined && costs.get(it) !== cost_read(it)) ??
+    [...costs.keys()].find(it => limits.is_whole && !limits.tasks.has(it)) ??
+      (is_stale || of_set.is_busy ? null :
+      explained?.accounts.find(
+      it => it.deadline !== undefined && deadlines.get(it.name) !== it.deadline)?.name);
   if (!other) return;
-  state.document = { ...document, tasks: [], why: `the desk reads ${other} otherwise than the table` };
+  state.document = { ...document, tasks: [],
+    why: `the desk reads ${other} otherwise than the table` };
   show_document();
 }
 
 function show_facts() {
   if (state.is_stale) return;
   const facts = facts_told(state.explained, state.limits, state.baseline);
-  if (facts.map(it => it.textContent).join('') !== at('facts').textContent) at('facts').replaceChildren(...facts);
+  if (facts.map(it => it.textContent).join('') !== at('facts').textContent)
+    at('facts').replaceChildren(...facts);
 }
 
 function draw_bars() {
@@ -224,7 +258,8 @@ function draw_bars() {
   const { tasks, why } = state.document;
   bars.show({
     explained: state.explained, limits: state.limits, was: state.baseline, can_edit: why === null,
-    deadlines: new Map(why === null ? tasks.map(it => [name_of(it), number_in(it, 'deadline')]) : []),
+    deadlines: new Map(why === null ?
+      tasks.map(it => [name_of(it), number_in(it, 'deadline')]) : []),
     costs: why === null ? table.costs() : new Map(),
   });
   scale.show(state.limits?.all, why === null && tasks.length > 0);
@@ -253,7 +288,8 @@ function show_picture({ text, status }) {
   if (!picture.show(text)) undrawn('The picture is very long: download it.');
 }
 
-const show_lines = () => write(at('lines'), lines_told(state.file.name, state.answers, at('judged').value.trim()).join('\n'));
+const show_lines = () => write(
+  at('lines'), lines_told(state.file.name, state.answers, at('judged').value.trim()).join('\n'));
 
 // ---- the node's own priorities, and the script of teams
 
@@ -321,7 +357,8 @@ function show_document() {
   const { why, tasks } = state.document;
   table.show(state.document);
   at('untabled').hidden = why === null;
-  const untabled = `The table doesn't follow this text (${why}), so only the text is edited; the desk answers to it all the same.`;
+  const untabled =
+    `The table doesn't follow this text (${why}), so only the text is edited; the desk answers to it all the same.`;
   if (why !== null) write(at('untabled'), untabled);
   at('add').disabled = why !== null;
   at('by-deadline').disabled = why !== null || !tasks.length;
@@ -329,7 +366,8 @@ function show_document() {
   at('redo').disabled = !past.can_redo;
   write(at('file-name'), state.file.name);
 }
-const edit = safely((splices, key = null) => change(spliced(state.text, splices), { key, by: 'table' }));
+const edit =
+  safely((splices, key = null) => change(spliced(state.text, splices), { key, by: 'table' }));
 function travel(text) {
   if (text === null) return;
   const was = state.text, area = at('set');
@@ -341,18 +379,25 @@ function travel(text) {
 function grow(name, cost) {
   const index = state.document.tasks.findIndex(it => name_of(it) === name);
   if (index < 0) return;
-  const last = Math.max(0, ...sections_in(state.document.tasks[index]).map(it => (it.at ?? 0) + (it.len ?? 0)));
+  const last =
+    Math.max(
+    0, ...sections_in(state.document.tasks[index]).map(it => (it.at ?? 0) + (it.len ?? 0)));
   edit(set_number(state.document, index, 'cost', Math.max(cost, last)), `grip ${name}`);
 }
-// A number of a task, as far as `limits` says that it has to come. A period takes a later deadline along, and a deadline a
-// shorter period.
+// A number of a task, as far as `limits` says that it has to come. A period takes a later deadline
+// along, and a deadline a shorter period.
 function mend(name, { key, section, most }) {
-  const { document } = state, index = document.tasks.findIndex(it => name_of(it) === name), task = document.tasks[index];
+  const { document } = state;
+  const index = document.tasks.findIndex(it => name_of(it) === name);
+  const task = document.tasks[index];
   if (!task) return;
-  if (section !== null) return edit(put_key(document, task.sections[section - 1], key, String(most)));
+  if (section !== null)
+    return edit(put_key(document, task.sections[section - 1], key, String(most)));
   const period = number_in(task, 'period'), deadline = number_in(task, 'deadline');
-  const along = key === 'deadline' && most > period ? 'period' : key === 'period' && most < deadline ? 'deadline' : null;
-  edit([...set_number(document, index, key, most), ...along ? set_number(document, index, along, most) : []]);
+  const along = key === 'deadline' && most > period ? 'period' :
+    key === 'period' && most < deadline ? 'deadline' : null;
+  edit([...set_number(document, index, key, most),
+    ...along ? set_number(document, index, along, most) : []]);
 }
 // As `--prefer deadline` weighs: by the number of tasks of a later deadline.
 function weigh_by_deadline() {
@@ -388,7 +433,9 @@ function show_difference() {
   at('pin').textContent = baseline ? 'Pin anew' : 'Pin as baseline';
   at('pin').disabled = !explained || state.is_stale;
   if (!baseline) return;
-  const { head, summary, table } = difference(baseline, pinned(state.text, admit ? at('verdict').textContent : '', explained, limits));
+  const { head, summary, table } =
+    difference(
+    baseline, pinned(state.text, admit ? at('verdict').textContent : '', explained, limits));
   at('both').replaceChildren(...head);
   write(at('changed'), summary);
   at('changes').replaceChildren(...table ? [table] : []);
@@ -403,7 +450,8 @@ function pin() {
 // ---- the start
 
 const table = new Table(at('table'), edit);
-const bars = new Bars(at('bars'), { grow: safely(grow), point: (name, section) => table.point(name, section), tip: safely(tip) });
+const bars = new Bars(at('bars'),
+  { grow: safely(grow), point: (name, section) => table.point(name, section), tip: safely(tip) });
 const scale = new Scale(at('scale'), {
   execution: () => execution_of(state.document),
   apply: (base, permille) => edit(scaled(state.document, base, permille), 'scale'),
@@ -414,7 +462,8 @@ const picture = new Picture(at('picture'), {
 });
 
 // Each example stands below a line with its name.
-const EXAMPLES = new Map(at('example-sets').textContent.split(/^==== /m).slice(1).map(it => it.split(/\n(.*)/s)));
+const EXAMPLES = new Map(
+  at('example-sets').textContent.split(/^==== /m).slice(1).map(it => it.split(/\n(.*)/s)));
 at('examples').append(...[...EXAMPLES.keys()].map(it => element('option', { value: it }, it)));
 
 function on(id, event, act) {
@@ -430,7 +479,10 @@ on('script', 'input', ask_script);
 on('examples', 'change', () => {
   const name = at('examples').value;
   at('examples').value = '';
-  if (name) take_file({ name: `${name}.toml`, text: EXAMPLES.get(name), has_mark: false, has_crlf: false, is_utf8: true });
+  if (name)
+    take_file(
+      { name: `${name}.toml`, text: EXAMPLES.get(name), has_mark: false, has_crlf: false,
+      is_utf8: true });
 });
 on('open', 'click', () => at('file').click());
 on('file', 'change', async () => {
@@ -489,14 +541,17 @@ addEventListener('hashchange', safely(take_fragment));
 addEventListener('keydown', safely(it => {
   if (it.key === 'Escape') tip(null);
   if (!(it.ctrlKey || it.metaKey) || it.altKey) return;
-  const key = it.key.toLowerCase(), undo = () => travel(past.undo()), redo = () => travel(past.redo());
+  const key = it.key.toLowerCase();
+  const undo = () => travel(past.undo());
+  const redo = () => travel(past.redo());
   const act = { z: it.shiftKey ? redo : undo, y: redo, s: save, o: () => at('file').click() }[key];
   const has_its_own = ['judged', 'script', 'until'].includes(it.target.id);
   if (!act || has_its_own && 'zy'.includes(key)) return;
   it.preventDefault();
   act();
 }));
-addEventListener('focusin', safely(it => heat(it.target.closest?.('[data-task]')?.dataset.task ?? '')));
+addEventListener('focusin',
+  safely(it => heat(it.target.closest?.('[data-task]')?.dataset.task ?? '')));
 addEventListener('scroll', () => { if (!at('tip').hidden) tip(null); }, { passive: true });
 for (const it of ['dragover', 'drop', 'dragleave'])
   addEventListener(it, safely(event => {
@@ -523,7 +578,8 @@ async function start() {
 }
 start().catch(error => {
   show_verdict({ kind: 'refused', refusal: null });
-  const needs = 'The page needs WebAssembly, oklch() and DecompressionStream, as Chromium 111, Firefox 113 and Safari 16.4 have them.';
+  const needs =
+    'The page needs WebAssembly, oklch() and DecompressionStream, as Chromium 111, Firefox 113 and Safari 16.4 have them.';
   trouble(`The module failed: ${error?.message ?? error}. ${needs}`);
 });
 // For tests.
