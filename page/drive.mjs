@@ -1,6 +1,7 @@
 // Drives the page in headless Chromium with keys and a pointer, and compares what it shows with
 // what the program prints: node drive.mjs [COUNT [SEED]], with PAGE, DESK and CHROMIUM in the
-// environment (page/test). SHOTS names a folder for pictures of the page.
+// environment (page/test). SHOTS names a folder for pictures of the page, SCENES some scenes, by
+// commas, that alone are driven.
 import { spawnSync } from 'child_process';
 import { readFileSync, readdirSync, statSync, writeFileSync } from 'fs';
 import { join } from 'path';
@@ -9,7 +10,7 @@ import { Browser, soon } from './driving/browser.mjs';
 import { random_script, random_set, seed as sow } from './driving/random.mjs';
 
 const [count = '100', seed = String(Date.now() % 1000000)] = process.argv.slice(2);
-const { PAGE, DESK, CHROMIUM, SHOTS } = process.env;
+const { PAGE, DESK, CHROMIUM, SHOTS, SCENES } = process.env;
 const EXAMPLES = new URL('../examples/', import.meta.url).pathname;
 let passed = 0, failed = 0;
 const kinds = {};
@@ -343,9 +344,10 @@ async function all_execution() {
   await browser.settled();
   let seen = await look();
   const times = it => Math.ceil(it * 1006 / 1000);
+  // (the section of imu ends with its cost: 202 and 51, each rounded up)
   equal(seen.rows.map(it => it.cost).join(),
-    [150, 900, 250, 5000, 3000, 5000, 1200, 8000, 15000].map(times).join(),
-    'all costs times the factor');
+    [150, 900, 253, 5000, 3000, 5000, 1200, 8000, 15000]
+      .map(it => it === 253 ? it : times(it)).join(), 'all costs times the factor');
   const lengths = text => [...text.matchAll(/len = (\d+)/g)].map(it => Number(it[1]));
   equal(lengths(seen.set).join(), lengths(example('robot-mended')).map(times).join(),
     'and all sections');
@@ -399,27 +401,211 @@ async function mending() {
   equal(seen.strip, 'verdict is-yes', 'which mends it, too');
 }
 
+// The set's own preference, by its button.
+async function preference() {
+  await put({ set: example('robot-mended') });
+  await browser.click('#by-deadline');
+  let seen = await look();
+  equal(seen.set, example('robot-mended').replace('\n[[task]]', '\nprefer = "deadline"\n\n[[task]]'),
+    'the preference stands above the tasks');
+  expect(seen.is_tabled, 'a set that prefers something has its table');
+  const preferred = native('admit', [example('robot-mended')], ['--prefer', 'deadline']);
+  if (preferred.status === 0)
+    equal(seen.answers.admit.text, preferred.text, 'the preference is --prefer deadline');
+  compare_set('by deadline', seen.set, seen);
+  equal(await browser.evaluate(`document.getElementById('by-deadline').getAttribute('aria-pressed')`),
+    'true', 'the button is down');
+  await browser.write(cell(0, 'cost'), '151');
+  expect((await look()).set.includes('cost = 151\n'), 'and the table edits it');
+  await browser.write(cell(0, 'cost'), '150');
+  await browser.click('#by-deadline');
+  equal((await look()).set, example('robot-mended'), 'once more takes it out');
+  seen = await put({ set: '#% cam 4\n#ok\n' });
+  expect(!seen.is_tabled && seen.shown.untabled.includes('documents of several teams'),
+    `documents of teams: ${seen.shown.untabled}`);
+}
+
+// Rows by name, period or deadline, by the list and by the heads; the text stays.
+async function sorting() {
+  const shown_rows = () => browser.evaluate(
+    `[...document.querySelectorAll('#table [data-row]')].map(it => it.dataset.task).join()`);
+  const values = key => browser.evaluate(
+    `[...document.querySelectorAll('#table [data-cell="${key}"]')].map(it => it.value)`);
+  const sort_of = key => browser.evaluate(
+    `[...document.querySelectorAll('#table [role=columnheader]')].find(it =>
+      it.textContent === '${key}').getAttribute('aria-sort')`);
+  await put({ set: example('robot-mended') });
+  const as_text = await shown_rows();
+  await browser.click('#table .row.names [title="Sort by name"]');
+  equal(await shown_rows(), as_text.split(',').sort().join(), 'rows by name');
+  equal(await sort_of('name'), 'ascending', 'the head says so');
+  equal(await browser.evaluate(`document.getElementById('sorted').value`), 'name', 'the list, too');
+  equal((await look()).set, example('robot-mended'), 'the text stays');
+  // By keys: the list of sorts.
+  await browser.run(() => document.getElementById('sorted').focus());
+  await browser.press('ArrowDown');
+  await browser.settled();
+  let periods = (await values('period')).map(Number);
+  expect(periods.every((it, at) => at === 0 || periods[at - 1] <= it), `by period: ${periods}`);
+  await browser.press('ArrowDown');
+  await browser.settled();
+  const deadlines = (await values('deadline')).map(Number);
+  expect(deadlines.every((it, at) => at === 0 || deadlines[at - 1] <= it), `by deadline: ${deadlines}`);
+  // An edit in a sorted table goes to its own task, and the row moves once the field is left.
+  const row = '#table [data-task="motor"] [data-cell="deadline"]';
+  await browser.click(row);
+  await browser.press('ArrowDown');
+  equal(await browser.evaluate(`document.activeElement.getAttribute('aria-label')`),
+    `deadline of ${(await shown_rows()).split(',')[1]}`, 'arrows walk as the rows stand');
+  await browser.write('#table [data-task="upload"] [data-cell="deadline"]', '2000');
+  await soon(50);
+  expect((await look()).set.includes('deadline = 2000\n'), 'an edit in a sorted table');
+  equal((await shown_rows()).split(',')[1], 'upload', 'and its row moves');
+  await browser.click('#undo');
+  await browser.click('#table .row.names [title="Sort by deadline"]');
+  equal(await shown_rows(), as_text, 'once more, and the rows are as in the text');
+}
+
 async function baseline() {
   await put({ set: example('robot-mended') });
   await browser.click('#pin');
   await browser.click('#by-deadline');
   let seen = await look();
-  const preferred = native('admit', [example('robot-mended')], ['--prefer', 'deadline']);
-  if (preferred.status === 0)
-    equal(seen.answers.admit.text, preferred.text, 'weights by deadline are --prefer deadline');
-  compare_set('weights by deadline', seen.set, seen);
-  const row = seen.bars.find(it => it.name === 'planner');
-  expect(/▼ level \d → \d, bound \+/.test(row.delta), `planner: ${row.delta}`);
-  expect(/planner\d → \d/.test(seen.shown.compared), 'the table of changes');
+  const row = seen.bars.find(it => it.name === 'upload');
+  expect(/level \d → \d/.test(row.delta), `upload: ${row.delta}`);
+  const diff = native('diff', [example('robot-mended'), seen.set]);
+  const changes = diff.text.split('\n').slice(2).filter(it => it).map(it => it.split(' '));
+  const rows = () => browser.evaluate(`[...document.querySelectorAll('#changes tbody tr')].map(it =>
+    [...it.children].map(cell => cell.textContent))`);
+  const arrow = (a, b) => a === b ? a : `${a} → ${b}`, or_none = it => it === '-' ? '–' : it;
+  const check = (what, changes, found) => {
+    for (const [, name, , level, level_now, , bound, bound_now, , left, left_now] of changes) {
+      const it = found.find(it => it[0] === name) ?? [];
+      equal(digits(it.slice(2, 5).join('|')), [[level, level_now], [bound, bound_now], [left, left_now]]
+        .map(two => arrow(...two.map(or_none))).join('|'), `${what}: ${name}`);
+    }
+    expect(changes.length > 0 && found.length >= changes.length, `${what}: ${found.length} rows`);
+  };
+  check('changes', changes, await rows());
   await browser.click('#table [data-row="8"] .acts button:nth-child(2)');
-  expect((await look()).shown.compared.includes('uploadno longer there'), 'a removed task');
+  expect((await look()).shown.compared.includes('no longer there'), 'a removed task');
   await browser.click('#restore');
   seen = await look();
   equal(seen.set, example('robot-mended'), 'back to the baseline');
-  expect(/No level, bound or limit of a cost has changed/.test(seen.shown.compared),
-    'nothing has changed');
+  expect(/No task, level, bound or limit of a cost has changed/.test(seen.shown.compared),
+    `nothing has changed: ${seen.shown.compared}`);
+  // Where one answer is a no it says what differs.
+  await browser.write(cell(0, 'cost'), '400');
+  seen = await look();
+  equal(seen.strip, 'verdict is-no', 'a cost past what it may be');
+  const refused = native('diff', [example('robot-mended'), seen.set]).text.split('\n').slice(2)
+    .filter(it => it).map(it => it.split(' '));
+  check('changes to a no', refused, await rows());
+  equal((await rows()).find(it => it[0] === 'motor')?.[1], 'cost 150 → 400', 'what differs');
+  await browser.click('#restore');
   await browser.click('#unpin');
   expect(await browser.evaluate(`document.getElementById('compared').hidden`), 'unpinned');
+}
+
+// A file comes to a page by its input.
+async function give_file(selector, path) {
+  const { root } = await browser.send('DOM.getDocument');
+  const { nodeId } =
+    await browser.send('DOM.querySelector', { nodeId: root.nodeId, selector });
+  await browser.send('DOM.setFileInputFiles', { nodeId, files: [path] });
+  await soon(200);
+  await browser.settled();
+}
+async function saved(path) {
+  for (let tries = 0; tries < 60 && (statSync(path, { throwIfNoEntry: false })?.size ?? 0) === 0; tries++)
+    await soon(50);
+  return readFileSync(path, 'utf8');
+}
+// A baseline is there after a reload, goes to a file, and comes from one.
+async function kept_baselines() {
+  await put({ set: example('robot-mended') });
+  await browser.click('#pin');
+  await browser.write(cell(0, 'cost'), '140');
+  await browser.open(PAGE_URL);
+  let seen = await look();
+  expect(seen.set.includes('cost = 140\n'), 'a reload keeps the set');
+  expect(!await browser.evaluate(`document.getElementById('compared').hidden`) &&
+    seen.shown.both.includes('Admitted: 9 tasks'), `and the baseline: ${seen.shown.both}`);
+  equal(await browser.evaluate(`document.querySelector('#changes tbody td.what').textContent`),
+    'cost 150 → 140', 'and what has changed since');
+  await browser.click('#save-baseline');
+  equal(await saved(`${browser.room}/baseline-robot-mended.toml`), example('robot-mended'),
+    'a baseline as a file');
+  const path = `${browser.room}/before.toml`;
+  writeFileSync(path, example('robot'));
+  await give_file('#baseline-file', path);
+  seen = await look();
+  expect(/Baseline before.toml: No order passes: motor/.test(seen.shown.both),
+    `a baseline from a file: ${seen.shown.both}`);
+  expect(seen.shown.changes.includes('battery') && seen.set.includes('cost = 140\n'),
+    `a no as the baseline: ${seen.shown.changes}`);
+  writeFileSync(path, 'x = 1\n');
+  await give_file('#baseline-file', path);
+  seen = await look();
+  expect(/before.toml is no baseline/.test(seen.shown.notice) &&
+    await browser.evaluate(`document.getElementById('compared').hidden`),
+    `a faulty file is no baseline: ${seen.shown.notice}`);
+  await browser.open(PAGE_URL);
+  expect(await browser.evaluate(`document.getElementById('compared').hidden`), 'and none is kept');
+  await put({ set: example('robot-mended') });
+}
+
+// The view of teams: reached by its tab, by keys and by the pointer.
+async function teams() {
+  const script = readFileSync(`${EXAMPLES}two-teams-collide.script`, 'utf8');
+  await browser.click('#tab-teams');
+  const is_shown = id => browser.evaluate(`document.getElementById('${id}').checkVisibility()`);
+  expect(await is_shown('script') && !await is_shown('set'), 'the tab of teams shows its view');
+  await browser.press('ArrowLeft');
+  expect(!await is_shown('script') && await is_shown('set'), 'an arrow goes back');
+  await browser.press('ArrowRight');
+  let seen = await put({ script });
+  const { text } = native('play', [script]), replies = text.split('\n');
+  equal(seen.shown.play, text, 'what play prints');
+  const cards = () => browser.evaluate(`[...document.querySelectorAll('#drafts > .draft')].map(it => ({
+    head: it.querySelector('.title').textContent,
+    lines: [...it.querySelectorAll('.lines > li')].map(line =>
+      [...line.children].map(part => part.title || part.textContent)) }))`);
+  let found = await cards();
+  equal(found.length, 2, 'two drafts');
+  expect(/team 1draft 1on version 0in the node, as version 1$/.test(found[0].head), found[0].head);
+  expect(/team 2draft 2on version 0no order passes: a b$/.test(found[1].head), found[1].head);
+  const lines = script.split('\n'), asked = lines.map((line, at) => [line, at + 1])
+    .filter(([line]) => line && !line.startsWith('#'));
+  for (const [at, [line, number]] of asked.entries()) {
+    const row = found.flatMap(it => it.lines).find(it => it[0] === String(number));
+    if (!line.startsWith('open')) equal(row?.[2], replies[at], `the reply to line ${number}`);
+  }
+  equal(seen.shown['node-version'], 'Version 1: 1 task', 'the state of the node');
+  equal(await browser.evaluate(`document.getElementById('node-levels').textContent`), '1ateam 16000 µs',
+    'and its levels');
+  // A key typed into the script.
+  await browser.click('#script');
+  await browser.press('a', { ctrl: true });
+  for (const letter of 'open 1') await browser.press(letter);
+  await browser.settled();
+  found = await cards();
+  equal(found.map(it => it.head).join(), 'team 1draft 1on version 0still open', 'typed lines');
+  seen = await put({ script: 'open 1\nfly 1\n' });
+  equal(seen.shown.played, 'Refused: no line of a script 2. Nothing of the script was played.',
+    'a line that is none');
+  await browser.run(() => {
+    const list = document.getElementById('scripts');
+    list.value = 'findings-in-any-order';
+    list.dispatchEvent(new Event('change'));
+  });
+  await browser.settled();
+  seen = await look();
+  const other = readFileSync(`${EXAMPLES}findings-in-any-order.script`, 'utf8');
+  same('an example script', seen.answers.play, native('play', [other]), seen.shown.play);
+  expect(await browser.evaluate('document.documentElement.scrollWidth <= innerWidth'), 'not too wide');
+  if (SHOTS) await browser.picture(`${SHOTS}/teams-1400-light.png`);
+  await browser.click('#tab-set');
 }
 
 async function judging() {
@@ -477,19 +663,40 @@ async function files() {
     `a broken link: ${seen.shown.notice}`);
 }
 
+const run_state = () => browser.run(() => {
+  const host = document.getElementById('picture'), all = host.shadowRoot;
+  const box = it => it.getBoundingClientRect(), edge = box(host);
+  const letter = all.querySelector('text.s'), slice = all.querySelectorAll('.e')[1];
+  return {
+    width: box(all.querySelector('svg')).width, height: box(all.querySelector('svg')).height,
+    left: host.scrollLeft, wide: host.clientWidth, zoom: document.getElementById('zoom').textContent,
+    names: [...all.querySelectorAll('.names span')].map(it => [it.textContent, box(it).left - edge.left]),
+    letter: box(letter).height, slice: box(slice).width,
+  };
+});
 async function the_run() {
   await browser.open(PAGE_URL);
   await put({ set: example('robot-mended') });
-  const state = () => browser.evaluate(
-    `(() => { const it = document.getElementById('picture'); return { width: it.shadowRoot.querySelector('svg').getBoundingClientRect().width, left: it.scrollLeft, zoom: document.getElementById('zoom').textContent, wide: it.clientWidth }; })()`);
   await browser.click('#fit');
-  const fit = await state();
+  const fit = await run_state();
   expect(Math.abs(fit.width - fit.wide) < 20, `fit: ${fit.width} of ${fit.wide}`);
   for (let i = 0; i < 6; i++) await browser.click('#larger');
-  const large = await state();
+  let large = await run_state();
   expect(large.width > 3 * fit.width && large.left > 0, `zoomed: ${JSON.stringify(large)}`);
+  expect(Math.abs(large.letter - fit.letter) < .5 && Math.abs(large.height - fit.height) < .5,
+    `letters and rows stay: ${fit.letter}, ${large.letter}`);
+  expect(Math.abs(large.slice / fit.slice - 1.25 ** 6) < .4, `time widens: ${large.slice / fit.slice}`);
+  expect(large.names.length === 9 && large.names.every(([, at]) => at >= 0 && at < 30),
+    `names stay at the edge: ${JSON.stringify(large.names)}`);
   await browser.pull('#picture', .3, .6);
-  expect((await state()).left < large.left, 'pulled');
+  expect((await run_state()).left < large.left, 'pulled');
+  expect((await run_state()).names.every(([, at]) => at >= 0 && at < 30), 'names stay, pulled');
+  large = await run_state();
+  await browser.run(() => document.getElementById('picture').focus());
+  await browser.press('+');
+  expect((await run_state()).width > 1.2 * large.width, 'a key zooms');
+  await browser.press('-');
+  expect(Math.abs((await run_state()).width - large.width) < 2, 'and back');
   const seen = await put({ until: '30000' });
   expect(seen.answers.releases.text.startsWith('until 30000\n'), 'until');
   compare_set('until', seen.set, seen);
@@ -504,6 +711,49 @@ async function the_run() {
     await browser.evaluate(
     `document.getElementById('tip').hidden ? '' : document.getElementById('tip').textContent`)),
     'a pointer on a part is told of it');
+}
+
+// A click on a slice names its job, task and section, as `simulate` has them.
+async function slices() {
+  await browser.open(PAGE_URL);
+  await put({ set: example('shared-lock'), until: '30000' });
+  await browser.click('#fit');
+  const click_on = async title => {
+    const place = await browser.run(title => {
+      const host = document.getElementById('picture');
+      host.scrollIntoView({ block: 'center', behavior: 'instant' });
+      const it = [...host.shadowRoot.querySelectorAll('path > title')]
+        .find(it => it.textContent === title)?.parentElement, box = it?.getBoundingClientRect();
+      return box && [box.left + box.width / 2, box.top + box.height - 2];
+    }, title);
+    if (!place) return `no slice ${title}`;
+    await browser.mouse('mouseMoved', place, { buttons: 0, button: 'none' });
+    await browser.mouse('mousePressed', place);
+    await browser.mouse('mouseReleased', place);
+    return digits(await browser.evaluate(`document.getElementById('slice').textContent`));
+  };
+  equal(await click_on('lo holds m 3100 to 7100 us'),
+    'lo, job 1, arrived at 0 µs, done at 27000 µs: holds m from 3100 to 7100 µs, in section 1.',
+    'a held slice');
+  equal(await browser.evaluate(`document.getElementById('picture').shadowRoot
+    .querySelectorAll('.is-chosen').length`), 1, 'and it is marked');
+  await browser.click('#slice button');
+  equal(await browser.evaluate(`document.activeElement.getAttribute('aria-label')`),
+    'len of section 1 of lo', 'its section is shown in the table');
+  equal(await click_on('hi holds m 20000 to 20200 us'),
+    'hi, job 3, arrived at 20000 µs, done at 21000 µs: holds m from 20000 to 20200 µs, in section 1.',
+    'a later job');
+  equal(await click_on('mid 21000 to 23000 us'),
+    'mid, job 2, arrived at 20000 µs, done at 23000 µs: executes from 21000 to 23000 µs.',
+    'a slice without a lock');
+  // Each job that a slice is said to be of is the one of `simulate`.
+  const { set, answers } = await put({ set: example('robot-mended') });
+  await browser.click('#fit');
+  for (let i = 0; i < 8; i++) await browser.click('#larger');
+  expect(answers.simulate.text === native('simulate', [set, answers.releases.text]).text, 'simulate');
+  equal(await click_on('balance holds pose 1000 to 1050 us').then(it => it.replace(/:.*in/, ': in')),
+    'none', 'the robot') ;
+  await put({ until: '' });
 }
 
 // By keys alone each field is reached, and parts are shown.
@@ -605,6 +855,15 @@ async function looks() {
   }
   await browser.looks(1400, 1000, 'light');
   await browser.open(PAGE_URL);
+}
+
+// Where the browser isn't there, page/test says that it is skipped.
+async function skipping() {
+  const { stdout, status } = spawnSync(new URL('test', import.meta.url).pathname,
+    { env: { ...process.env, CHROMIUM: '/nowhere/chromium' } });
+  const [last, before] = stdout.toString().trimEnd().split('\n').reverse();
+  equal(`${status} ${last}`, '0 0 passed, 0 failed', 'a test without a browser');
+  expect(/^page\/test: skipped: \/nowhere\/chromium isn't here/.test(before), `which says: ${before}`);
 }
 
 // ---- what goes wrong
@@ -734,8 +993,10 @@ try {
   same('the script as it opens', first.answers.play,
     native('play', [await browser.evaluate(`document.getElementById('script').value`)]),
     first.shown.play);
-  for (const scene of [the_table, sections, other_forms, grips, all_execution, conflicts, mending,
-    baseline, judging, files, the_run, keys, names, looks]) {
+  const scenes = [the_table, preference, sorting, sections, other_forms, grips, all_execution,
+    conflicts, mending, baseline, kept_baselines, judging, teams, files, the_run, slices, keys,
+    names, looks, skipping];
+  for (const scene of scenes.filter(it => !SCENES || SCENES.split(',').includes(it.name))) {
     const before = failed;
     try {
       await scene();
@@ -744,7 +1005,8 @@ try {
     }
     console.log(`${scene.name}: ${failed > before ? 'failed' : 'passed'}`);
   }
-  for (const file of readdirSync(EXAMPLES).filter(it => /\.(toml|script)$/.test(it))) {
+  const files_of_examples = SCENES ? [] : readdirSync(EXAMPLES);
+  for (const file of files_of_examples.filter(it => /\.(toml|script)$/.test(it))) {
     const text = readFileSync(join(EXAMPLES, file), 'utf8');
     if (file.endsWith('.toml')) compare_set(file, text, await put({ set: text }));
     else {
@@ -759,7 +1021,7 @@ try {
       found.shown.play);
   }
   equal(browser.complaints.join(' | '), '', 'complaints of the page');
-  await troubles();
+  if (!SCENES) await troubles();
   equal(browser.complaints.join(' | '), '', 'complaints of the page');
 } catch (error) {
   expect(false, error.stack);

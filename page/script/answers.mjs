@@ -89,3 +89,25 @@ export function read_judge({ text, status }) {
   return { refusal: null, misses: status === 3 ? first.split(' ').slice(1) : [],
     rows: rows.map(read_fate) };
 }
+
+// `diff`: each task of which there is something to say, with its level, its bound and what that
+// leaves of the deadline, before and after; and the keys that differ.
+function read_change(line) {
+  const [kind, name, , ...words] = line.split(' '), keys = words.slice(9);
+  const two = from => words.slice(from, from + 2).map(number);
+  return { kind, name, level: two(0), bound: two(3), left: two(6), keys };
+}
+export function read_diff({ text, status }) {
+  if (status !== 0 && status !== 3) return null;
+  return lines_of(text).slice(2).map(read_change);
+}
+
+// `play`: a reply for each line that isn't skipped, then the node's state.
+export function read_play({ text, status }) {
+  const lines = lines_of(text), at = lines.findLastIndex(it => /^version \d+$/.test(it));
+  if (status !== 0 || at < 0)
+    return { refusal: read_refusal(lines.at(-1) ?? ''), replies: [], version: null, levels: [] };
+  const levels = lines.slice(at + 1).map(it => it.split(' ')).map(([, level, name, team, bound]) =>
+    ({ level: Number(level), name, team: Number(team), bound: Number(bound) }));
+  return { refusal: null, replies: lines.slice(0, at), version: Number(lines[at].slice(8)), levels };
+}

@@ -8,7 +8,7 @@ const ROOM = (1 << 20) - 1, KEPT = 1 << 26;
 // is.
 const INPUTS = {
   admit: ['set'], explain: ['set'], settings: ['set'], certify: ['set'], limits: ['set'],
-  check: ['set', 'certificate'],
+  check: ['set', 'certificate'], diff: ['set', 'changed'],
   judge: ['set', 'settings'], releases: ['set', 'until'], simulate: ['set', 'releases'],
   draw: ['set', 'releases'], play: ['script'],
 };
@@ -86,6 +86,14 @@ const SAY = {
   },
   limits({ set }, ask) {
     ask('limits', { set });
+  },
+  baseline({ set }, ask) {
+    ask('admit', { set });
+    ask('explain', { set });
+    ask('limits', { set });
+  },
+  diff({ set, changed }, ask) {
+    ask('diff', { set, changed });
   },
   judge({ set, settings }, ask) {
     ask('judge', { set, settings });
