@@ -109,5 +109,6 @@ export function read_play({ text, status }) {
     return { refusal: read_refusal(lines.at(-1) ?? ''), replies: [], version: null, levels: [] };
   const levels = lines.slice(at + 1).map(it => it.split(' ')).map(([, level, name, team, bound]) =>
     ({ level: Number(level), name, team: Number(team), bound: Number(bound) }));
-  return { refusal: null, replies: lines.slice(0, at), version: Number(lines[at].slice(8)), levels };
+  const version = Number(lines[at].split(' ')[1]);
+  return { refusal: null, replies: lines.slice(0, at), version, levels };
 }

@@ -41,7 +41,8 @@ function moved_told(before, now) {
 export const number_told = ({ key, section }) => section === null ? key :
   `length of section ${section}`;
 const PULL =
-  'Pull: the cost of the task (arrows: a hundredth, with shift a tenth; End: as far as this order lets it)';
+  'Pull: the cost of the task (arrows: a hundredth, with shift a tenth; ' +
+  'End: as far as this order lets it)';
 
 export class Bars {
   // `grow` sets a task's cost, `point` shows a section in the table, `tip` says what a pointer is
@@ -206,8 +207,8 @@ export class Bars {
       pieces.push(ghost);
     }
     row.track.replaceChildren(...pieces);
-    const label =
-      `${name}: ${account.time} of ${deadline} microseconds: ${account.parts.map(part_told).join('; ')}`;
+    const told = account.parts.map(part_told).join('; ');
+    const label = `${name}: ${account.time} of ${deadline} microseconds: ${told}`;
     if (row.track.getAttribute('aria-label') !== label) row.track.setAttribute('aria-label', label);
   }
 

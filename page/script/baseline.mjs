@@ -1,5 +1,5 @@
-// The baseline: a set that is kept, with the desk's answers on it, beside which each later answer stands.
-// Only its text is kept over a reload; the desk is asked about it again.
+// The baseline: a set with the desk's answers on it, beside which each later answer stands. Only
+// its text is kept over a reload; the desk is asked about it again.
 import { read_admit, read_diff, read_explain, read_limits } from './answers.mjs';
 import { ask_baseline } from './asking.mjs';
 import { difference } from './compare.mjs';

@@ -1,5 +1,5 @@
-// What has changed since a baseline, in words: all that stands in it `diff` and `limits` print, or it is
-// written in one of the two texts.
+// What has changed since a baseline, in words: all that stands in it `diff` and `limits` print, or
+// it is written in one of the two texts.
 import { limit_of } from './answers.mjs';
 import { element, grouped, plural, thousandths } from './dom.mjs';
 import { name_of, number_in, read_document } from './toml.mjs';
@@ -43,7 +43,8 @@ function grown(changes, was, now) {
   return names.filter(is_other).map(name => {
     const { level, time } = now.accounts.get(name) ?? { level: null, time: null };
     const left = limit_of(now.limits, name, 'slack')?.value ?? null;
-    return { kind: '', name, keys: [], level: [level, level], bound: [time, time], left: [left, left] };
+    const [levels, bounds, lefts] = [level, time, left].map(it => [it, it]);
+    return { kind: '', name, keys: [], level: levels, bound: bounds, left: lefts };
   });
 }
 const said = ({ verdict, limits }) =>
@@ -59,7 +60,8 @@ export function difference(was, now, changes) {
   const texts = [was, now].map(it => read_document(it.text));
   const all = [...changes, ...grown(changes, was, now)];
   const rows = all.map(it => row_of(it, was, now, texts));
-  if (!rows.length) return { head, summary: 'No task, level, bound or limit of a cost has changed.', table: null };
+  const none = 'No task, level, bound or limit of a cost has changed.';
+  if (!rows.length) return { head, summary: none, table: null };
   const heads = ['task', 'what', 'level', 'bound µs', 'left of the deadline', 'cost up to'];
   const cells = heads.map(it => element('th', { scope: 'col' }, it));
   const table = element('table.changes', { 'aria-label': 'changes since the baseline' },

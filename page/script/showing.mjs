@@ -72,7 +72,8 @@ export function show_verdict(admit) {
 function no_run() {
   parts.picture.clear();
   offer(at('svg'), null);
-  undrawn(state.is_stale ? '' : 'No order passes, so there is no run to draw.');
+  const why = state.is_stale ? 'The set is refused' : 'No order passes';
+  undrawn(`${why}, so there is no run to draw.`);
 }
 function show_explained(explained) {
   if (!explained) return show_conflict(null);

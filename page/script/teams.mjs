@@ -1,5 +1,5 @@
-// A script of teams as a view: the reply beside each line, what became of each team's drafts, and the
-// node's state after all of them. It only sorts lines that `play` prints beside those of the script.
+// A script of teams as a view: the reply beside each line, what became of each team's drafts, and
+// the node's state after all. It only puts lines that `play` prints beside those of the script.
 import { read_play } from './answers.mjs';
 import { at, coloured, element, grouped, plural, write } from './dom.mjs';
 
@@ -58,13 +58,14 @@ function draft_card(draft, index) {
   const head = element('div.title', team_named(team), element('b', `draft ${index + 1}`),
     element('span.faint', version ? `on version ${version}` : opened.reply),
     element('span.told', end_of(draft)));
-  const rows = lines.map(({ number, line, reply }) => element('li', element('span.faint', String(number)),
-    element('code', line.replace(/^(\w+) \d+ ?/, '$1 ')), meant(reply)));
+  const rows = lines.map(({ number, line, reply }) => element('li',
+    element('span.faint', String(number)), element('code', line.replace(/^(\w+) \d+ ?/, '$1 ')),
+    meant(reply)));
   return coloured(element('li.draft', head, element('ol.lines', ...rows)), `team ${team}`);
 }
 function level_row({ level, name, team, bound }) {
-  const title = element('div.title', element('span.who', element('span.level', String(level)), name),
-    team_named(team), element('span.told', element('b', grouped(bound)), ' µs'));
+  const who = element('span.who', element('span.level', String(level)), name);
+  const title = element('div.title', who, team_named(team), element('span.told', element('b', grouped(bound)), ' µs'));
   return coloured(element('li.bar', { 'data-task': name }, title), `team ${team}`);
 }
 
