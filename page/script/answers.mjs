@@ -8,47 +8,59 @@ export function read_refusal(text) {
   return head === 'refused:' ? { name, fields } : null;
 }
 
-// `admit`: how many tasks, or the names that stand in the way, or a refusal. (`explain` has the levels.)
+// `admit`: how many tasks, or the names that stand in the way, or a refusal. (`explain` has the
+// levels.)
 export function read_admit({ text, status }) {
   const [first = ''] = lines_of(text), words = first.split(' ');
   if (status === 0) return { kind: 'admitted', count: Number(words[1]) };
   if (status === 3) return { kind: 'infeasible', names: words.slice(1) };
-  return { kind: 'refused', refusal: read_refusal(text) ?? { name: first || 'no answer', fields: [] } };
+  return { kind: 'refused',
+    refusal: read_refusal(text) ?? { name: first || 'no answer', fields: [] } };
 }
 
 function read_part(line) {
   const words = line.trim().split(' '), [kind] = words;
-  if (kind === 'blocked') return { kind, time: Number(words[1]), by: words[3], section: Number(words[5]), lock: words[7] };
-  if (kind === 'above') return { kind, by: words[1], jobs: Number(words[2]), time: Number(words[4]) };
+  if (kind === 'blocked')
+    return { kind, time: Number(words[1]), by: words[3], section: Number(words[5]),
+      lock: words[7] };
+  if (kind === 'above')
+    return { kind, by: words[1], jobs: Number(words[2]), time: Number(words[4]) };
   return { kind, time: Number(words[1]) };
 }
 
-// `explain`: the account of each task from the lowest level up, or of each of the least conflict; and the load.
+// `explain`: the account of each task from the lowest level up, or of each of the least conflict;
+// and the load.
 export function read_explain({ text, status }) {
   if (status !== 0 && status !== 3) return null;
   const found = { accounts: [], conflict: null, load: null };
   for (const line of lines_of(text).slice(1)) {
     const words = line.split(' ');
     if (line.startsWith('  ')) found.accounts.at(-1)?.parts.push(read_part(line));
-    else if (status === 3 && words[0] === 'conflict' && !found.conflict) found.conflict = words.slice(1);
+    else if (status === 3 && words[0] === 'conflict' && !found.conflict)
+      found.conflict = words.slice(1);
     else if (words[0] === 'load' && words.length === 2) found.load = Number(words[1]);
-    else if (words[1] === 'must') found.accounts.push({ name: words[0], over: words[4], parts: [] });
+    else if (words[1] === 'must')
+      found.accounts.push({ name: words[0], over: words[4], parts: [] });
     else {
       const [level, name, time, , deadline] = status === 0 ? words : [null, ...words];
-      found.accounts.push({ level: number(level ?? '-'), name, time: Number(time), deadline: Number(deadline), parts: [] });
+      found.accounts.push(
+        { level: number(level ?? '-'), name, time: Number(time), deadline: Number(deadline),
+        parts: [] });
     }
   }
   return found;
 }
 
-// A line of `limits`: a number of a task, its value, and the furthest in this order and in some order.
+// A line of `limits`: a number of a task, its value, and the furthest in this order and in some
+// order.
 function read_limit(words) {
-  const section = words[1] === 'section' ? Number(words[2]) : null, key = section === null ? words[1] : 'len';
+  const section = words[1] === 'section' ? Number(words[2]) : null;
+  const key = section === null ? words[1] : 'len';
   const [value, in_order, most] = words.slice(-3).map(number);
   return { key, section, value, in_order, most };
 }
-// `limits`: for each task its numbers and how far each may go; and the factor on all execution. Of a refused set these are
-// the changes that mend it.
+// `limits`: for each task its numbers and how far each may go; and the factor on all execution. Of
+// a refused set these are the changes that mend it.
 export function read_limits({ text, status }) {
   if (status !== 0 && status !== 3) return null;
   const found = { tasks: new Map(), all: undefined, first: null, is_whole: status === 0 };
@@ -61,7 +73,8 @@ export function read_limits({ text, status }) {
   }
   return found;
 }
-export const limit_of = (limits, name, key) => limits?.tasks.get(name)?.find(it => it.key === key && it.section === null) ?? null;
+export const limit_of = (limits, name, key) =>
+  limits?.tasks.get(name)?.find(it => it.key === key && it.section === null) ?? null;
 
 // `judge`: each task from the lowest level up, and what becomes of it.
 function read_fate(line) {
@@ -73,5 +86,29 @@ function read_fate(line) {
 export function read_judge({ text, status }) {
   if (status !== 0 && status !== 3) return { refusal: read_refusal(text), misses: [], rows: [] };
   const [first = '', ...rows] = lines_of(text);
-  return { refusal: null, misses: status === 3 ? first.split(' ').slice(1) : [], rows: rows.map(read_fate) };
+  return { refusal: null, misses: status === 3 ? first.split(' ').slice(1) : [],
+    rows: rows.map(read_fate) };
+}
+
+// `diff`: each task of which there is something to say, with its level, its bound and what that
+// leaves of the deadline, before and after; and the keys that differ.
+function read_change(line) {
+  const [kind, name, , ...words] = line.split(' '), keys = words.slice(9);
+  const two = from => words.slice(from, from + 2).map(number);
+  return { kind, name, level: two(0), bound: two(3), left: two(6), keys };
+}
+export function read_diff({ text, status }) {
+  if (status !== 0 && status !== 3) return null;
+  return lines_of(text).slice(2).map(read_change);
+}
+
+// `play`: a reply for each line that isn't skipped, then the node's state.
+export function read_play({ text, status }) {
+  const lines = lines_of(text), at = lines.findLastIndex(it => /^version \d+$/.test(it));
+  if (status !== 0 || at < 0)
+    return { refusal: read_refusal(lines.at(-1) ?? ''), replies: [], version: null, levels: [] };
+  const levels = lines.slice(at + 1).map(it => it.split(' ')).map(([, level, name, team, bound]) =>
+    ({ level: Number(level), name, team: Number(team), bound: Number(bound) }));
+  const version = Number(lines[at].split(' ')[1]);
+  return { refusal: null, replies: lines.slice(0, at), version, levels };
 }

@@ -1,5 +1,5 @@
-// A bar for each task: its bound against its deadline, made of the parts that `explain` prints; below it the cost as a grip,
-// with how far `limits` lets it go.
+// A bar for each task: its bound against its deadline, made of the parts that `explain` prints;
+// below it the cost as a grip, with how far `limits` lets it go.
 import { limit_of } from './answers.mjs';
 import { coloured, element, grouped, plural, us } from './dom.mjs';
 
@@ -7,54 +7,71 @@ const LETTER = 7.4;
 const percent = (time, deadline) => `${(100 * time / deadline).toFixed(1)} %`;
 
 export function part_told(part) {
-  if (part.kind === 'above') return `${part.by} above: ${plural(part.jobs, 'job')}, ${us(part.time)}`;
-  if (part.kind === 'blocked') return `blocked by ${part.by}, section ${part.section}, lock ${part.lock}: ${us(part.time)}`;
+  if (part.kind === 'above')
+    return `${part.by} above: ${plural(part.jobs, 'job')}, ${us(part.time)}`;
+  if (part.kind === 'blocked')
+    return `blocked by ${part.by}, section ${part.section}, lock ${part.lock}: ${us(part.time)}`;
   return `${part.kind === 'cost' ? 'own cost' : part.kind}: ${us(part.time)}`;
 }
-const label_of = part => part.kind === 'above' ? part.by : part.kind === 'blocked' ? `${part.lock} · ${part.by}` : part.kind;
+const label_of = part => part.kind === 'above' ? part.by :
+  part.kind === 'blocked' ? `${part.lock} · ${part.by}` : part.kind;
 
 function bound_told(account, deadline) {
   if (account?.over) return [`must stand above ${account.over}`];
   if (!account) return [deadline === null ? '' : `deadline ${us(deadline)}`];
   const late = account.time - deadline;
-  return [element('b', grouped(account.time)), ` of ${us(deadline)}`, late > 0 ? element('span.beyond', ` ${grouped(late)} too long`) : ''];
+  return [element('b', grouped(account.time)), ` of ${us(deadline)}`,
+    late > 0 ? element('span.beyond', ` ${grouped(late)} too long`) : ''];
 }
 const NO_COST = 'no cost of its own would do';
 function reach_told({ in_order, most }, cost) {
   if (most < cost) return `at most ${grouped(most)} would do`;
   if (in_order === null) return `up to ${grouped(most)} in some order`;
-  return `up to ${grouped(in_order)} in this order` + (most === in_order ? '' : `, ${grouped(most)} in another`);
+  return `up to ${grouped(in_order)} in this order` +
+    (most === in_order ? '' : `, ${grouped(most)} in another`);
 }
 function moved_told(before, now) {
   const by = now.time - before.time, told = [];
-  if (now.level !== before.level) told.push(`${now.level > before.level ? '▲' : '▼'} level ${before.level} → ${now.level}`);
+  if (now.level !== before.level)
+    told.push(`${now.level > before.level ? '▲' : '▼'} level ${before.level} → ${now.level}`);
   if (by) told.push(`bound ${by > 0 ? '+' : '−'}${grouped(Math.abs(by))}`);
   return told.join(', ');
 }
 // A number of a task as it is called.
-export const number_told = ({ key, section }) => section === null ? key : `length of section ${section}`;
-const PULL = 'Pull: the cost of the task (arrows: a hundredth, with shift a tenth; End: as far as this order lets it)';
+export const number_told = ({ key, section }) => section === null ? key :
+  `length of section ${section}`;
+const PULL =
+  'Pull: the cost of the task (arrows: a hundredth, with shift a tenth; ' +
+  'End: as far as this order lets it)';
 
 export class Bars {
-  // `grow` sets a task's cost, `point` shows a section in the table, `tip` says what a pointer is on.
+  // `grow` sets a task's cost, `point` shows a section in the table, `tip` says what a pointer is
+  // on.
   constructor(host, { grow, point, tip }) {
     Object.assign(this, { host, grow, point, tip, rows: new Map(), pulled: null, given: null });
-    for (const it of ['pointerover', 'pointerdown']) host.addEventListener(it, event => this.hover(event));
+    for (const it of ['pointerover', 'pointerdown'])
+      host.addEventListener(it, event => this.hover(event));
     host.addEventListener('pointerleave', () => this.tip(null));
-    new ResizeObserver(() => { if (this.given && this.width !== this.host.clientWidth) this.show(this.given); }).observe(host);
+    new ResizeObserver(() => {
+      if (this.given && this.width !== this.host.clientWidth) this.show(this.given);
+    }).observe(host);
   }
 
   hover(event) {
     const part = event.target.closest('[data-tip]');
-    this.tip(part && { text: part.dataset.tip, of: part.dataset.of ?? '', x: event.clientX, y: event.clientY });
+    this.tip(
+      part && { text: part.dataset.tip, of: part.dataset.of ?? '', x: event.clientX,
+      y: event.clientY });
   }
 
   // What stands for a task that no line of `explain` accounts for: others than those of a conflict.
   show(given) {
     this.given = given;
     this.width = this.host.clientWidth;
-    const { explained, limits, deadlines } = given, accounts = new Map(explained.accounts.map(it => [it.name, it]));
-    const accounted = [...accounts.keys()], others = [...deadlines.keys()].filter(it => !accounts.has(it));
+    const { explained, limits, deadlines } = given;
+    const accounts = new Map(explained.accounts.map(it => [it.name, it]));
+    const accounted = [...accounts.keys()];
+    const others = [...deadlines.keys()].filter(it => !accounts.has(it));
     const names = explained.conflict ? [...accounted, ...others] : accounted.reverse();
     for (const [name, row] of this.rows) {
       if (names.includes(name)) continue;
@@ -80,15 +97,19 @@ export class Bars {
 
   row(name) {
     const row = {
-      level: element('span.level'), who: element('button.who', { type: 'button', 'aria-expanded': 'false' }),
+      level: element('span.level'),
+      who: element('button.who', { type: 'button', 'aria-expanded': 'false' }),
       delta: element('span.delta'), room: element('span.room'), told: element('span.told'),
       track: element('div.track', { role: 'img' }), sum: element('div.sum', { hidden: true }),
-      grip: element('input', { type: 'range', min: 0, step: 1, 'aria-label': `cost of ${name}`, title: PULL }),
+      grip: element(
+        'input', { type: 'range', min: 0, step: 1, 'aria-label': `cost of ${name}`, title: PULL }),
       reach: element('i.reach'), any: element('i.reach.any'),
     };
     row.title = element('div.title', row.who, row.delta, row.room, row.told);
     row.growth = element('div.growth', element('i.line'), row.any, row.reach, row.grip);
-    row.item = coloured(element('li.bar', { 'data-task': name }, row.title, row.track, row.growth, row.sum), name);
+    row.item =
+      coloured(element('li.bar', { 'data-task': name }, row.title, row.track, row.growth, row.sum),
+      name);
     row.who.append(element('span', { className: 'unseen' }, 'level '), row.level, name);
     row.who.onclick = () => {
       row.sum.hidden = !row.sum.hidden;
@@ -110,32 +131,40 @@ export class Bars {
 
   // A pulled grip stops at what the desk says that the cost may be; arrows go by a hundredth.
   pull(row, name, value) {
-    const near = row.scale / 70, stops = [row.in_order, row.most].filter(it => it !== null && it !== undefined);
+    const near = row.scale / 70;
+    const stops = [row.in_order, row.most].filter(it => it !== null && it !== undefined);
     const stop = stops.find(it => Math.abs(it - value) < near);
     this.grow(name, Math.max(1, Math.round(stop ?? value)));
   }
   step(row, name, event) {
-    const { key, shiftKey } = event, one = Math.max(1, Math.round(row.cost / (shiftKey ? 10 : 100)));
+    const { key, shiftKey } = event;
+    const one = Math.max(1, Math.round(row.cost / (shiftKey ? 10 : 100)));
     const more = row.cost + one, less = row.cost - one;
-    const to = { ArrowRight: more, ArrowUp: more, ArrowLeft: less, ArrowDown: less, End: row.in_order ?? row.most, Home: 1 }[key];
+    const to = { ArrowRight: more, ArrowUp: more, ArrowLeft: less, ArrowDown: less,
+      End: row.in_order ?? row.most, Home: 1 }[key];
     if (to === undefined || to === null) return;
     event.preventDefault();
     this.grow(name, Math.max(1, to));
   }
 
   draw(row, name, account, growth) {
-    const { explained, limits, deadlines, costs, was, can_edit } = this.given, before = was?.accounts.get(name);
-    const deadline = account?.deadline ?? deadlines.get(name) ?? null, time = account?.time ?? null, is_refused = explained.conflict !== null;
+    const { explained, limits, deadlines, costs, was, can_edit } = this.given;
+    const before = was?.accounts.get(name);
+    const deadline = account?.deadline ?? deadlines.get(name) ?? null;
+    const time = account?.time ?? null;
+    const is_refused = explained.conflict !== null;
     const scale = this.pulled === row ? row.scale : Math.max(deadline ?? 1, time ?? 0, 1);
     // What is drawn already stays.
-    const drawn = JSON.stringify([account, limits?.tasks.get(name), limits?.is_whole, deadline, scale, costs.get(name), before,
+    const drawn = JSON.stringify(
+      [account, limits?.tasks.get(name), limits?.is_whole, deadline, scale, costs.get(name), before,
       was?.conflict, can_edit, is_refused, this.width]);
     if (drawn === row.drawn) {
       if (this.pulled !== row) row.grip.value = row.cost;
       return;
     }
     const cost = costs.get(name) ?? growth?.value ?? 1;
-    Object.assign(row, { drawn, scale, cost, in_order: growth?.in_order ?? null, most: growth?.most ?? null });
+    Object.assign(
+      row, { drawn, scale, cost, in_order: growth?.in_order ?? null, most: growth?.most ?? null });
     row.level.textContent = account?.level ?? '';
     row.item.classList.toggle('is-bad', is_refused && !!account);
     row.told.replaceChildren(...bound_told(account, deadline));
@@ -151,9 +180,12 @@ export class Bars {
     const wide = (this.width - 12) / scale, pieces = [];
     let from = 0;
     for (const part of account.parts) {
-      const text = label_of(part), tip = `${part_told(part)} (${percent(part.time, deadline)} of the deadline)`;
+      const text = label_of(part);
+      const tip = `${part_told(part)} (${percent(part.time, deadline)} of the deadline)`;
       const fits = text.length * LETTER < part.time * wide - 4 ? text : '';
-      const of = part.by ?? name, piece = coloured(element(`i.part.${part.kind}`, { 'data-tip': tip, 'data-of': of }, fits), of);
+      const of = part.by ?? name;
+      const piece =
+        coloured(element(`i.part.${part.kind}`, { 'data-tip': tip, 'data-of': of }, fits), of);
       piece.style.left = `${100 * from / scale}%`;
       piece.style.width = `${100 * part.time / scale}%`;
       from += part.time;
@@ -175,7 +207,8 @@ export class Bars {
       pieces.push(ghost);
     }
     row.track.replaceChildren(...pieces);
-    const label = `${name}: ${account.time} of ${deadline} microseconds: ${account.parts.map(part_told).join('; ')}`;
+    const told = account.parts.map(part_told).join('; ');
+    const label = `${name}: ${account.time} of ${deadline} microseconds: ${told}`;
     if (row.track.getAttribute('aria-label') !== label) row.track.setAttribute('aria-label', label);
   }
 
@@ -189,11 +222,14 @@ export class Bars {
       if (value !== null) it.style.width = `${Math.min(100, 100 * value / scale)}%`;
     }
     row.any.hidden ||= most === in_order;
-    const reach = growth ? reach_told(growth, cost) : this.given.limits?.is_whole === false && is_accounted ? NO_COST : '';
-    const brief = in_order === null ? reach && `; ${reach}` : ` ≤ ${grouped(in_order)}${most === in_order ? '' : ` (${grouped(most)})`}`;
+    const reach = growth ? reach_told(growth, cost) :
+      this.given.limits?.is_whole === false && is_accounted ? NO_COST : '';
+    const brief = in_order === null ? reach && `; ${reach}` :
+      ` ≤ ${grouped(in_order)}${most === in_order ? '' : ` (${grouped(most)})`}`;
     row.room.textContent = `cost ${grouped(cost)}${brief}`;
     row.room.title = reach;
-    grip.setAttribute('aria-valuetext', `${cost} microseconds${reach ? `, ${reach.replaceAll('\u202f', '')}` : ''}`);
+    grip.setAttribute('aria-valuetext',
+      `${cost} microseconds${reach ? `, ${reach.replaceAll('\u202f', '')}` : ''}`);
   }
 
   // What has changed since the baseline; of a conflict there are no levels to compare.
@@ -206,10 +242,13 @@ export class Bars {
 
   // The parts as a table, for whoever opens the row.
   sum(name, account, deadline) {
-    if (account?.over) return element('p.faint', `It misses nothing itself: it must stand above ${account.over}.`);
+    if (account?.over)
+      return element('p.faint', `It misses nothing itself: it must stand above ${account.over}.`);
     if (!account) return element('p.faint', 'The conflict does not need this task.');
-    const head = element('tr', ...['part', 'µs', 'of the deadline'].map(it => element('th', { scope: 'col' }, it)));
-    const cells = it => [element('td', this.part_named(it)), element('td', grouped(it.time)), element('td.faint', percent(it.time, deadline))];
+    const head = element('tr',
+      ...['part', 'µs', 'of the deadline'].map(it => element('th', { scope: 'col' }, it)));
+    const cells = it => [element('td', this.part_named(it)), element('td', grouped(it.time)),
+      element('td.faint', percent(it.time, deadline))];
     const rows = account.parts.map(it => element('tr', ...cells(it)));
     return element('table', { 'aria-label': `parts of the bound of ${name}` }, head, ...rows);
   }
@@ -217,16 +256,21 @@ export class Bars {
   reaches(name, limits) {
     const rows = limits?.is_whole ? limits.tasks.get(name) ?? [] : [];
     if (!rows.length) return [];
-    const head = element('tr', ...['number', 'value', 'this order', 'some order'].map(it => element('th', { scope: 'col' }, it)));
-    const cells = it => [number_told(it), ...[it.value, it.in_order, it.most].map(value => value === null ? '–' : grouped(value))];
+    const head = element('tr',
+      ...['number', 'value', 'this order', 'some order']
+      .map(it => element('th', { scope: 'col' }, it)));
+    const cells = it => [number_told(it),
+      ...[it.value, it.in_order, it.most].map(value => value === null ? '–' : grouped(value))];
     const body = rows.map(it => element('tr', ...cells(it).map(text => element('td', text))));
-    return [element('table', { 'aria-label': `how far the numbers of ${name} may go` }, head, ...body)];
+    return [element('table', { 'aria-label': `how far the numbers of ${name} may go` },
+      head, ...body)];
   }
   part_named(part) {
     if (part.kind === 'above') return `${part.by} above, ${plural(part.jobs, 'job')}`;
     if (part.kind !== 'blocked') return part.kind === 'cost' ? 'own cost' : part.kind;
     const onclick = () => this.point(part.by, part.section);
-    const button = element('button.small', { type: 'button', onclick }, `${part.by}, section ${part.section}`);
+    const button = element('button.small', { type: 'button', onclick },
+      `${part.by}, section ${part.section}`);
     return element('span', 'blocked by ', button, ` lock ${part.lock}`);
   }
 }

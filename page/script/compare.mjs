@@ -1,40 +1,70 @@
-// What has changed since a pinned answer. Each number stands in one of the two answers; only their differences are made here.
+// What has changed since a baseline, in words: all that stands in it `diff` and `limits` print, or
+// it is written in one of the two texts.
 import { limit_of } from './answers.mjs';
 import { element, grouped, plural, thousandths } from './dom.mjs';
+import { name_of, number_in, read_document } from './toml.mjs';
 
-export function pinned(text, verdict, explained, limits) {
-  const accounts = new Map(explained.accounts.map(it => [it.name, it]));
-  return { text, verdict, explained, limits, conflict: explained.conflict, accounts };
-}
+const KINDS = { removed: 'no longer there', added: 'new' };
+const NUMBERED = ['weight', 'period', 'deadline', 'cost', 'jitter'];
+const or_none = value => value === null || value === undefined ? '–' : grouped(value);
 
-const shown_or_none = value => value === null ? '–' : grouped(value);
-function changed(before, now, is_more_better) {
-  if (before === now) return element('td', shown_or_none(now));
-  const by = before !== null && now !== null ? now - before : 0, kind = by === 0 ? 'td' : by > 0 === is_more_better ? 'td.better' : 'td.worse';
-  return element(kind, `${shown_or_none(before)} → ${shown_or_none(now)}`);
+// Two numbers, and whether the second is better, where both are there.
+function cell_of([before, now], more_is_better = null) {
+  if (before === now) return element('td', or_none(now));
+  const is_known = before !== null && now !== null && more_is_better !== null;
+  const kind = !is_known ? 'td' : now > before === more_is_better ? 'td.better' : 'td.worse';
+  return element(kind, `${or_none(before)} → ${or_none(now)}`);
 }
-// A row of a task, or none where nothing of it changed: its accounts, and how far its cost may go where that is known.
-function row_of(name, was, now) {
-  const head = element('th', { scope: 'row' }, name), [a, b] = [was, now].map(it => it.accounts.get(name));
-  if (!b) return element('tr', head, element('td', { colSpan: 3 }, 'no longer there'));
-  if (!a) return element('tr', head, element('td', { colSpan: 3 }, `new, level ${b.level}, bound ${grouped(b.time)}`));
-  const [g, h] = [was, now].map(it => limit_of(it.limits, name, 'cost')), is_known = g && h;
-  if (a.level === b.level && a.time === b.time && (!is_known || g.in_order === h.in_order)) return null;
-  const level = a.level === b.level ? String(b.level) : `${a.level} → ${b.level}`;
-  const growth = is_known ? changed(g.in_order, h.in_order, true) : element('td', '…');
-  return element('tr', head, element('td', level), changed(a.time, b.time, false), growth);
+// What a task's sheet says otherwise, with the numbers of both texts.
+function what_of({ kind, name, keys }, texts) {
+  if (!keys.length) return KINDS[kind] ?? kind;
+  const sheets = texts.map(it => it.tasks.find(task => name_of(task) === name));
+  const told = key => {
+    if (!NUMBERED.includes(key) || !sheets[0] || !sheets[1]) return key;
+    const [before, now] = sheets.map(it => number_in(it, key) ?? 0);
+    return `${key} ${grouped(before)} → ${grouped(now)}`;
+  };
+  return keys.map(told).join(', ');
 }
-const said = ({ verdict, limits }) => verdict + (limits?.all ? `, all execution × ${thousandths(limits.all)}` : '');
+function growth_of(name, was, now) {
+  const limits = [was, now].map(it => limit_of(it.limits, name, 'cost'));
+  return limits.map(it => it?.in_order ?? null);
+}
+function row_of(it, was, now, texts) {
+  const head = element('th', { scope: 'row' }, it.name), growth = growth_of(it.name, was, now);
+  return element('tr', head, element('td.what', what_of(it, texts)), cell_of(it.level),
+    cell_of(it.bound, false), cell_of(it.left, true), cell_of(growth, true));
+}
+// Tasks of which `diff` has nothing to say, but whose cost may now grow further or less far.
+function grown(changes, was, now) {
+  const known = new Set(changes.map(it => it.name));
+  const names = was.limits?.is_whole && now.limits?.is_whole ? [...now.limits.tasks.keys()] : [];
+  const is_other = name => !known.has(name) && new Set(growth_of(name, was, now)).size > 1;
+  return names.filter(is_other).map(name => {
+    const { level, time } = now.accounts.get(name) ?? { level: null, time: null };
+    const left = limit_of(now.limits, name, 'slack')?.value ?? null;
+    const [levels, bounds, lefts] = [level, time, left].map(it => [it, it]);
+    return { kind: '', name, keys: [], level: levels, bound: bounds, left: lefts };
+  });
+}
+const said = ({ verdict, limits }) =>
+  verdict + (limits?.all ? `, all execution × ${thousandths(limits.all)}` : '');
 
-// Both verdicts; how many tasks changed, and the table of them.
-export function difference(was, now) {
-  const head = [element('p', element('b', 'Baseline: '), said(was)), element('p', element('b', 'Now: '), said(now))];
-  if (was.conflict || now.conflict) return { head, summary: '', table: null };
-  const names = [...new Set([...now.accounts.keys(), ...was.accounts.keys()])].reverse();
-  const rows = names.map(it => row_of(it, was, now)).filter(it => it);
-  if (!rows.length) return { head, summary: 'No level, bound or limit of a cost has changed.', table: null };
-  const heads = ['task', 'level', 'bound µs', 'cost up to'].map(it => element('th', { scope: 'col' }, it));
-  const inside = [element('thead', element('tr', ...heads)), element('tbody', ...rows)];
-  const table = element('table.changes', { 'aria-label': 'changes since the baseline' }, ...inside);
+// Both verdicts; how many tasks changed, and the table of them. `changes` is null where the new set
+// is refused.
+export function difference(was, now, changes) {
+  const name = was.name ? ` ${was.name}` : '';
+  const head = [element('p', element('b', `Baseline${name}: `), said(was)),
+    element('p', element('b', 'Now: '), said(now))];
+  if (!changes) return { head, summary: '', table: null };
+  const texts = [was, now].map(it => read_document(it.text));
+  const all = [...changes, ...grown(changes, was, now)];
+  const rows = all.map(it => row_of(it, was, now, texts));
+  const none = 'No task, level, bound or limit of a cost has changed.';
+  if (!rows.length) return { head, summary: none, table: null };
+  const heads = ['task', 'what', 'level', 'bound µs', 'left of the deadline', 'cost up to'];
+  const cells = heads.map(it => element('th', { scope: 'col' }, it));
+  const table = element('table.changes', { 'aria-label': 'changes since the baseline' },
+    element('thead', element('tr', ...cells)), element('tbody', ...rows));
   return { head, summary: `Changed: ${plural(rows.length, 'task')}`, table };
 }

@@ -1,13 +1,17 @@
-// All execution at once, as on a slower processor: a grip for the factor on it, with how far `limits` lets it go. It scales
-// as the desk's factor does, in thousandths: each cost, and the begin and the length of each section, rounded up; a section
-// begins no earlier than the one before it ends, and the cost is at least the end of the last.
+// All execution at once, as on a slower processor: a grip for the factor on it, with how far
+// `limits` lets it go. It scales as the desk's factor does, in thousandths: each cost, and the
+// begin and the length of each section, rounded up; a section begins no earlier than the one before
+// it ends, and the cost is at least the end of the last.
 import { element, thousandths } from './dom.mjs';
 import { name_of, number_in, put_key, sections_in } from './toml.mjs';
 
 // What the factor is of: the cost and the sections of each task.
-export const execution_of = ({ tasks }) => new Map(tasks.map(it => [name_of(it), { cost: number_in(it, 'cost'), sections: sections_in(it) }]));
+export const execution_of = ({ tasks }) =>
+  new Map(tasks
+  .map(it => [name_of(it), { cost: number_in(it, 'cost'), sections: sections_in(it) }]));
 
-const changed = (document, table, key, value) => value === number_in(table, key) ? [] : put_key(document, table, key, String(value));
+const put_where_changed = (document, table, key, value) => value === number_in(table, key) ? [] :
+  put_key(document, table, key, String(value));
 export function scaled(document, base, permille) {
   const times = value => Math.ceil(value * permille / 1000);
   return document.tasks.flatMap(task => {
@@ -17,23 +21,30 @@ export function scaled(document, base, permille) {
     const edits = was.sections.flatMap(({ at, len }, place) => {
       const begin = Math.max(end, times(at ?? 0)), table = task.sections[place];
       end = begin + times(len ?? 0);
-      return [...changed(document, table, 'at', begin), ...changed(document, table, 'len', end - begin)];
+      return [...put_where_changed(document, table, 'at', begin),
+        ...put_where_changed(document, table, 'len', end - begin)];
     });
-    return [...edits, ...changed(document, task, 'cost', Math.max(1, end, times(was.cost)))];
+    return [...edits,
+      ...put_where_changed(document, task, 'cost', Math.max(1, end, times(was.cost)))];
   });
 }
 
-// The factor is of the execution that was there when somebody took the grip; when it is let go, it is 1 again.
+// The factor is of the execution that was there when somebody took the grip; when it is let go, it
+// is 1 again.
 export class Scale {
   constructor(host, { execution, apply }) {
     Object.assign(this, { execution, apply, base: null, most: null, known: null });
-    this.grip = element('input', { type: 'range', min: 0, max: 2000, step: 1, value: 1000, 'aria-label': 'all execution, in thousandths' });
+    this.grip = element('input',
+      { type: 'range', min: 0, max: 2000, step: 1, value: 1000,
+      'aria-label': 'all execution, in thousandths' });
     this.reach = element('i.reach.any');
     this.told = element('span.room');
-    host.append(element('div.title', element('span.who', 'all execution'), this.told), element('div.growth', element('i.line'), this.reach, this.grip));
+    host.append(element('div.title', element('span.who', 'all execution'), this.told),
+      element('div.growth', element('i.line'), this.reach, this.grip));
     this.grip.oninput = () => this.go(Number(this.grip.value));
     this.grip.onkeydown = event => this.step(event);
-    for (const it of ['change', 'blur']) this.grip.addEventListener(it, () => { if (it === 'blur' || !this.is_keyed) this.let_go(); });
+    for (const it of ['change', 'blur'])
+      this.grip.addEventListener(it, () => { if (it === 'blur' || !this.is_keyed) this.let_go(); });
   }
   get factor() {
     return Number(this.grip.value);
@@ -41,7 +52,8 @@ export class Scale {
   go(permille) {
     if (!this.base) this.is_keyed = false;
     this.take();
-    const stop = this.most !== null && Math.abs(this.most - permille) < 12 && !this.is_keyed ? this.most : permille;
+    const stop = this.most !== null && Math.abs(this.most - permille) < 12 && !this.is_keyed ?
+      this.most : permille;
     this.grip.value = Math.max(1, stop);
     this.apply(this.base, this.factor);
     this.tell();
@@ -51,7 +63,8 @@ export class Scale {
   }
   step(event) {
     const by = event.shiftKey ? 10 : 1, more = this.factor + by, less = this.factor - by;
-    const to = { ArrowRight: more, ArrowUp: more, ArrowLeft: less, ArrowDown: less, Home: 1000, End: this.most }[event.key];
+    const to = { ArrowRight: more, ArrowUp: more, ArrowLeft: less, ArrowDown: less, Home: 1000,
+      End: this.most }[event.key];
     if (to === undefined || to === null) return;
     event.preventDefault();
     this.take();
@@ -63,7 +76,8 @@ export class Scale {
     this.is_keyed = false;
     this.show(this.known);
   }
-  // What `limits` prints of all execution: the factor, null for none, or undefined while it isn't known.
+  // What `limits` prints of all execution: the factor, null for none, or undefined while it isn't
+  // known.
   show(all, can_edit = !this.grip.disabled) {
     this.known = all;
     this.grip.disabled = !can_edit;
@@ -76,7 +90,8 @@ export class Scale {
     this.tell();
   }
   tell() {
-    const limit = this.known === undefined ? '' : this.most === null ? '; no factor helps' : ` ≤ ${thousandths(this.most)}`;
+    const limit = this.known === undefined ? '' : this.most === null ? '; no factor helps' :
+      ` ≤ ${thousandths(this.most)}`;
     this.told.textContent = `× ${thousandths(this.factor)}${limit}`;
     const reach = this.most === null ? '' : `, up to ${thousandths(this.most)}`;
     this.grip.setAttribute('aria-valuetext', `times ${thousandths(this.factor)}${reach}`);

@@ -3,7 +3,8 @@ import { number_told } from './bars.mjs';
 import { element, grouped, plural, thousandths, us } from './dom.mjs';
 
 export function verdict_told(admit, refused) {
-  if (admit.kind === 'admitted') return admit.count ? `Admitted: ${plural(admit.count, 'task')}` : 'Admitted: no tasks';
+  if (admit.kind === 'admitted')
+    return admit.count ? `Admitted: ${plural(admit.count, 'task')}` : 'Admitted: no tasks';
   if (admit.kind === 'infeasible') return `No order passes: ${admit.names.join(', ')}`;
   return refused?.sentence ?? 'no answer';
 }
@@ -16,50 +17,62 @@ function need_told(account, point) {
   if (time > deadline) told.push(element('span.no', `, ${grouped(time - deadline)} too long`));
   const blocked = parts.find(it => it.kind === 'blocked');
   if (blocked) {
-    const title = 'Show this section in the table', onclick = () => point(blocked.by, blocked.section);
-    const button = element('button.small', { type: 'button', title, onclick }, `${blocked.by}, section ${blocked.section}`);
+    const title = 'Show this section in the table';
+    const onclick = () => point(blocked.by, blocked.section);
+    const button = element('button.small', { type: 'button', title, onclick },
+      `${blocked.by}, section ${blocked.section}`);
     told.push(`; blocked ${grouped(blocked.time)} by `, button, ` that holds ${blocked.lock}`);
   }
   return element('li', ...told, '.');
 }
 // Each change that mends the set, as a button that makes it.
 function mend_told([name, limit], mend) {
-  const { value, most } = limit, what = `${name}: ${number_told(limit)} ${grouped(value)} → ${grouped(most)}`;
-  return element('li', element('button.small', { type: 'button', onclick: () => mend(name, limit) }, what));
+  const { value, most } = limit;
+  const what = `${name}: ${number_told(limit)} ${grouped(value)} → ${grouped(most)}`;
+  return element(
+    'li', element('button.small', { type: 'button', onclick: () => mend(name, limit) }, what));
 }
 export function mends_told(limits, mend) {
   if (!limits || limits.is_whole) return [];
   const all = [...limits.tasks].flatMap(([name, rows]) => rows.map(it => [name, it]));
   if (!all.length) return ['No single change of a number mends it.'];
-  return ['Each of these changes alone mends it:', element('ul', ...all.map(it => mend_told(it, mend)))];
+  return ['Each of these changes alone mends it:',
+    element('ul', ...all.map(it => mend_told(it, mend)))];
 }
 export function conflict_told({ conflict, accounts }, point) {
-  const head = conflict.length === 1 ? 'This task misses its deadline even with all others below it:'
+  const head = conflict.length === 1 ?
+    'This task misses its deadline even with all others below it:'
     : `With all others below these ${conflict.length}, none of them can stand lowest:`;
   return [head, element('ul', ...accounts.map(it => need_told(it, point)))];
 }
 
 export function facts_told(explained, limits, was) {
   const facts = [];
-  if (typeof explained?.load === 'number') facts.push(element('span', 'load ', element('b', `${(explained.load / 10000).toFixed(1)} %`)));
+  if (typeof explained?.load === 'number')
+    facts.push(element('span', 'load ', element('b', `${(explained.load / 10000).toFixed(1)} %`)));
   const all = limits?.all;
   if (all === null) facts.push(element('span', 'no faster processor helps'));
   if (typeof all === 'number') {
     const before = was?.limits?.all, is_other = typeof before === 'number' && before !== all;
     const was_told = is_other ? element('span.faint', ` (was ${thousandths(before)})`) : '';
-    facts.push(element('span', 'all execution × ', element('b', thousandths(all)), was_told, all < 1000 ? ' would do' : ' still passes'));
+    facts.push(
+      element('span', 'all execution × ', element('b', thousandths(all)), was_told,
+      all < 1000 ? ' would do' : ' still passes'));
   }
   return facts;
 }
 
 // The commands that print what the page shows, of a set's file.
 export function lines_told(file, { admit, releases }, has_settings) {
-  const set = /^[\w.+][\w.+-]*$/.test(file) ? file : `'./${file.replaceAll("'", "'\\''")}'`, lines = [`desk admit ${set}`];
+  const set = /^[\w.+][\w.+-]*$/.test(file) ? file : `'./${file.replaceAll("'", "'\\''")}'`;
+  const lines = [`desk admit ${set}`];
   if (!admit || admit.status === 4) return lines;
   lines.push(`desk explain ${set}`, `desk limits ${set}`);
   if (admit.status === 0) lines.push(`desk settings ${set} > settings`);
   lines.push(`desk certify ${set} > desk.cert`, `desk check ${set} desk.cert`);
-  if (releases?.status === 0) lines.push(`desk releases ${set} ${releases.text.split(/\s/)[1]} | desk draw ${set} - > desk.svg`);
+  if (releases?.status === 0)
+    lines.push(
+      `desk releases ${set} ${releases.text.split(/\s/)[1]} | desk draw ${set} - > desk.svg`);
   if (has_settings) lines.push(`desk judge ${set} node-settings`);
   return lines;
 }

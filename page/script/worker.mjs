@@ -1,12 +1,16 @@
-// Runs in a worker: the module, and all that is asked of it. A question is { id, kind, .. }; its answers are
-// { id, name, text, status }, or { id, name, trouble }, and at the end { id, done }.
+// Runs in a worker: the module, and all that is asked of it. A question is { id, kind, .. }; its
+// answers are { id, name, text, status }, or { id, name, trouble }, and at the end { id, done }.
 
-// Room for an answer at first; a longer one is asked for again. A module with more memory than this is let go after use.
+// Room for an answer at first; a longer one is asked for again. A module with more memory than this
+// is let go after use.
 const ROOM = (1 << 20) - 1, KEPT = 1 << 26;
-// The exports and their inputs, in the order of include/desk.h; a number among them is passed as it is.
+// The exports and their inputs, in the order of include/desk.h; a number among them is passed as it
+// is.
 const INPUTS = {
-  admit: ['set'], explain: ['set'], settings: ['set'], certify: ['set'], limits: ['set'], check: ['set', 'certificate'],
-  judge: ['set', 'settings'], releases: ['set', 'until'], simulate: ['set', 'releases'], draw: ['set', 'releases'], play: ['script'],
+  admit: ['set'], explain: ['set'], settings: ['set'], certify: ['set'], limits: ['set'],
+  check: ['set', 'certificate'], diff: ['set', 'changed'],
+  judge: ['set', 'settings'], releases: ['set', 'until'], simulate: ['set', 'releases'],
+  draw: ['set', 'releases'], play: ['script'],
 };
 let module = null, desk = null;
 
@@ -32,9 +36,11 @@ function call(name, given) {
     return [taken.at(-1), BigInt(value.length)];
   });
   for (let length = ROOM; ;) {
-    const room = room_of(length + 1), count = desk['desk_' + name](...words, room, BigInt(length), room + BigInt(length));
+    const room = room_of(length + 1);
+    const count = desk['desk_' + name](...words, room, BigInt(length), room + BigInt(length));
     const memory = new Uint8Array(desk.memory.buffer), start = Number(room);
-    const status = memory[start + length], bytes = count <= BigInt(length) ? memory.slice(start, start + Number(count)) : null;
+    const status = memory[start + length];
+    const bytes = count <= BigInt(length) ? memory.slice(start, start + Number(count)) : null;
     desk.page_free(room);
     if (bytes) {
       taken.forEach(it => desk.page_free(it));
@@ -63,10 +69,13 @@ const SAY = {
     const explained = ask('explain', { set });
     ask('settings', { set });
     const certificate = ask('certify', { set });
-    if (certificate.bytes && certificate.status !== 4) ask('check', { set, certificate: certificate.bytes });
+    if (certificate.bytes && certificate.status !== 4)
+      ask('check', { set, certificate: certificate.bytes });
     if (explained.status === 0) {
-      // With no word of the user, until the first job of each task is done: by its bound, from when it may arrive.
-      const most = pattern => Math.max(0, ...[...explained.text.matchAll(pattern)].map(it => Number(it[1])));
+      // With no word of the user, until the first job of each task is done: by its bound, from when
+      // it may arrive.
+      const most = pattern => Math.max(
+        0, ...[...explained.text.matchAll(pattern)].map(it => Number(it[1])));
       const done = 1000 + most(/^\d+ \S+ (\d+) of \d+$/gm) + most(/^  jitter (\d+)$/gm);
       const releases = ask('releases', { set, until: until ?? BigInt(done) });
       if (releases.status === 0) {
@@ -77,6 +86,14 @@ const SAY = {
   },
   limits({ set }, ask) {
     ask('limits', { set });
+  },
+  baseline({ set }, ask) {
+    ask('admit', { set });
+    ask('explain', { set });
+    ask('limits', { set });
+  },
+  diff({ set, changed }, ask) {
+    ask('diff', { set, changed });
   },
   judge({ set, settings }, ask) {
     ask('judge', { set, settings });

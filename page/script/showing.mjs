@@ -1,0 +1,211 @@
+// What the page shows of each answer on the set. Every number in it is one that the desk prints.
+import { limit_of, read_admit, read_explain, read_judge, read_limits } from './answers.mjs';
+import { show_difference } from './baseline.mjs';
+import { at, element, write } from './dom.mjs';
+import { offer } from './files.mjs';
+import { fates, judgement } from './judging.mjs';
+import { lanes } from './asking.mjs';
+import { told } from './refusals.mjs';
+import { cut, parts, past, state } from './state.mjs';
+import { name_of, number_in, string_in } from './toml.mjs';
+import { safely, trouble } from './trouble.mjs';
+import { conflict_told, facts_told, lines_told, mends_told, verdict_told } from './words.mjs';
+const SHOW = {
+  admit: it => show_verdict(read_admit(it)),
+  explain: it => show_explained(read_explain(it)),
+  limits: it => show_limits(read_limits(it)),
+  settings: ({ text, status }) => show_settings(status === 0 ? text : null),
+  certify: ({ text, status }) => show_certificate(status === 0 || status === 3 ? text : null),
+  check: ({ text }) => write(at('checked'), `desk check: ${text.trim()}`),
+  releases: ({ text, status }) => {
+    undrawn(status === 0 ? '' : `No picture: ${text}`);
+    show_lines();
+  },
+  simulate: () => {},
+  draw: it => show_picture(it),
+};
+// What the new answers have no line for goes: the picture of a refused set, say.
+export function heard_of_set({ id, name, text, status }) {
+  const is_growth = name === 'limits';
+  if (!is_growth && id !== state.question) {
+    state.question = id;
+    const { limits, judge, play } = state.answers;
+    state.answers = { ...limits && { limits }, ...judge && { judge }, ...play && { play } };
+    for (const it of ['settings', 'certify', 'check', 'releases', 'simulate', 'draw'])
+      at(`printed-${it}`)?.parentElement.remove();
+  }
+  state.answers[name] = { text, status };
+  if (status === 6) trouble(`${name}: no memory for the whole answer.`);
+  SHOW[name](state.answers[name]);
+  show_printed(name, text, status);
+}
+const PRINTED = ['admit', 'explain', 'settings', 'certify', 'check', 'releases', 'simulate',
+  'draw', 'limits'];
+function show_printed(name, text, status) {
+  let place = at(`printed-${name}`);
+  if (!place) {
+    place = element('pre', { id: `printed-${name}`, tabIndex: 0 });
+    const behind = PRINTED.slice(PRINTED.indexOf(name) + 1)
+      .map(it => at(`printed-${it}`)?.parentElement).find(it => it) ?? null;
+    at('printed').insertBefore(
+      element('div', {}, element('h3', { className: 'code' }), place), behind);
+  }
+  write(place.previousSibling, `desk ${name}${status ? ` [${status}]` : ''}`);
+  write(place, cut(text));
+}
+export function show_verdict(admit) {
+  state.admit = admit;
+  if (!lanes.set.waiting) state.is_waiting = false;
+  const refused = admit.kind === 'refused' && admit.refusal ?
+    told(admit.refusal, state.document.tasks.map(name_of)) : null;
+  write(at('verdict'), verdict_told(admit, refused));
+  at('strip').className =
+    `verdict ${admit.kind === 'admitted' ? 'is-yes' : admit.kind === 'infeasible' ? 'is-no' : ''}`;
+  state.is_stale = admit.kind === 'refused';
+  parts.table.show(state.document,
+    { wrong: refused?.cell, bad: admit.kind === 'infeasible' ? admit.names : [] });
+  at('answer').classList.toggle('is-stale', state.is_stale);
+  at('stale').hidden = !state.is_stale || !state.explained;
+  if (admit.kind !== 'admitted') no_run();
+  if (state.is_stale) write(at('facts'), '');
+}
+function no_run() {
+  parts.picture.clear();
+  offer(at('svg'), null);
+  const why = state.is_stale ? 'The set is refused' : 'No order passes';
+  undrawn(`${why}, so there is no run to draw.`);
+}
+function show_explained(explained) {
+  if (!explained) return show_conflict(null);
+  state.explained = explained;
+  show_conflict(explained);
+  draw_bars();
+  show_facts();
+}
+function show_conflict(explained) {
+  at('conflict').hidden = !explained?.conflict;
+  show_mends();
+  if (explained?.conflict)
+    at('conflict').replaceChildren(
+      ...conflict_told(explained, (name, section) => parts.table.point(name, section)));
+}
+// The changes that mend a refused set, beside its conflict.
+function show_mends() {
+  at('mends').replaceChildren(...mends_told(state.is_stale ? null : state.limits, safely(mend)));
+  at('mends').hidden = !at('mends').childNodes.length;
+}
+function show_limits(limits) {
+  state.limits = limits;
+  if (!lanes.growth.waiting) {
+    state.is_growing = false;
+    if (limits) hold_against(limits);
+  }
+  show_mends();
+  draw_bars();
+  show_facts();
+}
+// The table is right where it reads of each task the cost and the deadline that the desk prints.
+function hold_against(limits) {
+  const { document, explained, is_stale } = state;
+  if (document.why !== null) return;
+  const costs = parts.table.costs();
+  const deadlines = new Map(document.tasks.map(it => [name_of(it), number_in(it, 'deadline')]));
+  const cost_read = name => limit_of(limits, name, 'cost')?.value;
+  const other = [...limits.tasks.keys()]
+    .find(it => cost_read(it) !== undefined && costs.get(it) !== cost_read(it)) ??
+    [...costs.keys()].find(it => limits.is_whole && !limits.tasks.has(it)) ??
+      (is_stale || lanes.set.is_busy ? null :
+      explained?.accounts.find(
+      it => it.deadline !== undefined && deadlines.get(it.name) !== it.deadline)?.name);
+  if (!other) return;
+  state.document = { ...document, tasks: [],
+    why: `the desk reads ${other} otherwise than the table` };
+  show_document();
+}
+export function show_facts() {
+  if (state.is_stale) return;
+  const facts = facts_told(state.explained, state.limits, state.baseline);
+  if (facts.map(it => it.textContent).join('') !== at('facts').textContent)
+    at('facts').replaceChildren(...facts);
+}
+export function draw_bars() {
+  if (!state.explained) return;
+  const { tasks, why } = state.document;
+  parts.bars.show({
+    explained: state.explained, limits: state.limits, was: state.baseline, can_edit: why === null,
+    deadlines: new Map(why === null ?
+      tasks.map(it => [name_of(it), number_in(it, 'deadline')]) : []),
+    costs: why === null ? parts.table.costs() : new Map(),
+  });
+  parts.scale.show(state.limits?.all, why === null && tasks.length > 0);
+  show_difference();
+}
+function show_settings(text) {
+  write(at('settings'), text ?? '');
+  at('copy').disabled = at('fill').disabled = text === null;
+  offer(at('settings-file'), text);
+}
+function show_certificate(text) {
+  write(at('certificate-text'), cut(text ?? ''));
+  at('copy-certificate').disabled = text === null;
+  offer(at('certificate'), text);
+  if (text === null) write(at('checked'), '');
+  show_lines();
+}
+function undrawn(text) {
+  at('undrawn').hidden = !text;
+  write(at('undrawn'), text);
+}
+function show_picture({ text, status }) {
+  if (status !== 0) return;
+  offer(at('svg'), text, 'image/svg+xml');
+  if (!parts.picture.show(text)) undrawn('The picture is very long: download it.');
+}
+export const show_lines = () => write(
+  at('lines'), lines_told(state.file.name, state.answers, at('judged').value.trim()).join('\n'));
+// ---- the priorities that a node has
+export function heard_of_node(answer) {
+  if (!answer) return show_judgement(null);
+  const { text, status } = answer;
+  state.answers.judge = { text, status };
+  show_judgement(read_judge({ text, status }));
+}
+function show_judgement(judged) {
+  const { text, is_good } = judged ? judgement(judged) : { text: '' };
+  at('judgement').className = is_good ? 'yes' : 'no';
+  write(at('judgement'), text);
+  at('fates').replaceChildren(...judged ? fates(judged.rows) : []);
+  show_lines();
+}
+// ---- what was written
+export function show_document() {
+  const { why, root } = state.document;
+  parts.table.show(state.document);
+  at('untabled').hidden = why === null;
+  const only = 'so only the text is edited; the desk answers to it all the same.';
+  if (why !== null) write(at('untabled'), `The table doesn't follow this text (${why}), ${only}`);
+  at('add').disabled = why !== null;
+  at('by-deadline').disabled = why !== null;
+  const is_so = string_in(root, 'prefer') === 'deadline';
+  at('by-deadline').setAttribute('aria-pressed', is_so);
+  at('undo').disabled = !past.can_undo;
+  at('redo').disabled = !past.can_redo;
+  write(at('file-name'), state.file.name);
+}
+// What is known no more once an answer is late: the limits of the set before it are not shown for
+// long beside new bounds.
+export function show_late() {
+  if (state.is_waiting) {
+    at('strip').className = 'verdict';
+    write(at('verdict'), '…');
+  }
+  if (!state.is_growing || !state.limits) return;
+  state.limits = null;
+  show_mends();
+  draw_bars();
+  show_facts();
+}
+export function show_fallen(name) {
+  if (name === 'admit' || !name && state.is_waiting)
+    show_verdict({ kind: 'refused', refusal: null });
+}
