@@ -49,100 +49,6 @@ from pathlib import Path
 
 Text = str | bytes
 
-# What each refusal says, by the input that it is about. In braces: the line's words behind the name,
-# for a set behind those of the place.
-_MEANS = {
-    "set": {
-        "Syntax": "it is no TOML",
-        "UnknownKey": "it has a key that it may not have",
-        "MissingKey": "it has no {0}",
-        "WrongKind": "its {0} is another kind of value than it has to be",
-        "BadPreference": "what it prefers is neither weight nor deadline",
-        "BadName": "a name is a letter, then up to 23 letters, digits, _ and -, and one of its isn't",
-        "BadWeight": "its weight is above 1,000",
-        "BadPeriod": "its period isn't from 1,000 to 10,000,000",
-        "DeadlineZero": "its deadline is 0",
-        "DeadlinePastPeriod": "its deadline is above its period",
-        "CostZero": "its cost is 0",
-        "CostPastPeriod": "its cost is above its period",
-        "TooManySections": "it has more than 8 sections",
-        "NoLocks": "it names no lock",
-        "TooManyLocks": "it names more than 4 locks",
-        "LockTwice": "it names a lock twice",
-        "LenZero": "its length is 0",
-        "Overlap": "it begins before the end of the one before it",
-        "SectionPastCost": "it ends past the cost of its task",
-        "BadJitter": "its jitter isn't below its deadline",
-        "TooManyOutranks": "it outranks more than 8 tasks",
-        "OutranksTwice": "it names a task twice that it outranks",
-        "OutranksSelf": "it is to outrank itself",
-        "SameName": "a task before it has its name",
-        "TooManyTasks": "there are more than 32 tasks",
-        "BadHead": "document {0} has no line `#% TEAM COUNT` before it, or fewer bytes than that counts",
-        "OtherPreference": "team {0} prefers something else than team {1}",
-        "TakenName": "team {0} has a task {1}, as team {2} has",
-    },
-    "certificate": {
-        "BadHead": "its first line isn't `desk-certificate 1` or `desk-certificate 2`",
-        "BadLine": "line {0} may not stand there",
-        "Truncated": "its complete lines stop before the line `end`",
-        "Trailing": "something follows the line `end`",
-        "WrongVersion": "it is of version 1, and the set has jitter or tasks to outrank",
-        "WrongTasks": "level {0}: its reasons aren't of tasks of smaller rank that are left, by rank",
-        "WrongTasks 0": "it doesn't name each task once, or a member is no task or named twice",
-        "BadPass": "level {0}: its number doesn't show that its task may stand there",
-        "BadChain": "level {0}: its reason doesn't show that {1} can't stand there",
-        "BadChain 0": "its reason doesn't show that {1} can't be the lowest of the members",
-        "MissingFail": "level {0}: it has no reason why {1} can't stand there",
-        "EmptySet": "without members it shows nothing",
-    },
-    "releases": {
-        "BadLine": "line {0} may not stand there",
-        "Unsorted": "release {0} arrives before the one before it",
-        "UnknownTask": "release {0} is of no task of the set",
-        "TooSoon": "release {0} arrives less than a period after the one before it of its task",
-        "TooLate": "release {0} is later than its task's jitter",
-        "OutsideCost": "release {0} executes for 0, or for more than its task's cost",
-        "PastHorizon": "it ends past 60,000,000, or a release isn't ready before its end",
-        "TooMany": "there are more than 10,000 releases",
-        "Overrun": "a job of {0} is ready at {1}, and the one before it isn't done",
-    },
-    "settings": {
-        "BadLine": "line {0} is neither a thread nor a mutex with a number from 1 to 1,000,000",
-        "UnknownTask": "line {0} is of no task of the set",
-        "UnknownLock": "line {0} is of no lock of the set",
-        "SameTask": "line {0} has the name of a thread before it",
-        "SameLock": "line {0} has the name of a mutex before it",
-        "SameNumber": "line {0} has the number of a thread before it",
-        "MissingTask": "there is no thread {0}",
-        "MissingLock": "there is no mutex {0}",
-        "WrongCeiling": "mutex {0} isn't at the number of its highest user",
-    },
-    "script": {"BadLine": "line {0} may not stand there"},
-}
-# Which of these tables the second input has, or the only one where that is no set.
-_KINDS = {"check": "certificate", "simulate": "releases", "draw": "releases", "releases": "releases"}
-_KINDS |= {"judge": "settings", "play": "script"}
-
-
-def _sentence(command: str, words: list[str], status: int) -> str:
-    """What the words of a refusal say."""
-    places, name = [], words.pop(0)
-    while name in ("new", "team", "line"):
-        places.append("the new set" if name == "new" else f"{name} {words.pop(0)}")
-        name = words.pop(0)
-    if name == "InputTooLong":
-        return "an input has more than 16,777,216 bytes"
-    kind = _KINDS.get(command, "set")
-    means = _MEANS["set" if status == 4 and name in _MEANS["set"] else kind]
-    if means is _MEANS["set"] and name not in ("BadHead", "OtherPreference", "TakenName"):
-        # (of a put that is the script's line, and only the section has a number)
-        for place in ("task", "section")[command == "play" :]:
-            number = words.pop(0) if words else "0"
-            places += [f"{place} {number}"] if number != "0" else []
-    said = means.get(f"{name} {words[0]}" if words else name, means.get(name, "it is refused"))
-    return ", ".join(places) + ": " * bool(places) + said.format(*words)
-
 
 class Refused(ValueError):
     """An input was refused: `line` is what `desk` prints, `status` its exit status, `sentence` says
@@ -451,6 +357,101 @@ def toml(tasks: Iterable[Task], prefer: str | None = None) -> str:
 
     head = [f"prefer = {word(prefer)}"] if prefer else []
     return "".join(line + "\n" for line in [*head, *(line for it in tasks for line in lines(it))])
+
+
+# What each refusal says, by the input that it is about. In braces: the line's words behind the name,
+# for a set behind those of the place.
+_MEANS = {
+    "set": {
+        "Syntax": "it is no TOML",
+        "UnknownKey": "it has a key that it may not have",
+        "MissingKey": "it has no {0}",
+        "WrongKind": "its {0} is another kind of value than it has to be",
+        "BadPreference": "what it prefers is neither weight nor deadline",
+        "BadName": "it has a name that is none: a letter, then up to 23 letters, digits, _ and -",
+        "BadWeight": "its weight is above 1,000",
+        "BadPeriod": "its period isn't from 1,000 to 10,000,000",
+        "DeadlineZero": "its deadline is 0",
+        "DeadlinePastPeriod": "its deadline is above its period",
+        "CostZero": "its cost is 0",
+        "CostPastPeriod": "its cost is above its period",
+        "TooManySections": "it has more than 8 sections",
+        "NoLocks": "it names no lock",
+        "TooManyLocks": "it names more than 4 locks",
+        "LockTwice": "it names a lock twice",
+        "LenZero": "its length is 0",
+        "Overlap": "it begins before the end of the one before it",
+        "SectionPastCost": "it ends past the cost of its task",
+        "BadJitter": "its jitter isn't below its deadline",
+        "TooManyOutranks": "it outranks more than 8 tasks",
+        "OutranksTwice": "it names a task twice that it outranks",
+        "OutranksSelf": "it is to outrank itself",
+        "SameName": "a task before it has its name",
+        "TooManyTasks": "there are more than 32 tasks",
+        "BadHead": "document {0} has no line `#% TEAM COUNT` before it, or fewer bytes than that counts",
+        "OtherPreference": "team {0} prefers something else than team {1}",
+        "TakenName": "team {0} has a task {1}, as team {2} has",
+    },
+    "certificate": {
+        "BadHead": "its first line isn't `desk-certificate 1` or `desk-certificate 2`",
+        "BadLine": "line {0} may not stand there",
+        "Truncated": "its complete lines stop before the line `end`",
+        "Trailing": "something follows the line `end`",
+        "WrongVersion": "it is of version 1, and the set has jitter or tasks to outrank",
+        "WrongTasks": "level {0}: its reasons aren't of tasks of smaller rank that are left, by rank",
+        "WrongTasks 0": "it doesn't name each task once, or a member is no task or named twice",
+        "BadPass": "level {0}: its number doesn't show that its task may stand there",
+        "BadChain": "level {0}: its reason doesn't show that {1} can't stand there",
+        "BadChain 0": "its reason doesn't show that {1} can't be the lowest of the members",
+        "MissingFail": "level {0}: it has no reason why {1} can't stand there",
+        "EmptySet": "without members it shows nothing",
+    },
+    "releases": {
+        "BadLine": "line {0} may not stand there",
+        "Unsorted": "release {0} arrives before the one before it",
+        "UnknownTask": "release {0} is of no task of the set",
+        "TooSoon": "release {0} arrives less than a period after the one before it of its task",
+        "TooLate": "release {0} is later than its task's jitter",
+        "OutsideCost": "release {0} executes for 0, or for more than its task's cost",
+        "PastHorizon": "it ends past 60,000,000, or a release isn't ready before its end",
+        "TooMany": "there are more than 10,000 releases",
+        "Overrun": "a job of {0} is ready at {1}, and the one before it isn't done",
+    },
+    "settings": {
+        "BadLine": "line {0} is neither a thread nor a mutex with a number from 1 to 1,000,000",
+        "UnknownTask": "line {0} is of no task of the set",
+        "UnknownLock": "line {0} is of no lock of the set",
+        "SameTask": "line {0} has the name of a thread before it",
+        "SameLock": "line {0} has the name of a mutex before it",
+        "SameNumber": "line {0} has the number of a thread before it",
+        "MissingTask": "there is no thread {0}",
+        "MissingLock": "there is no mutex {0}",
+        "WrongCeiling": "mutex {0} isn't at the number of its highest user",
+    },
+    "script": {"BadLine": "line {0} may not stand there"},
+}
+# Which of these tables the second input has, or the only one where that is no set.
+_KINDS = {"check": "certificate", "simulate": "releases", "draw": "releases", "releases": "releases"}
+_KINDS |= {"judge": "settings", "play": "script"}
+
+
+def _sentence(command: str, words: list[str], status: int) -> str:
+    """What the words of a refusal say."""
+    places, name = [], words.pop(0)
+    while name in ("new", "team", "line"):
+        places.append("the new set" if name == "new" else f"{name} {words.pop(0)}")
+        name = words.pop(0)
+    if name == "InputTooLong":
+        return "an input has more than 16,777,216 bytes"
+    kind = _KINDS.get(command, "set")
+    means = _MEANS["set" if status == 4 and name in _MEANS["set"] else kind]
+    if means is _MEANS["set"] and name not in ("BadHead", "OtherPreference", "TakenName"):
+        # (of a put that is the script's line, and only the section has a number)
+        for place in ("task", "section")[command == "play" :]:
+            number = words.pop(0) if words else "0"
+            places += [f"{place} {number}"] if number != "0" else []
+    said = means.get(f"{name} {words[0]}" if words else name, means.get(name, "it is refused"))
+    return ", ".join(places) + ": " * bool(places) + said.format(*words)
 
 
 # What each function of include/desk.h takes beside the first input.
