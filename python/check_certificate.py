@@ -4,9 +4,10 @@
 usage: python/check_certificate.py SET CERT
 
 It prints what `desk check SET CERT` prints, with its status, and shares nothing with it: Python's
-standard library, docs/FORMATS.md and docs/DEFINITIONS.md are all that it rests on. It is to be read
-from top to bottom by whoever has to believe an answer without believing the program. A set is one
-document, in TOML 1.0; one that isn't valid is `refused: set`: which rule it breaks `desk check` says.
+standard library (from 3.11 on), docs/FORMATS.md and docs/DEFINITIONS.md are all that it rests on. It
+is to be read from top to bottom by whoever has to believe an answer without believing the program.
+A set is one document in TOML 1.0, and what it prefers stands in it, as no word behind `check` does.
+One that isn't valid is `refused: set`: which rule it breaks `desk check` says.
 
 Why this suffices. A task passes below others if some time up to its limit covers what it and they
 demand till then. Demand grows with time and with each task that comes above: this adds its cost at
