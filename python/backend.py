@@ -1,7 +1,7 @@
 """Makes the wheel of desk.py, with the shared library where DESK_LIBRARY names one or one lies
-beside it (PEP 517).
+beside it (PEP 517). It asks for no other package, so `pip` needs no network.
 
-    DESK_LIBRARY=PREFIX/lib/libdesk.so pip install ./python
+    DESK_LIBRARY=PREFIX/lib/libdesk.so pip install ./python     (with a whole path)
 """
 import base64
 import hashlib
@@ -23,7 +23,10 @@ def build_wheel(folder, config_settings=None, metadata_directory=None):
     said = (HERE / "pyproject.toml").read_text(encoding="utf-8")
     keys = ("version", "requires-python")
     version, needs = (re.search(rf'^{key} = "(.*)"', said, re.M)[1] for key in keys)
-    library = Path(os.environ.get("DESK_LIBRARY") or HERE / "libdesk.so")
+    named = os.environ.get("DESK_LIBRARY")
+    library = Path(named or HERE / "libdesk.so")
+    if named and not (library.is_absolute() and library.is_file()):
+        raise FileNotFoundError(f"DESK_LIBRARY has no whole path of a file: {named}")
     files = {"desk.py": (HERE / "desk.py").read_bytes()}
     tag = "py3-none-any"
     if library.is_file():

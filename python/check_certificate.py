@@ -1,215 +1,205 @@
 #!/usr/bin/env python3
 """Says whether a certificate shows the best order of a task set, or that no order passes.
 
-usage: python/check_certificate.py SET CERT     (files; a set is one document)
+usage: python/check_certificate.py SET CERT
 
 It prints what `desk check SET CERT` prints, with its status, and shares nothing with it: Python's
-standard library, docs/FORMATS.md and docs/DEFINITIONS.md are all that it rests on. It stands in
-one file, to be read from top to bottom by whoever has to believe an answer without believing the
-program. A set that isn't valid is `refused: set`; which rule it breaks `desk check` says.
+standard library (from 3.11 on), docs/FORMATS.md and docs/DEFINITIONS.md are all that it rests on. It
+is to be read from top to bottom by whoever has to believe an answer without believing the program.
+A set is one document in TOML 1.0, and what it prefers stands in it, as no word behind `check` does.
+One that isn't valid is `refused: set`: which rule it breaks `desk check` says.
 
-A certificate has for each level of an order, from the lowest up, a time at which its task has
-executed with all that delays it there, and for each task that would be better at that level why it
-can't stand there; or, where no order passes, why none of some tasks can be the lowest of them.
+Why this suffices. A task passes below others if some time up to its limit covers what it and they
+demand till then. Demand grows with time and with each task that comes above: this adds its cost at
+least, and no section that it could have blocked with is longer. So a chain that climbs from 1 past
+the limit, each number no more than the demand of the one before it, leaves no such time, and what
+can't stand below some tasks can't stand below more. `best`: each level's number is such a time, and
+an order better than this has, at the lowest level where they differ, a task of smaller rank, which
+the chains refute. `none`: in each order one member is below all other members, and is refuted.
 """
 import re
 import sys
 import tomllib
-from dataclasses import dataclass, field
 from pathlib import Path
+from types import SimpleNamespace
 
-NAME = re.compile(r"[A-Za-z][A-Za-z0-9_-]{0,23}\Z", re.A)
-NUMBER = r"(0|[1-9][0-9]{0,9})"
-TASK_KEYS = {"name", "weight", "period", "deadline", "cost", "section", "jitter", "outranks"}
+NAME = "[A-Za-z][A-Za-z0-9_-]{0,23}"
+NUMBER = "(?:0|[1-9][0-9]{0,9})"
+SET = {"task": list, "prefer": str}
+TASK = {"name": str, "weight": int, "period": int, "deadline": int, "cost": int, "jitter": int,
+        "section": list, "outranks": list}
+SECTION = {"locks": list, "at": int, "len": int}
 
 
 class Refused(Exception):
-    """The line that is printed behind `refused: `, and the status."""
-
-    def __init__(self, line, status=5):
-        super().__init__(line)
-        self.line, self.status = line, status
+    """What is printed behind `refused: `."""
 
 
-@dataclass
-class Task:
-    name: str
-    period: int
-    deadline: int
-    cost: int
-    weight: int = 0
-    jitter: int = 0
-    section: list = field(default_factory=list)
-    outranks: list = field(default_factory=list)
+def values(table, kinds, **left_out):
+    """The values of a table of these keys and no others, each of its kind; some may be left out."""
+    table = {**left_out, **table}
+    if table.keys() != kinds.keys() or any(type(table[key]) is not kinds[key] for key in kinds):
+        raise ValueError
+    return SimpleNamespace(**table)
 
-    def is_valid(self):
-        """The rules of a sheet, each as FORMATS.md has it."""
-        end, sections_fit = 0, len(self.section) <= 8
-        for it in self.section:
-            locks, at, length = it["locks"], it["at"], it["len"]
-            sections_fit &= type(locks) is list
-            sections_fit &= set(it) == {"locks", "at", "len"} and type(at) is type(length) is int
-            sections_fit &= 1 <= len(set(locks)) == len(locks) <= 4 and at >= end and length >= 1
-            end = at + length
-        names = [self.name, *self.outranks, *(lock for it in self.section for lock in it["locks"])]
-        numbers = (self.period, self.deadline, self.cost, self.weight, self.jitter)
-        return (
-            all(type(it) is int for it in numbers) and all(NAME.match(it) for it in names)
-            and 1000 <= self.period <= 10_000_000 and 0 < self.deadline <= self.period
-            and 0 < self.cost <= self.period and 0 <= self.weight <= 1000
-            and 0 <= self.jitter < self.deadline and sections_fit and end <= self.cost
-            and len(set(self.outranks)) == len(self.outranks) <= 8
-            and self.name not in self.outranks
-        )  # fmt: skip
 
-    def limit(self):
-        """The longest time that serves the task, from the latest instant at which it is ready."""
-        return self.deadline - self.jitter
+def are_names(words, most):
+    """Whether these are so many names at most, all distinct."""
+    return len(set(words)) == len(words) <= most and all(re.fullmatch(NAME, it) for it in words)
 
-    def locks(self):
-        return {lock for it in self.section for lock in it["locks"]}
+
+def task_of(table):
+    """A task, if its sheet is valid. Its limit is the longest time that serves it, counted from the
+    latest instant at which it may become ready; its locks are those of all sections."""
+    it = values(table, TASK, weight=0, jitter=0, section=[], outranks=[])
+    it.section = [values(section, SECTION) for section in it.section]
+    it.limit = it.deadline - it.jitter
+    it.locks = {lock for section in it.section for lock in section.locks}
+    ends = [0, *(section.at + section.len for section in it.section)]
+    is_valid = (
+        are_names([it.name], 1) and 0 <= it.weight <= 1000 and 1000 <= it.period <= 10_000_000
+        and 1 <= it.deadline <= it.period and 1 <= it.cost <= it.period and len(it.section) <= 8
+        and all(section.locks and are_names(section.locks, 4) for section in it.section)
+        and all(section.at >= end and section.len >= 1 for end, section in zip(ends, it.section))
+        and ends[-1] <= it.cost and 0 <= it.jitter < it.deadline
+        and are_names(it.outranks, 8) and it.name not in it.outranks
+    )  # fmt: skip
+    if not is_valid:
+        raise ValueError
+    return it
 
 
 def read_set(text):
-    """The tasks by rank: by weight, then by name. A preference puts limits in place of weights."""
-    try:
-        root = tomllib.loads(text.decode("utf-8-sig"))
-        preferred = root.pop("prefer", "weight")
-        tasks = [Task(**it) for it in root.pop("task", [])]
-        valid = not root and all(it.is_valid() for it in tasks)
-    except (KeyError, TypeError, ValueError):
-        raise Refused("set", 4) from None
-    names = {it.name for it in tasks}
-    if not valid or len(names) < len(tasks) or len(tasks) > 32 \
-            or preferred not in ("weight", "deadline"):
-        raise Refused("set", 4)
-    if preferred == "deadline":
-        for it, longer in [(a, sum(b.limit() > a.limit() for b in tasks)) for a in tasks]:
-            it.weight = longer
+    """The tasks by rank, which is by weight and then by name. Where deadlines are preferred, a
+    task's weight is the number of tasks of a longer limit."""
+    root = values(tomllib.loads(text.decode("utf-8-sig")), SET, task=[], prefer="weight")
+    tasks = [task_of(table) for table in root.task]
+    if text.startswith(b"#% ") or root.prefer not in ("weight", "deadline") \
+            or not are_names([it.name for it in tasks], 32):
+        raise ValueError
+    if root.prefer == "deadline":
+        for it in tasks:
+            it.weight = sum(other.limit > it.limit for other in tasks)
     return sorted(tasks, key=lambda it: (it.weight, it.name))
 
 
-def demand(tasks, task, above, window):
-    """What `task` and those above it may execute in a window that begins with their releases: its
-    cost, the longest section of a task below that shares a lock with them, and each job above."""
-    near = task.locks().union(*(it.locks() for it in above))
-    below = [it for it in tasks if it is not task and it not in above]
-    blocking = max((s["len"] for it in below for s in it.section if near & set(s["locks"])),
-                   default=0)
-    jobs = sum(-(-(window + it.jitter) // it.period) * it.cost for it in above)
-    return task.cost + blocking + jobs
-
-
-def refutes(tasks, task, above, reason):
-    """Whether a reason shows that `task` can't stand below those above it: one of them that it
-    has to outrank; or a chain, whose last number alone is past the limit: times from 1 on, each at
-    most the demand of the one before, so that no time up to the limit covers its demand."""
-    if isinstance(reason, str):
-        return reason in task.outranks and reason in [it.name for it in above]
-    rises = all(a < b <= demand(tasks, task, above, a) for a, b in zip(reason, reason[1:]))
-    return reason[0] == 1 and rises and all(it <= task.limit() for it in reason[:-1]) \
-        and reason[-1] > task.limit()
-
-
 def read_certificate(text):
-    """The version; the levels as (name, number, reasons), or None; and the members. A reason is
-    (name, list of numbers) or (name, name)."""
+    """The version, `best` or `none`, and the levels or members. A level is its task's name, its
+    number and its reasons; a member is a reason: a name, and a chain or the name behind `over`."""
     *lines, rest = text.decode("latin-1").split("\n")
-    head = lines and re.fullmatch("desk-certificate ([12])", lines[0])
-    if lines and not head:
+    if lines and not re.fullmatch("desk-certificate [12]", lines[0]):
         raise Refused("BadHead")
+    over = f"| over {NAME}" if lines and lines[0].endswith("2") else ""
     place = 1
 
     def following(pattern):
+        """The parts of the next line, if it is of this pattern; else None."""
         nonlocal place
         found = re.fullmatch(pattern, lines[place]) if place < len(lines) else None
-        place += bool(found)
-        return found
+        place += found is not None
+        return found and found.groups()
 
     def wanted(pattern):
         found = following(pattern)
-        if not found:
+        if found is None:
             raise Refused(f"BadLine {place + 1}" if place < len(lines) else "Truncated")
         return found
 
-    def reasoned(word, step):
-        over = f"| over {NAME.pattern[:-2]}" if head[1] == "2" else ""
-        found = step(f"{word} ({NAME.pattern[:-2]})((?: {NUMBER})+{over})")
-        if not found:
-            return None
-        words = found[2].split()
-        return found[1], words[1] if words[0] == "over" else [int(it) for it in words]
+    def reason(step, word):
+        found = step(f"{word} ({NAME})((?: {NUMBER})+{over})")
+        numbers = found and found[1].split()
+        return found and (found[0], numbers[1] if numbers[0] == "over" else [*map(int, numbers)])
 
-    body = wanted("(best|none) ([0-9]|[12][0-9]|3[0-2])")
-    levels, members = None, []
-    if body[1] == "best":
-        levels = []
-        for k in range(1, int(body[2]) + 1):
-            level = wanted(f"level {k} ({NAME.pattern[:-2]}) {NUMBER}")
-            reasons = list(iter(lambda: reasoned("fails", following), None))
-            levels.append((level[1], int(level[2]), reasons))
-    else:
-        members = [reasoned("member", wanted) for _ in range(int(body[2]))]
+    claim, count = wanted("(best|none) ([0-9]|[12][0-9]|3[0-2])")
+    rows = []
+    for k in range(1, int(count) + 1):
+        if claim == "none":
+            rows.append(reason(wanted, "member"))
+        else:
+            name, number = wanted(f"level {k} ({NAME}) ({NUMBER})")
+            rows.append((name, int(number), [*iter(lambda: reason(following, "fails"), None)]))
     wanted("end")
     if place < len(lines) or rest:
         raise Refused("Trailing")
-    return int(head[1]), levels, members
+    return int(lines[0][-1]), claim, rows
 
 
-def check(tasks, version, levels, members):
-    """Each rule over the whole certificate before the next one, so that the first broken rule is
-    the answer; else what the certificate shows."""
-    by_name = {it.name: it for it in tasks}
-    if version == 1 and any(it.jitter or by_name.keys() & set(it.outranks) for it in tasks):
+def demand(tasks, task, above, time):
+    """What may execute before the task is done, in so long from the latest instant at which it and
+    those above are ready: its cost; one section, the longest, of a task below that names a lock
+    which it or one above uses; and each job of those above that becomes ready."""
+    used = task.locks.union(*(it.locks for it in above))
+    sections = [it for other in tasks if other not in [task, *above] for it in other.section]
+    blocking = max((it.len for it in sections if used & {*it.locks}), default=0)
+    return task.cost + blocking + sum(-(-(time + it.jitter) // it.period) * it.cost for it in above)
+
+
+def refutes(tasks, task, above, reason):
+    """Whether a reason shows that the task can't stand below these: one of them that it must
+    outrank, or a chain."""
+    if isinstance(reason, str):
+        return reason in task.outranks and reason in [it.name for it in above]
+    rises = all(a < b <= demand(tasks, task, above, a) for a, b in zip(reason, reason[1:]))
+    return reason[0] == 1 and rises and max([0, *reason[:-1]]) <= task.limit < reason[-1]
+
+
+def check(tasks, version, claim, rows):
+    """What the certificate shows. Each rule goes over all of it before the next one."""
+    named = {it.name: it for it in tasks}
+    order = [named.get(row[0]) for row in rows]
+    if version == 1 and any(it.jitter or named.keys() & {*it.outranks} for it in tasks):
         raise Refused("WrongVersion")
-    named = [it[0] for it in levels or members]
-    known = all(it in by_name for it in named) and len(set(named)) == len(named)
-    if not known or (levels is not None and len(named) < len(tasks)):
+    is_short = claim == "best" and len(rows) < len(tasks)
+    if None in order or len({it.name for it in order}) < len(rows) or is_short:
         raise Refused("WrongTasks 0")
-    if levels is None:
-        all_members = [by_name[it] for it in named]
-        for name, reason in members:
-            if not refutes(tasks, by_name[name], [it for it in all_members if it.name != name],
-                           reason):
-                raise Refused(f"BadChain 0 {name}")
-        if not members:
+
+    def refuse_wrong(level, among, reasons):
+        for name, reason in reasons:
+            if not refutes(tasks, named[name], [it for it in among if it.name != name], reason):
+                raise Refused(f"BadChain {level} {name}")
+
+    def better(level):
+        """Who would be better there: the tasks above, of smaller rank than the level's, by rank."""
+        return [it.name for it in tasks[: tasks.index(order[level - 1])] if it in order[level:]]
+
+    if claim == "none":
+        refuse_wrong(0, order, rows)
+        if not rows:
             raise Refused("EmptySet")
         return "no order"
-    rest = [[by_name[it] for it in named[k:]] for k in range(len(named))]
-    better = [[it for it in tasks if it in rest[k] and tasks.index(it) < tasks.index(rest[k][0])]
-              for k in range(len(named))]
-    for k, (_, _, reasons) in enumerate(levels):
-        places = [[it.name for it in better[k]].index(name) if name in [it.name for it in better[k]]
-                  else None for name, _ in reasons]
-        if None in places or any(a >= b for a, b in zip(places, places[1:])):
-            raise Refused(f"WrongTasks {k + 1}")
-    for k, (name, number, _) in enumerate(levels):
-        task, above = by_name[name], rest[k][1:]
-        if not 1 <= number <= task.limit() or demand(tasks, task, above, number) > number \
-                or set(task.outranks) & {it.name for it in above}:
-            raise Refused(f"BadPass {k + 1}")
-    for k, (_, _, reasons) in enumerate(levels):
-        for name, reason in reasons:
-            others = [it for it in rest[k] if it.name != name]
-            if not refutes(tasks, by_name[name], others, reason):
-                raise Refused(f"BadChain {k + 1} {name}")
-    for k, (_, _, reasons) in enumerate(levels):
-        for it in better[k]:
-            if it.name not in [name for name, _ in reasons]:
-                raise Refused(f"MissingFail {k + 1} {it.name}")
+    for level, (_, _, reasons) in enumerate(rows, 1):
+        refuted = [name for name, _ in reasons]
+        if refuted != [it for it in better(level) if it in refuted]:
+            raise Refused(f"WrongTasks {level}")
+    for level, (_, time, _) in enumerate(rows, 1):
+        task, above = order[level - 1], order[level:]
+        if not 1 <= time <= task.limit or demand(tasks, task, above, time) > time \
+                or {*task.outranks} & {it.name for it in above}:
+            raise Refused(f"BadPass {level}")
+    for level, (_, _, reasons) in enumerate(rows, 1):
+        refuse_wrong(level, order[level - 1 :], reasons)
+    for level, (_, _, reasons) in enumerate(rows, 1):
+        missing = [it for it in better(level) if it not in [name for name, _ in reasons]]
+        if missing:
+            raise Refused(f"MissingFail {level} {missing[0]}")
     return "best"
 
 
-def main():
-    if len(sys.argv) != 3:
-        sys.exit(__doc__.split("\n\n")[1])
+def said(set_text, certificate_text):
+    """The line that is printed, and the status."""
     try:
-        tasks = read_set(Path(sys.argv[1]).read_bytes())
-        print(check(tasks, *read_certificate(Path(sys.argv[2]).read_bytes())))
+        tasks = read_set(set_text)
+    except (TypeError, ValueError, RecursionError):
+        return "refused: set", 4
+    try:
+        return check(tasks, *read_certificate(certificate_text)), 0
     except Refused as fault:
-        print("refused:", fault.line)
-        sys.exit(fault.status)
+        return f"refused: {fault}", 5
 
 
 if __name__ == "__main__":
-    main()
+    if len(sys.argv) != 3:
+        sys.exit(__doc__.split("\n\n")[1])
+    LINE, STATUS = said(*(Path(it).read_bytes() for it in sys.argv[1:]))
+    print(LINE)
+    sys.exit(STATUS)

@@ -3,39 +3,40 @@
 >>> import desk
 >>> SHEETS = [desk.Task("lo", 100_000, 100_000, 20_000, sections=[desk.Section(["m"], 0, 4000)]),
 ...           desk.Task("hi", 10_000, 10_000, 1000, sections=[desk.Section(["m"], 0, 200)])]
->>> SET = desk.toml(SHEETS)
->>> print(SET.splitlines()[0])
-[[task]]
->>> answer = desk.admit(SET)
+>>> answer = desk.admit(SHEETS)
 >>> [(it.level, it.task, it.response) for it in answer.levels]
 [(1, 'lo', 23000), (2, 'hi', 5000)]
+
+`str` of an answer is what `desk` prints:
+
 >>> print(answer, end="")
 admitted 2
 1 lo 23000
 2 hi 5000
->>> [it.task for it in desk.explain(SET).levels[1].parts if it.kind == "blocked"]
-['lo']
 
-How far a number may go with this order, and with some order:
+A set is a document, such as a file has, or tasks, which write one. Only `desk` says whether it is
+valid. By deadlines:
 
->>> desk.limits(SET).tasks["hi"][0]
-Limit(number='cost', value=1000, in_order=6000, most=6000)
+>>> SET = desk.toml(SHEETS, prefer="deadline")
+>>> SET.splitlines()[:3]
+['prefer = "deadline"', '[[task]]', 'name = "lo"']
+>>> len(desk.admit(SET).levels)
+2
 
-A no is a value, too, and is false where a yes is true. A refused input is an exception with the
-line that `desk` prints:
+A no is a value, too, and is false where a yes is true. A refused input is an exception, with the
+line that `desk` prints and a sentence:
 
->>> both = [desk.Task("a", 10_000, 10_000, 6000), desk.Task("b", 10_000, 10_000, 6000)]
->>> no = desk.admit(desk.toml(both))
+>>> no = desk.admit([desk.Task("a", 10_000, 10_000, 6000), desk.Task("b", 10_000, 10_000, 6000)])
 >>> no, bool(no)
 (Infeasible(tasks=('a', 'b')), False)
->>> desk.admit("x = 1")
+>>> desk.admit([desk.Task("a", 10_000, 20_000, 6000)])
 Traceback (most recent call last):
-desk.Refused: refused: UnknownKey 0 0
+desk.Refused: refused: DeadlinePastPeriod 1: task 1: its deadline is above its period
 
-`str` of an answer is what `desk` prints. The library is the file that the variable DESK_LIBRARY
-names, else `libdesk.so` beside this file or in ../lib, else the system's. All times are whole
-microseconds. Several threads may call the functions at once. docs/FORMATS.md has the rest.
-`python3 -m doctest python/desk.py` runs these examples.
+The library is the file that the variable DESK_LIBRARY names, else `libdesk.so` beside this file or
+in ../lib, else the system's. All times are whole microseconds. Several threads may call the
+functions at once. docs/FORMATS.md has the rest. `python3 -m doctest python/desk.py` runs these
+examples.
 """
 from __future__ import annotations
 
@@ -50,13 +51,16 @@ Text = str | bytes
 
 
 class Refused(ValueError):
-    """An input was refused: `line` is what `desk` prints, `status` its exit status, `name` and
-    `fields` the line's words."""
+    """An input was refused: `line` is what `desk` prints, `status` its exit status, `sentence` says
+    it to a person, and `fields` are the line's words."""
 
-    def __init__(self, line: str, status: int):
-        super().__init__(line)
-        self.line, self.status = line, status
-        self.name, *self.fields = line.removeprefix("refused: ").split()
+    def __init__(self, line: str, status: int, sentence: str):
+        super().__init__(line, status, sentence)
+        self.line, self.status, self.sentence = line, status, sentence
+        self.fields = tuple(line.removeprefix("refused: ").split())
+
+    def __str__(self) -> str:
+        return f"{self.line}: {self.sentence}"
 
 
 class OutOfMemory(MemoryError):
@@ -127,6 +131,16 @@ class Certificate(_Answer):
     """The numbers that show the best order, or that none passes."""
 
     best: bool
+
+
+@dataclass(frozen=True)
+class Checked(_Answer):
+    """What a certificate shows: the best order, or (`best` is false) that none passes."""
+
+    best: bool
+
+    def __bool__(self) -> bool:
+        return self.best
 
 
 @dataclass(frozen=True)
@@ -253,6 +267,24 @@ class Compared(_Answer):
 
 
 @dataclass(frozen=True)
+class Release:
+    """A job arrives, is ready so much later, and executes for `runs`, or for its task's cost."""
+
+    arrival: int
+    task: str
+    late: int = 0
+    runs: int | None = None
+
+
+@dataclass(frozen=True)
+class Releases(_Answer):
+    """A list of releases, which `simulate` and `draw` take."""
+
+    until: int
+    jobs: tuple[Release, ...]
+
+
+@dataclass(frozen=True)
 class Slice:
     """Who executes from when to when."""
 
@@ -278,15 +310,41 @@ class Run(_Answer):
     jobs: tuple[Job, ...]
 
 
+@dataclass(frozen=True)
+class Place:
+    """A task of a team on the node, its level and its bound."""
+
+    level: int
+    task: str
+    team: int
+    response: int
+
+
+@dataclass(frozen=True)
+class Played(_Answer):
+    """The replies to a script's lines, and the node's state after them."""
+
+    replies: tuple[str, ...]
+    version: int
+    levels: tuple[Place, ...]
+
+
+# A set is a document, or tasks.
+Sheets = Text | Iterable[Task]
+
+
 def toml(tasks: Iterable[Task], prefer: str | None = None) -> str:
     """The tasks as a document that the other functions read, and what it prefers."""
 
+    def word(name: str) -> str:
+        return json.dumps(name, ensure_ascii=False)
+
     def words(names: Iterable[str]) -> str:
-        return "[" + ", ".join(json.dumps(it) for it in names) + "]"
+        return "[" + ", ".join(word(it) for it in names) + "]"
 
     def lines(it: Task) -> Iterable[str]:
         yield "[[task]]"
-        yield f"name = {json.dumps(it.name)}"
+        yield f"name = {word(it.name)}"
         for key in ("weight", "period", "deadline", "cost", "jitter"):
             yield f"{key} = {getattr(it, key)}"
         if it.sections:
@@ -297,8 +355,103 @@ def toml(tasks: Iterable[Task], prefer: str | None = None) -> str:
         if it.outranks:
             yield f"outranks = {words(it.outranks)}"
 
-    head = [f"prefer = {json.dumps(prefer)}"] if prefer else []
+    head = [f"prefer = {word(prefer)}"] if prefer else []
     return "".join(line + "\n" for line in [*head, *(line for it in tasks for line in lines(it))])
+
+
+# What each refusal says, by the input that it is about. In braces: the line's words behind the name,
+# for a set behind those of the place.
+_MEANS = {
+    "set": {
+        "Syntax": "it is no TOML",
+        "UnknownKey": "it has a key that it may not have",
+        "MissingKey": "it has no {0}",
+        "WrongKind": "its {0} is another kind of value than it has to be",
+        "BadPreference": "what it prefers is neither weight nor deadline",
+        "BadName": "it has a name that is none: a letter, then up to 23 letters, digits, _ and -",
+        "BadWeight": "its weight is above 1,000",
+        "BadPeriod": "its period isn't from 1,000 to 10,000,000",
+        "DeadlineZero": "its deadline is 0",
+        "DeadlinePastPeriod": "its deadline is above its period",
+        "CostZero": "its cost is 0",
+        "CostPastPeriod": "its cost is above its period",
+        "TooManySections": "it has more than 8 sections",
+        "NoLocks": "it names no lock",
+        "TooManyLocks": "it names more than 4 locks",
+        "LockTwice": "it names a lock twice",
+        "LenZero": "its length is 0",
+        "Overlap": "it begins before the end of the one before it",
+        "SectionPastCost": "it ends past the cost of its task",
+        "BadJitter": "its jitter isn't below its deadline",
+        "TooManyOutranks": "it outranks more than 8 tasks",
+        "OutranksTwice": "it names a task twice that it outranks",
+        "OutranksSelf": "it is to outrank itself",
+        "SameName": "a task before it has its name",
+        "TooManyTasks": "there are more than 32 tasks",
+        "BadHead": "document {0} has no line `#% TEAM COUNT` before it, or fewer bytes than that counts",
+        "OtherPreference": "team {0} prefers something else than team {1}",
+        "TakenName": "team {0} has a task {1}, as team {2} has",
+    },
+    "certificate": {
+        "BadHead": "its first line isn't `desk-certificate 1` or `desk-certificate 2`",
+        "BadLine": "line {0} may not stand there",
+        "Truncated": "its complete lines stop before the line `end`",
+        "Trailing": "something follows the line `end`",
+        "WrongVersion": "it is of version 1, and the set has jitter or tasks to outrank",
+        "WrongTasks": "level {0}: its reasons aren't of tasks of smaller rank that are left, by rank",
+        "WrongTasks 0": "it doesn't name each task once, or a member is no task or named twice",
+        "BadPass": "level {0}: its number doesn't show that its task may stand there",
+        "BadChain": "level {0}: its reason doesn't show that {1} can't stand there",
+        "BadChain 0": "its reason doesn't show that {1} can't be the lowest of the members",
+        "MissingFail": "level {0}: it has no reason why {1} can't stand there",
+        "EmptySet": "without members it shows nothing",
+    },
+    "releases": {
+        "BadLine": "line {0} may not stand there",
+        "Unsorted": "release {0} arrives before the one before it",
+        "UnknownTask": "release {0} is of no task of the set",
+        "TooSoon": "release {0} arrives less than a period after the one before it of its task",
+        "TooLate": "release {0} is later than its task's jitter",
+        "OutsideCost": "release {0} executes for 0, or for more than its task's cost",
+        "PastHorizon": "it ends past 60,000,000, or a release isn't ready before its end",
+        "TooMany": "there are more than 10,000 releases",
+        "Overrun": "a job of {0} is ready at {1}, and the one before it isn't done",
+    },
+    "settings": {
+        "BadLine": "line {0} is neither a thread nor a mutex with a number from 1 to 1,000,000",
+        "UnknownTask": "line {0} is of no task of the set",
+        "UnknownLock": "line {0} is of no lock of the set",
+        "SameTask": "line {0} has the name of a thread before it",
+        "SameLock": "line {0} has the name of a mutex before it",
+        "SameNumber": "line {0} has the number of a thread before it",
+        "MissingTask": "there is no thread {0}",
+        "MissingLock": "there is no mutex {0}",
+        "WrongCeiling": "mutex {0} isn't at the number of its highest user",
+    },
+    "script": {"BadLine": "line {0} may not stand there"},
+}
+# Which of these tables the second input has, or the only one where that is no set.
+_KINDS = {"check": "certificate", "simulate": "releases", "draw": "releases", "releases": "releases"}
+_KINDS |= {"judge": "settings", "play": "script"}
+
+
+def _sentence(command: str, words: list[str], status: int) -> str:
+    """What the words of a refusal say."""
+    places, name = [], words.pop(0)
+    while name in ("new", "team", "line"):
+        places.append("the new set" if name == "new" else f"{name} {words.pop(0)}")
+        name = words.pop(0)
+    if name == "InputTooLong":
+        return "an input has more than 16,777,216 bytes"
+    kind = _KINDS.get(command, "set")
+    means = _MEANS["set" if status == 4 and name in _MEANS["set"] else kind]
+    if means is _MEANS["set"] and name not in ("BadHead", "OtherPreference", "TakenName"):
+        # (of a put that is the script's line, and only the section has a number)
+        for place in ("task", "section")[command == "play" :]:
+            number = words.pop(0) if words else "0"
+            places += [f"{place} {number}"] if number != "0" else []
+    said = means.get(f"{name} {words[0]}" if words else name, means.get(name, "it is refused"))
+    return ", ".join(places) + ": " * bool(places) + said.format(*words)
 
 
 # What each function of include/desk.h takes beside the first input.
@@ -310,40 +463,54 @@ def _library() -> ctypes.CDLL:
     here = Path(__file__).resolve().parent
     places = [here / "libdesk.so", here.parent / "lib" / "libdesk.so"]
     found = next((str(it) for it in places if it.exists()), "libdesk.so")
-    try:
-        library = ctypes.CDLL(os.environ.get("DESK_LIBRARY") or found)
-    except OSError as fault:
-        said = f"{fault}: `./install PREFIX` makes libdesk.so; DESK_LIBRARY may name it"
-        raise ImportError(said) from None
+    path = os.environ.get("DESK_LIBRARY") or found
     text = (ctypes.c_char_p, ctypes.c_size_t)
-    for name in _COMMANDS:
-        call = getattr(library, f"desk_{name}")
-        more = (ctypes.c_uint64,) if name == "releases" else text if name in _SECOND else ()
-        call.argtypes = (*text, *more, *text, ctypes.POINTER(ctypes.c_uint8))
-        call.restype = ctypes.c_size_t
+    try:
+        library = ctypes.CDLL(path)
+        for name in _COMMANDS:
+            call = getattr(library, f"desk_{name}")
+            more = (ctypes.c_uint64,) if name == "releases" else text if name in _SECOND else ()
+            call.argtypes = (*text, *more, *text, ctypes.POINTER(ctypes.c_uint8))
+            call.restype = ctypes.c_size_t
+    except (OSError, AttributeError) as fault:
+        raise ImportError(
+            f"no library of desk at {path} ({fault}). In a clone of desk `./install PREFIX` makes "
+            "PREFIX/lib/libdesk.so; the variable DESK_LIBRARY names it, when this module is imported "
+            "or, for good, at `pip install ./python`, which takes it along"
+        ) from None
     return library
 
 
 _LIBRARY = _library()
 
 
-def _ask(command: str, *inputs: Text | int) -> tuple[int, str]:
+def _bytes(given: Sheets | _Answer) -> bytes:
+    if isinstance(given, bytes):
+        return given
+    return (str(given) if isinstance(given, (str, _Answer)) else toml(given)).encode()
+
+
+def _ask(command: str, *inputs: Sheets | _Answer | int) -> tuple[int, str]:
     """The status and the printed text of a command; a refusal is raised."""
     words: list[bytes | int] = []
     for it in inputs:
-        given = it.encode() if isinstance(it, str) else it
-        words += [given, len(given)] if isinstance(given, bytes) else [given]
+        if isinstance(it, int):
+            words.append(it)
+        else:
+            words += [text := _bytes(it), len(text)]
     call, status = getattr(_LIBRARY, f"desk_{command}"), ctypes.c_uint8()
     length, size = 1, 0
     while length > size:
         size = max(length, 4096)
         room = ctypes.create_string_buffer(size)
         length = call(*words, room, size, ctypes.byref(status))
-    said = room.raw[:length].decode()
+    said = ctypes.string_at(room, length).decode()
     if status.value == 6:
         raise OutOfMemory(said.splitlines()[-1] if said else "refused: OutOfMemory")
     if status.value in (4, 5):
-        raise Refused(said.strip(), status.value)
+        line = said.strip()
+        fields = line.removeprefix("refused: ").split()
+        raise Refused(line, status.value, _sentence(command, fields, status.value))
     return status.value, said
 
 
@@ -355,26 +522,41 @@ def _no(said: str) -> Infeasible:
     return Infeasible(tuple(said.splitlines()[0].split()[1:]), text=said)
 
 
-def admit(text: Text) -> Admitted | Infeasible:
-    """The best order, or the tasks in the way of all."""
-    status, said = _ask("admit", text)
+def admit(tasks: Sheets) -> Admitted | Infeasible:
+    """The best order, or the tasks in the way of all.
+
+    >>> admit([Task("a", 10_000, 10_000, 6000)])
+    Admitted(levels=(Level(level=1, task='a', response=6000),))
+    """
+    status, said = _ask("admit", tasks)
     if status:
         return _no(said)
     rows = [it.split() for it in said.splitlines()[1:]]
     return Admitted(tuple(Level(int(k), name, int(time)) for k, name, time in rows), text=said)
 
 
-def certify(text: Text) -> Certificate:
-    """The numbers that show the answer."""
-    status, said = _ask("certify", text)
+def certify(tasks: Sheets) -> Certificate:
+    """The numbers that show the answer.
+
+    >>> print(certify([Task("a", 10_000, 10_000, 6000)]), end="")
+    desk-certificate 1
+    best 1
+    level 1 a 6000
+    end
+    """
+    status, said = _ask("certify", tasks)
     return Certificate(status == 0, text=said)
 
 
-def check(text: Text, certificate: Text | Certificate) -> bool:
-    """Whether a certificate shows the best order (True) or that there is none (False); one that
-    shows neither is refused."""
-    given = str(certificate) if isinstance(certificate, Certificate) else certificate
-    return _ask("check", text, given)[1] == "best\n"
+def check(tasks: Sheets, certificate: Text | Certificate) -> Checked:
+    """What a certificate shows; one that shows nothing is refused.
+
+    >>> one = [Task("a", 10_000, 10_000, 6000)]
+    >>> check(one, certify(one))
+    Checked(best=True)
+    """
+    said = _ask("check", tasks, certificate)[1]
+    return Checked(said == "best\n", text=said)
 
 
 def _part(words: Sequence[str]) -> Part:
@@ -402,22 +584,34 @@ def _responses(lines: Iterable[str]) -> tuple[Response, ...]:
     return tuple(out)
 
 
-def explain(text: Text) -> Explained | Conflict:
-    """What each bound is made of, or a conflict and what its tasks need."""
-    status, said = _ask("explain", text)
+def explain(tasks: Sheets) -> Explained | Conflict:
+    """What each bound is made of, or a conflict and what its tasks need.
+
+    >>> explained = explain([Task("a", 10_000, 10_000, 6000), Task("b", 5000, 5000, 1000)])
+    >>> explained.load, [(it.kind, it.task, it.time) for it in explained.levels[0].parts]
+    (800000, [('cost', None, 6000), ('above', 'b', 2000)])
+    """
+    status, said = _ask("explain", tasks)
     first, *lines, last = said.splitlines()
     load = int(last.split()[1])
     if not status:
         return Explained(_responses(lines), load, text=said)
-    tasks = tuple(lines[0].split()[1:])
-    return Conflict(tuple(first.split()[1:]), tasks, _responses(lines[1:]), load, text=said)
+    conflict = tuple(lines[0].split()[1:])
+    return Conflict(tuple(first.split()[1:]), conflict, _responses(lines[1:]), load, text=said)
 
 
-def limits(text: Text) -> Limits:
-    """How far each number may go, or what mends the set."""
-    status, said = _ask("limits", text)
+def limits(tasks: Sheets) -> Limits:
+    """How far each number may go, or what mends the set.
+
+    >>> found = limits([Task("a", 10_000, 10_000, 6000)])
+    >>> found.tasks["a"][0]
+    Limit(number='cost', value=6000, in_order=10000, most=10000)
+    >>> found.slack["a"], found.factor
+    (4000, Factor(in_order=1666, most=1666, task='a'))
+    """
+    status, said = _ask("limits", tasks)
     _, *lines = said.splitlines()
-    tasks: dict[str, tuple[Limit, ...]] = {}
+    rows: dict[str, tuple[Limit, ...]] = {}
     slack, factor = {}, None
     for name, *words in (it.split() for it in lines):
         if name == "all" and len(words) == 3:
@@ -426,13 +620,17 @@ def limits(text: Text) -> Limits:
             slack[name] = int(words[1])
         elif len(words) >= 4:
             limit = Limit(" ".join(words[:-3]), int(words[-3]), _time(words[-2]), _time(words[-1]))
-            tasks[name] = (*tasks.get(name, ()), limit)
-    return Limits(_no(said) if status else None, tasks, slack, factor, text=said)
+            rows[name] = (*rows.get(name, ()), limit)
+    return Limits(_no(said) if status else None, rows, slack, factor, text=said)
 
 
-def settings(text: Text) -> Settings | Infeasible:
-    """The level of each thread and the ceiling of each mutex; `str` of it is what `judge` reads."""
-    status, said = _ask("settings", text)
+def settings(tasks: Sheets) -> Settings | Infeasible:
+    """The level of each thread and the ceiling of each mutex, which `judge` takes.
+
+    >>> settings([Task("a", 10_000, 10_000, 6000, sections=[Section(["m"], 0, 100)])])
+    Settings(threads={'a': 1}, mutexes={'m': 1})
+    """
+    status, said = _ask("settings", tasks)
     if status:
         return _no(said)
     found: dict[str, dict[str, int]] = {"thread": {}, "mutex": {}}
@@ -441,9 +639,14 @@ def settings(text: Text) -> Settings | Infeasible:
     return Settings(found["thread"], found["mutex"], text=said)
 
 
-def judge(text: Text, settings: Text | Settings) -> Judged:
-    """Which deadlines hold at priorities that are there."""
-    said = _ask("judge", text, str(settings) if isinstance(settings, Settings) else settings)[1]
+def judge(tasks: Sheets, settings: Text | Settings) -> Judged:
+    """Which deadlines hold at priorities that are there.
+
+    >>> two = [Task("a", 10_000, 10_000, 6000), Task("b", 5000, 5000, 1000)]
+    >>> judge(two, "thread a 20\\nthread b 10\\n").misses
+    ('b',)
+    """
+    said = _ask("judge", tasks, settings)[1]
     first, *lines = said.splitlines()
     levels = []
     for k, name, what, *more in (it.split() for it in lines):
@@ -456,9 +659,14 @@ def judge(text: Text, settings: Text | Settings) -> Judged:
     return Judged(misses, tuple(levels), text=said)
 
 
-def diff(text: Text, new: Text) -> Compared:
-    """What the new set does to each task of the old one."""
-    status, said = _ask("diff", text, new)
+def diff(tasks: Sheets, new: Sheets) -> Compared:
+    """What the new set does to each task of the old one.
+
+    >>> one, other = Task("a", 10_000, 10_000, 6000), Task("b", 5000, 5000, 1000)
+    >>> [(it.kind, it.task, it.bound) for it in diff([one], [one, other]).changes]
+    [('added', 'b', (None, 1000)), ('slower', 'a', (6000, 8000))]
+    """
+    status, said = _ask("diff", tasks, new)
     _, was, *lines = said.splitlines()
     changes = []
     for words in (it.split() for it in lines):
@@ -469,14 +677,26 @@ def diff(text: Text, new: Text) -> Compared:
     return Compared(status == 0, was.startswith("was admitted"), tuple(changes), text=said)
 
 
-def releases(text: Text, until: int) -> str:
-    """The densest release list that the set allows."""
-    return _ask("releases", text, until)[1]
+def releases(tasks: Sheets, until: int) -> Releases:
+    """The densest release list that the set allows.
+
+    >>> releases([Task("a", 10_000, 10_000, 6000, jitter=5)], 10_000).jobs
+    (Release(arrival=0, task='a', late=5, runs=None),)
+    """
+    # (what has no 64 bits is past the horizon, too)
+    said = _ask("releases", tasks, until if 0 <= until < 2**64 else 2**64 - 1)[1]
+    first, *rows = (it.split() for it in said.splitlines())
+    jobs = (Release(int(it[0]), it[1], int(it[2]) if len(it) > 2 else 0) for it in rows)
+    return Releases(int(first[1]), tuple(jobs), text=said)
 
 
-def simulate(text: Text, releases: Text) -> Run | Infeasible:
-    """What a simulated kernel does with the releases, at the levels of the best order."""
-    status, said = _ask("simulate", text, releases)
+def simulate(tasks: Sheets, releases: Text | Releases) -> Run | Infeasible:
+    """What a simulated kernel does with the releases, at the levels of the best order.
+
+    >>> simulate([Task("a", 10_000, 10_000, 6000)], "until 20000\\n0 a\\n").jobs
+    (Job(task='a', arrival=0, finish=6000),)
+    """
+    status, said = _ask("simulate", tasks, releases)
     if status:
         return _no(said)
     rows = [it.split() for it in said.splitlines()]
@@ -485,12 +705,27 @@ def simulate(text: Text, releases: Text) -> Run | Infeasible:
     return Run(slices, jobs, text=said)
 
 
-def draw(text: Text, releases: Text) -> str | Infeasible:
-    """The same as a picture, an SVG document."""
-    status, said = _ask("draw", text, releases)
+def draw(tasks: Sheets, releases: Text | Releases) -> str | Infeasible:
+    """The same as a picture, an SVG document.
+
+    >>> draw([Task("a", 10_000, 10_000, 6000)], "until 20000\\n0 a\\n").splitlines()[-1]
+    '</svg>'
+    """
+    status, said = _ask("draw", tasks, releases)
     return _no(said) if status else said
 
 
-def play(script: Text) -> tuple[str, ...]:
-    """The replies to a script of drafts and commits, and the state after them, line by line."""
-    return tuple(_ask("play", script)[1].splitlines())
+def play(script: Text) -> Played:
+    """What a script of drafts and commits comes to.
+
+    >>> played = play("open 1\\nput 1 a 0 10000 10000 6000\\ncommit 1\\n")
+    >>> played.replies, played.version
+    (('draft 1 version 0', 'ok', 'admitted 1'), 1)
+    >>> played.levels
+    (Place(level=1, task='a', team=1, response=6000),)
+    """
+    said = _ask("play", script)[1]
+    lines = [it.split() for it in said.splitlines()]
+    last = max(k for k, it in enumerate(lines) if it[0] == "version")
+    places = (Place(int(it[1]), it[2], int(it[3]), int(it[4])) for it in lines[last + 1 :])
+    return Played(tuple(said.splitlines()[:last]), int(lines[last][1]), tuple(places), text=said)

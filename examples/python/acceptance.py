@@ -1,21 +1,27 @@
 #!/usr/bin/env python3
-"""How many random task sets are admitted, over their utilisation: with and without locks, in the
-best order and in that by deadline. Writes a picture and the numbers that it shows.
+"""How many random task sets are admitted, over their utilisation: with and without locks, with and
+without jitter, in the best order and in that by deadline. Writes a picture and its numbers.
 
     python3 examples/python/acceptance.py [--sets N] [--tasks N] [--jitter SHARE] [--seed N]
         [--jobs N | --dask ADDRESS] [--out acceptance.svg]
 
 Utilisations are split by UUniFast (Bini and Buttazzo, Measuring the performance of schedulability
 tests, 2005), periods are log-uniform from 10 ms to 1 s, a deadline is uniform from half the period,
-or from the cost if that is more, to the period. One task in two has a release jitter, uniform up to
+or from the cost if that is more, to the period. With jitter, one task in two has some, uniform up to
 SHARE of what its deadline leaves past its cost. With locks, one task in two has a critical section
 of 2 to 20 % of its cost, with one of three mutexes.
 
-With `--jitter 0` the order by deadline is as good as the best one (Leung and Whitehead, On the
-complexity of fixed-priority scheduling, 1982): that the curves without locks then agree is a test
-of this program. The same seed gives the same sets, whoever works on them: so many processes of this
-machine, or the workers of a Dask cluster, where python/ is on PYTHONPATH and DESK_LIBRARY names the
-library.
+Without jitter the order by deadline is as good as the best one (Leung and Whitehead 1982; with locks
+Bletsas and Audsley 2006). With jitter that by deadline less jitter is (Zuhily and Burns 2007), and
+that by deadline isn't. So with `--jitter 0` all curves of one colour agree, which tests this program.
+
+The same seed gives the same sets, whoever works on them: so many processes of this machine, or the
+workers of a Dask cluster, where `import desk` has to work (python/ on PYTHONPATH and DESK_LIBRARY,
+or `pip install ./python`):
+
+    dask scheduler --host ADDRESS &
+    dask worker tcp://ADDRESS:8786 &
+    python3 examples/python/acceptance.py --dask tcp://ADDRESS:8786 --sets 1000000
 """
 from __future__ import annotations
 
@@ -35,13 +41,14 @@ sys.path.insert(0, str(Path(__file__).resolve().parents[2] / "python"))
 import desk  # noqa: E402
 
 UTILISATIONS = [k / 40 for k in range(20, 41)]
-CURVES = [("best", False), ("deadline", False), ("best", True), ("deadline", True)]
-LABELS = {
-    ("best", False): "no locks, best order",
-    ("deadline", False): "no locks, by deadline",
-    ("best", True): "locks, best order",
-    ("deadline", True): "locks, by deadline",
-}
+# Whether there are locks, whether there is jitter, and the order.
+CURVES = [
+    (locks, *rest)
+    for locks in (False, True)
+    for rest in ((False, "best"), (True, "best"), (True, "deadline"))
+]
+Curve = tuple[bool, bool, str]
+Work = tuple[int, int, int, int, float]
 
 
 def uunifast(source: random.Random, count: int, utilisation: float) -> list[float]:
@@ -84,20 +91,21 @@ def by_deadline(tasks: list[desk.Task]) -> str:
     return "".join(f"thread {it.name} {k}\n" for k, it in enumerate(rows, 1))
 
 
-def tried(words: tuple[int, int, int, int, float]) -> tuple[int, Counter]:
+def tried(words: Work) -> tuple[int, Counter[Curve]]:
     """The curves on which the set of this number at this utilisation counts."""
     seed, point, number, count, jitter = words
     source = random.Random(f"{seed} {point} {number}")
     plain = random_tasks(source, count, UTILISATIONS[point], jitter)
-    found: Counter = Counter()
+    found: Counter[Curve] = Counter()
     for tasks, locks in ((plain, False), (with_locks(source, plain), True)):
         text = desk.toml(tasks)
-        found["best", locks] += bool(desk.admit(text))
-        found["deadline", locks] += bool(desk.judge(text, by_deadline(tasks)))
+        found[locks, False, "best"] += bool(desk.admit([replace(it, jitter=0) for it in tasks]))
+        found[locks, True, "best"] += bool(desk.admit(text))
+        found[locks, True, "deadline"] += bool(desk.judge(text, by_deadline(tasks)))
     return point, found
 
 
-def all_tried(some: list[tuple[int, int, int, int, float]]) -> list[tuple[int, Counter]]:
+def all_tried(some: list[Work]) -> list[tuple[int, Counter[Curve]]]:
     return [tried(it) for it in some]
 
 
@@ -108,11 +116,13 @@ def show(done: int, count: int, since: float) -> None:
         print(f"\r{done:,} of {count:,} sets, {since:.1f} s", end=end, file=sys.stderr, flush=True)
 
 
-def run(executor: Executor, sets: int, count: int, jitter: float, seed: int) -> list[Counter]:
+def run(
+    executor: Executor, sets: int, count: int, jitter: float, seed: int
+) -> list[dict[Curve, float]]:
     """The shares of each curve at each utilisation."""
     each = max(sets // len(UTILISATIONS), 1)
     work = [(seed, point, k, count, jitter) for k in range(each) for point in range(len(UTILISATIONS))]
-    totals = [Counter() for _ in UTILISATIONS]
+    totals: list[Counter[Curve]] = [Counter() for _ in UTILISATIONS]
     begun, done = time.monotonic(), 0
     futures = [executor.submit(all_tried, work[k : k + 50]) for k in range(0, len(work), 50)]
     for future in as_completed(futures):
@@ -120,7 +130,7 @@ def run(executor: Executor, sets: int, count: int, jitter: float, seed: int) -> 
             totals[point].update(found)
             done += 1
         show(done, len(work), time.monotonic() - begun)
-    return [Counter({key: value / each for key, value in it.items()}) for it in totals]
+    return [{key: value / each for key, value in it.items()} for it in totals]
 
 
 def executor_of(options: argparse.Namespace) -> Executor:
@@ -134,22 +144,37 @@ def executor_of(options: argparse.Namespace) -> Executor:
 
 STYLE = """
 text{font:13px sans-serif;fill:#333}.s{font-size:12px;fill:#555}
-.t{font-weight:bold;font-size:16px;fill:#111}
+.t{font-weight:bold;font-size:16px;fill:#111}.h{font-weight:bold}
 .p{fill:#fff}.g{stroke:#e3e3e3}.l{fill:none;stroke-width:2.2}.m{stroke:#fff;stroke-width:1}
-.c0,.c1{stroke:#0072b2}.f0,.f1{fill:#0072b2}.c2,.c3{stroke:#c24a00}.f2,.f3{fill:#c24a00}
-.c1,.c3{stroke-dasharray:2 5;stroke-linecap:round}
-@media(prefers-color-scheme:dark){text{fill:#c3c8cf}.t{fill:#f2f4f7}.s{fill:#9aa3ad}
+.c0{stroke:#0072b2}.f0{fill:#0072b2}.c1{stroke:#c24a00}.f1{fill:#c24a00}
+.k0{stroke-width:1.2;opacity:.75}.k2{stroke-dasharray:1 5;stroke-linecap:round}
+@media(prefers-color-scheme:dark){text{fill:#c3c8cf}.t,.h{fill:#f2f4f7}.s{fill:#9aa3ad}
 .p{fill:#14181d}.g{stroke:#2c333c}.m{stroke:#14181d}
-.c0,.c1{stroke:#6cb6ff}.f0,.f1{fill:#6cb6ff}.c2,.c3{stroke:#ff9b5e}.f2,.f3{fill:#ff9b5e}}
+.c0{stroke:#6cb6ff}.f0{fill:#6cb6ff}.c1{stroke:#ff9b5e}.f1{fill:#ff9b5e}}
 """
 
 
-def picture(ratios: list[Counter], note: str) -> str:
-    """The curves as an SVG document: locks by colour and mark, the order by the line."""
-    width, height, left, top, wide, high = 860, 470, 70, 80, 560, 320
+def label(curve: Curve) -> str:
+    locks, jitter, order = curve
+    said = "with jitter" if jitter else "without jitter"
+    said += ", by deadline" if order == "deadline" else ""
+    return f"{'locks' if locks else 'no locks'}: {said}"
+
+
+def mark(curve: Curve, x: float, y: float) -> str:
+    """A point of a curve: a disc without locks, a box with them."""
+    if curve[0]:
+        return f'<rect class="m f1" x="{x - 3.6:.1f}" y="{y - 3.6:.1f}" width="7.2" height="7.2"/>'
+    return f'<circle class="m f0" cx="{x}" cy="{y}" r="4"/>'
+
+
+def picture(ratios: list[dict[Curve, float]], note: str) -> str:
+    """The curves as an SVG document: locks by colour and mark, jitter and the order by the line."""
+    width, height, left, top, wide, high = 890, 470, 70, 80, 560, 320
+    lowest, highest = UTILISATIONS[0], UTILISATIONS[-1]
 
     def x(utilisation: float) -> float:
-        return round(left + (utilisation - UTILISATIONS[0]) / (UTILISATIONS[-1] - UTILISATIONS[0]) * wide, 1)
+        return round(left + (utilisation - lowest) / (highest - lowest) * wide, 1)
 
     def y(ratio: float) -> float:
         return round(top + (1 - ratio) * high, 1)
@@ -168,20 +193,23 @@ def picture(ratios: list[Counter], note: str) -> str:
     for it in UTILISATIONS[::4]:
         out.append(f'<path class="g" d="M{x(it)} {top}v{high}"/>')
         out.append(f'<text x="{x(it)}" y="{top + high + 20}" text-anchor="middle">{it:.1f}</text>')
-    out.append(f'<text x="{left + wide / 2}" y="{top + high + 44}" text-anchor="middle">utilisation</text>')
+    middle = f'x="{left + wide / 2}" y="{top + high + 44}" text-anchor="middle"'
+    out.append(f"<text {middle}>utilisation</text>")
+    here, far = top + 10, left + wide + 30
     for k, curve in enumerate(CURVES):
+        kind = f'class="l c{int(curve[0])} k{k % 3}"'
         points = [(x(u), y(it[curve])) for u, it in zip(UTILISATIONS, ratios)]
         line = "L".join(f"{one} {other}" for one, other in points)
-        out.append(f'<path class="l c{k}" d="M{line}"/>')
-        here = top + 20 + 26 * k
-        out.append(f'<path class="l c{k}" d="M{left + wide + 30} {here}h40"/>')
-        out.append(f'<text x="{left + wide + 82}" y="{here + 4}">{LABELS[curve]}</text>')
-        if curve[0] == "best":
-            for one, other in [*points, (left + wide + 50, here)]:
-                mark = f'<circle class="m f{k}" cx="{one}" cy="{other}" r="4"/>'
-                corner = f'x="{one - 3.6}" y="{round(other - 3.6, 1)}"'
-                box = f'<rect class="m f{k}" {corner} width="7.2" height="7.2"/>'
-                out.append(box if curve[1] else mark)
+        out.append(f'<path {kind} d="M{line}"/>')
+        head, _, said = label(curve).partition(": ")
+        if k % 3 == 0:
+            out.append(f'<text class="h" x="{far}" y="{here + 4}">{head}</text>')
+            here += 26
+        out.append(f'<path {kind} d="M{far} {here}h40"/>')
+        out.append(f'<text x="{far + 52}" y="{here + 4}">{said}</text>')
+        if k % 3 == 1:
+            out += [mark(curve, *it) for it in [*points, (far + 20, here)]]
+        here += 36 if k % 3 == 2 else 26
     return "\n".join([*out, "</svg>\n"])
 
 
@@ -200,11 +228,12 @@ def main() -> None:
         ratios = run(executor, options.sets, options.tasks, options.jitter, options.seed)
     each = max(options.sets // len(UTILISATIONS), 1)
     note = f"{each * len(UTILISATIONS):,} sets of {options.tasks} tasks, {each} at each "
-    note += f"utilisation; jitter {options.jitter}, seed {options.seed}"
+    note += f"utilisation, in the best order if not by deadline; jitter {options.jitter:g}, "
+    note += f"seed {options.seed}"
     options.out.write_text(picture(ratios, note))
     with options.out.with_suffix(".csv").open("w", newline="") as file:
         rows = csv.writer(file)
-        rows.writerow(["utilisation", *(LABELS[it] for it in CURVES)])
+        rows.writerow(["utilisation", *(label(it) for it in CURVES)])
         for utilisation, ratio in zip(UTILISATIONS, ratios):
             rows.writerow([utilisation, *(round(ratio[curve], 4) for curve in CURVES)])
     written = f"{options.out} and {options.out.with_suffix('.csv')}"
