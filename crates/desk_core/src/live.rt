@@ -1,6 +1,7 @@
 //! Drafts that haven't ended.
 
-ghost use Rattle.std.specs.Prelude.{◌≡◌, ◌↔◌, [], Some, IfOk, IfErr, IsTrue, OnOk, OnErr, ◌≤◌, List, Result, length, vec_capacity};
+ghost use Rattle.std.specs.Prelude.{◌≡◌, ◌↔◌, [], Some, IfOk, IfErr, IfSome, IfNone, IsTrue, OnOk, OnErr, ◌≤◌, List, Result, length, vec_capacity};
+ghost use Rattle.drafts.specs.Books.{logged, IsNextEntry};
 ghost use Rattle.drafts.specs.Changes.{after_put, after_remove, on_base};
 ghost use Rattle.desk_core.specs.Findings.{asked_of, IsTold};
 ghost use Rattle.desk_core.specs.Advances.{IsAdvancedIn, IsAdvancedOn};
@@ -13,11 +14,11 @@ ghost use Rattle.drafts.specs.declared.roster.Owned.{Owned};
 ghost use Rattle.drafts.specs.declared.change.Refusal.{Refusal};
 
 use crate::events::{Cause, Reply, Standing};
-use crate::stage::{Stage, begin, is_tested, put_away, question, standing};
+use crate::stage::{Stage, begin, enter, is_tested, put_away, question, standing};
 use crate::told::Told;
 use crate::trial::Trial;
 use assignment::{Finding, Question};
-use drafts::{Draft, EditCause, NodeState, PutFault, Team};
+use drafts::{Book, Decided, Draft, EditCause, NodeState, PutFault, Team};
 use std::alloc::{AllocError, Global};
 use std::marker::Model;
 use std::mem;
@@ -259,6 +260,20 @@ impl Live {
         ensures ok { IfOk result (λ tested. IsTrue tested ↔ IsTestedDraft self.old) }
     {
         is_tested(alloc, &self.draft, &mut self.stage)
+    }
+
+    /// Enters into the book what the complete test came to. None where the book's present state hasn't the tasks of the
+    /// base.
+    pub fn enter(&mut self, alloc: Global, book: &mut Book) -> Result<Option<Decided>, AllocError>
+        ensures same { self.new ≡ self.old }
+        ensures entry { IfOk result (λ decided. IfSome decided
+            (λ d. IsNextEntry book.old self.old.draft d.place d.entry.value)) }
+        ensures ok { IfOk result (λ decided. IfSome decided
+            (λ d. book.new ≡ logged book.old d.entry.value)) }
+        ensures none { IfOk result (λ decided. IfNone decided (book.new ≡ book.old)) }
+        ensures err { OnErr result (book.new ≡ book.old) }
+    {
+        enter(alloc, &self.draft, &mut self.stage, book)
     }
 
     /// Where the draft stands.

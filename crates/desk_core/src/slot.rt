@@ -185,8 +185,8 @@ impl Slot {
         }
     }
 
-    /// Commits the draft: one that is tested on a state before the present one goes to the present one; any other is
-    /// tested on the present state and ends.
+    /// Commits the draft: one that is tested on a state before the present one goes to the present one; one that is tested
+    /// on the present one ends with what its test came to; any other is tested on the present state and ends.
     pub fn commit(&mut self, alloc: Global, book: &mut Book) -> Result<Reply, AllocError>
         ensures ok { IfOk result (λ r. IsCommitIn book.old self.old r book.new self.new) }
         ensures err_book { OnErr result (book.new ≡ book.old) }
@@ -198,12 +198,20 @@ impl Slot {
             SlotContents::Opened { .. } => unreachable!(),
             SlotContents::Nothing => return Ok(Reply::no_such_draft()),
         };
-        let version = book.state().version();
-        if live.draft().base_version() < version && live.is_tested(alloc)? {
-            live.rebase(alloc, book.snapshot()?)?;
-            return Ok(Reply::Stale { version });
-        }
-        let decided = book.test_and_enter(alloc, live.draft())?;
+        let decided = if live.is_tested(alloc)? {
+            let version = book.state().version();
+            if live.draft().base_version() < version {
+                live.rebase(alloc, book.snapshot()?)?;
+                return Ok(Reply::Stale { version });
+            }
+            live.enter(alloc, book)?
+        } else {
+            None
+        };
+        let decided = match decided {
+            Some(decided) => decided,
+            None => book.test_and_enter(alloc, live.draft())?,
+        };
         self.kept = SlotContents::Nothing;
         Ok(Reply::Decided {
             place: decided.place,

@@ -1,10 +1,12 @@
 //! How far the test of a draft has come.
 
-ghost use Rattle.std.specs.Prelude.{◌≡◌, ◌↔◌, IfOk, IsTrue, List, Result};
+ghost use Rattle.std.specs.Prelude.{◌≡◌, ◌↔◌, IfOk, IfErr, IfSome, IfNone, OnErr, IsTrue, List, Result};
+ghost use Rattle.drafts.specs.Books.{logged, IsNextEntry};
 ghost use Rattle.drafts.specs.declared.roster.Owned.{Owned};
 ghost use Rattle.drafts.specs.declared.change.Refusal.{Refusal};
 ghost use Rattle.drafts.specs.Changes.{on_base};
-ghost use Rattle.desk_core.specs.Stages.{found_of, IsStage, IsBegun, IsTrialOf};
+ghost use Rattle.desk_core.specs.Stages.{found_of, IsKeptOn, IsStage, IsBegun, IsTrialOf};
+ghost use Rattle.desk_core.specs.declared.stage.Kept.TheVariants.{Own};
 ghost use Rattle.desk_core.specs.declared.stage.Stage.TheVariants.{Trying};
 ghost use Rattle.desk_core.specs.Standings.{IsNaming, IsQuestionOn, IsStandingOn, IsTrying};
 ghost use Rattle.desk_core.specs.Trials.{names_of};
@@ -13,8 +15,8 @@ ghost use Rattle.desk_core.specs.World.{IsTestedOn};
 use crate::asked::Asked;
 use crate::events::Standing;
 use crate::trial::{Trial, list_names};
-use assignment::Question;
-use drafts::{Applied, Draft};
+use assignment::{Failure, Question, Reason, Verdict};
+use drafts::{Applied, Book, Decided, Draft, Judged, share};
 use std::alloc::{AllocError, Global};
 use std::mem;
 use std::sync::Arc;
@@ -33,9 +35,23 @@ pub enum Stage {
     Tested {
         set: Arc<TaskSet>,
         members: Members,
+        kept: Kept,
         found: Vec<Asked>,
     },
 }
+
+/// The verdict of a complete test.
+#[derive(Drop)]
+pub enum Kept {
+    Own { verdict: Verdict },
+    /// It may be entered in a book: a commit was tried.
+    Shared { judged: Judged },
+    /// It has more than `KEPT_TO` numbers, and a commit makes it again: so that many drafts fit into memory.
+    Dropped,
+}
+
+// How many numbers the chains of a verdict have at most that is kept.
+const KEPT_TO: usize = 8192;
 
 // A trial of what a draft's changes come to on its base, where they apply.
 fn try_out(alloc: Global, draft: &Draft) -> Result<Option<Trial>, AllocError>
@@ -81,14 +97,54 @@ pub fn put_away(stage: &mut Stage)
         Stage::Tested {
             set,
             members,
+            kept,
             found,
         } => {
             *stage = Stage::Tested {
                 set,
                 members,
+                kept,
                 found,
             }
         }
+    }
+}
+
+// How many numbers show the failures, or `KEPT_TO` and more.
+fn count(fails: &[Failure], before: usize) -> usize {
+    let mut count = before;
+    for failure in fails {
+        count = count.saturating_add(1);
+        if let Reason::Chain(chain) = &failure.reason {
+            count = count.saturating_add(chain.len());
+        }
+    }
+    count
+}
+
+// Whether a verdict has so few numbers that it is kept.
+fn is_small(verdict: &Verdict) -> bool {
+    match verdict {
+        Verdict::Admitted(assignment) => {
+            let mut numbers = 0;
+            for level in assignment.levels() {
+                numbers = count(&level.fails, numbers);
+            }
+            numbers <= KEPT_TO
+        }
+        Verdict::Infeasible(obstruction) => count(obstruction.members(), 0) <= KEPT_TO,
+    }
+}
+
+// What is kept of a verdict.
+fn keep(verdict: Verdict) -> Kept
+    ensures { (outcome : Result (List Owned) Refusal) → IsKeptOn outcome (Own verdict)
+        → IsKeptOn outcome result }
+{
+    if is_small(&verdict) {
+        Kept::Own { verdict }
+    } else {
+        Kept::Dropped
     }
 }
 
@@ -101,11 +157,115 @@ fn rest_of(trial: Box<Trial>) -> Stage
     if !trial.is_tested() {
         return Stage::Trying { trial };
     }
-    let (set, members, found) = Box::into_inner(trial).finish();
+    let (set, members, verdict, found) = Box::into_inner(trial).finish();
     Stage::Tested {
         set,
         members,
+        kept: keep(verdict),
         found,
+    }
+}
+
+// Shares the verdict of a complete test; where memory is wanting, it stays as it was.
+fn share_kept(alloc: Global, kept: Kept) -> Result<Kept, Kept>
+    ensures ok { IfOk result (λ shared. (outcome : Result (List Owned) Refusal)
+        → IsKeptOn outcome kept → IsKeptOn outcome shared) }
+    ensures back { IfErr result (λ back. back ≡ kept) }
+{
+    match kept {
+        Kept::Dropped => Ok(Kept::Dropped),
+        Kept::Shared { judged } => Ok(Kept::Shared { judged }),
+        Kept::Own { verdict } => match share(alloc, verdict) {
+            Ok(judged) => Ok(Kept::Shared { judged }),
+            Err(verdict) => Err(Kept::Own { verdict }),
+        },
+    }
+}
+
+// Shares the verdict of a test, where it is complete.
+fn share_verdict(alloc: Global, stage: &mut Stage) -> Result<(), AllocError>
+    ensures kept { (outcome : Result (List Owned) Refusal) → IsStage outcome stage.old
+        → IsStage outcome stage.new }
+    ensures found { found_of stage.new ≡ found_of stage.old }
+{
+    match mem::replace(stage, Stage::Fresh) {
+        Stage::Fresh => Ok(()),
+        Stage::Trying { trial } => {
+            *stage = Stage::Trying { trial };
+            Ok(())
+        }
+        Stage::Tested {
+            set,
+            members,
+            kept,
+            found,
+        } => match share_kept(alloc, kept) {
+            Ok(kept) => {
+                *stage = Stage::Tested {
+                    set,
+                    members,
+                    kept,
+                    found,
+                };
+                Ok(())
+            }
+            Err(kept) => {
+                *stage = Stage::Tested {
+                    set,
+                    members,
+                    kept,
+                    found,
+                };
+                Err(AllocError)
+            }
+        },
+    }
+}
+
+// Enters a verdict into the book, where it is shared.
+fn enter_kept(
+    alloc: Global,
+    draft: &Draft,
+    kept: &Kept,
+    book: &mut Book,
+) -> Result<Option<Decided>, AllocError>
+    requires { IsKeptOn (on_base draft.now) kept.now }
+    ensures entry { IfOk result (λ decided. IfSome decided
+        (λ d. IsNextEntry book.old draft.now d.place d.entry.value)) }
+    ensures ok { IfOk result (λ decided. IfSome decided
+        (λ d. book.new ≡ logged book.old d.entry.value)) }
+    ensures none { IfOk result (λ decided. IfNone decided (book.new ≡ book.old)) }
+    ensures err { OnErr result (book.new ≡ book.old) }
+{
+    match kept {
+        Kept::Own { .. } | Kept::Dropped => Ok(None),
+        Kept::Shared { judged } => book.enter_tested(alloc, draft, judged),
+    }
+}
+
+/// Enters into the book what a complete test came to. None where the book's present state hasn't the tasks of the base.
+pub fn enter(
+    alloc: Global,
+    draft: &Draft,
+    stage: &mut Stage,
+    book: &mut Book,
+) -> Result<Option<Decided>, AllocError>
+    requires { IsStage (on_base draft.now) stage.old }
+    ensures kept { IsStage (on_base draft.now) stage.new }
+    ensures found { found_of stage.new ≡ found_of stage.old }
+    ensures entry { IfOk result (λ decided. IfSome decided
+        (λ d. IsNextEntry book.old draft.now d.place d.entry.value)) }
+    ensures ok { IfOk result (λ decided. IfSome decided
+        (λ d. book.new ≡ logged book.old d.entry.value)) }
+    ensures none { IfOk result (λ decided. IfNone decided (book.new ≡ book.old)) }
+    ensures err { OnErr result (book.new ≡ book.old) }
+{
+    put_away(stage);
+    share_verdict(alloc, stage)?;
+    match &*stage {
+        Stage::Fresh => Ok(None),
+        Stage::Trying { .. } => Ok(None),
+        Stage::Tested { kept, .. } => enter_kept(alloc, draft, kept, book),
     }
 }
 

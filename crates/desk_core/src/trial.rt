@@ -7,10 +7,11 @@ ghost use Rattle.task_sheet.specs.Indexes.{indexes_of, listed_below, IsPart};
 ghost use Rattle.task_sheet.specs.declared.set.TheConstants.{TASK_LIMIT};
 ghost use Rattle.task_sheet.specs.Sheet.{task_at};
 ghost use Rattle.task_sheet.specs.Orders.{all_of};
-ghost use Rattle.task_sheet.specs.Verdicts.{LevelData};
+ghost use Rattle.task_sheet.specs.Verdicts.{LevelData, IsVerdictOf};
 ghost use Rattle.ceilings.specs.IsTableOf.{IsTableOf};
 ghost use Rattle.assignment.specs.Levels.{IsDecided};
 ghost use Rattle.assignment.specs.Climbs.{ClimbState, IsNext, IsUnfinished};
+ghost use Rattle.assignment.specs.Verdict.{verdict_set, verdict_of};
 ghost use Rattle.desk_core.specs.Progress.{present_of};
 ghost use Rattle.desk_core.specs.Findings.{asked_of, IsTold, found_after, IsTested};
 ghost use Rattle.desk_core.specs.Trials.{names_of};
@@ -20,7 +21,7 @@ ghost use Rattle.desk_core.specs.Advances.{IsLeast, IsTried};
 
 use crate::asked::Asked;
 use crate::told::Told;
-use assignment::{AnswerFault, Climb, Finding, Level, LevelRecord, Question, TakeFault};
+use assignment::{AnswerFault, Climb, Finding, Level, LevelRecord, Question, TakeFault, Verdict};
 use ceilings::LockTable;
 use std::alloc::{AllocError, Global};
 use std::marker::Model;
@@ -334,23 +335,28 @@ impl Trial {
         }
     }
 
-    // What is kept of a complete test: the set, the tasks whose names its verdict shows, and the findings. The table and
-    // the climb go, and with them the chains of the verdict, which may take megabytes and which nothing asks for.
-    pub(crate) fn finish(self) -> (Arc<TaskSet>, Members, Vec<Asked>)
+    // What is kept of a complete test: the set with the tasks whose names its verdict shows, the verdict, and the
+    // findings. The table goes.
+    pub(crate) fn finish(self) -> (Arc<TaskSet>, Members, Verdict, Vec<Asked>)
         requires { IsTested self.set self.found }
         ensures set { result.0.value ≡ self.set }
         ensures shown { IsShown self.set (names_of self.set result.1) }
-        ensures found { result.2.items ≡ self.found }
+        ensures of_set { verdict_set result.2 ≡ self.set }
+        ensures right { IsVerdictOf self.set (verdict_of result.2) }
+        ensures found { result.3.items ≡ self.found }
     {
         let members = self.members();
         let Trial {
             set,
             table: _,
-            climb: _,
+            climb,
             level: _,
             found,
         } = self;
-        (set, members, found)
+        match climb.finish() {
+            Ok(verdict) => (set, members, verdict, found),
+            Err(_) => unreachable!(),
+        }
     }
 
     /// Takes a finding. Want of memory leaves the trial as it was, and hands the finding back.

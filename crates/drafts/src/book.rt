@@ -1,7 +1,8 @@
 //! The book: the present state, and the log that led to it.
 
-ghost use Rattle.std.specs.Prelude.{◌≡◌, ◌<◌, ◌+◌, ◌^◌, [], ◌∷◌, IfOk, OnOk, OnErr, length, map, option_map};
+ghost use Rattle.std.specs.Prelude.{◌≡◌, ◌<◌, ◌+◌, ◌^◌, [], ◌∷◌, IfOk, IfSome, IfNone, OnOk, OnErr, length, map, option_map};
 ghost use Rattle.drafts.specs.Applied.{applied};
+ghost use Rattle.drafts.specs.Changes.{on_base};
 ghost use Rattle.drafts.specs.Machine.{Entry, IsDecision, IsLegal, replay, empty_desk, admissions};
 ghost use Rattle.drafts.specs.Outcomes.{IsJudged, IsSaid, IsNextState, IsEntryOf, after_next};
 ghost use Rattle.drafts.specs.Rulings.{ruling_of};
@@ -210,6 +211,35 @@ impl Book {
             place: self.log.len(),
             entry,
         })
+    }
+
+    /// Logs the decision on a draft's changes, which were judged on its base, and moves to the admitted tasks. None where
+    /// the present state hasn't the tasks of the base, and then nothing changes.
+    pub fn enter_tested(
+        &mut self,
+        alloc: Global,
+        draft: &Draft,
+        judged: &Judged,
+    ) -> Result<Option<Decided>, AllocError>
+        requires { IsJudged (on_base draft.now) judged.now }
+        ensures entry { IfOk result (λ decided. IfSome decided
+            (λ d. IsNextEntry self.old draft.now d.place d.entry.value)) }
+        ensures said { IfOk result (λ decided. IfSome decided
+            (λ d. IsSaid self.old.desk.version judged.now d.entry.value.decision)) }
+        ensures ok { IfOk result (λ decided. IfSome decided
+            (λ d. self.new ≡ logged self.old d.entry.value)) }
+        ensures other { IfOk result (λ decided. IfNone decided
+            (¬ (draft.now.base.tasks ≡ self.old.desk.tasks))) }
+        ensures none { IfOk result (λ decided. IfNone decided (self.new ≡ self.old)) }
+        ensures err { OnErr result (self.new ≡ self.old) }
+    {
+        if !draft.base().has_same_tasks(self.state()) {
+            return Ok(None);
+        }
+        match self.enter(alloc, draft, judged) {
+            Ok(decided) => Ok(Some(decided)),
+            Err(fault) => Err(fault),
+        }
     }
 
     /// Decides on a draft's changes to the present state.

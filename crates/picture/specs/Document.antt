@@ -51,27 +51,27 @@ abbrev pub lines_text : Frame → List TaskRow → List ℕ
 lines_text f rows = each (length rows) (line_text f)
 
 -- the names of the rows
-abbrev pub own_names : List TaskRow → List ℕ
-own_names rows = each (length rows) (λ k. name_text k (row_at rows k))
+abbrev pub own_names : List TaskRow → List JobRecord → List ℕ
+own_names rows jobs = each (length rows) (λ k. name_text jobs k (row_at rows k))
 
 -- the same as a group, so that they can stand again
-abbrev pub names_group : List TaskRow → List ℕ
-names_group rows = codes "<g id=\"n\">\n" ++ own_names rows ++ codes "</g>\n"
+abbrev pub names_group : List TaskRow → List JobRecord → List ℕ
+names_group rows jobs = codes "<g id=\"n\">\n" ++ own_names rows jobs ++ codes "</g>\n"
 
 -- the names again, wherever there is room for the longest
 abbrev pub names_again : Frame → List ℕ
 names_again f = each ((f.span - 2000) / 3000) again_text
 
 -- the scale, the lines and the names of the rows, and the names again
-abbrev pub rows_text : Frame → List TaskRow → List ℕ
-rows_text f rows =
-    ticks_text f (top_of (length rows)) (step_of f) ++ lines_text f rows ++ names_group rows
+abbrev pub rows_text : Frame → List TaskRow → List JobRecord → List ℕ
+rows_text f rows jobs =
+    ticks_text f (top_of (length rows)) (step_of f) ++ lines_text f rows ++ names_group rows jobs
     ++ names_again f
 
 -- what stands still
-abbrev pub ground_text : Frame → List TaskRow → (jobs until : ℕ) → List ℕ
+abbrev pub ground_text : Frame → List TaskRow → List JobRecord → (until : ℕ) → List ℕ
 ground_text f rows jobs until =
-    document_head f (length rows) jobs until ++ STYLE.now ++ rows_text f rows
+    document_head f (length rows) (length jobs) until ++ STYLE.now ++ rows_text f rows jobs
 
 -- each job
 abbrev pub jobs_text : Frame → List TaskRow → List JobRecord → List ℕ
@@ -115,7 +115,7 @@ all_marks f rows rs =
 -- the document in a frame: what stands still, the jobs, the slices over them, and the marks
 abbrev pub framed : Frame → List TaskRow → ℕ → List Release → List JobRecord → List Slice → List ℕ
 framed f rows until rs jobs slices =
-    ground_text f rows (length jobs) until ++ jobs_text f rows jobs
+    ground_text f rows jobs until ++ jobs_text f rows jobs
     ++ slices_text f rows jobs slices ++ all_marks f rows rs ++ codes "</svg>\n"
 
 -- THE DOCUMENT: the picture of a trace below a time

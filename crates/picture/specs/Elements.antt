@@ -3,6 +3,9 @@ use Rattle.std.specs.Prelude.{ℕ, ◌+◌, ◌-◌, ◌*◌, ◌/◌, nat_le, n
 use Rattle.std.specs.Fmt.{decimal}
 use Rattle.std.specs.List.{concat}
 use Rattle.task_sheet.specs.Sheet.{CriticalSection}
+use Rattle.task_sheet.specs.Demand.{greatest_of}
+use Rattle.run_lines.specs.Lines.{greatest_words}
+use Rattle.run_lines.specs.Reached.{done_of, response_of}
 use Rattle.ceiling_kernel.specs.declared.trace.Release.{Release}
 use Rattle.ceiling_kernel.specs.declared.trace.JobRecord.{JobRecord}
 use Rattle.ceiling_kernel.specs.declared.trace.Slice.{Slice}
@@ -28,12 +31,20 @@ line_text f k =
     concat (codes "<path class=\"l\" d=\"M160 " ∷ decimal (top_of k + 490) ∷ codes "H"
     ∷ decimal (frame_end f) ∷ codes "\"/>\n" ∷ [])
 
--- the name of a row
-abbrev pub name_text : ℕ → TaskRow → List ℕ
-name_text k row =
-    concat (codes "<text class=\"n\" x=\"160\" y=\"" ∷ decimal (top_of k + 140) ∷ codes "\">"
-    ∷ row.sheet.name
-    ∷ codes "</text>\n" ∷ [])
+-- what the jobs of a row's task came to: how many are done, the greatest response among them, and the row's bound
+abbrev pub outcome_text : TaskRow → List JobRecord → List ℕ
+outcome_text row jobs =
+    concat (codes "<title>done: " ∷ decimal (length (done_of row.sheet.name jobs))
+    ∷ codes ", greatest response: " ∷ [])
+    ++ greatest_words (length (done_of row.sheet.name jobs))
+    (greatest_of response_of (done_of row.sheet.name jobs))
+    ++ concat (codes ", bound: " ∷ decimal row.bound ∷ codes " us</title>" ∷ [])
+
+-- the name of a row, with that as its title
+abbrev pub name_text : List JobRecord → ℕ → TaskRow → List ℕ
+name_text jobs k row =
+    concat (codes "<text class=\"n\" x=\"160\" y=\"" ∷ decimal (top_of k + 140) ∷ codes "\">" ∷ [])
+    ++ outcome_text row jobs ++ concat (row.sheet.name ∷ codes "</text>\n" ∷ [])
 
 -- all names again, 300 pixels further
 abbrev pub again_text : ℕ → List ℕ

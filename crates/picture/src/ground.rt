@@ -2,13 +2,17 @@
 ghost use Rattle.std.specs.Prelude.{◌≤◌, ◌<◌, length};
 ghost use Rattle.picture.specs.declared.frame.TheConstants.{WIDEST_STEP};
 ghost use Rattle.picture.specs.Puts.{Puts};
-ghost use Rattle.picture.specs.Elements.{tick_text, line_text, name_text, again_text};
+ghost use Rattle.picture.specs.Elements.{tick_text, line_text, outcome_text, name_text, again_text};
+ghost use Rattle.run_lines.specs.Lines.{greatest_words};
 ghost use Rattle.picture.specs.declared.ground.TheConstants.{AGAIN_LIMIT, STYLE};
 ghost use Rattle.picture.specs.Document.{measures_text, title_text, document_head, ticks_text, lines_text, own_names, names_group, names_again, rows_text, ground_text};
 
 use crate::chart::{Chart, Lane};
 use crate::frame::{Frame, end_of, step_of, top_of, unit_name, unit_of, x_of};
 use crate::page::Page;
+use crate::rows::TaskRow;
+use ceiling_kernel::JobRecord;
+use run_lines::{Outcome, outcome_of};
 use std::io::Write;
 use streams::WriteFailed;
 
@@ -110,25 +114,48 @@ impl<W: Write + Drop> Page<'_, W> {
         Ok(())
     }
 
-    // The name of a row.
-    fn put_row_name(&mut self, lane: &Lane<'_>) -> Result<(), WriteFailed>
+    // The greatest response of jobs that are done, or `-` for none.
+    fn put_greatest(&mut self, outcome: Outcome) -> Result<(), WriteFailed>
         ensures { Puts W.contents self.old self.new result
-            (name_text lane.now.k lane.now.row.now) }
+            (greatest_words outcome.done outcome.greatest) }
+    {
+        if outcome.done == 0 {
+            return self.out.put(b"-");
+        }
+        let greatest = outcome.greatest;
+        write!(self.out, "{greatest}")
+    }
+
+    // What the jobs of a row's task came to.
+    fn put_outcome(&mut self, row: &TaskRow, jobs: &[JobRecord]) -> Result<(), WriteFailed>
+        ensures { Puts W.contents self.old self.new result (outcome_text row.now jobs.now) }
+    {
+        let outcome = outcome_of(jobs, row.sheet.name());
+        let done = outcome.done;
+        let bound = row.bound;
+        write!(self.out, "<title>done: {done}, greatest response: ")?;
+        self.put_greatest(outcome)?;
+        write!(self.out, ", bound: {bound} us</title>")
+    }
+
+    // The name of a row.
+    fn put_row_name(&mut self, lane: &Lane<'_>, jobs: &[JobRecord]) -> Result<(), WriteFailed>
+        ensures { Puts W.contents self.old self.new result
+            (name_text jobs.now lane.now.k lane.now.row.now) }
     {
         let y = top_of(lane.k) + 140;
         let name = lane.row.sheet.name();
-        write!(
-            self.out,
-            "<text class=\"n\" x=\"160\" y=\"{y}\">{name}</text>\n"
-        )
+        write!(self.out, "<text class=\"n\" x=\"160\" y=\"{y}\">")?;
+        self.put_outcome(lane.row, jobs)?;
+        write!(self.out, "{name}</text>\n")
     }
 
     // The names of the rows.
     fn put_own_names(&mut self, chart: &Chart<'_>) -> Result<(), WriteFailed>
-        ensures { Puts W.contents self.old self.new result (own_names chart.now.rows.now) }
+        ensures { Puts W.contents self.old self.new result (own_names chart.now.rows.now chart.now.jobs.now) }
     {
         for k in 0..chart.rows.len() {
-            self.put_row_name(&chart.lane(k))?;
+            self.put_row_name(&chart.lane(k), chart.jobs)?;
         }
         Ok(())
     }
@@ -155,7 +182,7 @@ impl<W: Write + Drop> Page<'_, W> {
 
     // The names of the rows, as a group.
     fn put_group(&mut self, chart: &Chart<'_>) -> Result<(), WriteFailed>
-        ensures { Puts W.contents self.old self.new result (names_group chart.now.rows.now) }
+        ensures { Puts W.contents self.old self.new result (names_group chart.now.rows.now chart.now.jobs.now) }
     {
         self.out.put(b"<g id=\"n\">\n")?;
         self.put_own_names(chart)?;
@@ -165,7 +192,7 @@ impl<W: Write + Drop> Page<'_, W> {
     // The scale, the lines and the names of the rows, and the names again.
     fn put_rows(&mut self, chart: &Chart<'_>) -> Result<(), WriteFailed>
         ensures { Puts W.contents self.old self.new result
-            (rows_text chart.now.frame chart.now.rows.now) }
+            (rows_text chart.now.frame chart.now.rows.now chart.now.jobs.now) }
     {
         let frame = chart.frame;
         self.put_ticks(frame, top_of(chart.rows.len()), step_of(frame))?;
@@ -184,8 +211,7 @@ impl<W: Write + Drop> Page<'_, W> {
     // What stands still.
     pub(crate) fn put_ground(&mut self, chart: &Chart<'_>) -> Result<(), WriteFailed>
         ensures { Puts W.contents self.old self.new result
-            (ground_text chart.now.frame chart.now.rows.now (length chart.now.jobs.now)
-            chart.now.until) }
+            (ground_text chart.now.frame chart.now.rows.now chart.now.jobs.now chart.now.until) }
     {
         self.put_head(chart)?;
         self.put_style()?;

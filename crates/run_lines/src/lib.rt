@@ -5,4 +5,5 @@ pub mod laws;
 mod outcome;
 mod text;
 
+pub use crate::outcome::{Outcome, outcome_of};
 pub use crate::text::tasks_text;

@@ -4,9 +4,9 @@ use Rattle.picture.proofs.Puts.{puts_none, puts_one_more}
 use Rattle.picture.proofs.page.Page.put_own_names.Goals as goal
 
 pub loop-k-init : goal.loop-k-init
-loop-k-init g c = puts_none g.W.Write.contents c.args.self.now.out (λ k. name_text k (row_at c.args.chart.now.rows.now k))
+loop-k-init g c = puts_none g.W.Write.contents c.args.self.now.out (λ k. name_text c.args.chart.now.jobs.now k (row_at c.args.chart.now.rows.now k))
 
 pub loop-k-preserved : goal.loop-k-preserved
 loop-k-preserved g c =
     let name = rw c.lane.ensures.row at (rw c.lane.ensures.place at c.in_ok-put_row_name.ensures) in
-    puts_one_more (λ k. name_text k (row_at c.args.chart.now.rows.now k)) c.loop-k.k c.loop-k.invariant name
+    puts_one_more (λ k. name_text c.args.chart.now.jobs.now k (row_at c.args.chart.now.rows.now k)) c.loop-k.k c.loop-k.invariant name
