@@ -1,11 +1,12 @@
 -- The lines of a set's limits, one after the other, and the order that they speak of.
-use Rattle.std.proofs.Common.{◌≡◌, ◌∙◌, ℕ, suc, ◌+◌, ◌++◌, List, [], Option, Result, Ok, Err, false, refl, sym, subst, arith}
+use Rattle.std.proofs.Common.{◌≡◌, ◌∙◌, ℕ, suc, ◌+◌, ◌++◌, ◌==◌, ◌&&◌, Bool, List, [], ◌∷◌, length, ap, Option, Result, Ok, Err, false, refl, sym, subst, arith}
 use Rattle.std.specs.Prelude.{OnOk}
 use Rattle.std.specs.Io.KnownBytes.{Appends}
 use Rattle.std.specs.Result.{is_err}
 use Rattle.streams.specs.Sending.{Sends}
 use Rattle.plays.proofs.PlayLaws.{known_written}
 use Rattle.std.proofs.lemmas.Bool.{true≢false}
+use Rattle.std.proofs.Math.Dec.{eqb-suc-zero}
 use Rattle.task_sheet.specs.Sheet.{Task}
 use Rattle.task_sheet.specs.TaskSet.{IsTaskSet}
 use Rattle.assignment.specs.Places.{PlaceData}
@@ -34,6 +35,12 @@ pub lines_more : (U : List Task) (places : Option (List PlaceData)) (k : ℕ) (f
 lines_more U places k front lines before are =
     let next : suc k ≡ k + 1 = omega arith in
     subst (λ n. AreLines U places n (front ++ lines)) next (front, lines, before, are, refl)
+
+-- whether all lines so far are silent, with those of one task more
+pub silent_more : (before after : Bool) (front lines : List ℕ) → before ≡ (length front == 0) → after ≡ (before && (length lines == 0))
+    → after ≡ (length (front ++ lines) == 0)
+silent_more before after [] lines is then = then ∙ ap (λ b. b && (length lines == 0)) is
+silent_more before after (x ∷ xs) lines is then = then ∙ ap (λ b. b && (length lines == 0)) (is ∙ eqb-suc-zero (length xs)) ∙ sym (eqb-suc-zero (length (xs ++ lines)))
 
 -- what is told of a placed set is the answer on what the reader has
 pub admits_placed : (preference : Option Preference) (known : Option (List ℕ)) (U : List Task) (p : Placing) → Places preference known (Ok (U, p)) → (answer : Result Verdict CommandRefusal) → TellsPlaced U answer

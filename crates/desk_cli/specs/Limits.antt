@@ -1,5 +1,5 @@
 -- What `desk limits` prints.
-use Rattle.std.specs.Prelude.{◌≡◌, ◌⊎◌, ℕ, zero, suc, ◌≤◌, List, [], ◌++◌, length, codes, Option, Some, None, Result, Ok, Err}
+use Rattle.std.specs.Prelude.{◌≡◌, ◌⊎◌, ℕ, zero, suc, ◌≤◌, ◌==◌, Bool, true, false, List, [], ◌++◌, length, codes, Option, Some, None, Result, Ok, Err}
 use Rattle.std.specs.Fmt.{decimal}
 use Rattle.std.specs.Io.KnownBytes.{Appends}
 use Rattle.task_sheet.specs.declared.prefer.Preference.{Preference}
@@ -31,11 +31,17 @@ AreLines U places (suc k) text =
     (front : List ℕ) × (lines : List ℕ) × AreLines U places k front × AreTaskLines U places k lines
     × (text ≡ front ++ lines)
 
--- the lines of each task of the set, and that of the factors
+-- the line that no single change mends a set that no order passes, of which no task has a line
+abbrev pub alone_line : (is_silent : Bool) → Option (List PlaceData) → List ℕ
+alone_line false places = []
+alone_line true None = codes "no single change\n"
+alone_line true (Some places) = []
+
+-- the lines of each task of the set, that one, and that of the factors
 abbrev pub ListsAll : List Task → Option (List PlaceData) → List ℕ → Type 0
 ListsAll U places text =
     (lines : List ℕ) × (last : List ℕ) × AreLines U places (length U) lines × IsLast U places last
-    × (text ≡ lines ++ last)
+    × (text ≡ lines ++ alone_line (length lines == 0) places ++ last)
 
 -- the lines of each of the first tasks
 abbrev pub ListsSome : List Task → Option (List PlaceData) → List ℕ → Type 0

@@ -1,11 +1,11 @@
 //! `desk limits`.
-ghost use Rattle.std.specs.Prelude.{◌≡◌, ◌≢◌, ℕ, ◌<◌, List, ◌++◌, length, Err, true, IfOk, OnOk, string_bytes};
+ghost use Rattle.std.specs.Prelude.{◌≡◌, ◌≢◌, ℕ, ◌<◌, ◌==◌, ◌&&◌, List, ◌++◌, length, Err, true, IfOk, OnOk, string_bytes};
 ghost use Rattle.std.specs.Io.KnownBytes.{Appends};
 ghost use Rattle.task_sheet.specs.TaskSet.{IsTaskSet};
 ghost use Rattle.ceilings.specs.IsTableOf.{IsTableOf};
 ghost use Rattle.assignment.specs.Placings.{IsPlacingOf};
-ghost use Rattle.limit_lines.specs.Lines.{AreTaskLines, order_in, places_in};
-ghost use Rattle.desk_cli.specs.Limits.{IsListing, ListsAll, ListsSome, SaysPlaced, placing_first};
+ghost use Rattle.limit_lines.specs.Lines.{AreTaskLines, IsLast, order_in, places_in};
+ghost use Rattle.desk_cli.specs.Limits.{IsListing, ListsAll, ListsSome, SaysPlaced, alone_line, placing_first};
 ghost use Rattle.streams.specs.Sending.{Sends};
 ghost use Rattle.desk_cli.specs.Outcomes.{IsSaidOn};
 
@@ -71,7 +71,36 @@ fn lines_of_task(alloc: Global, listing: &Listing<'_>, task: usize) -> Result<St
     )
 }
 
-// Puts the first line, the lines of each task as they are found, and the last one.
+// Whether no task had a line, with one more text.
+fn is_still_silent(is_silent: bool, text: &str) -> bool
+    ensures { result ≡ (is_silent && (length text.now == 0)) }
+{
+    is_silent && text.is_empty()
+}
+
+// The line of the factors, behind that which says that no single change mends the set where no task has a line.
+fn end_text(alloc: Global, listing: &Listing<'_>, is_silent: bool) -> Result<String, AllocError>
+    requires { IsListing listing.now }
+    ensures { let places = places_in listing.now.placing.now in
+        IfOk result (λ text. (last : List ℕ) × IsLast listing.now.set.now places last
+        × (string_bytes text ≡ alone_line is_silent places ++ last)) }
+{
+    let last = last_text(alloc, listing.set, listing.placing, &listing.order)?;
+    match listing.placing {
+        Placing::Best(_) => Ok(last),
+        Placing::Stuck(_) => {
+            if !is_silent {
+                return Ok(last);
+            }
+            let mut text = String::new(alloc);
+            text.push_str("no single change\n")?;
+            text.push_str(last.as_str())?;
+            Ok(text)
+        }
+    }
+}
+
+// Puts the first line, the lines of each task as they are found, and the last ones.
 fn put_lines<W: Write + Drop>(
     alloc: Global,
     listing: &Listing<'_>,
@@ -94,15 +123,17 @@ fn put_lines<W: Write + Drop>(
     if held.put(listing.first.as_bytes(), output).is_err() {
         return Err(ListFault::WriteFailed);
     }
+    let mut is_silent = true;
     for task in 0..listing.set.len() {
         let Ok(text) = lines_of_task(alloc, listing, task) else {
             return Err(ListFault::OutOfMemory);
         };
+        is_silent = is_still_silent(is_silent, text.as_str());
         if held.put(text.as_bytes(), output).is_err() {
             return Err(ListFault::WriteFailed);
         }
     }
-    let Ok(text) = last_text(alloc, listing.set, listing.placing, &listing.order) else {
+    let Ok(text) = end_text(alloc, listing, is_silent) else {
         return Err(ListFault::OutOfMemory);
     };
     match held.put(text.as_bytes(), output) {

@@ -1,9 +1,9 @@
-use Rattle.std.proofs.Common.{◌≡◌, ◌∙◌, ◌++◌, ℕ, List, [], length, refl, sym, subst, arith, append_assoc, append-nil, string_bytes}
+use Rattle.std.proofs.Common.{◌≡◌, ◌∙◌, ◌++◌, ◌==◌, ◌&&◌, ℕ, Bool, List, [], length, refl, sym, ap, subst, arith, append_assoc, append-nil, string_bytes}
 use Rattle.std.specs.Io.KnownBytes.{Appends, append_known}
 use Rattle.std.proofs.KnownBytes.{Appends-trans}
 use Rattle.limit_lines.specs.Lines.{places_in}
-use Rattle.desk_cli.specs.Limits.{AreLines}
-use Rattle.desk_cli.proofs.ListedLimits.{lines_more, where_sound}
+use Rattle.desk_cli.specs.Limits.{AreLines, alone_line}
+use Rattle.desk_cli.proofs.ListedLimits.{lines_more, silent_more, where_sound}
 use Rattle.desk_cli.proofs.limits_lines.put_lines.Goals as goal
 
 pub loop-task-init : goal.loop-task-init
@@ -13,7 +13,7 @@ loop-task-init g c =
     let ok = sym c.is_err.ensures.value ∙ c.if-is_err.false in
     let wrote : Appends before after (string_bytes c.args.listing.now.first) = subst (λ (bs : List ℕ). Appends before after bs) c.as_bytes.ensures.value (where_sound c.put.result (Appends before after c.as_bytes.result.now) ok c.put.ensures.sent) in
     record {
-      said = ([], refl, subst (λ bs. Appends before after bs) (sym (append-nil (string_bytes c.args.listing.now.first))) wrote);
+      said = ([], refl, refl, subst (λ bs. Appends before after bs) (sym (append-nil (string_bytes c.args.listing.now.first))) wrote);
       same_flag = where_sound c.put.result (c.put.new.out.has_failed ≡ c.args.output.now.has_failed) ok c.put.ensures.ok;
     }
 
@@ -29,8 +29,9 @@ loop-task-preserved g c =
     record {
       said = (
         said.0 ++ line,
-        lines_more c.args.listing.now.set.now (places_in c.args.listing.now.placing.now) c.loop-task.task said.0 line said.1 c.in-Ok.ensures,
-        subst (λ bs. Appends before after bs) (append_assoc (string_bytes c.args.listing.now.first) said.0 line) (Appends-trans before between after ((string_bytes c.args.listing.now.first) ++ said.0) line said.2 wrote),
+        silent_more c.loop-task.is_silent _ said.0 line said.1 (subst (λ (bs : List ℕ). c.is_still_silent-is_silent.result ≡ (c.loop-task.is_silent && (length bs == 0))) c.as_str.ensures.value c.is_still_silent-is_silent.ensures),
+        lines_more c.args.listing.now.set.now (places_in c.args.listing.now.placing.now) c.loop-task.task said.0 line said.2 c.in-Ok.ensures,
+        subst (λ bs. Appends before after bs) (append_assoc (string_bytes c.args.listing.now.first) said.0 line) (Appends-trans before between after ((string_bytes c.args.listing.now.first) ++ said.0) line said.3 wrote),
       );
       same_flag = where_sound c.put-in-loop-task.result (c.put-in-loop-task.new.out.has_failed ≡ c.loop-task.output.has_failed) ok c.put-in-loop-task.ensures.ok ∙ c.loop-task.invariant.same_flag;
     }
@@ -40,13 +41,14 @@ returns-in-Ok-put-clause-all g c =
     let U = c.args.listing.now.set.now in
     let order = places_in c.args.listing.now.placing.now in
     let said = c.loop-task.invariant.said in
-    let last : List ℕ = string_bytes c.in-Ok-last_text.text in
+    let end = c.in-Ok-end_text.ensures in
+    let ends : List ℕ = string_bytes c.in-Ok-end_text.text in
     let before = append_known (g.W.Write.contents c.args.output.now.inner) c.args.held.now in
     let between = append_known (g.W.Write.contents c.loop-task.output.inner) c.loop-task.held in
     let after = append_known (g.W.Write.contents c.put-2.new.out.inner) c.put-2.new.self in
     let count : c.loop-task.task ≡ length U = omega (arith, c.loop-task-test.false, c.loop-task.auto.task-end, c.len-task-end.ensures.count) in
-    let wrote : Appends between after last = subst (λ (bs : List ℕ). Appends between after bs) c.as_bytes-2.ensures.value c.in-Ok-put.ensures.sent in (
-      said.0 ++ last,
-      (said.0, last, subst (λ n. AreLines U order n said.0) count said.1, c.in-Ok-last_text.ensures, refl),
-      subst (λ bs. Appends before after bs) (append_assoc (string_bytes c.args.listing.now.first) said.0 last) (Appends-trans before between after ((string_bytes c.args.listing.now.first) ++ said.0) last said.2 wrote),
+    let wrote : Appends between after ends = subst (λ (bs : List ℕ). Appends between after bs) c.as_bytes-2.ensures.value c.in-Ok-put.ensures.sent in (
+      said.0 ++ ends,
+      (said.0, end.0, subst (λ n. AreLines U order n said.0) count said.2, end.1, ap (λ (bs : List ℕ). said.0 ++ bs) (end.2 ∙ ap (λ (b : Bool). alone_line b order ++ end.0) said.1) ∙ sym (append_assoc said.0 (alone_line (length said.0 == 0) order) end.0)),
+      subst (λ bs. Appends before after bs) (append_assoc (string_bytes c.args.listing.now.first) said.0 ends) (Appends-trans before between after ((string_bytes c.args.listing.now.first) ++ said.0) ends said.3 wrote),
     )
