@@ -21,6 +21,22 @@ A job that isn't done by the end, and a part that is darker:
   $ grep -c '<title>lo holds m 100 to 3000 us</title>' run.svg
   1
 
+The pictures of README.md and docs/FORMATS.md are those of the commands beside them:
+
+  $ desk releases examples/shared-lock.toml 100000 | desk draw examples/shared-lock.toml - | cmp - docs/picture-1.svg
+  $ desk draw examples/jitter.toml examples/late.releases | cmp - docs/picture-2.svg
+
+What the title of a row's name says is what `desk simulate --tasks` prints:
+
+  $ desk draw examples/jitter.toml examples/late.releases | sed -nE 's/.*<title>done: (.*), greatest response: (.*), bound: (.*) us<.title>(.*)<.text>/task \4 \1 \2 \3/p' | sort
+  task a 3 7000 7000
+  task b 2 3000 3000
+  task c 1 20000 20000
+  $ desk simulate examples/jitter.toml examples/late.releases --tasks | sort
+  task a 3 7000 7000
+  task b 2 3000 3000
+  task c 1 20000 20000
+
 Two small documents, whole, as a program apart from this one makes them:
 
   $ printf 'until 3000\n0 lo\n' | desk draw examples/shared-lock.toml -
@@ -48,9 +64,9 @@ Two small documents, whole, as a program apart from this one makes them:
   <path class="l" d="M160 2460H9660"/>
   <path class="l" d="M160 3090H9660"/>
   <g id="n">
-  <text class="n" x="160" y="1480">hi</text>
-  <text class="n" x="160" y="2110">mid</text>
-  <text class="n" x="160" y="2740">lo</text>
+  <text class="n" x="160" y="1480"><title>done: 0, greatest response: -, bound: 5000 us</title>hi</text>
+  <text class="n" x="160" y="2110"><title>done: 0, greatest response: -, bound: 7000 us</title>mid</text>
+  <text class="n" x="160" y="2740"><title>done: 0, greatest response: -, bound: 27000 us</title>lo</text>
   </g>
   <use xlink:href="#n" x="3000"/>
   <use xlink:href="#n" x="6000"/>
@@ -93,9 +109,9 @@ Two small documents, whole, as a program apart from this one makes them:
   <path class="l" d="M160 2460H9660"/>
   <path class="l" d="M160 3090H9660"/>
   <g id="n">
-  <text class="n" x="160" y="1480">b</text>
-  <text class="n" x="160" y="2110">a</text>
-  <text class="n" x="160" y="2740">c</text>
+  <text class="n" x="160" y="1480"><title>done: 1, greatest response: 3000, bound: 3000 us</title>b</text>
+  <text class="n" x="160" y="2110"><title>done: 2, greatest response: 7000, bound: 7000 us</title>a</text>
+  <text class="n" x="160" y="2740"><title>done: 0, greatest response: -, bound: 20000 us</title>c</text>
   </g>
   <use xlink:href="#n" x="3000"/>
   <use xlink:href="#n" x="6000"/>

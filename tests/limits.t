@@ -60,6 +60,15 @@ jitter can be less, and no period of c helps.
   all - 950 c
   [3]
 
+Of three tasks that take nine tenths each, no change of one number helps; each may take 3333 at most, all of them 370
+thousandths of what they take.
+
+  $ for it in a b c; do printf '[[task]]\nname = "%s"\nperiod = 10000\ndeadline = 10000\ncost = 9000\n' $it; done | desk limits -
+  infeasible a b c
+  no single change
+  all - 370 c
+  [3]
+
 lo has 100000 and leaves 5 jobs of mid and 10 of hi: 80000. mid has 20000, less the section of lo and two jobs of hi; and lo
 lets it have as much: 100000 - 20000 - 10000 for five jobs. hi has 10000, less the section of lo, and 2000 makes 2000 + 8000
 of it. Sections grow with the factor.

@@ -136,6 +136,8 @@ def limits_of(tasks, task):
                 text.append(f"{sheet.name} {number.words()} {number.value(sheet)} {own} {most}\n")
         if order is not None:
             text.append(f"{sheet.name} slack {sheet.deadline - bounds[i]}\n")
+    if order is None and task is None and len(text) == 1:
+        text.append("no single change\n")
     if tasks and task is None:
         greatest = limits.factor(tasks)
         fails = "" if greatest is None else f" {tasks[limits.first_to_fail(tasks, greatest + 1)].name}"

@@ -50,8 +50,8 @@ const PICTURE: Parts = Parts {
 <path class=\"l\" d=\"M160 1830H9660\"/>
 <path class=\"l\" d=\"M160 2460H9660\"/>
 <g id=\"n\">
-<text class=\"n\" x=\"160\" y=\"1480\">a</text>
-<text class=\"n\" x=\"160\" y=\"2110\">b</text>
+<text class=\"n\" x=\"160\" y=\"1480\"><title>done: 1, greatest response: 450, bound: 550 us</title>a</text>
+<text class=\"n\" x=\"160\" y=\"2110\"><title>done: 1, greatest response: 900, bound: 1600 us</title>b</text>
 </g>
 <use xlink:href=\"#n\" x=\"3000\"/>
 <use xlink:href=\"#n\" x=\"6000\"/>
