@@ -1058,7 +1058,7 @@ try {
       found.shown.play);
   }
   equal(browser.complaints.join(' | '), '', 'complaints of the page');
-  if (!SCENES) await troubles();
+  if (!SCENES || SCENES.split(',').includes('troubles')) await troubles();
   equal(browser.complaints.join(' | '), '', 'complaints of the page');
 } catch (error) {
   expect(false, error.stack);
