@@ -18,9 +18,9 @@ function expect(is_so, what) {
   if (is_so) passed++;
   else if (++failed <= 30) console.log(`failed: ${what}`);
 }
+const brief = value => JSON.stringify(value)?.slice(0, 300);
 const equal = (found, wanted, what) =>
-  expect(found === wanted,
-  `${what}: ${JSON.stringify(found)?.slice(0, 300)}, and not ${JSON.stringify(wanted)?.slice(0, 300)}`);
+  expect(found === wanted, `${what}: ${brief(found)}, and not ${brief(wanted)}`);
 const example = name => readFileSync(`${EXAMPLES}${name}.toml`, 'utf8');
 
 // The program's answer to a command over inputs, of which the last is its standard input.
@@ -125,7 +125,8 @@ function compare_mends(what, limits, mends) {
   const lines = limits.split('\n').slice(1).map(it => it.split(' ')).filter(it => it.length > 4);
   const wanted = lines.map(words => {
     const [name, key] = words, [value, , most] = words.slice(-3);
-    return `${name}: ${key === 'section' ? `length of section ${words[2]}` : key} ${value} → ${most}`;
+    const what = key === 'section' ? `length of section ${words[2]}` : key;
+    return `${name}: ${what} ${value} → ${most}`;
   });
   equal(mends.map(digits).join('|'), wanted.join('|'), `${what}: what mends it`);
 }
@@ -171,7 +172,9 @@ function compare_set(what, set, seen) {
     }
   if (wanted.admit.status === 3) compare_mends(what, wanted.limits.text, seen.mends);
   if (wanted.admit.status === 3)
-    expect(seen.verdict === `No order passes: ${wanted.admit.text.trim().split(' ').slice(1).join(', ')}` && seen.conflict, `${what}: ${seen.verdict}`);
+    expect(seen.conflict && seen.verdict ===
+      `No order passes: ${wanted.admit.text.trim().split(' ').slice(1).join(', ')}`,
+      `${what}: ${seen.verdict}`);
   if (wanted.admit.status === 4)
     expect(/^(Refused|Not read|Done)/.test(seen.verdict) && !/no|yes/.test(seen.strip),
       `${what}: ${seen.verdict} ${wanted.admit.text}`);
@@ -257,14 +260,16 @@ async function sections() {
   compare_set('a shorter section', seen.set, seen);
   equal(seen.strip, 'verdict is-yes', 'which mends the robot');
   await browser.evaluate(
-    `[...document.querySelectorAll('#editor-6 button')].find(it => it.textContent === 'Add a section').click()`);
+    `[...document.querySelectorAll('#editor-6 button')]
+      .find(it => it.textContent === 'Add a section').click()`);
   await browser.settled();
   equal(await browser.evaluate(`document.activeElement.getAttribute('aria-label')`),
     'locks of section 2 of battery', 'the new section has the focus');
   await browser.write('#editor-6 .line[aria-label="section 2"] input', 'bus log');
   seen = await look();
   expect(seen.set.includes(
-    'section = [{ locks = ["bus"], at = 100, len = 300 }, { locks = ["bus", "log"], at = 400, len = 100 }]'), 'two sections in one line');
+    'section = [{ locks = ["bus"], at = 100, len = 300 }, ' +
+    '{ locks = ["bus", "log"], at = 400, len = 100 }]'), 'two sections in one line');
   await browser.write('#over-6', 'upload');
   seen = await look();
   expect(seen.set.includes('outranks = ["upload"]'), 'outranks');
@@ -274,7 +279,8 @@ async function sections() {
   equal(seen.verdict, 'Refused: task 7 (battery), section 2, begins before the one before it ends.',
     'a section over another');
   expect(await browser.evaluate(
-    `document.querySelector('#editor-6 .line[aria-label="section 2"] input:nth-of-type(2)').getAttribute('aria-invalid') === 'true'`), 'is marked in the table');
+    `document.querySelector('#editor-6 .line[aria-label="section 2"] input:nth-of-type(2)')
+      .getAttribute('aria-invalid') === 'true'`), 'is marked in the table');
   await browser.click('#editor-6 .line[aria-label="section 2"] button');
   seen = await look();
   expect(seen.set.includes('section = [{ locks = ["bus"], at = 100, len = 300 }]\n'),
@@ -282,8 +288,12 @@ async function sections() {
 }
 
 async function other_forms() {
-  const inline =
-    `task = [ # all\n  { name = "a", period = 5000, deadline = 5000, cost = 1000 }, # first\n  { name = "b", period = 9000, deadline = 9000, cost = 2000, section = [{ locks = ["m"], at = 0, len = 10 }] },\n]\n`;
+  const section = '[{ locks = ["m"], at = 0, len = 10 }]';
+  const inline = `task = [ # all
+  { name = "a", period = 5000, deadline = 5000, cost = 1000 }, # first
+  { name = "b", period = 9000, deadline = 9000, cost = 2000, section = ${section} },
+]
+`;
   await put({ set: inline });
   await browser.write(cell(0, 'cost'), '1500');
   let seen = await look();
@@ -372,13 +382,16 @@ async function all_execution() {
 
 async function conflicts() {
   const seen = await put({ set: example('robot') });
-  expect(/motor needs 1050 of 1000 µs, 50 too long; blocked 900 by battery, section 1 that holds bus/.test(digits(seen.conflict)), `the conflict: ${seen.conflict}`);
+  const need = 'motor needs 1050 of 1000 µs, 50 too long; ' +
+    'blocked 900 by battery, section 1 that holds bus';
+  expect(digits(seen.conflict).includes(need), `the conflict: ${seen.conflict}`);
   await browser.click('#conflict button');
   equal(await browser.evaluate(`document.activeElement.getAttribute('aria-label')`),
     'len of section 1 of battery', 'the blocker is shown in the table');
   const over =
     await put(
-    { set: '[[task]]\nname = "a"\nperiod = 5000\ndeadline = 5000\ncost = 10\noutranks = ["b"]\n[[task]]\nname = "b"\nperiod = 5000\ndeadline = 5000\ncost = 10\noutranks = ["a"]\n' });
+    { set: [['a', 'b'], ['b', 'a']].map(([name, other]) => `[[task]]\nname = "${name}"\n` +
+      `period = 5000\ndeadline = 5000\ncost = 10\noutranks = ["${other}"]\n`).join('') });
   compare_set('each above the other', over.set, over);
   expect(/a must stand above b/.test(over.conflict), over.conflict);
 }
@@ -406,15 +419,17 @@ async function preference() {
   await put({ set: example('robot-mended') });
   await browser.click('#by-deadline');
   let seen = await look();
-  equal(seen.set, example('robot-mended').replace('\n[[task]]', '\nprefer = "deadline"\n\n[[task]]'),
+  const preferring = '\nprefer = "deadline"\n\n[[task]]';
+  equal(seen.set, example('robot-mended').replace('\n[[task]]', preferring),
     'the preference stands above the tasks');
   expect(seen.is_tabled, 'a set that prefers something has its table');
   const preferred = native('admit', [example('robot-mended')], ['--prefer', 'deadline']);
   if (preferred.status === 0)
     equal(seen.answers.admit.text, preferred.text, 'the preference is --prefer deadline');
   compare_set('by deadline', seen.set, seen);
-  equal(await browser.evaluate(`document.getElementById('by-deadline').getAttribute('aria-pressed')`),
-    'true', 'the button is down');
+  equal(await browser.run(() =>
+    document.getElementById('by-deadline').getAttribute('aria-pressed')), 'true',
+    'the button is down');
   await browser.write(cell(0, 'cost'), '151');
   expect((await look()).set.includes('cost = 151\n'), 'and the table edits it');
   await browser.write(cell(0, 'cost'), '150');
@@ -450,7 +465,8 @@ async function sorting() {
   await browser.press('ArrowDown');
   await browser.settled();
   const deadlines = (await values('deadline')).map(Number);
-  expect(deadlines.every((it, at) => at === 0 || deadlines[at - 1] <= it), `by deadline: ${deadlines}`);
+  expect(deadlines.every((it, at) => at === 0 || deadlines[at - 1] <= it),
+    `by deadline: ${deadlines}`);
   // An edit in a sorted table goes to its own task, and the row moves once the field is left.
   const row = '#table [data-task="motor"] [data-cell="deadline"]';
   await browser.click(row);
@@ -481,8 +497,9 @@ async function baseline() {
   const check = (what, changes, found) => {
     for (const [, name, , level, level_now, , bound, bound_now, , left, left_now] of changes) {
       const it = found.find(it => it[0] === name) ?? [];
-      equal(digits(it.slice(2, 5).join('|')), [[level, level_now], [bound, bound_now], [left, left_now]]
-        .map(two => arrow(...two.map(or_none))).join('|'), `${what}: ${name}`);
+      const wanted = [[level, level_now], [bound, bound_now], [left, left_now]]
+        .map(two => arrow(...two.map(or_none)));
+      equal(digits(it.slice(2, 5).join('|')), wanted.join('|'), `${what}: ${name}`);
     }
     expect(changes.length > 0 && found.length >= changes.length, `${what}: ${found.length} rows`);
   };
@@ -517,8 +534,8 @@ async function give_file(selector, path) {
   await browser.settled();
 }
 async function saved(path) {
-  for (let tries = 0; tries < 60 && (statSync(path, { throwIfNoEntry: false })?.size ?? 0) === 0; tries++)
-    await soon(50);
+  const size = () => statSync(path, { throwIfNoEntry: false })?.size ?? 0;
+  for (let tries = 0; tries < 60 && size() === 0; tries++) await soon(50);
   return readFileSync(path, 'utf8');
 }
 // A baseline is there after a reload, goes to a file, and comes from one.
@@ -567,10 +584,12 @@ async function teams() {
   let seen = await put({ script });
   const { text } = native('play', [script]), replies = text.split('\n');
   equal(seen.shown.play, text, 'what play prints');
-  const cards = () => browser.evaluate(`[...document.querySelectorAll('#drafts > .draft')].map(it => ({
-    head: it.querySelector('.title').textContent,
-    lines: [...it.querySelectorAll('.lines > li')].map(line =>
-      [...line.children].map(part => part.title || part.textContent)) }))`);
+  const cards = () => browser.run(() =>
+    [...document.querySelectorAll('#drafts > .draft')].map(it => ({
+      head: it.querySelector('.title').textContent,
+      lines: [...it.querySelectorAll('.lines > li')].map(line =>
+        [...line.children].map(part => part.title || part.textContent)),
+    })));
   let found = await cards();
   equal(found.length, 2, 'two drafts');
   expect(/team 1draft 1on version 0in the node, as version 1$/.test(found[0].head), found[0].head);
@@ -582,8 +601,7 @@ async function teams() {
     if (!line.startsWith('open')) equal(row?.[2], replies[at], `the reply to line ${number}`);
   }
   equal(seen.shown['node-version'], 'Version 1: 1 task', 'the state of the node');
-  equal(await browser.evaluate(`document.getElementById('node-levels').textContent`), '1ateam 16000 µs',
-    'and its levels');
+  equal(seen.shown['node-levels'], '1ateam 16000 µs', 'and its levels');
   // A key typed into the script.
   await browser.click('#script');
   await browser.press('a', { ctrl: true });
@@ -603,8 +621,6 @@ async function teams() {
   seen = await look();
   const other = readFileSync(`${EXAMPLES}findings-in-any-order.script`, 'utf8');
   same('an example script', seen.answers.play, native('play', [other]), seen.shown.play);
-  expect(await browser.evaluate('document.documentElement.scrollWidth <= innerWidth'), 'not too wide');
-  if (SHOTS) await browser.picture(`${SHOTS}/teams-1400-light.png`);
   await browser.click('#tab-set');
 }
 
@@ -669,8 +685,9 @@ const run_state = () => browser.run(() => {
   const letter = all.querySelector('text.s'), slice = all.querySelectorAll('.e')[1];
   return {
     width: box(all.querySelector('svg')).width, height: box(all.querySelector('svg')).height,
-    left: host.scrollLeft, wide: host.clientWidth, zoom: document.getElementById('zoom').textContent,
-    names: [...all.querySelectorAll('.names span')].map(it => [it.textContent, box(it).left - edge.left]),
+    left: host.scrollLeft, wide: host.clientWidth,
+    names: [...all.querySelectorAll('.names span')]
+      .map(it => [it.textContent, box(it).left - edge.left]),
     letter: box(letter).height, slice: box(slice).width,
   };
 });
@@ -685,7 +702,8 @@ async function the_run() {
   expect(large.width > 3 * fit.width && large.left > 0, `zoomed: ${JSON.stringify(large)}`);
   expect(Math.abs(large.letter - fit.letter) < .5 && Math.abs(large.height - fit.height) < .5,
     `letters and rows stay: ${fit.letter}, ${large.letter}`);
-  expect(Math.abs(large.slice / fit.slice - 1.25 ** 6) < .4, `time widens: ${large.slice / fit.slice}`);
+  const wider = large.slice / fit.slice;
+  expect(Math.abs(wider - 1.25 ** 6) < .4, `time widens: ${wider}`);
   expect(large.names.length === 9 && large.names.every(([, at]) => at >= 0 && at < 30),
     `names stay at the edge: ${JSON.stringify(large.names)}`);
   await browser.pull('#picture', .3, .6);
@@ -741,7 +759,8 @@ async function slices() {
   equal(await browser.evaluate(`document.activeElement.getAttribute('aria-label')`),
     'len of section 1 of lo', 'its section is shown in the table');
   equal(await click_on('hi holds m 20000 to 20200 us'),
-    'hi, job 3, arrived at 20000 µs, done at 21000 µs: holds m from 20000 to 20200 µs, in section 1.',
+    'hi, job 3, arrived at 20000 µs, done at 21000 µs: ' +
+    'holds m from 20000 to 20200 µs, in section 1.',
     'a later job');
   equal(await click_on('mid 21000 to 23000 us'),
     'mid, job 2, arrived at 20000 µs, done at 23000 µs: executes from 21000 to 23000 µs.',
@@ -752,8 +771,9 @@ async function slices() {
   await browser.click('#fit');
   for (let i = 0; i < 3; i++) await browser.click('#larger');
   await browser.run(() => { document.getElementById('picture').scrollLeft = 0; });
-  equal(await click_on('balance holds pose 1350 to 1500 us'), 'balance, job 1, arrived at 100 µs, ' +
-    'done at 1550 µs: holds pose from 1350 to 1500 µs, in section 2.', 'the second of two sections');
+  equal(await click_on('balance holds pose 1350 to 1500 us'),
+    'balance, job 1, arrived at 100 µs, done at 1550 µs: ' +
+    'holds pose from 1350 to 1500 µs, in section 2.', 'the second of two sections');
   await put({ until: '' });
 }
 
@@ -837,7 +857,8 @@ function contrasts() {
 async function looks() {
   const sets = { 'robot-mended': example('robot-mended'), robot: example('robot'),
     faulty: example('robot-mended').replace('deadline = 4000', 'deadline = 6000') };
-  for (const [width, height] of [[420, 900], [1400, 1000]]) for (const scheme of ['light', 'dark']) {
+  const pages = [[420, 900], [1400, 1000]].flatMap(it => [[...it, 'light'], [...it, 'dark']]);
+  for (const [width, height, scheme] of pages) {
     await browser.looks(width, height, scheme);
     for (const [name, set] of Object.entries(sets)) await look_at(name, set, width, scheme);
     await browser.click('#tab-teams');
@@ -873,7 +894,8 @@ async function skipping() {
     { env: { ...process.env, CHROMIUM: '/nowhere/chromium' } });
   const [last, before] = stdout.toString().trimEnd().split('\n').reverse();
   equal(`${status} ${last}`, '0 0 passed, 0 failed', 'a test without a browser');
-  expect(/^page\/test: skipped: \/nowhere\/chromium isn't here/.test(before), `which says: ${before}`);
+  expect(before.startsWith("page/test: skipped: /nowhere/chromium isn't here"),
+    `which says: ${before}`);
 }
 
 // ---- what goes wrong
@@ -928,7 +950,11 @@ async function troubles() {
     await goes_on(what);
   }
   await browser.evaluate(
-    `for (let i = 0; i < 50; i++) { const it = document.getElementById('set'); it.value += '#'; it.dispatchEvent(new Event('input')); }`);
+    `for (let i = 0; i < 50; i++) {
+      const it = document.getElementById('set');
+      it.value += '#';
+      it.dispatchEvent(new Event('input'));
+    }`);
   await goes_on('fast typing');
   // An error of the script.
   browser.complaints.length = 0;
@@ -963,7 +989,8 @@ async function troubles() {
   });
   await soon(900);
   expect(await browser.evaluate(
-    `!document.getElementById('busy').hidden && document.getElementById('verdict').textContent === '…'`), 'what takes long is told of');
+    `!document.getElementById('busy').hidden &&
+      document.getElementById('verdict').textContent === '…'`), 'what takes long is told of');
   await browser.evaluate(`document.getElementById('stop').click()`);
   await soon(50);
   expect(/Stopped/.test(await browser.evaluate(`document.getElementById('notice').textContent`)),
@@ -1031,7 +1058,7 @@ try {
       found.shown.play);
   }
   equal(browser.complaints.join(' | '), '', 'complaints of the page');
-  if (!SCENES) await troubles();
+  if (!SCENES || SCENES.split(',').includes('troubles')) await troubles();
   equal(browser.complaints.join(' | '), '', 'complaints of the page');
 } catch (error) {
   expect(false, error.stack);
