@@ -33,9 +33,9 @@ class Case:
         return commands.answer(self.words, self.files, self.stdin)
 
 
-def make(seed, number):
+def make(seed, number, only=None):
     rng = random.Random(f"{seed} {number}")
-    subject = rng.choices(list(SHARES), SHARES.values())[0]
+    subject = only or rng.choices(list(SHARES), SHARES.values())[0]
     if subject == "words":
         return deep(rng) if rng.random() < 0.2 else wrong_words(rng)
     if subject in ("play", "rush"):
