@@ -309,6 +309,16 @@ async function other_forms() {
   expect(seen.is_tabled &&
     /^Refused: task 1 \(a\) has another kind of value than it should at deadline/.test(
     seen.verdict), seen.verdict);
+  for (const [set, verdict] of [
+    ['prefer = "cost"\n', 'Refused: The set prefers neither “weight” nor “deadline”.'],
+    ['#% cam 4\n#ok\n#% arm 9\ntask=[{}]', 'Refused: of team arm, task 1 lacks name.'],
+    ['#% cam 3\nx=', 'Refused: part 1 has no line “#% TEAM COUNT” that fits it.'],
+    ['#% cam 16\nprefer="weight"\n#% arm 18\nprefer="deadline"\n',
+      'Refused: team arm prefers otherwise than team cam.'],
+  ]) {
+    seen = await put({ set });
+    equal(seen.verdict, verdict, `a refusal: ${native('admit', [set]).text.trim()}`);
+  }
   seen = await put({ set: '# nothing\n' });
   equal(seen.verdict, 'Admitted: no tasks', 'no tasks');
   await browser.click('#add');
