@@ -699,6 +699,7 @@ const run_state = () => browser.run(() => {
     names: [...all.querySelectorAll('.names span')]
       .map(it => [it.textContent, box(it).left - edge.left]),
     letter: box(letter).height, slice: box(slice).width,
+    legend: box(all.querySelector('svg > g')).left - edge.left,
   };
 });
 async function the_run() {
@@ -716,6 +717,7 @@ async function the_run() {
   expect(Math.abs(wider - 1.25 ** 6) < .4, `time widens: ${wider}`);
   expect(large.names.length === 9 && large.names.every(([, at]) => at >= 0 && at < 30),
     `names stay at the edge: ${JSON.stringify(large.names)}`);
+  expect(Math.abs(large.legend - fit.legend) < 2, `the legend stays: ${fit.legend}, ${large.legend}`);
   await browser.pull('#picture', .3, .6);
   expect((await run_state()).left < large.left, 'pulled');
   expect((await run_state()).names.every(([, at]) => at >= 0 && at < 30), 'names stay, pulled');
