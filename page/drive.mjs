@@ -309,6 +309,16 @@ async function other_forms() {
   expect(seen.is_tabled &&
     /^Refused: task 1 \(a\) has another kind of value than it should at deadline/.test(
     seen.verdict), seen.verdict);
+  for (const [set, verdict] of [
+    ['prefer = "cost"\n', 'Refused: The set prefers neither “weight” nor “deadline”.'],
+    ['#% cam 4\n#ok\n#% arm 9\ntask=[{}]', 'Refused: of team arm, task 1 lacks name.'],
+    ['#% cam 3\nx=', 'Refused: part 1 has no line “#% TEAM COUNT” that fits it.'],
+    ['#% cam 16\nprefer="weight"\n#% arm 18\nprefer="deadline"\n',
+      'Refused: team arm prefers otherwise than team cam.'],
+  ]) {
+    seen = await put({ set });
+    equal(seen.verdict, verdict, `a refusal: ${native('admit', [set]).text.trim()}`);
+  }
   seen = await put({ set: '# nothing\n' });
   equal(seen.verdict, 'Admitted: no tasks', 'no tasks');
   await browser.click('#add');
@@ -689,6 +699,7 @@ const run_state = () => browser.run(() => {
     names: [...all.querySelectorAll('.names span')]
       .map(it => [it.textContent, box(it).left - edge.left]),
     letter: box(letter).height, slice: box(slice).width,
+    legend: box(all.querySelector('svg > g')).left - edge.left,
   };
 });
 async function the_run() {
@@ -706,6 +717,7 @@ async function the_run() {
   expect(Math.abs(wider - 1.25 ** 6) < .4, `time widens: ${wider}`);
   expect(large.names.length === 9 && large.names.every(([, at]) => at >= 0 && at < 30),
     `names stay at the edge: ${JSON.stringify(large.names)}`);
+  expect(Math.abs(large.legend - fit.legend) < 2, `the legend stays: ${fit.legend}, ${large.legend}`);
   await browser.pull('#picture', .3, .6);
   expect((await run_state()).left < large.left, 'pulled');
   expect((await run_state()).names.every(([, at]) => at >= 0 && at < 30), 'names stay, pulled');

@@ -65,7 +65,8 @@ function draft_card(draft, index) {
 }
 function level_row({ level, name, team, bound }) {
   const who = element('span.who', element('span.level', String(level)), name);
-  const title = element('div.title', who, team_named(team), element('span.told', element('b', grouped(bound)), ' µs'));
+  const told = element('span.told', element('b', grouped(bound)), ' µs');
+  const title = element('div.title', who, team_named(team), told);
   return coloured(element('li.bar', { 'data-task': name }, title), `team ${team}`);
 }
 
