@@ -1,0 +1,102 @@
+// The page beside the program: each printed line, each bar, its parts and their widths.
+import { digits, equal, expect, kinds, native } from './page.mjs';
+
+const PARTS = { cost: it => `own cost: ${it[1]} µs`, jitter: it => `jitter: ${it[1]} µs`,
+  blocked: it => `blocked by ${it[3]}, section ${it[5]}, lock ${it[7]}: ${it[1]} µs`,
+  above: it => `${it[1]} above: ${it[2]} job${it[2] === '1' ? '' : 's'}, ${it[4]} µs` };
+// Each bar has the account's numbers, a part for each part of it, and their widths.
+function compare_bars(what, explain, { bars }) {
+  const blocks = explain.text.trimEnd().split(/\n(?! )/).slice(1)
+    .filter(it => !/^(load|conflict) /.test(it));
+  const drawn = bars.filter(it => it.is_drawn);
+  const timed = blocks.filter(it => / \d+ of \d+(\n|$)/.test(it));
+  equal(drawn.length, timed.length, `${what}: bars`);
+  for (const block of timed) {
+    const [head, ...parts] = block.split('\n');
+    const [, level, name, time, deadline] = head.match(/^(?:(\d+) )?(\S+) (\d+) of (\d+)$/);
+    const bar = bars.find(it => it.name === name);
+    if (!bar) return expect(false, `${what}: no bar of ${name}`);
+    const late = Number(time) - Number(deadline);
+    equal(digits(bar.told), `${time} of ${deadline} µs${late > 0 ? ` ${late} too long` : ''}`,
+      `${what}: ${name}`);
+    equal(bar.level, level ?? '', `${what}: level of ${name}`);
+    equal(digits(bar.parts.join('|')).replace(/ \([\d.]+ % of the deadline\)/g, ''),
+      parts.map(it => it.trim().split(' ')).map(it => PARTS[it[0]](it)).join('|'),
+      `${what}: parts of ${name}`);
+    const scale = Math.max(time, deadline);
+    expect(Math.abs(bar.width - 100 * time / scale) < .01 &&
+      Math.abs(bar.end - 100 * deadline / scale) < .01,
+      `${what}: ${name} is ${bar.width} wide, ends at ${bar.end}`);
+    const ends = bar.places.map(([left, width]) => left + width);
+    expect(bar.places.every(([left], at) => Math.abs(left - (ends[at - 1] ?? 0)) < .01),
+      `${what}: the parts of ${name} don't touch: ${bar.places}`);
+    equal(bar.is_bad, explain.status === 3, `${what}: red of ${name}`);
+  }
+  if (explain.status === 0)
+    equal(bars.map(it => it.name).join(), blocks.map(it => it.split(' ')[1]).reverse().join(),
+      `${what}: order of the bars`);
+}
+// Each change that mends a refused set has its button.
+function compare_mends(what, limits, mends) {
+  const lines = limits.split('\n').slice(1).map(it => it.split(' ')).filter(it => it.length > 4);
+  const wanted = lines.map(words => {
+    const [name, key] = words, [value, , most] = words.slice(-3);
+    const what = key === 'section' ? `length of section ${words[2]}` : key;
+    return `${name}: ${what} ${value} → ${most}`;
+  });
+  equal(mends.map(digits).join('|'), wanted.join('|'), `${what}: what mends it`);
+}
+export function same(name, found, wanted, shown) {
+  const head = it => `[${it?.status}] ${JSON.stringify(it?.text?.slice(0, 80))}`;
+  expect((shown === undefined || shown === wanted.text) && found?.text === wanted.text &&
+    found.status === wanted.status, `${name}: ${head(found)}, and not ${head(wanted)}`);
+}
+export function compare_set(what, set, seen) {
+  const { answers, shown, slices, bars } = seen;
+  const wanted = Object.fromEntries(
+    ['admit', 'explain', 'settings', 'certify', 'limits'].map(it => [it, native(it, [set])]));
+  if (wanted.certify.status !== 4) wanted.check = native('check', [set, wanted.certify.text]);
+  if (wanted.admit.status === 0) {
+    wanted.releases = native('releases', [set], [answers.releases.text.split(/\s/)[1]]);
+    wanted.simulate = native('simulate', [set, wanted.releases.text]);
+    wanted.draw = native('draw', [set, wanted.releases.text]);
+  }
+  for (const [name, it] of Object.entries(wanted))
+    same(`${what}: ${name}`, answers[name], it, it.text.length < 200000 ? shown[`printed-${name}`] :
+      undefined);
+  const kind = wanted.admit.text.split(/\s/)[0];
+  kinds[kind] = (kinds[kind] ?? 0) + 1;
+  expect(Object.keys(answers).every(it => wanted[it] || ['play', 'judge'].includes(it)),
+    `${what}: more answers than wanted: ${Object.keys(answers)}`);
+  equal(shown.settings, wanted.settings.status === 0 ? wanted.settings.text : '',
+    `${what}: settings to copy`);
+  equal(seen.trouble, '', `${what}: trouble`);
+  if (wanted.explain.status !== 4) compare_bars(what, wanted.explain, seen);
+  if (wanted.admit.status === 0 && seen.is_tabled)
+    for (const [name, , cost, in_order, most] of wanted.limits.text.split('\n').slice(1)
+      .map(it => it.split(' ')).filter(it => it[1] === 'cost')) {
+      const deadline =
+        Number(wanted.explain.text.match(new RegExp(`^\\d+ ${name} \\d+ of (\\d+)$`, 'm'))[1]);
+      const at = it => Math.min(100, 100 * it / deadline);
+      const [reach, any] = bars.find(it => it.name === name)?.reach ?? [];
+      expect(Math.abs(reach - at(in_order)) < .01 &&
+        (most === in_order ? any === null : Math.abs(any - at(most)) < .01),
+        `${what}: marks of ${name} at ${reach}, ${any}`);
+      equal(digits(bars.find(it => it.name === name)?.room ?? ''),
+        `cost ${cost} ≤ ${in_order}${most === in_order ? '' : ` (${most})`}`,
+        `${what}: how far the cost of ${name} may go`);
+    }
+  if (wanted.admit.status === 3) compare_mends(what, wanted.limits.text, seen.mends);
+  if (wanted.admit.status === 3)
+    expect(seen.conflict && seen.verdict ===
+      `No order passes: ${wanted.admit.text.trim().split(' ').slice(1).join(', ')}`,
+      `${what}: ${seen.verdict}`);
+  if (wanted.admit.status === 4)
+    expect(/^(Refused|Not read|Done)/.test(seen.verdict) && !/no|yes/.test(seen.strip),
+      `${what}: ${seen.verdict} ${wanted.admit.text}`);
+  if (wanted.admit.status !== 0) return equal(slices.length, 0, `${what}: a picture of no run`);
+  const run = [...wanted.simulate.text.matchAll(/^(\d+) (\d+) (\S+)$/gm)]
+    .map(it => `${it[3]} ${it[1]} to ${it[2]} us`);
+  expect(wanted.draw.text.length > 4000000 || slices.sort().join() === run.sort().join(),
+    `${what}: ${slices.length} slices of ${run.length}`);
+}
