@@ -66,7 +66,7 @@ thousandths of what they take.
   $ for it in a b c; do printf '[[task]]\nname = "%s"\nperiod = 10000\ndeadline = 10000\ncost = 9000\n' $it; done | desk limits -
   infeasible a b c
   no single change
-  all - 370 c
+  all - 370 a
   [3]
 
 lo has 100000 and leaves 5 jobs of mid and 10 of hi: 80000. mid has 20000, less the section of lo and two jobs of hi; and lo
@@ -177,6 +177,7 @@ No single number mends two tasks that are too late each; all of it together does
   > cost = 20
   > END
   infeasible x y
+  no single change
   all - 250 x
   [3]
 
