@@ -241,7 +241,7 @@ fn bring_all(alloc: Global, core: &mut Core) -> Result<(), Fail> {
 }
 
 // What a commit of draft 1 is answered.
-fn committed(alloc: Global, core: &mut Core) -> Result<&'static str, Fail> {
+fn said_of_commit(alloc: Global, core: &mut Core) -> Result<&'static str, Fail> {
     let reply = stepped(alloc, core, Event::Commit { draft: 1 })?;
     Ok(answer_of(&reply))
 }
@@ -251,8 +251,8 @@ fn findings_in_any_order(rt: HostRuntime) -> Result<(), Fail> {
     let alloc = rt.alloc();
     let mut core = two_drafts(alloc)?;
     bring_all(alloc, &mut core)?;
-    assert!(rt; committed(alloc, &mut core)? == "decided");
-    assert!(rt; committed(alloc, &mut core)? == "no such draft");
+    assert!(rt; said_of_commit(alloc, &mut core)? == "decided");
+    assert!(rt; said_of_commit(alloc, &mut core)? == "no such draft");
     let levels = levels_of(alloc, &core)?;
     assert!(rt; levels.as_slice() == [(2, 20_000), (0, 6_000), (1, 3_000)].as_slice());
     Ok(())
