@@ -3,7 +3,7 @@
  *
  * Each function takes the bytes of its inputs, room for the answer, and where the status goes. It puts what the command of
  * its name prints of these bytes at the start of the room, the command's exit status into *status, and returns how many
- * bytes the answer has.
+ * bytes the answer has. desk_tell gives in the same way what the program tells a person beside that answer.
  *
  * Room. Where the count is more than the room has, the room is as it was, and so many bytes suffice: ask with no room
  * first, then with what the count says. (Where memory runs out in one of the two calls, their counts may differ.) What the
@@ -32,10 +32,11 @@
 extern "C" {
 #endif
 
-/* The exit statuses. Those of the command line's words and of files, 2 and 7, do not come here. */
+/* The exit statuses. That of files, 7, does not come here. */
 enum {
     DESK_DONE = 0,
-    DESK_INFEASIBLE = 3,      /* no order passes, or the one that was given does not */
+    DESK_BAD_ARGUMENTS = 2,   /* desk_tell alone: no command has the number */
+    DESK_INFEASIBLE = 3,      /* no order passes, or the one that was given does not; a promise is broken */
     DESK_BAD_INPUT = 4,       /* an input was refused */
     DESK_BAD_CERTIFICATE = 5, /* a certificate was refused */
     DESK_OUT_OF_MEMORY = 6,
@@ -80,8 +81,37 @@ size_t desk_simulate(const uint8_t *set, size_t set_length, const uint8_t *relea
 size_t desk_draw(const uint8_t *set, size_t set_length, const uint8_t *releases, size_t releases_length, uint8_t *room,
                  size_t room_length, uint8_t *status);
 
+/* What a trace of a node shows of each task, and which promises it breaks; no time may be past what is promised. */
+size_t desk_observe(const uint8_t *set, size_t set_length, const uint8_t *trace, size_t trace_length, uint8_t *room,
+                    size_t room_length, uint8_t *status);
+
 /* The replies to a script of drafts, findings and commits, and the book after them. */
 size_t desk_play(const uint8_t *script, size_t script_length, uint8_t *room, size_t room_length, uint8_t *status);
+
+/* The commands by number, for desk_tell: each is the function of its name. */
+enum {
+    DESK_ADMIT = 1,
+    DESK_CERTIFY = 2,
+    DESK_CHECK = 3,
+    DESK_LIMITS = 4,
+    DESK_SETTINGS = 5,
+    DESK_EXPLAIN = 6,
+    DESK_JUDGE = 7,
+    DESK_DIFF = 8,
+    DESK_RELEASES = 9,
+    DESK_SIMULATE = 10,
+    DESK_DRAW = 11,
+    DESK_PLAY = 12,
+    DESK_OBSERVE = 13,
+};
+
+/* What the program writes on standard error beside that answer: the sentence for a refusal, or the notes on a set, each a
+ * line. It is called with what the command was given, NULL, 0 and 0 for what the command does not take, and asks the same
+ * once more. The status is the command's; the count is 0 where there is nothing to tell. A sentence begins with what the
+ * refused input is called above: `set: task 1 (a): the period ..`. It is for people, and may be worded otherwise in a later
+ * version; where memory runs out a line is left out. */
+size_t desk_tell(uint8_t command, const uint8_t *first, size_t first_length, const uint8_t *second, size_t second_length,
+                 uint64_t until, uint8_t *room, size_t room_length, uint8_t *status);
 
 #ifdef __cplusplus
 }

@@ -1,16 +1,19 @@
-// Drives the page in headless Chromium with keys and a pointer, and compares what it shows with
-// what the program prints: node drive.mjs [COUNT [SEED]], with PAGE, DESK and CHROMIUM in the
-// environment (page/test). SHOTS names a folder for pictures of the page, SCENES some scenes, by
-// commas, that alone are driven.
+// Drives the page in a browser without a window with keys and a pointer, and compares what it shows
+// with what the program prints: node drive.mjs [COUNT [SEED]], with PAGE, DESK and BROWSER
+// (Chromium or Firefox) in the environment (page/test). SHOTS names a folder for pictures of the
+// page, SCENES some scenes, by commas, that alone are driven.
 import { readFileSync, readdirSync, statSync } from 'fs';
 import { join } from 'path';
 import { compare_set, same } from './driving/comparing.mjs';
 import {
-  EXAMPLES, PAGE_URL, browser, equal, expect, kinds, look, native, put, tally,
+  EXAMPLES, PAGE_URL, browser, equal, expect, is_firefox, kinds, look, native, put, tally,
 } from './driving/page.mjs';
 import { random_script, random_set, seed as sow } from './driving/random.mjs';
 import { all_execution, conflicts, grips, judging, mending, teams } from './driving/answering.mjs';
-import { other_forms, preference, sections, sorting, the_table } from './driving/editing.mjs';
+import {
+  moving, other_forms, preference, sections, sorting, the_table,
+} from './driving/editing.mjs';
+import { delays } from './driving/delays.mjs';
 import { baseline, files, kept_baselines } from './driving/keeping.mjs';
 import { keys, looks, names } from './driving/looking.mjs';
 import { slices, the_run } from './driving/running.mjs';
@@ -29,9 +32,11 @@ try {
   same('the script as it opens', first.answers.play,
     native('play', [await browser.evaluate(`document.getElementById('script').value`)]),
     first.shown.play);
-  const scenes = [the_table, preference, sorting, sections, other_forms, grips, all_execution,
-    conflicts, mending, baseline, kept_baselines, judging, teams, files, the_run, slices, keys,
-    names, looks, skipping];
+  // Firefox shows nobody its tree of names and roles.
+  const in_chromium = is_firefox ? [] : [names, skipping];
+  const scenes = [the_table, moving, preference, sorting, sections, other_forms, grips,
+    all_execution, conflicts, mending, baseline, kept_baselines, judging, teams, files, the_run,
+    slices, keys, looks, delays, ...in_chromium];
   for (const scene of scenes.filter(it => !SCENES || SCENES.split(',').includes(it.name))) {
     const before = tally.failed;
     try {

@@ -31,7 +31,7 @@ line that `desk` prints and a sentence:
 (Infeasible(tasks=('a', 'b')), False)
 >>> desk.admit([desk.Task("a", 10_000, 20_000, 6000)])
 Traceback (most recent call last):
-desk.Refused: refused: DeadlinePastPeriod 1: task 1: its deadline is above its period
+desk.Refused: refused: DeadlinePastPeriod 1: set: line 1, task 1 (a): the deadline is above the period: deadline 20000, period 10000
 
 The library is the file that the variable DESK_LIBRARY names, else `libdesk.so` beside this file or
 in ../lib, else the system's. All times are whole microseconds. Several threads may call the
@@ -51,8 +51,8 @@ Text = str | bytes
 
 
 class Refused(ValueError):
-    """An input was refused: `line` is what `desk` prints, `status` its exit status, `sentence` says
-    it to a person, and `fields` are the line's words."""
+    """An input was refused: `line` is what `desk` prints, `status` its exit status, `fields` are the
+    line's words, and `sentence` is what `desk` tells a person: which input, where, and why."""
 
     def __init__(self, line: str, status: int, sentence: str):
         super().__init__(line, status, sentence)
@@ -60,7 +60,7 @@ class Refused(ValueError):
         self.fields = tuple(line.removeprefix("refused: ").split())
 
     def __str__(self) -> str:
-        return f"{self.line}: {self.sentence}"
+        return f"{self.line}: {self.sentence}" if self.sentence else self.line
 
 
 class OutOfMemory(MemoryError):
@@ -311,6 +311,46 @@ class Run(_Answer):
 
 
 @dataclass(frozen=True)
+class Seen:
+    """What a trace shows of a task: how many jobs, the longest execution beside the cost, the least
+    time between two arrivals beside the period, and the greatest response beside the bound."""
+
+    task: str
+    jobs: int
+    executed: int
+    cost: int
+    gap: int | None
+    period: int
+    response: int | None
+    bound: int
+
+
+@dataclass(frozen=True)
+class Broken:
+    """A promise that a job breaks, by its arrival: `kind` is cost, period, bound, open, blocked,
+    foreign or idle; `time` beside its `limit`, and `by` whom, where there is one."""
+
+    kind: str
+    task: str
+    arrival: int
+    time: int | None = None
+    limit: int | None = None
+    by: str | None = None
+
+
+@dataclass(frozen=True)
+class Observed(_Answer):
+    """What a trace shows of each task, the lowest level first, and which promises are broken. It is
+    false where one is."""
+
+    tasks: tuple[Seen, ...]
+    broken: tuple[Broken, ...]
+
+    def __bool__(self) -> bool:
+        return not self.broken
+
+
+@dataclass(frozen=True)
 class Place:
     """A task of a team on the node, its level and its bound."""
 
@@ -359,104 +399,10 @@ def toml(tasks: Iterable[Task], prefer: str | None = None) -> str:
     return "".join(line + "\n" for line in [*head, *(line for it in tasks for line in lines(it))])
 
 
-# What each refusal says, by the input that it is about. In braces: the line's words behind the name,
-# for a set behind those of the place.
-_MEANS = {
-    "set": {
-        "Syntax": "it is no TOML",
-        "UnknownKey": "it has a key that it may not have",
-        "MissingKey": "it has no {0}",
-        "WrongKind": "its {0} is another kind of value than it has to be",
-        "BadPreference": "what it prefers is neither weight nor deadline",
-        "BadName": "it has a name that is none: a letter, then up to 23 letters, digits, _ and -",
-        "BadWeight": "its weight is above 1,000",
-        "BadPeriod": "its period isn't from 1,000 to 10,000,000",
-        "DeadlineZero": "its deadline is 0",
-        "DeadlinePastPeriod": "its deadline is above its period",
-        "CostZero": "its cost is 0",
-        "CostPastPeriod": "its cost is above its period",
-        "TooManySections": "it has more than 8 sections",
-        "NoLocks": "it names no lock",
-        "TooManyLocks": "it names more than 4 locks",
-        "LockTwice": "it names a lock twice",
-        "LenZero": "its length is 0",
-        "Overlap": "it begins before the end of the one before it",
-        "SectionPastCost": "it ends past the cost of its task",
-        "BadJitter": "its jitter isn't below its deadline",
-        "TooManyOutranks": "it outranks more than 8 tasks",
-        "OutranksTwice": "it names a task twice that it outranks",
-        "OutranksSelf": "it is to outrank itself",
-        "SameName": "a task before it has its name",
-        "TooManyTasks": "there are more than 32 tasks",
-        "BadHead": "document {0} has no line `#% TEAM COUNT` before it, or fewer bytes than that counts",
-        "OtherPreference": "team {0} prefers something else than team {1}",
-        "TakenName": "team {0} has a task {1}, as team {2} has",
-    },
-    "certificate": {
-        "BadHead": "its first line isn't `desk-certificate 1` or `desk-certificate 2`",
-        "BadLine": "line {0} may not stand there",
-        "Truncated": "its complete lines stop before the line `end`",
-        "Trailing": "something follows the line `end`",
-        "WrongVersion": "it is of version 1, and the set has jitter or tasks to outrank",
-        "WrongTasks": "level {0}: its reasons aren't of tasks of smaller rank that are left, by rank",
-        "WrongTasks 0": "it doesn't name each task once, or a member is no task or named twice",
-        "BadPass": "level {0}: its number doesn't show that its task may stand there",
-        "BadChain": "level {0}: its reason doesn't show that {1} can't stand there",
-        "BadChain 0": "its reason doesn't show that {1} can't be the lowest of the members",
-        "MissingFail": "level {0}: it has no reason why {1} can't stand there",
-        "EmptySet": "without members it shows nothing",
-    },
-    "releases": {
-        "BadLine": "line {0} may not stand there",
-        "Unsorted": "release {0} arrives before the one before it",
-        "UnknownTask": "release {0} is of no task of the set",
-        "TooSoon": "release {0} arrives less than a period after the one before it of its task",
-        "TooLate": "release {0} is later than its task's jitter",
-        "OutsideCost": "release {0} executes for 0, or for more than its task's cost",
-        "PastHorizon": "it ends past 60,000,000, or a release isn't ready before its end",
-        "TooMany": "there are more than 10,000 releases",
-        "Overrun": "a job of {0} is ready at {1}, and the one before it isn't done",
-    },
-    "settings": {
-        "BadLine": "line {0} is neither a thread nor a mutex with a number from 1 to 1,000,000",
-        "UnknownTask": "line {0} is of no task of the set",
-        "UnknownLock": "line {0} is of no lock of the set",
-        "SameTask": "line {0} has the name of a thread before it",
-        "SameLock": "line {0} has the name of a mutex before it",
-        "SameNumber": "line {0} has the number of a thread before it",
-        "MissingTask": "there is no thread {0}",
-        "MissingLock": "there is no mutex {0}",
-        "WrongCeiling": "mutex {0} isn't at the number of its highest user",
-    },
-    "script": {"BadLine": "line {0} may not stand there"},
-}
-# Which of these tables the second input has, or the only one where that is no set.
-_KINDS = {"check": "certificate", "simulate": "releases", "draw": "releases", "releases": "releases"}
-_KINDS |= {"judge": "settings", "play": "script"}
-
-
-def _sentence(command: str, words: list[str], status: int) -> str:
-    """What the words of a refusal say."""
-    places, name = [], words.pop(0)
-    while name in ("new", "team", "line"):
-        places.append("the new set" if name == "new" else f"{name} {words.pop(0)}")
-        name = words.pop(0)
-    if name == "InputTooLong":
-        return "an input has more than 16,777,216 bytes"
-    kind = _KINDS.get(command, "set")
-    means = _MEANS["set" if status == 4 and name in _MEANS["set"] else kind]
-    if means is _MEANS["set"] and name not in ("BadHead", "OtherPreference", "TakenName"):
-        # (of a put that is the script's line, and only the section has a number)
-        for place in ("task", "section")[command == "play" :]:
-            number = words.pop(0) if words else "0"
-            places += [f"{place} {number}"] if number != "0" else []
-    said = means.get(f"{name} {words[0]}" if words else name, means.get(name, "it is refused"))
-    return ", ".join(places) + ": " * bool(places) + said.format(*words)
-
-
-# What each function of include/desk.h takes beside the first input.
-_SECOND = ("check", "judge", "diff", "simulate", "draw")
-_COMMANDS = ("admit", "certify", "limits", "settings", "explain", "play", "releases", *_SECOND)
+# The commands of include/desk.h, each at its number less 1, and those that take a second input.
+_COMMANDS = ("admit", "certify", "check", "limits", "settings", "explain")
+_COMMANDS += ("judge", "diff", "releases", "simulate", "draw", "play", "observe")
+_SECOND = ("check", "judge", "diff", "simulate", "draw", "observe")
 
 
 def _library() -> ctypes.CDLL:
@@ -465,12 +411,15 @@ def _library() -> ctypes.CDLL:
     found = next((str(it) for it in places if it.exists()), "libdesk.so")
     path = os.environ.get("DESK_LIBRARY") or found
     text = (ctypes.c_char_p, ctypes.c_size_t)
+    taken = {"tell": (ctypes.c_uint8, *text, *text, ctypes.c_uint64)}
+    for name in _COMMANDS:
+        more = (ctypes.c_uint64,) if name == "releases" else text if name in _SECOND else ()
+        taken[name] = (*text, *more)
     try:
         library = ctypes.CDLL(path)
-        for name in _COMMANDS:
+        for name, types in taken.items():
             call = getattr(library, f"desk_{name}")
-            more = (ctypes.c_uint64,) if name == "releases" else text if name in _SECOND else ()
-            call.argtypes = (*text, *more, *text, ctypes.POINTER(ctypes.c_uint8))
+            call.argtypes = (*types, *text, ctypes.POINTER(ctypes.c_uint8))
             call.restype = ctypes.c_size_t
     except (OSError, AttributeError) as fault:
         raise ImportError(
@@ -490,28 +439,40 @@ def _bytes(given: Sheets | _Answer) -> bytes:
     return (str(given) if isinstance(given, (str, _Answer)) else toml(given)).encode()
 
 
-def _ask(command: str, *inputs: Sheets | _Answer | int) -> tuple[int, str]:
-    """The status and the printed text of a command; a refusal is raised."""
-    words: list[bytes | int] = []
-    for it in inputs:
-        if isinstance(it, int):
-            words.append(it)
-        else:
-            words += [text := _bytes(it), len(text)]
-    call, status = getattr(_LIBRARY, f"desk_{command}"), ctypes.c_uint8()
+def _call(name: str, *words: bytes | int) -> tuple[int, str]:
+    """The status and the text of a call."""
+    call, status = getattr(_LIBRARY, f"desk_{name}"), ctypes.c_uint8()
     length, size = 1, 0
     while length > size:
         size = max(length, 4096)
         room = ctypes.create_string_buffer(size)
         length = call(*words, room, size, ctypes.byref(status))
-    said = ctypes.string_at(room, length).decode()
-    if status.value == 6:
+    return status.value, ctypes.string_at(room, length).decode()
+
+
+def _told(command: str, texts: Sequence[bytes], until: int) -> str:
+    """What the program tells a person of these inputs."""
+    first, second = (*texts, b"")[:2]
+    number = _COMMANDS.index(command) + 1
+    return _call("tell", number, first, len(first), second, len(second), until)[1].strip()
+
+
+def _ask(command: str, *inputs: Sheets | _Answer | int) -> tuple[int, str]:
+    """The status and the printed text of a command; a refusal is raised."""
+    texts, until, words = [], 0, []
+    for it in inputs:
+        if isinstance(it, int):
+            until = it
+            words.append(it)
+        else:
+            texts.append(_bytes(it))
+            words += [texts[-1], len(texts[-1])]
+    status, said = _call(command, *words)
+    if status == 6:
         raise OutOfMemory(said.splitlines()[-1] if said else "refused: OutOfMemory")
-    if status.value in (4, 5):
-        line = said.strip()
-        fields = line.removeprefix("refused: ").split()
-        raise Refused(line, status.value, _sentence(command, fields, status.value))
-    return status.value, said
+    if status in (4, 5):
+        raise Refused(said.strip(), status, _told(command, texts, until))
+    return status, said
 
 
 def _time(word: str) -> int | None:
@@ -713,6 +674,27 @@ def draw(tasks: Sheets, releases: Text | Releases) -> str | Infeasible:
     """
     status, said = _ask("draw", tasks, releases)
     return _no(said) if status else said
+
+
+def observe(tasks: Sheets, trace: Text | Run) -> Observed | Infeasible:
+    """Which promises of the set a trace of a node breaks, with no tolerance.
+
+    >>> observe([Task("a", 10_000, 10_000, 6000)], "0 7000 a\\njob a 0 7000\\n").broken[0]
+    Broken(kind='cost', task='a', arrival=0, time=7000, limit=6000, by=None)
+    """
+    said = _ask("observe", tasks, trace)[1]
+    if said.startswith("infeasible"):
+        return _no(said)
+    seen, broken = [], []
+    for kind, name, *words in (it.split() for it in said.splitlines()):
+        if kind == "task":
+            seen.append(Seen(name, *(_time(it) for it in words)))
+        else:
+            arrival, *time = words[:2]
+            more = dict(zip(words[2::2], words[3::2]))
+            limit = int(more["of"]) if "of" in more else None
+            broken.append(Broken(kind, name, int(arrival), *map(int, time), limit=limit, by=more.get("by")))
+    return Observed(tuple(seen), tuple(broken), text=said)
 
 
 def play(script: Text) -> Played:

@@ -1,5 +1,5 @@
 What a person is told on standard error: after a refusal a sentence that names the input, the place, the value and what it
-has to be; beside an answer a note on each lock that one task alone uses. No answer and no status depends on it.
+has to be, or what the system says; beside an answer notes on what is odd in a set. No answer and no status depends on it.
 
 `said` prints what a command writes to standard error:
 
@@ -13,16 +13,30 @@ Inputs
 ------
 
   $ said admit nosuch.toml
-  nosuch.toml: can't be opened or read
+  nosuch.toml: can't be opened or read: No such file or directory
+  [7]
+  $ said admit examples/three-tasks.toml/x
+  examples/three-tasks.toml/x: can't be opened or read: Not a directory
   [7]
   $ said admit - < examples
-  standard input: can't be opened or read
+  standard input: can't be opened or read: Is a directory
+  [7]
+  $ said admit - <&-
+  standard input: can't be opened or read: Bad file descriptor
+  [7]
+  $ mkdir teams && ln -s nowhere teams/cam.toml
+  $ said admit teams
+  teams: can't be opened or read: cam.toml: No such file or directory
+  [7]
+  $ : > teams/cam.team.toml
+  $ said admit teams
+  teams: can't be opened or read: no name of a team: cam.team.toml
   [7]
   $ said check examples/three-tasks.toml nosuch.cert
-  nosuch.cert: can't be opened or read
+  nosuch.cert: can't be opened or read: No such file or directory
   [7]
   $ said check nosuch.toml nosuch.cert
-  nosuch.toml: can't be opened or read
+  nosuch.toml: can't be opened or read: No such file or directory
   [7]
   $ head -c 16777217 /dev/zero > long
   $ said admit long
@@ -35,7 +49,7 @@ Inputs
 What a terminal could take for a command is shown as `?`:
 
   $ said admit "$(printf 'a\033[31m')"
-  a?[31m: can't be opened or read
+  a?[31m: can't be opened or read: No such file or directory
   [7]
 
 The refusal itself stays on standard output:
@@ -44,6 +58,21 @@ The refusal itself stays on standard output:
   refused: MissingKey 1 0 name
   (on standard error) standard input: task 1: no key name; a task needs name, period, deadline, cost
   [4]
+
+An output that can't be written; not where nobody reads it any more:
+
+  $ desk admit examples/three-tasks.toml > /dev/full
+  (on standard error) standard output: can't be written: No space left on device
+  [7]
+  $ desk admit examples/three-tasks.toml >&-
+  (on standard error) standard output: can't be written: Bad file descriptor
+  [7]
+  $ desk --help > /dev/full
+  (on standard error) standard output: can't be written: No space left on device
+  [7]
+  $ { sleep 0.2; desk releases examples/three-tasks.toml 9000000; echo $? >&2; } 2> errors | true
+  $ cat errors
+  7
 
 Syntax
 ------
@@ -80,6 +109,18 @@ Keys
   [4]
   $ sections '{ locks = ["m"], at = 0 }'
   standard input: task 1 (a), section 1: no key len; a section needs locks, at, len
+  [4]
+
+A task that stands under a line `[[task]]` has its number:
+
+  $ document '# a set\n\n[[task]]\nname = "a"\nperiod = 10000\ndeadline = 10000\ncost = 5000\n\n[[ task ]]\r\nname = "b"\n'
+  standard input: line 9, task 2 (b): no key period; a task needs name, period, deadline, cost
+  [4]
+  $ document '[[task]]\nname = """\n[[task]]"""\nperiod = 1000\ndeadline = 1000\ncost = 1\n'
+  standard input: line 1, task 1 ([[task]]): name: "[[task]]" is no name; a name is 1 to 24 of the letters a to z and A to Z, digits, _ and -, a letter first
+  [4]
+  $ printf '#%% cam 4\n#ok\n#%% arm 15\n# two\n[[task]]\n' | said admit -
+  standard input: arm.toml: line 2, task 1: no key name; a task needs name, period, deadline, cost
   [4]
 
 Kinds
@@ -283,7 +324,48 @@ Release lists
   [4]
   $ printf '[[task]]\nname="a"\nperiod=1000\ndeadline=1000\ncost=1\n' > fast.toml
   $ said releases fast.toml 60000000
+  fast.toml: more than 10000 releases; UNTIL may be 10000000 at most
+  [4]
+  $ said releases fast.toml 10000001
+  fast.toml: more than 10000 releases; UNTIL may be 10000000 at most
+  [4]
+  $ desk releases fast.toml 10000000 | wc -l
+  10001
+  $ said releases fast.toml 60000000 --seed 1
   fast.toml: more than 10000 releases
+  [4]
+  $ sed 's/"a"/"b"/; s/period=1000/period=9000/; $a jitter=700' fast.toml > slow.toml
+  $ cat slow.toml >> fast.toml
+  $ said releases fast.toml 60000000
+  fast.toml: more than 10000 releases; UNTIL may be 9000000 at most
+  [4]
+  $ desk releases fast.toml 9000001 | head -n 1
+  refused: TooMany
+  $ desk releases fast.toml 9000000 | wc -l
+  10001
+
+A byte order mark, and CR in front of LF:
+
+  $ releases '\357\273\277until 100\n'
+  standard input: line 1, "?until 100" has to be until N, with a time of 1 to 10 digits; it begins with a byte order mark, which only a set may have
+  [4]
+  $ releases 'until 100\r\n'
+  standard input: line 1, "until 100?" has to be until N, with a time of 1 to 10 digits; it ends with CR and LF, where LF alone is wanted
+  [4]
+  $ certificate '\357\273\277desk-certificate 1\r\nbest 0\r\n'
+  standard input: line 1 has to be desk-certificate 1 or desk-certificate 2; it is "?desk-certificate 1?"; it begins with a byte order mark, which only a set may have; it ends with CR and LF, where LF alone is wanted
+  [5]
+  $ printf '\357\273\277thread lo 1\n' | said judge examples/shared-lock.toml -
+  standard input: line 1, "?thread lo 1" has to be thread NAME NUMBER or mutex NAME NUMBER, with a number from 1 to 1000000; it begins with a byte order mark, which only a set may have
+  [4]
+  $ printf 'open 1\r\n' | said play -
+  standard input: line 1, "open 1?" has to be open TEAM, with TEAM from 1 to 8; it ends with CR and LF, where LF alone is wanted
+  [4]
+  $ printf '#%% cam 4\r\n#ok\n' | said admit -
+  standard input: part 1: no line `#% TEAM COUNT` that so many bytes follow; it ends with CR and LF, where LF alone is wanted
+  [4]
+  $ printf '\357\273\277[[task]]\r\nname = "a"\r\n' | said admit -
+  standard input: line 1, task 1 (a): no key period; a task needs name, period, deadline, cost
   [4]
 
 Settings
@@ -381,6 +463,53 @@ Notes
   (on standard error) note: lock sate has one user, diagnostics
   (on standard error) note: lock log has one user, diagnostics
   (on standard error) note: lock state has one user, motion
+
+A name in `outranks` that no task has, a set without a task, and more costs than time, exactly: here the load is rounded up:
+
+  $ more 'outranks = ["watchdog", "b"]'
+  note: a outranks watchdog, which is no task of the set: that binds nothing
+  note: a outranks b, which is no task of the set: that binds nothing
+  $ desk admit examples/watchdog.toml > admitted
+  $ said admit examples/empty-set.toml
+  note: the set has no task
+  $ desk diff examples/empty-set.toml examples/empty-set.toml
+  admitted 0
+  was admitted 0
+  $ thirds() { for task in "a $1" 'b 3333333' 'c 3333333'; do
+  >   set -- $task; printf '[[task]]\nname="%s"\nperiod=9999999\ndeadline=9999999\ncost=%d\n' $1 $2; done; }
+  $ thirds 3333333 | desk explain - --prefer deadline | grep -e admitted -e load
+  admitted 3
+  load 1000002
+  $ thirds 3333333 | said admit - --prefer deadline
+  $ thirds 3333334 | said explain - --prefer deadline
+  note: the costs over the periods come to more than 1: no order can pass
+  [3]
+
+Beside a no, the conflict within the tasks that are printed; and that there is no run:
+
+  $ desk admit examples/robot.toml
+  infeasible motor
+  (on standard error) note: motor alone can't be met: desk explain says why
+  [3]
+  $ printf '\n[[task]]\nname="d"\nperiod=50000\ndeadline=1000\ncost=1001\n' > late
+  $ cat examples/three-tasks-too-tight.toml | said settings - --prefer deadline
+  note: c, b, a can't be met together: desk explain says why
+  [3]
+  $ cat examples/three-tasks-too-tight.toml late | desk settings - --prefer deadline
+  infeasible c b a d
+  (on standard error) note: of these d alone can't be met: desk explain says why
+  [3]
+  $ sed 's/"d"/"B"/' late | cat examples/three-tasks-too-tight.toml - | desk admit -
+  infeasible B a b c
+  (on standard error) note: of these a, b, c can't be met together: desk explain says why
+  [3]
+  $ desk releases examples/robot.toml 1000 | desk draw examples/robot.toml - > run.svg
+  (on standard error) note: no order passes, so there is no run: desk explain says why
+  [3]
+  $ cat run.svg
+  infeasible motor
+  $ said limits examples/robot.toml --prefer deadline
+  [3]
 
 An infeasible set has its notes, and every command that answers on a set; where standard error is closed or full, the
 answer is the same:

@@ -158,12 +158,68 @@ def parts_of(data):
     return parts
 
 
+def node_of(data):
+    """The node's document, or nothing, and what stands behind it."""
+    line, end, after = data.partition(b"\n")
+    try:
+        count = number_in(line.decode("latin-1").removeprefix("#% "))
+    except ValueError:
+        return b"", data
+    if not end or count > len(after):
+        return b"", data
+    return after[:count], after[count:]
+
+
+def budgets_of(data):
+    """What each team may take, by the names of the teams."""
+    try:
+        root = tomllib.loads(data.decode("utf-8"))
+    except (UnicodeDecodeError, tomllib.TOMLDecodeError):
+        refuse("node", "Syntax")
+    teams = root.get("team", {})
+    if set(root) - {"team"}:
+        refuse("node", "UnknownKey")
+    if not isinstance(teams, dict):
+        refuse("node", "WrongKind")
+    for team, budget in sorted(teams.items()):
+        try:
+            name_in(team)
+        except ValueError:
+            refuse("node", "BadName")
+        if not isinstance(budget, dict):
+            refuse("node", "WrongKind", team)
+        if set(budget) - {"load", "section"}:
+            refuse("node", "UnknownKey", team)
+        for key in ("load", "section"):
+            number = budget.get(key, 0)
+            if not is_number(number):
+                refuse("node", "WrongKind", team, key)
+    return sorted(teams.items())
+
+
+def keep_budgets(budgets, parts):
+    """Each team of a budget has a document, and takes no more."""
+    for team, budget in budgets:
+        if all(team != other for other, _ in parts):
+            refuse("NoSuchTeam", team)
+        own = [task for other, tasks in parts if other == team for task in tasks]
+        used = set().union(*(locks_of(task) for other, tasks in parts if other != team for task in tasks))
+        load = sum(-(-task["cost"] * 1_000_000 // task["period"]) for task in own)
+        section = max((it["len"] for task in own for it in task.get("section", []) if used & set(it["locks"])), default=0)
+        for key, number in (("load", -(-load // 1000)), ("section", section)):
+            if number > budget.get(key, number):
+                refuse("PastBudget", team, key, number, budget[key])
+
+
 def tasks_of_text(data):
     """The tasks of a document, or of the documents of teams, by rank."""
     if not data.startswith(b"#% "):
         return tasks_of(data)
+    node, data = node_of(data)
+    budgets = budgets_of(node)
+    parts = parts_of(data)
     tasks, owners = [], {}
-    for team, own in parts_of(data):
+    for team, own in parts:
         for task in own:
             if task["name"] in owners:
                 refuse("TakenName", team, task["name"], owners[task["name"]])
@@ -171,6 +227,7 @@ def tasks_of_text(data):
         tasks += own
     if len(tasks) > 32:
         refuse("TooManyTasks")
+    keep_budgets(budgets, parts)
     return sorted(tasks, key=lambda it: (it.get("weight", 0), it["name"].encode()))
 
 

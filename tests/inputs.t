@@ -183,6 +183,7 @@ A full disk
 -----------
 
   $ desk admit $set > /dev/full
+  (on standard error) standard output: can't be written: No space left on device
   [7]
   $ desk < $set > /dev/full
   [7]
@@ -208,7 +209,7 @@ Also where the status would be another one:
   (on standard error) examples/three-tasks.cert: its levels don't name each task of the set once, or a member is no task or named twice
   [7]
   $ desk admit missing > /dev/full
-  (on standard error) missing: can't be opened or read
+  (on standard error) missing: can't be opened or read: No such file or directory
   [7]
 
 A closed output
@@ -223,12 +224,12 @@ A closed output
   $ desk simulate $node $list >&-
   [7]
   $ desk admit missing >&-
-  (on standard error) missing: can't be opened or read
+  (on standard error) missing: can't be opened or read: No such file or directory
   [7]
   $ desk admit $set <&- >&-
   [7]
   $ desk admit - <&- >&-
-  (on standard error) standard input: can't be opened or read
+  (on standard error) standard input: can't be opened or read: Bad file descriptor
   [7]
 
 Standard error isn't needed where the words are right:

@@ -74,3 +74,23 @@ Refused, each over the whole text before the next:
   $ printf 'thread a 5\nmutex m 5\n' | desk judge a.toml -
   refused: MissingLock n
   [4]
+
+Where a smaller number is a higher priority, the highest user of a lock has the smallest number:
+
+  $ printf 'thread hi 1\nthread mid 5\nthread lo 9\nmutex m 1\n' > rtems
+  $ desk judge examples/shared-lock.toml rtems --lower-is-higher
+  meets 3
+  1 lo 27000 of 100000
+  2 mid 7000 of 20000
+  3 hi 5000 of 10000
+  $ desk settings examples/shared-lock.toml | desk judge examples/shared-lock.toml - --lower-is-higher 2> /dev/null
+  refused: WrongCeiling m
+  [4]
+  $ printf 'thread hi 1000000\nthread mid 2\nthread lo 1\n' | desk judge examples/shared-lock.toml - --lower-is-higher | head -n 1
+  misses mid hi
+  $ printf 'thread hi 0\nthread mid 2\nthread lo 3\n' | desk judge examples/shared-lock.toml - --lower-is-higher 2> /dev/null
+  refused: BadLine 1
+  [4]
+  $ printf 'thread hi 1\nthread mid 1\nthread lo 3\n' | desk judge examples/shared-lock.toml - --lower-is-higher 2> /dev/null
+  refused: SameNumber 2
+  [4]

@@ -1,6 +1,7 @@
-/* Calls the static library as include/desk.h says: `library COMMAND FILE [FILE|UNTIL]` prints the answer and ends with its
- * status. Each answer is asked for with no room, with one byte too few, and with bytes to spare, by four threads at once;
- * the program aborts where these answers or their surroundings are not as the header says.
+/* Calls the static library as include/desk.h says: `library COMMAND FILE [FILE|UNTIL]` prints the answer, what is told of it
+ * to standard error, and ends with its status. Each of the two is asked for with no room, with one byte too few, and with
+ * bytes to spare, by four threads at once; the program aborts where these answers or their surroundings are not as the
+ * header says.
  */
 #include "desk.h"
 #include <pthread.h>
@@ -19,6 +20,7 @@ struct question {
     const char *command;
     struct bytes first, second;
     uint64_t until;
+    int is_told;
 };
 
 struct answer {
@@ -59,10 +61,31 @@ static struct bytes read_file(const char *path)
     return read;
 }
 
+static const struct {
+    const char *name;
+    uint8_t number;
+} COMMANDS[] = {
+    {"admit", DESK_ADMIT},     {"certify", DESK_CERTIFY}, {"check", DESK_CHECK},       {"limits", DESK_LIMITS},
+    {"settings", DESK_SETTINGS}, {"explain", DESK_EXPLAIN}, {"judge", DESK_JUDGE},     {"diff", DESK_DIFF},
+    {"releases", DESK_RELEASES}, {"simulate", DESK_SIMULATE}, {"draw", DESK_DRAW},     {"play", DESK_PLAY},
+    {"observe", DESK_OBSERVE},
+};
+
+static uint8_t number_of(const char *command)
+{
+    for (size_t i = 0; i < sizeof COMMANDS / sizeof *COMMANDS; i++) {
+        if (!strcmp(command, COMMANDS[i].name)) return COMMANDS[i].number;
+    }
+    return 0;
+}
+
 static size_t ask(const struct question *it, uint8_t *room, size_t length, uint8_t *status)
 {
     struct bytes a = it->first, b = it->second;
     const char *command = it->command;
+    if (it->is_told) {
+        return desk_tell(number_of(command), a.at, a.length, b.at, b.length, it->until, room, length, status);
+    }
     if (!strcmp(command, "admit")) return desk_admit(a.at, a.length, room, length, status);
     if (!strcmp(command, "certify")) return desk_certify(a.at, a.length, room, length, status);
     if (!strcmp(command, "limits")) return desk_limits(a.at, a.length, room, length, status);
@@ -75,6 +98,7 @@ static size_t ask(const struct question *it, uint8_t *room, size_t length, uint8
     if (!strcmp(command, "diff")) return desk_diff(a.at, a.length, b.at, b.length, room, length, status);
     if (!strcmp(command, "simulate")) return desk_simulate(a.at, a.length, b.at, b.length, room, length, status);
     if (!strcmp(command, "draw")) return desk_draw(a.at, a.length, b.at, b.length, room, length, status);
+    if (!strcmp(command, "observe")) return desk_observe(a.at, a.length, b.at, b.length, room, length, status);
     hold(0, command);
     return 0;
 }
@@ -103,21 +127,15 @@ static void *answered(void *argument)
     return NULL;
 }
 
-int main(int count, char **words)
+/* The answer of four threads to a question, each of which has a small stack. */
+static struct answer asked(const struct question *question)
 {
-    hold(count == 3 || count == 4, "usage: library COMMAND FILE [FILE|UNTIL]");
-    struct question question = {words[1], read_file(words[2]), {NULL, 0}, 0};
-    if (!strcmp(words[1], "releases")) {
-        question.until = strtoull(words[3], NULL, 10);
-    } else if (count == 4) {
-        question.second = read_file(words[3]);
-    }
     struct answer answers[THREADS];
     pthread_t threads[THREADS];
     pthread_attr_t small;
     hold(!pthread_attr_init(&small) && !pthread_attr_setstacksize(&small, STACK), "a small stack");
     for (int i = 0; i < THREADS; i++) {
-        answers[i].question = &question;
+        answers[i].question = question;
         hold(!pthread_create(&threads[i], &small, answered, &answers[i]), "a thread");
     }
     for (int i = 0; i < THREADS; i++) {
@@ -126,9 +144,39 @@ int main(int count, char **words)
                  && !memcmp(answers[i].text.at, answers[0].text.at, answers[0].text.length),
              "the same answer in each thread");
     }
-    fwrite(answers[0].text.at, 1, answers[0].text.length, stdout);
-    for (int i = 0; i < THREADS; i++) free(answers[i].text.at);
+    for (int i = 1; i < THREADS; i++) free(answers[i].text.at);
+    return answers[0];
+}
+
+/* A number without a command: nothing is told. */
+static void hold_unknown(uint8_t number)
+{
+    uint8_t room[SPARE], status = MARK;
+    memset(room, MARK, SPARE);
+    hold(desk_tell(number, NULL, 0, NULL, 0, 0, room, SPARE, &status) == 0, "no count without a command");
+    hold(status == DESK_BAD_ARGUMENTS && is_marked(room, SPARE), "no text without a command");
+}
+
+int main(int count, char **words)
+{
+    hold(count == 3 || count == 4, "usage: library COMMAND FILE [FILE|UNTIL]");
+    struct question question = {words[1], read_file(words[2]), {NULL, 0}, 0, 0};
+    if (!strcmp(words[1], "releases")) {
+        question.until = strtoull(words[3], NULL, 10);
+    } else if (count == 4) {
+        question.second = read_file(words[3]);
+    }
+    struct answer answer = asked(&question);
+    question.is_told = 1;
+    struct answer told = asked(&question);
+    hold(told.status == answer.status, "the same status beside what is told");
+    hold_unknown(0);
+    hold_unknown(DESK_OBSERVE + 1);
+    fwrite(answer.text.at, 1, answer.text.length, stdout);
+    fwrite(told.text.at, 1, told.text.length, stderr);
+    free(answer.text.at);
+    free(told.text.at);
     free(question.first.at);
     free(question.second.at);
-    return answers[0].status;
+    return answer.status;
 }

@@ -79,7 +79,7 @@ A release list names the tasks by rank, and the simulated kernel runs the best o
 Another word is refused before an input is opened:
 
   $ desk admit --prefer names no-such-file 2>&1
-  no such preference
+  no such preference: --prefer takes weight or deadline
   [2]
 
 The jitter counts. a has the later deadline, 10000, and b 9000; but a may become ready 5000 late, so that 5000 is left. By
@@ -165,7 +165,7 @@ What one team's document says holds for all, whoever has the tasks; another one 
   1 a 6000
   2 b 5000
   3 c 3000
-  $ echo 'prefer = "deadline"' > node/node.toml
+  $ echo 'prefer = "deadline"' > node/main.toml
   $ desk admit node
   admitted 3
   1 c 6000
@@ -178,5 +178,5 @@ What one team's document says holds for all, whoever has the tasks; another one 
   thread a 3
   $ echo 'prefer = "weight"' > node/cam.toml
   $ desk admit node
-  refused: OtherPreference node cam
+  refused: OtherPreference main cam
   [4]

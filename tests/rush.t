@@ -234,7 +234,7 @@ Where the answer can't be written:
   (on standard error) standard input: line 1, "open 9" has to be open TEAM, with TEAM from 1 to 8
   [7]
 
-Where what is told can't be written, the log stands; and where the log can't be written, nothing is told:
+Where what is told can't be written, the log stands; and where the log can't be written, no line is told of:
 
   $ desk rush ended 2 2> /dev/full
   1 team 1 admitted 1
@@ -249,3 +249,4 @@ Where what is told can't be written, the log stands; and where the log can't be 
   $ desk rush ended 2 > /dev/full 2> told
   [7]
   $ cat told
+  standard output: can't be written: No space left on device

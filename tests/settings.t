@@ -43,3 +43,88 @@ An infeasible set prints as in `admit`, and so does a refused one:
   [4]
   $ desk settings a b 2> /dev/null
   [2]
+
+`--base` says which priority level 1 has, with or without `--keep`; from 1 it changes nothing:
+
+  $ desk settings examples/shared-lock.toml --base 80
+  thread lo 80
+  thread mid 81
+  thread hi 82
+  mutex m 82
+  $ printf 'thread b 10\nthread a 20\n' | desk settings examples/three-tasks.toml --keep - --base 1000000
+  thread c 1000000
+  thread b 1000001
+  thread a 1000002
+  $ desk settings examples/watchdog.toml > levels
+  $ desk settings --base=1 examples/watchdog.toml | cmp - levels
+  $ desk settings examples/watchdog.toml --base 40 | desk judge examples/watchdog.toml - > judged
+  $ desk judge examples/watchdog.toml levels | cmp - judged
+  $ for base in 0 1000001 -1 x ''; do desk settings examples/shared-lock.toml --base "$base" 2> /dev/null || echo $?; done
+  2
+  2
+  2
+  2
+  2
+
+`--keep` names the settings of a node whose order stays, as far as the set has its tasks; the best order is another:
+
+  $ printf 'thread b 10\nthread a 20\n' | desk settings examples/three-tasks.toml --keep -
+  thread c 1
+  thread b 2
+  thread a 3
+  $ printf 'thread b 3\nthread a 5\n' > node
+  $ desk settings --keep=node examples/jitter.toml
+  thread c 1
+  thread b 2
+  thread a 3
+
+Settings of other tasks alone, of mutexes alone and of nothing keep nothing; the settings of the best order keep it:
+
+  $ printf 'thread x 3\nmutex none 7\nmutex none 8\n' | desk settings examples/shared-lock.toml --keep -
+  thread lo 1
+  thread mid 2
+  thread hi 3
+  mutex m 3
+  $ desk settings examples/watchdog.toml > node
+  $ desk settings examples/watchdog.toml --keep node | cmp - node
+  $ desk settings examples/watchdog.toml --keep /dev/null | cmp - node
+
+Where no order that passes keeps it, the first pair that has to change, from the lowest up, also with one task between in
+the settings that the set doesn't have:
+
+  $ printf 'thread b 30\nthread gone 17\nthread a 15\nthread c 20\n' | desk settings examples/three-tasks.toml --keep -
+  parted a c
+  (on standard error) note: with c above a, and those below as they are, no order passes: without the line of one it may move
+  [3]
+  $ printf 'thread hi 3\nthread lo 5\n' | desk settings examples/shared-lock.toml --keep -
+  parted hi lo
+  (on standard error) note: with lo above hi, and those below as they are, no order passes: without the line of one it may move
+  [3]
+
+Where no order passes at all the set is infeasible, whatever it is to keep:
+
+  $ desk settings examples/blocked-out.toml --keep /dev/null
+  infeasible hi
+  [3]
+
+A line that is none, a thread twice and a number twice are refused; the set is read first, and standard input once:
+
+  $ printf 'thread a 1\nthread b\n' | desk settings examples/three-tasks.toml --keep - 2> /dev/null
+  refused: BadLine 2
+  [4]
+  $ printf 'thread a 1\nthread gone 2\nthread gone 3\n' | desk settings examples/three-tasks.toml --keep - 2> /dev/null
+  refused: SameTask 3
+  [4]
+  $ printf 'thread a 1\nthread gone 1\n' | desk settings examples/three-tasks.toml --keep - 2> /dev/null
+  refused: SameNumber 2
+  [4]
+  $ echo x = 1 | desk settings - --keep missing 2> /dev/null
+  refused: ReadFailed
+  [7]
+  $ desk settings - --keep - 2>&1 < examples/three-tasks.toml
+  standard input named twice
+  [2]
+  $ desk settings examples/three-tasks.toml --keep 2> /dev/null
+  [2]
+  $ desk admit examples/three-tasks.toml --keep node 2> /dev/null
+  [2]

@@ -35,7 +35,7 @@ What a team's document is refused for names the team, and the document's own tas
   refused: team cam CostZero 1
   [4]
   $ desk admit node 2>&1 > /dev/null
-  node: cam.toml: task 1 (pan): the cost is 0
+  node: cam.toml: line 1, task 1 (pan): the cost is 0
   [4]
 
 A name that another team has:
@@ -90,3 +90,103 @@ A document that prefers otherwise than one before it, whether they have tasks or
   [4]
   $ printf '#%% arm 0\n#%% base 19\nprefer = "deadline"' | desk admit -
   admitted 0
+
+A folder's `node.toml` says what teams may take. It is no team's document, and within its budgets the set is as before:
+
+  $ mkdir kept
+  $ locked() { task "$1" "$2" "$3"; printf 'section = [{ locks = ["%s"], at = 0, len = %s }]\n' "$4" "$5"; }
+  $ locked arm 10000 2000 bus 300 > kept/arm.toml
+  $ locked pan 20000 5000 bus 400 > kept/cam.toml
+  $ locked tilt 30000 1000 own 900 >> kept/cam.toml
+  $ desk admit kept > before 2> notes
+  $ printf '[team.cam]\nload = 284\nsection = 400\n' > kept/node.toml
+  $ desk admit kept 2> notes | diff before - && cat before
+  admitted 3
+  1 arm 8000
+  2 pan 6300
+  3 tilt 1000
+
+What is past its budget has its name, with the team, what it takes, and what it may. The load is 283334 millionths, which
+are 284 thousandths; a lock that only one team uses counts for nothing:
+
+  $ printf '[team.cam]\nload = 283\n' > kept/node.toml
+  $ desk admit kept
+  refused: PastBudget cam load 284 283
+  [4]
+  $ desk explain kept 2>&1 > /dev/null
+  kept: node.toml: line 1: cam takes 284 thousandths of the processor, and may take 283
+  [4]
+  $ printf '[team.arm]\nsection = 300\n\n[team.cam]\nsection = 399\n' > kept/node.toml
+  $ desk limits kept
+  refused: PastBudget cam section 400 399
+  [4]
+  $ desk limits kept 2>&1 > /dev/null
+  kept: node.toml: line 4: cam holds a lock that another team uses, too, for 400 microseconds, and may hold it for 399
+  [4]
+
+Teams come by their names, and of a team the load before the section:
+
+  $ printf '[team.cam]\nsection = 0\nload = 0\n[team.arm]\nload = 199\n' > kept/node.toml
+  $ desk admit kept
+  refused: PastBudget arm load 200 199
+  [4]
+  $ desk diff examples/empty-set.toml kept
+  refused: new PastBudget arm load 200 199
+  [4]
+
+A budget needs a team that has a document:
+
+  $ printf '\n[team.base]\nload = 0\n' > kept/node.toml
+  $ desk admit kept
+  refused: NoSuchTeam base
+  [4]
+  $ desk admit kept 2>&1 > /dev/null
+  kept: node.toml: line 2: there is no base.toml
+  [4]
+
+What is no such document, in the order of its refusals:
+
+  $ told() { printf "$1" > kept/node.toml; desk admit kept 2>&1; }
+  $ told 'team = '
+  kept: node.toml: line 1, column 8: invalid value, expected a string, number, boolean, date-time, array or inline table, in "team = "
+  refused: node Syntax
+  [4]
+  $ told '[[task]]\nname = "a"\n[team]\ncam = 1\n'
+  kept: node.toml: unknown key task; it has budgets of teams alone, each headed by [team.NAME]
+  refused: node UnknownKey
+  [4]
+  $ told '[[team]]\nload = 1\n'
+  kept: node.toml: team has to be a table of budgets, each headed by [team.NAME]; it is an array
+  refused: node WrongKind
+  [4]
+  $ told '[team."c m"]\nload = 1\n'
+  kept: node.toml: c m is no name of a team
+  refused: node BadName
+  [4]
+  $ told '[team]\ncam = 250\n'
+  kept: node.toml: team.cam has to be a table, headed by [team.cam]; it is 250
+  refused: node WrongKind cam
+  [4]
+  $ told '[team.cam]\nlaod = 250\n'
+  kept: node.toml: line 1: cam: unknown key laod; a budget has load, section
+  refused: node UnknownKey cam
+  [4]
+  $ told '[team.cam]\nload = 25.0\n'
+  kept: node.toml: line 1: cam: load has to be a whole number of thousandths of the processor from 0; it is a number with a fraction
+  refused: node WrongKind cam load
+  [4]
+
+Its refusals come before those of the teams' documents, and what is past comes after them. In one text it stands first,
+behind a line that counts its bytes alone, and the parts are the teams':
+
+  $ printf '#%% 22\n[team.cam]\nload = 283\n#%% cam 1\n' | desk admit -
+  refused: BadHead 1
+  [4]
+  $ { gathered kept/arm.toml; printf '#%% 0\n'; } | desk admit -
+  refused: BadHead 2
+  [4]
+  $ printf '#%% 0\n' | desk admit -
+  admitted 0
+  $ printf '#%% 1\n' | desk admit -
+  refused: BadHead 1
+  [4]

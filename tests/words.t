@@ -19,7 +19,7 @@ Help is no mistake:
   output
   $ desk_says help
   output
-  $ for command in admit explain limits settings judge diff certify check releases simulate draw script play rush; do desk_says $command --help; desk_says help $command; done | uniq
+  $ for command in admit explain limits settings judge diff certify check releases simulate draw observe script play rush; do desk_says $command --help; desk_says help $command; done | uniq
   output
 
 So is the version:
@@ -32,7 +32,7 @@ So is the version:
 Help names each command, and of a command its inputs, an example and its statuses:
 
   $ desk --help > output
-  $ for command in admit explain limits settings judge diff certify check releases simulate draw script play rush; do grep -q "^  $command  *[A-Z]" output || echo $command; done
+  $ for command in admit explain limits settings judge diff certify check releases simulate draw observe script play rush; do grep -q "^  $command  *[A-Z]" output || echo $command; done
   $ desk admit --help | grep -c '<SET>$'
   1
   $ desk certify --help | grep -c '<SET>$'
@@ -45,15 +45,19 @@ Help names each command, and of a command its inputs, an example and its statuse
   1
   $ desk diff --help | grep -c '<SET> <NEW>$'
   1
+  $ desk observe --help | grep -c '<SET> <TRACE>$'
+  1
+  $ desk settings --help | grep -c -e '^ *--keep <SETTINGS>  *[A-Z]' -e '^ *--base <N>  *[A-Z]'
+  2
   $ desk releases --help | grep -c '<SET> <UNTIL>$'
   1
   $ desk rush --help | grep -c '<SCRIPT> <WORKERS>$'
   1
-  $ for command in admit explain limits settings judge diff certify check releases simulate draw script play rush; do desk $command --help | grep -q "^Example: .*desk $command " || echo $command; desk $command --help | grep -q '^Status: 0 ' || echo $command; done
+  $ for command in admit explain limits settings judge diff certify check releases simulate draw observe script play rush; do desk $command --help | grep -q "^Example: .*desk $command " || echo $command; desk $command --help | grep -q '^Status: 0 ' || echo $command; done
 
 That of each command that reads a task set names its option:
 
-  $ for command in admit explain limits settings judge diff certify check releases simulate draw script; do desk $command --help | grep -q -e '^ *--prefer <ORDER>  *[A-Z].*deadline$' || echo $command; done
+  $ for command in admit explain limits settings judge diff certify check releases simulate draw observe script; do desk $command --help | grep -q -e '^ *--prefer <ORDER>  *[A-Z].*deadline$' || echo $command; done
   $ for command in play rush; do ! desk $command --help | grep -e --prefer; done
 
 No such command, also in other letters; a word too few; a word too many; an option that isn't there:
@@ -135,16 +139,16 @@ The option stands before the inputs or behind them:
 An order that isn't there is refused before any input is opened, also where standard input is named twice:
 
   $ desk admit --prefer weights nowhere 2>&1
-  no such preference
+  no such preference: --prefer takes weight or deadline
   [2]
   $ desk_says admit --prefer weights nowhere
   errors
   [2]
   $ desk releases examples/three-tasks.toml 1000 --prefer Deadline 2>&1
-  no such preference
+  no such preference: --prefer takes weight or deadline
   [2]
   $ desk check --prefer= - - 2>&1 < examples/three-tasks.toml
-  no such preference
+  no such preference: --prefer takes weight or deadline
   [2]
 
 No word to the option, the option twice, before its command, or at a script:

@@ -1,4 +1,4 @@
-/* Prints what `desk admit` prints of a task set, and ends with its status.
+/* Prints what `desk admit` prints of a task set, tells on standard error what it tells there, and ends with its status.
  *
  *     (cd crates/libdesk && rt lib)
  *     cc -std=c11 -Iinclude -o admit examples/c/admit.c crates/libdesk/out/liblibdesk.a $(dirname $(rt doc))/c/liblibc_c.a
@@ -11,6 +11,18 @@
 #include <stdlib.h>
 
 enum { LONGEST = 1 << 20 };
+
+/* A line says which input was refused, and why, or what is odd in the set. */
+static void tell(const uint8_t *set, size_t length)
+{
+    uint8_t status;
+    size_t needed = desk_tell(DESK_ADMIT, set, length, NULL, 0, 0, NULL, 0, &status);
+    uint8_t *told = malloc(needed + 1);
+    if (told && desk_tell(DESK_ADMIT, set, length, NULL, 0, 0, told, needed, &status) == needed) {
+        fwrite(told, 1, needed, stderr);
+    }
+    free(told);
+}
 
 int main(int count, char **words)
 {
@@ -35,5 +47,6 @@ int main(int count, char **words)
     }
     fwrite(answer, 1, needed, stdout);
     free(answer);
+    tell(set, length);
     return status;
 }

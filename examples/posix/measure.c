@@ -15,7 +15,7 @@
  *     -c CPU       the processor (else the last one that is allowed)
  *     -b PRIORITY  that of level 1 (else the least)
  *     -x N         a microsecond of the set lasts N microseconds here
- *     -t FILE      who executed from when to when, as `simulate` prints it
+ *     -t FILE      who executed from when to when, as `simulate` prints it, for `desk observe`
  *
  * First come the node's overheads; then how often and how long no task executed though a job was
  * ready (outside); then each task's greatest response from the arrival, rounded up, in
@@ -23,7 +23,7 @@
  * `open` ones that weren't done at `until`. Status 1: some job was late or beyond; 2: wrong input;
  * 3: the system refused something. What was measured is no bound: the worst case may not have come.
  */
-#define _GNU_SOURCE /* for sched_setaffinity; all else is POSIX.1-2017 */
+#define _GNU_SOURCE /* for sched_setaffinity, pthread_setname_np; all else is POSIX.1-2017 */
 #include "node.h"
 
 #include <errno.h>
@@ -136,6 +136,9 @@ static void lock_each(struct task *task)
 static void *run_task(void *argument)
 {
     struct task *task = argument;
+    char name[16] = "";
+    memcpy(name, task->name, sizeof name - 1);
+    pthread_setname_np(pthread_self(), name);
     lock_each(task);
     for (int i = 0, more = 1; more && i < job_count; i++)
         if (&tasks[jobs[i].task] == task) {
@@ -280,15 +283,13 @@ static int by_start(const void *a, const void *b)
     return (x > y) - (x < y);
 }
 
-/* Slices of one job with none between them are one. */
+/* Slices that last a microsecond or more. */
 static void write_trace(FILE *file)
 {
-    for (int i = 0, first = 0; i < slice_count; i++)
-        if (i + 1 == slice_count || slices[i + 1].job != slices[i].job) {
-            fprintf(file, "%ld %ld %s\n", in_set(slices[first].start), in_set(slices[i].stop),
+    for (int i = 0; i < slice_count; i++)
+        if (in_set(slices[i].start) < in_set(slices[i].stop))
+            fprintf(file, "%ld %ld %s\n", in_set(slices[i].start), in_set(slices[i].stop),
                     tasks[jobs[slices[i].job].task].name);
-            first = i + 1;
-        }
     for (int i = 0; i < job_count; i++)
         fprintf(file, jobs[i].finish != 0 ? "job %s %ld %ld\n" : "job %s %ld -\n",
                 tasks[jobs[i].task].name, in_set(jobs[i].arrival), in_set(jobs[i].finish));

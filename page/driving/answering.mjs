@@ -1,6 +1,6 @@
 // Scenes of the answers: grips, conflicts and what mends them, a node's priorities, teams.
 import { readFileSync } from 'fs';
-import { compare_set, same } from './comparing.mjs';
+import { compare_set, same, sentence } from './comparing.mjs';
 import {
   EXAMPLES, browser, digits, equal, example, expect, lines_changed, look, native, put,
 } from './page.mjs';
@@ -114,7 +114,10 @@ export async function judging() {
   equal(await browser.evaluate(`[...document.querySelectorAll('#fates .is-bad')].length`),
     misses.length, 'in red');
   seen = await put({ judged: 'thread x 1\n' });
-  equal(seen.shown.judgement, 'Refused: no task of the set has the name in line 1.', 'a stranger');
+  equal(seen.shown.judgement, sentence(native('judge', [seen.set, 'thread x 1\n'])), 'a stranger');
+  seen = await put({ set: 'x = 1\n' });
+  expect(/^Refused: set: unknown key x/.test(seen.shown.judgement), seen.shown.judgement);
+  await put({ set: example('robot-mended') });
   await put({ judged: '' });
 }
 // The view of teams: reached by its tab, by keys and by the pointer.
@@ -155,8 +158,8 @@ export async function teams() {
   found = await cards();
   equal(found.map(it => it.head).join(), 'team 1draft 1on version 0still open', 'typed lines');
   seen = await put({ script: 'open 1\nfly 1\n' });
-  equal(seen.shown.played, 'Refused: no line of a script 2. Nothing of the script was played.',
-    'a line that is none');
+  equal(seen.shown.played, `${sentence(native('play', ['open 1\nfly 1\n']))}. ` +
+    'Nothing of the script was played.', 'a line that is none');
   await browser.run(() => {
     const list = document.getElementById('scripts');
     list.value = 'findings-in-any-order';

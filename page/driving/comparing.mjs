@@ -51,6 +51,19 @@ export function same(name, found, wanted, shown) {
   expect((shown === undefined || shown === wanted.text) && found?.text === wanted.text &&
     found.status === wanted.status, `${name}: ${head(found)}, and not ${head(wanted)}`);
 }
+// A sentence of the program for what it reads from standard input, as the page shows it.
+export const sentence = ({ told }) => `Refused: ${told.trim().replace(/^standard input: /, '')}`;
+// What is told of a set: the sentence of its refusal, or the notes; that on a conflict above it.
+function compare_told(what, admit, { verdict, strip, notes, conflict }) {
+  const all = admit.told.split('\n').filter(it => it.startsWith('note: ')).map(it => it.slice(6));
+  const why = ' desk explain says why', on_conflict = all.find(it => it.endsWith(`:${why}`));
+  equal(notes.join('\n'), all.filter(it => it !== on_conflict).join('\n'), `${what}: notes`);
+  if (on_conflict)
+    expect(conflict.startsWith(on_conflict.replace(why, '')), `${what}: ${conflict}`);
+  if (admit.status !== 4) return;
+  equal(verdict, sentence(admit), `${what}: ${admit.text.trim()}`);
+  expect(!/no|yes/.test(strip), `${what}: the strip is ${strip}`);
+}
 export function compare_set(what, set, seen) {
   const { answers, shown, slices, bars } = seen;
   const wanted = Object.fromEntries(
@@ -91,12 +104,10 @@ export function compare_set(what, set, seen) {
     expect(seen.conflict && seen.verdict ===
       `No order passes: ${wanted.admit.text.trim().split(' ').slice(1).join(', ')}`,
       `${what}: ${seen.verdict}`);
-  if (wanted.admit.status === 4)
-    expect(/^(Refused|Not read|Done)/.test(seen.verdict) && !/no|yes/.test(seen.strip),
-      `${what}: ${seen.verdict} ${wanted.admit.text}`);
+  compare_told(what, wanted.admit, seen);
   if (wanted.admit.status !== 0) return equal(slices.length, 0, `${what}: a picture of no run`);
   const run = [...wanted.simulate.text.matchAll(/^(\d+) (\d+) (\S+)$/gm)]
     .map(it => `${it[3]} ${it[1]} to ${it[2]} us`);
-  expect(wanted.draw.text.length > 4000000 || slices.sort().join() === run.sort().join(),
+  expect(wanted.draw.text.length > 250000 || slices.sort().join() === run.sort().join(),
     `${what}: ${slices.length} slices of ${run.length}`);
 }

@@ -1,6 +1,6 @@
 // Scenes of the table and its text: cells, rows, sections, preferences, other forms of a set.
-import { soon } from './browser.mjs';
 import { compare_set } from './comparing.mjs';
+import { soon } from './hand.mjs';
 import {
   browser, cell, equal, example, expect, lines_changed, look, native, put,
 } from './page.mjs';
@@ -124,6 +124,65 @@ export async function sorting() {
   await browser.click('#table .row.names [title="Sort by deadline"]');
   equal(await shown_rows(), as_text, 'once more, and the rows are as in the text');
 }
+// Rows by keys, a pointer and a finger; the text's tasks come to other places, and nothing else.
+export async function moving() {
+  const set = example('robot-mended'), handle = row => `#table [data-row="${row}"] .move`;
+  const names = async () => (await look()).rows.map(it => it.name).slice(0, 4).join();
+  const focused = () => browser.evaluate(`document.activeElement.getAttribute('aria-label')`);
+  await put({ set });
+  equal(await names(), 'motor,balance,imu,camera', 'the rows');
+  await browser.click(cell(0, 'cost'));
+  await browser.press('ArrowDown', { alt: true });
+  await browser.settled();
+  let seen = await look();
+  equal(await names(), 'balance,motor,imu,camera', 'Alt and an arrow move a row');
+  equal(await focused(), 'cost of motor', 'and the focus stays in it');
+  equal(lines_changed(seen.set, set), 0, 'no line is another');
+  expect(seen.set.startsWith(set.split('\n')[0]), 'the comment at the top stays there');
+  expect(/motor: place 2 of 9/.test(seen.shown.notice), `which is said: ${seen.shown.notice}`);
+  compare_set('a moved row', seen.set, seen);
+  await browser.press('ArrowUp', { alt: true });
+  await browser.press('ArrowUp', { alt: true });
+  await browser.settled();
+  equal((await look()).set, set, 'and back, and no further');
+  await browser.run(handle => document.querySelector(handle).focus(), handle(1));
+  await browser.press('ArrowDown');
+  await browser.settled();
+  equal(await names(), 'motor,imu,balance,camera', 'an arrow on a handle');
+  equal(await focused(), 'move balance', 'which keeps the focus');
+  await browser.click('#undo');
+  equal((await look()).set, set, 'undo');
+  await browser.carry(handle(0), '#table [data-row="2"]', async () =>
+    equal(await browser.evaluate(`[document.querySelector('.row.is-held').dataset.task,
+      document.querySelector('.row.is-before').dataset.task].join()`), 'motor,camera',
+      'a mark shows where it comes'));
+  equal(await names(), 'balance,imu,motor,camera', 'a pulled row');
+  expect(await browser.evaluate(`!document.querySelector('.is-held, .is-before, .is-behind')`),
+    'and no mark is left');
+  await browser.has_fingers(true);
+  await browser.touch(handle(2), .5, .5, '#table [data-row="3"]');
+  equal((await look()).rows[3].name, 'motor', 'by a finger');
+  await browser.touch('[data-task="motor"] .growth input', .15, .6);
+  seen = await look();
+  expect(Number(seen.rows[3].cost) > 500, `a grip by a finger: ${seen.rows[3].cost}`);
+  compare_set('moved and pulled', seen.set, seen);
+  await browser.touch('#undo');
+  expect((await look()).rows[3].cost === '150', 'a button by a finger');
+  await browser.has_fingers(false);
+  await browser.click('#table .row.names [title="Sort by name"]');
+  expect(await browser.evaluate(`document.querySelector('${handle(0)}').disabled`),
+    'sorted rows stay');
+  await browser.click('#table .row.names [title="Sort by name"]');
+  // A comment that stands apart is no task's.
+  const apart = set.replace('\n[[task]]\nname = "imu"', '\n# ---- sensors\n\n$&').replace(
+    '[[task]]\nname = "balance"', '# holds it up\n$&');
+  await put({ set: apart });
+  await browser.click('#table [data-row="1"] .acts button:nth-child(2)');
+  seen = await look();
+  expect(seen.set.includes('\n\n# ---- sensors\n\n') && !seen.set.includes('# holds it up'),
+    'a removed task takes its own comment alone');
+  compare_set('a removed task', seen.set, seen);
+}
 export async function sections() {
   await put({ set: example('robot') });
   await browser.click('#table [data-row="6"] .strip');
@@ -149,8 +208,10 @@ export async function sections() {
   compare_set('two sections', seen.set, seen);
   await browser.write('#editor-6 .line[aria-label="section 2"] input:nth-of-type(2)', '350');
   seen = await look();
-  equal(seen.verdict, 'Refused: task 7 (battery), section 2, begins before the one before it ends.',
-    'a section over another');
+  const why = 'section 2: it begins before the end of the one before it: at 350, ';
+  expect(RegExp(`^Refused: (line \\d+, )?task 7 \\(battery\\): ${why}`).test(seen.verdict),
+    seen.verdict);
+  compare_set('a section over another', seen.set, seen);
   expect(await browser.evaluate(
     `document.querySelector('#editor-6 .line[aria-label="section 2"] input:nth-of-type(2)')
       .getAttribute('aria-invalid') === 'true'`), 'is marked in the table');
@@ -179,20 +240,13 @@ export async function other_forms() {
   seen = await put(
     { set: '[[task]]\nname = "a"\nperiod = 5000\ndeadline = """5"""\ncost = "x"\n' });
   expect(seen.is_tabled &&
-    /^Refused: task 1 \(a\) has another kind of value than it should at deadline/.test(
-    seen.verdict), seen.verdict);
-  for (const [set, verdict] of [
-    ['prefer = "cost"\n', 'Refused: The set prefers neither “weight” nor “deadline”.'],
-    ['#% cam 4\n#ok\n#% arm 9\ntask=[{}]', 'Refused: of team arm, task 1 lacks name.'],
-    ['#% cam 3\nx=', 'Refused: part 1 has no line “#% TEAM COUNT” that fits it.'],
-    ['#% cam 16\nprefer="weight"\n#% arm 18\nprefer="deadline"\n',
-      'Refused: team arm prefers otherwise than team cam.'],
-  ]) {
-    seen = await put({ set });
-    equal(seen.verdict, verdict, `a refusal: ${native('admit', [set]).text.trim()}`);
-  }
+    /^Refused: (line \d+, )?task 1 \(a\): deadline has to be a whole number/.test(seen.verdict),
+    seen.verdict);
+  for (const set of ['prefer = "cost"\n', '#% cam 4\n#ok\n#% arm 9\ntask=[{}]', '#% cam 3\nx=',
+    '#% cam 16\nprefer="weight"\n#% arm 18\nprefer="deadline"\n', 'x = ', 'x = 1\n', '\xff'])
+    compare_set(`a refusal: ${set}`, set, await put({ set }));
   seen = await put({ set: '# nothing\n' });
-  equal(seen.verdict, 'Admitted: no tasks', 'no tasks');
+  equal(seen.verdict, 'Admitted: 0 tasks', 'no tasks');
   await browser.click('#add');
   compare_set('the first task', (await look()).set, await look());
 }

@@ -1,7 +1,7 @@
 // Scenes of what is kept: the baseline, also over a reload, files and links.
-import { readFileSync, statSync, writeFileSync } from 'fs';
-import { soon } from './browser.mjs';
+import { readFileSync, rmSync, statSync, writeFileSync } from 'fs';
 import { compare_set } from './comparing.mjs';
+import { soon } from './hand.mjs';
 import {
   PAGE_URL, browser, cell, digits, equal, example, expect, look, native, put,
 } from './page.mjs';
@@ -49,10 +49,7 @@ export async function baseline() {
 }
 // A file comes to a page by its input.
 async function give_file(selector, path) {
-  const { root } = await browser.send('DOM.getDocument');
-  const { nodeId } =
-    await browser.send('DOM.querySelector', { nodeId: root.nodeId, selector });
-  await browser.send('DOM.setFileInputFiles', { nodeId, files: [path] });
+  await browser.give_file(selector, path);
   await soon(200);
   await browser.settled();
 }
@@ -98,20 +95,14 @@ export async function files() {
   const crlf = '\ufeff' + example('shared-lock').replaceAll('\n', '\r\n');
   const path = `${browser.room}/node-7.toml`;
   writeFileSync(path, crlf);
-  const { root } = await browser.send('DOM.getDocument');
-  const { nodeId } = await browser.send(
-    'DOM.querySelector', { nodeId: root.nodeId, selector: '#file' });
-  await browser.send('DOM.setFileInputFiles', { nodeId, files: [path] });
-  await soon(200);
-  await browser.settled();
+  await give_file('#file', path);
   let seen = await look();
   equal(seen.set, example('shared-lock'), 'an opened file');
   expect(seen.shown.lines.includes('desk admit node-7.toml\n'), 'its name in the command lines');
   await browser.write(cell(2, 'cost'), '19999');
-  writeFileSync(path, '');
+  rmSync(path);
   await browser.press('s', { ctrl: true });
-  for (let tries = 0; tries < 60 && statSync(path).size === 0; tries++) await soon(50);
-  equal(readFileSync(path, 'utf8'), crlf.replace('cost = 20000', 'cost = 19999'),
+  equal(await saved(path), crlf.replace('cost = 20000', 'cost = 19999'),
     'a saved file keeps its mark and its line ends');
   // A link.
   await browser.click('#share');

@@ -9,7 +9,7 @@ export async function keys() {
   const reached = new Set();
   await browser.evaluate('document.activeElement.blur()');
   let opened = false;
-  for (let i = 0; i < 220; i++) {
+  for (let i = 0; i < 240; i++) {
     await browser.press('Tab');
     const [id, name] = await browser.evaluate(
       '[document.activeElement.id, document.activeElement.className]');

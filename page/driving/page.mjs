@@ -1,9 +1,11 @@
 // The page in a browser, what is counted of it, and what it shows; the program beside it.
 import { spawnSync } from 'child_process';
 import { readFileSync, writeFileSync } from 'fs';
-import { Browser } from './browser.mjs';
+import { basename } from 'path';
+import { Chromium } from './chromium.mjs';
+import { Firefox } from './firefox.mjs';
 
-const { PAGE, DESK, CHROMIUM } = process.env;
+const { PAGE, DESK, BROWSER } = process.env;
 export const tally = { passed: 0, failed: 0 };
 export const EXAMPLES = new URL('../../examples/', import.meta.url).pathname;
 export const kinds = {};
@@ -15,16 +17,17 @@ const brief = value => JSON.stringify(value)?.slice(0, 300);
 export const equal = (found, wanted, what) =>
   expect(found === wanted, `${what}: ${brief(found)}, and not ${brief(wanted)}`);
 export const example = name => readFileSync(`${EXAMPLES}${name}.toml`, 'utf8');
-// The program's answer to a command over inputs, of which the last is its standard input.
+// The program's answer to a command over inputs, of which the last is its standard input, and what
+// it tells a person.
 export function native(command, inputs, words = []) {
   const files = inputs.slice(0, -1).map((text, at) => {
     writeFileSync(`${browser.room}/${at}`, text);
     return `${browser.room}/${at}`;
   });
-  const { stdout, status } =
+  const { stdout, stderr, status } =
     spawnSync(DESK, [command, ...files, '-', ...words],
     { input: inputs.at(-1), maxBuffer: 1 << 28 });
-  return { text: stdout.toString('utf8'), status };
+  return { text: stdout.toString('utf8'), status, told: stderr.toString('utf8') };
 }
 function looked() {
   const text = it => document.getElementById(it).textContent;
@@ -53,6 +56,7 @@ function looked() {
     trouble: text('trouble'), conflict: document.getElementById('conflict').hidden ? '' :
     text('conflict'),
     mends: [...document.querySelectorAll('#mends button')].map(it => it.textContent),
+    notes: [...document.querySelectorAll('#notes > li')].map(it => it.textContent),
     set: document.getElementById('set').value, is_tabled: !document.getElementById('table').hidden,
       strip: document.getElementById('strip').className };
 }
@@ -71,7 +75,8 @@ export async function put(texts) {
 }
 export const digits = text => text.replaceAll('\u202f', '');
 export const PAGE_URL = `file://${PAGE}`;
-export const browser = await Browser.started(CHROMIUM);
+export const is_firefox = basename(BROWSER).includes('firefox');
+export const browser = await (is_firefox ? Firefox : Chromium).started(BROWSER);
 export const cell = (row, key) => `#table [data-row="${row}"] [data-cell="${key}"]`;
 export const lines_changed = (a, b) => {
   const rest = b.split('\n');

@@ -70,9 +70,7 @@ export async function slices() {
       return box && [box.left + box.width / 2, box.top + box.height - 2];
     }, title);
     if (!place) return `no slice ${title}`;
-    await browser.mouse('mouseMoved', place, { buttons: 0, button: 'none' });
-    await browser.mouse('mousePressed', place);
-    await browser.mouse('mouseReleased', place);
+    for (const it of ['move', 'down', 'up']) await browser.mouse(it, place);
     return digits(await browser.evaluate(`document.getElementById('slice').textContent`));
   };
   equal(await click_on('lo holds m 3100 to 7100 us'),

@@ -2,17 +2,18 @@
 import { spawnSync } from 'child_process';
 import { readFileSync, writeFileSync } from 'fs';
 import { gunzipSync, gzipSync } from 'zlib';
-import { soon } from './browser.mjs';
 import { compare_set, same } from './comparing.mjs';
-import { browser, equal, expect, look, native, put } from './page.mjs';
+import { soon } from './hand.mjs';
+import { browser, equal, expect, is_firefox, look, native, put } from './page.mjs';
 
 const { PAGE } = process.env;
-const CHROMIUM_BYTES = process.execPath;
+const A_BINARY = process.execPath;
 
-// Where the browser isn't there, page/test says that it is skipped.
+// Where no browser is there, page/test says that it is skipped.
 export async function skipping() {
+  const none = { CHROMIUM: '/nowhere/chromium', FIREFOX: '/nowhere/firefox' };
   const { stdout, status } = spawnSync(new URL('../test', import.meta.url).pathname,
-    { env: { ...process.env, CHROMIUM: '/nowhere/chromium' } });
+    { env: { ...process.env, ...none } });
   const [last, before] = stdout.toString().trimEnd().split('\n').reverse();
   equal(`${status} ${last}`, '0 0 passed, 0 failed', 'a test without a browser');
   expect(before.startsWith("page/test: skipped: /nowhere/chromium isn't here"),
@@ -52,7 +53,7 @@ async function goes_on(what) {
 }
 export async function troubles() {
   const LONG = 1 << 24;
-  const binary = readFileSync(CHROMIUM_BYTES).subarray(0, 100000).toString('utf8')
+  const binary = readFileSync(A_BINARY).subarray(0, 100000).toString('utf8')
     .replace(/\r\n?/g, '\n');
   for (const [what, set] of [
     ['16 MB of text', '#'.padEnd(LONG - 1, 'x') + '\n'],
@@ -67,20 +68,25 @@ export async function troubles() {
     else same(what, answers.admit, wanted);
     await goes_on(what);
   }
-  await browser.evaluate(
-    `for (let i = 0; i < 50; i++) {
+  await browser.run(() => {
+    for (let i = 0; i < 50; i++) {
       const it = document.getElementById('set');
       it.value += '#';
       it.dispatchEvent(new Event('input'));
-    }`);
+    }
+  });
   await goes_on('fast typing');
   // An error of the script.
   browser.complaints.length = 0;
-  await browser.evaluate(`setTimeout(() => { throw Error('a planted fault'); })`);
+  await browser.run(() => {
+    const script = document.createElement('script');
+    script.textContent = "setTimeout(() => { throw Error('a planted fault'); })";
+    document.body.append(script);
+  });
   await soon(100);
   expect(/a planted fault.*The text is kept/.test((await look()).trouble),
     'an error of the script is shown');
-  expect(browser.complaints.length > 0, 'and stands in the console');
+  expect(is_firefox || browser.complaints.length > 0, 'and stands in the console');
   browser.complaints.length = 0;
   await goes_on('an error of the script');
   // A trap that leaves the instance broken, and a call that never ends: by words in the set, in
@@ -128,8 +134,7 @@ export async function troubles() {
   const { trouble, verdict } = await put({ set: '#'.padEnd(3000000) + '\n' });
   expect(/memory/.test(trouble) && verdict === 'no answer', `small memory: ${trouble}, ${verdict}`);
   await goes_on('want of memory');
-  await browser.send('Page.navigate',
-    { url: variant('broken', it => it.subarray(0, it.length >> 1)) });
+  await browser.navigate(variant('broken', it => it.subarray(0, it.length >> 1)));
   await soon(1500);
   expect(/The module failed/.test(
     await browser.evaluate(`document.getElementById('trouble').textContent`)), 'half a module');

@@ -7,15 +7,28 @@ export function read_refusal(text) {
   const [head, name, ...fields] = text.trim().split(' ');
   return head === 'refused:' ? { name, fields } : null;
 }
+// What a refusal says to a person: the desk's sentence, which begins with the name of the input,
+// and that is left out where it is the one that is meant; without a sentence, the line itself.
+export function sentence_of({ text, told }, meant) {
+  const said = (told || text.replace(/^refused: /, '')).trim();
+  return `Refused: ${said.startsWith(`${meant}: `) ? said.slice(meant.length + 2) : said}`;
+}
+// The notes on a set, and the one on its conflict, less the command that says more.
+const WHY = ': desk explain says why';
+export function notes_of({ told }) {
+  const all = lines_of(told).filter(it => it.startsWith('note: ')).map(it => it.slice(6));
+  const conflict = all.find(it => it.endsWith(WHY))?.slice(0, -WHY.length) ?? null;
+  return { notes: all.filter(it => !it.endsWith(WHY)), conflict };
+}
 
 // `admit`: how many tasks, or the names that stand in the way, or a refusal. (`explain` has the
 // levels.)
-export function read_admit({ text, status }) {
+export function read_admit({ text, status, told = '' }) {
   const [first = ''] = lines_of(text), words = first.split(' ');
   if (status === 0) return { kind: 'admitted', count: Number(words[1]) };
   if (status === 3) return { kind: 'infeasible', names: words.slice(1) };
-  return { kind: 'refused',
-    refusal: read_refusal(text) ?? { name: first || 'no answer', fields: [] } };
+  return { kind: 'refused', sentence: text ? sentence_of({ text, told }, 'set') : 'no answer',
+    refusal: read_refusal(text) };
 }
 
 function read_part(line) {
@@ -83,10 +96,11 @@ function read_fate(line) {
   if (word === 'below') return { ...row, fate: word, other: last };
   return { ...row, fate: 'meets', response: Number(word), deadline: Number(deadline) };
 }
-export function read_judge({ text, status }) {
-  if (status !== 0 && status !== 3) return { refusal: read_refusal(text), misses: [], rows: [] };
+export function read_judge({ text, status, told }) {
+  if (status !== 0 && status !== 3)
+    return { refused: sentence_of({ text, told }, 'settings'), misses: [], rows: [] };
   const [first = '', ...rows] = lines_of(text);
-  return { refusal: null, misses: status === 3 ? first.split(' ').slice(1) : [],
+  return { refused: null, misses: status === 3 ? first.split(' ').slice(1) : [],
     rows: rows.map(read_fate) };
 }
 
@@ -103,12 +117,14 @@ export function read_diff({ text, status }) {
 }
 
 // `play`: a reply for each line that isn't skipped, then the node's state.
-export function read_play({ text, status }) {
+export function read_play({ text, status, told }) {
   const lines = lines_of(text), at = lines.findLastIndex(it => /^version \d+$/.test(it));
-  if (status !== 0 || at < 0)
-    return { refusal: read_refusal(lines.at(-1) ?? ''), replies: [], version: null, levels: [] };
+  if (status !== 0 || at < 0) {
+    const refused = sentence_of({ text: lines.at(-1) ?? '', told }, 'script');
+    return { refused, replies: [], version: null, levels: [] };
+  }
   const levels = lines.slice(at + 1).map(it => it.split(' ')).map(([, level, name, team, bound]) =>
     ({ level: Number(level), name, team: Number(team), bound: Number(bound) }));
   const version = Number(lines[at].split(' ')[1]);
-  return { refusal: null, replies: lines.slice(0, at), version, levels };
+  return { refused: null, replies: lines.slice(0, at), version, levels };
 }

@@ -2,6 +2,8 @@
 // below it the cost as a grip, with how far `limits` lets it go.
 import { limit_of } from './answers.mjs';
 import { coloured, element, grouped, plural, us } from './dom.mjs';
+import { safely } from './trouble.mjs';
+import { Turns } from './turns.mjs';
 
 const LETTER = 7.4;
 const percent = (time, deadline) => `${(100 * time / deadline).toFixed(1)} %`;
@@ -52,8 +54,12 @@ export class Bars {
     for (const it of ['pointerover', 'pointerdown'])
       host.addEventListener(it, event => this.hover(event));
     host.addEventListener('pointerleave', () => this.tip(null));
-    new ResizeObserver(() => {
-      if (this.given && this.width !== this.host.clientWidth) this.show(this.given);
+    this.width = host.clientWidth;
+    this.turns = new Turns(safely(it => this.show_row(it)), safely(() => this.order(this.names)));
+    new ResizeObserver(([{ contentRect }]) => {
+      if (contentRect.width === this.width) return;
+      this.width = contentRect.width;
+      if (this.given) this.show(this.given);
     }).observe(host);
   }
 
@@ -67,8 +73,7 @@ export class Bars {
   // What stands for a task that no line of `explain` accounts for: others than those of a conflict.
   show(given) {
     this.given = given;
-    this.width = this.host.clientWidth;
-    const { explained, limits, deadlines } = given;
+    const { explained, deadlines } = given;
     const accounts = new Map(explained.accounts.map(it => [it.name, it]));
     const accounted = [...accounts.keys()];
     const others = [...deadlines.keys()].filter(it => !accounts.has(it));
@@ -78,11 +83,16 @@ export class Bars {
       row.item.remove();
       this.rows.delete(name);
     }
-    for (const name of names) {
-      if (!this.rows.has(name)) this.rows.set(name, this.row(name));
-      this.draw(this.rows.get(name), name, accounts.get(name), limit_of(limits, name, 'cost'));
+    Object.assign(this, { names, accounts });
+    this.turns.start(names);
+  }
+  show_row(name) {
+    if (!this.rows.has(name)) {
+      this.rows.set(name, this.row(name));
+      this.host.append(this.rows.get(name).item);
     }
-    this.order(names);
+    const growth = limit_of(this.given.limits, name, 'cost');
+    this.draw(this.rows.get(name), name, this.accounts.get(name), growth);
   }
 
   // Rows move only where nobody is pulling a grip, and the focus stays.

@@ -41,9 +41,9 @@ const HEARD = {
     const admit = read_admit(answer);
     if (admit.kind === 'refused') {
       unpin_baseline();
-      return notice(`${baseline.name} is no baseline: the desk refuses it, ${answer.text.trim()}.`);
+      return notice(`${baseline.name} is no baseline. ${admit.sentence}`);
     }
-    baseline.verdict = verdict_told(admit, null);
+    baseline.verdict = verdict_told(admit);
   },
   explain(baseline, answer) {
     const explained = read_explain(answer), conflict = explained?.conflict ?? null;
@@ -53,9 +53,9 @@ const HEARD = {
     baseline.limits = read_limits(answer);
   },
 };
-export function heard_of_baseline({ name, text, status }) {
+export function heard_of_baseline({ name, text, status, told }) {
   if (!state.baseline) return;
-  HEARD[name](state.baseline, { text, status });
+  HEARD[name](state.baseline, { text, status, told });
   parts.redraw();
 }
 export function heard_of_changes({ text, status }) {

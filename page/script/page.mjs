@@ -12,8 +12,8 @@ import { Picture } from './picture.mjs';
 import { heat, tip } from './pointer.mjs';
 import { Scale, execution_of, scaled } from './scale.mjs';
 import {
-  draw_bars, heard_of_node, heard_of_set, show_document, show_facts, show_fallen, show_late,
-  show_verdict,
+  NO_ANSWER, draw_bars, heard_of_node, heard_of_set, show_document, show_facts, show_fallen,
+  show_late, show_verdict,
 } from './showing.mjs';
 import { slice_told } from './slices.mjs';
 import { cut, followed, parts, past, state } from './state.mjs';
@@ -22,13 +22,13 @@ import { show_teams } from './teams.mjs';
 import { notice, safely, trouble } from './trouble.mjs';
 import { show_view, walk_tabs } from './views.mjs';
 import {
-  change, edit, grow, mend, prefer_deadlines, take_file, take_fragment, travel,
+  change, edit, fill_area, grow, mend, prefer_deadlines, take_file, take_fragment, travel,
 } from './writing.mjs';
 
 // ---- the parts, and what each hears
 
 const point = (name, section) => parts.table.point(name, section);
-parts.table = new Table(at('table'), edit, key => { at('sorted').value = key; });
+parts.table = new Table(at('table'), edit, key => { at('sorted').value = key; }, notice);
 parts.bars = new Bars(at('bars'), { grow: safely(grow), point, tip: safely(tip) });
 parts.scale = new Scale(at('scale'), {
   execution: () => execution_of(state.document),
@@ -45,10 +45,10 @@ parts.redraw = safely(() => {
   draw_bars();
   show_facts();
 });
-function heard_of_script({ name, text, status }, { text: script }) {
-  state.answers[name] = { text, status };
+function heard_of_script({ name, text, status, told }, { text: script }) {
+  state.answers[name] = { text, status, told };
   write(at('play'), cut(text));
-  show_teams(script, { text, status });
+  show_teams(script, { text, status, told });
 }
 open_lanes({
   set: heard_of_set, growth: heard_of_set, node: heard_of_node, script: heard_of_script,
@@ -87,6 +87,7 @@ on('set', 'input', () => {
   if (at('set').value === state.text) ask();
   else change(at('set').value, { key: 'text', by: 'text' });
 });
+for (const it of ['focus', 'pointerenter']) on('set', it, fill_area);
 on('until', 'input', ask);
 on('judged', 'input', ask_node);
 on('script', 'input', ask_script);
@@ -123,7 +124,7 @@ on('restore', 'click', () => change(state.baseline.text));
 on('stop', 'click', () => {
   lanes.set.stop();
   lanes.growth.stop();
-  if (state.is_waiting) show_verdict({ kind: 'refused', refusal: null });
+  if (state.is_waiting) show_verdict(NO_ANSWER);
   notice('Stopped. Change the text to ask again.');
 });
 on('copy', 'click', () => copy(at('settings').textContent, 'the settings'));
@@ -187,10 +188,11 @@ async function start() {
   for (const it of Object.values(lanes)) it.start(module);
 }
 start().catch(error => {
-  show_verdict({ kind: 'refused', refusal: null });
+  show_verdict(NO_ANSWER);
   const needs = 'The page needs WebAssembly, oklch() and DecompressionStream, as Chromium 111, ' +
     'Firefox 113 and Safari 16.4 have them.';
   trouble(`The module failed: ${error?.message ?? error}. ${needs}`);
 });
 // For tests.
-globalThis.desk = { state, lanes: Object.values(lanes) };
+const is_drawing = () => parts.table.turns.is_busy || parts.bars.turns.is_busy;
+globalThis.desk = { state, is_drawing, lanes: Object.values(lanes) };

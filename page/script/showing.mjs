@@ -1,31 +1,39 @@
 // What the page shows of each answer on the set. Every number in it is one that the desk prints.
-import { limit_of, read_admit, read_explain, read_judge, read_limits } from './answers.mjs';
+import {
+  limit_of, notes_of, read_admit, read_explain, read_judge, read_limits, sentence_of,
+} from './answers.mjs';
 import { show_difference } from './baseline.mjs';
-import { at, element, write } from './dom.mjs';
+import { at, element, plural, write } from './dom.mjs';
 import { offer } from './files.mjs';
 import { fates, judgement } from './judging.mjs';
 import { lanes } from './asking.mjs';
-import { told } from './refusals.mjs';
+import { lead, line_named } from './leading.mjs';
+import { cell_refused, span_refused } from './refusals.mjs';
+import { is_drawable } from './picture.mjs';
 import { cut, parts, past, state } from './state.mjs';
 import { name_of, number_in, string_in } from './toml.mjs';
 import { safely, trouble } from './trouble.mjs';
 import { conflict_told, facts_told, lines_told, mends_told, verdict_told } from './words.mjs';
+export const NO_ANSWER = { kind: 'refused', refusal: null, sentence: 'no answer' };
 const SHOW = {
-  admit: it => show_verdict(read_admit(it)),
+  admit: it => {
+    show_verdict(read_admit(it));
+    show_notes(notes_of(it));
+  },
   explain: it => show_explained(read_explain(it)),
   limits: it => show_limits(read_limits(it)),
   settings: ({ text, status }) => show_settings(status === 0 ? text : null),
   certify: ({ text, status }) => show_certificate(status === 0 || status === 3 ? text : null),
   check: ({ text }) => write(at('checked'), `desk check: ${text.trim()}`),
-  releases: ({ text, status }) => {
-    undrawn(status === 0 ? '' : `No picture: ${text}`);
+  releases: it => {
+    undrawn(it.status === 0 ? '' : `No picture. ${sentence_of(it, 'until')}`);
     show_lines();
   },
   simulate: () => {},
   draw: it => show_picture(it),
 };
 // What the new answers have no line for goes: the picture of a refused set, say.
-export function heard_of_set({ id, name, text, status }) {
+export function heard_of_set({ id, name, text, status, told }) {
   const is_growth = name === 'limits';
   if (!is_growth && id !== state.question) {
     state.question = id;
@@ -34,7 +42,7 @@ export function heard_of_set({ id, name, text, status }) {
     for (const it of ['settings', 'certify', 'check', 'releases', 'simulate', 'draw'])
       at(`printed-${it}`)?.parentElement.remove();
   }
-  state.answers[name] = { text, status };
+  state.answers[name] = { text, status, told };
   if (status === 6) trouble(`${name}: no memory for the whole answer.`);
   SHOW[name](state.answers[name]);
   show_printed(name, text, status);
@@ -53,17 +61,28 @@ function show_printed(name, text, status) {
   write(place.previousSibling, `desk ${name}${status ? ` [${status}]` : ''}`);
   write(place, cut(text));
 }
+// The note on a conflict stands above it; of very many others the first are shown.
+const NOTES = 100;
+function show_notes({ notes, conflict }) {
+  state.conflict_told = conflict;
+  const some = notes.slice(0, NOTES), more = notes.length - some.length;
+  if (more) some.push(`and ${plural(more, 'note')} more`);
+  const shown = [...at('notes').children].map(it => it.textContent);
+  if (shown.join('\n') === some.join('\n')) return;
+  at('notes').replaceChildren(...some.map(note => element('li', note)));
+  at('notes').tabIndex = some.length > 3 ? 0 : -1;
+}
 export function show_verdict(admit) {
   state.admit = admit;
   if (!lanes.set.waiting) state.is_waiting = false;
-  const refused = admit.kind === 'refused' && admit.refusal ?
-    told(admit.refusal, state.document.tasks.map(name_of)) : null;
-  write(at('verdict'), verdict_told(admit, refused));
+  write(at('verdict'), verdict_told(admit));
   at('strip').className =
     `verdict ${admit.kind === 'admitted' ? 'is-yes' : admit.kind === 'infeasible' ? 'is-no' : ''}`;
   state.is_stale = admit.kind === 'refused';
-  parts.table.show(state.document,
-    { wrong: refused?.cell, bad: admit.kind === 'infeasible' ? admit.names : [] });
+  const wrong = admit.refusal ? cell_refused(admit.refusal) : null;
+  lead('set', admit.refusal ? span_refused(admit.sentence, wrong, state.document) : null);
+  parts.table.show(
+    state.document, { wrong, bad: admit.kind === 'infeasible' ? admit.names : [] });
   at('answer').classList.toggle('is-stale', state.is_stale);
   at('stale').hidden = !state.is_stale || !state.explained;
   if (admit.kind !== 'admitted') no_run();
@@ -71,7 +90,7 @@ export function show_verdict(admit) {
 }
 function no_run() {
   parts.picture.clear();
-  offer(at('svg'), null);
+  offer(at('svg'), 'desk.svg', null);
   const why = state.is_stale ? 'The set is refused' : 'No order passes';
   undrawn(`${why}, so there is no run to draw.`);
 }
@@ -86,8 +105,8 @@ function show_conflict(explained) {
   at('conflict').hidden = !explained?.conflict;
   show_mends();
   if (explained?.conflict)
-    at('conflict').replaceChildren(
-      ...conflict_told(explained, (name, section) => parts.table.point(name, section)));
+    at('conflict').replaceChildren(...conflict_told(
+      state.conflict_told, explained, (name, section) => parts.table.point(name, section)));
 }
 // The changes that mend a refused set, beside its conflict.
 function show_mends() {
@@ -143,12 +162,12 @@ export function draw_bars() {
 function show_settings(text) {
   write(at('settings'), text ?? '');
   at('copy').disabled = at('fill').disabled = text === null;
-  offer(at('settings-file'), text);
+  offer(at('settings-file'), 'settings', text);
 }
 function show_certificate(text) {
   write(at('certificate-text'), cut(text ?? ''));
   at('copy-certificate').disabled = text === null;
-  offer(at('certificate'), text);
+  offer(at('certificate'), 'desk.cert', text);
   if (text === null) write(at('checked'), '');
   show_lines();
 }
@@ -158,20 +177,25 @@ function undrawn(text) {
 }
 function show_picture({ text, status }) {
   if (status !== 0) return;
-  offer(at('svg'), text, 'image/svg+xml');
-  if (!parts.picture.show(text)) undrawn('The picture is very long: download it.');
+  offer(at('svg'), 'desk.svg', text, 'image/svg+xml');
+  if (parts.picture.show(text)) return;
+  undrawn(is_drawable(text) ? 'The picture is long. ' : 'The picture is very long: download it.');
+  const onclick = safely(() => undrawn(parts.picture.show(text, true) ? '' : 'It is no picture.'));
+  if (is_drawable(text))
+    at('undrawn').append(element('button.small', { type: 'button', onclick }, 'Draw it'));
 }
 export const show_lines = () => write(
   at('lines'), lines_told(state.file.name, state.answers, at('judged').value.trim()).join('\n'));
 // ---- the priorities that a node has
 export function heard_of_node(answer) {
   if (!answer) return show_judgement(null);
-  const { text, status } = answer;
-  state.answers.judge = { text, status };
-  show_judgement(read_judge({ text, status }));
+  const { text, status, told } = answer;
+  state.answers.judge = { text, status, told };
+  show_judgement(read_judge(answer));
 }
 function show_judgement(judged) {
   const { text, is_good } = judged ? judgement(judged) : { text: '' };
+  lead('judged', judged?.refused ? line_named(judged.refused, at('judged').value) : null);
   at('judgement').className = is_good ? 'yes' : 'no';
   write(at('judgement'), text);
   at('fates').replaceChildren(...judged ? fates(judged.rows) : []);
@@ -207,5 +231,5 @@ export function show_late() {
 }
 export function show_fallen(name) {
   if (name === 'admit' || !name && state.is_waiting)
-    show_verdict({ kind: 'refused', refusal: null });
+    show_verdict(NO_ANSWER);
 }

@@ -13,7 +13,7 @@ export const state = {
   text: at('set').value, document: null,
   file: { name: 'robot-mended.toml', has_mark: false, has_crlf: false },
   answers: {}, admit: null, explained: null, limits: null, baseline: null, changes: null,
-  is_stale: false, is_waiting: true, is_growing: true, question: 0,
+  conflict_told: null, is_stale: false, is_waiting: true, is_growing: true, question: 0,
 };
 export const past = new History(state.text);
 // The parts of the page that draw, and what they call: the table, the bars, the picture and so on.

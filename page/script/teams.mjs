@@ -2,6 +2,7 @@
 // the node's state after all. It only puts lines that `play` prints beside those of the script.
 import { read_play } from './answers.mjs';
 import { at, coloured, element, grouped, plural, write } from './dom.mjs';
+import { lead, line_named } from './leading.mjs';
 
 const is_skipped = line => !line || line.startsWith('#');
 // Each line with its number and its reply; a skipped one has none.
@@ -70,19 +71,15 @@ function level_row({ level, name, team, bound }) {
   return coloured(element('li.bar', { 'data-task': name }, title), `team ${team}`);
 }
 
-const REFUSED = { BadLine: 'no line of a script', InputTooLong: 'the script is too long' };
-function refusal_told({ name, fields }) {
-  const means = REFUSED[name] ?? name;
-  return `Refused: ${[means, ...fields].join(' ')}. Nothing of the script was played.`;
-}
-
 // Shows what was answered to a script.
-export function show_teams(script, { text, status }) {
-  const { refusal, replies, version, levels } = read_play({ text, status });
-  const lines = lines_of_script(script, replies), drafts = refusal ? [] : drafts_of(lines);
+export function show_teams(script, answer) {
+  const { refused, replies, version, levels } = read_play(answer);
+  const lines = lines_of_script(script, replies), drafts = refused ? [] : drafts_of(lines);
   const teams = new Set(drafts.map(it => it.team)).size, several = plural(drafts.length, 'draft');
-  write(at('played'), refusal ? refusal_told(refusal) : `${plural(teams, 'team')}, ${several}`);
-  at('played').className = refusal ? 'no' : 'faint';
+  const nothing = `${refused}. Nothing of the script was played.`;
+  write(at('played'), refused ? nothing : `${plural(teams, 'team')}, ${several}`);
+  at('played').className = refused ? 'no' : 'faint';
+  lead('script', refused ? line_named(refused, script) : null);
   at('drafts').replaceChildren(...drafts.map(draft_card));
   const tasks = levels.length ? plural(levels.length, 'task') : 'no tasks';
   write(at('node-version'), version === null ? '' : `Version ${version}: ${tasks}`);

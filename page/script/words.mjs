@@ -2,11 +2,10 @@
 import { number_told } from './bars.mjs';
 import { element, grouped, plural, thousandths, us } from './dom.mjs';
 
-export function verdict_told(admit, refused) {
-  if (admit.kind === 'admitted')
-    return admit.count ? `Admitted: ${plural(admit.count, 'task')}` : 'Admitted: no tasks';
+export function verdict_told(admit) {
+  if (admit.kind === 'admitted') return `Admitted: ${plural(admit.count, 'task')}`;
   if (admit.kind === 'infeasible') return `No order passes: ${admit.names.join(', ')}`;
-  return refused?.sentence ?? 'no answer';
+  return admit.sentence;
 }
 
 // What each task of a conflict needs, and who blocks it; `point` shows a section in the table.
@@ -39,11 +38,10 @@ export function mends_told(limits, mend) {
   return ['Each of these changes alone mends it:',
     element('ul', ...all.map(it => mend_told(it, mend)))];
 }
-export function conflict_told({ conflict, accounts }, point) {
-  const head = conflict.length === 1 ?
-    'This task misses its deadline even with all others below it:'
-    : `With all others below these ${conflict.length}, none of them can stand lowest:`;
-  return [head, element('ul', ...accounts.map(it => need_told(it, point)))];
+// The desk's word on the conflict, and what each of its tasks needs.
+export function conflict_told(word, { accounts }, point) {
+  const needs = element('ul', ...accounts.map(it => need_told(it, point)));
+  return [...word ? [`${word}:`] : [], needs];
 }
 
 export function facts_told(explained, limits, was) {

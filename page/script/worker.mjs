@@ -1,5 +1,6 @@
 // Runs in a worker: the module, and all that is asked of it. A question is { id, kind, .. }; its
-// answers are { id, name, text, status }, or { id, name, trouble }, and at the end { id, done }.
+// answers are { id, name, text, status, told }, or { id, name, trouble }, and at the end
+// { id, done }. `told` is what the program tells a person, for a refusal or of a set.
 
 // Room for an answer at first; a longer one is asked for again. A module with more memory than this
 // is let go after use.
@@ -11,7 +12,11 @@ const INPUTS = {
   check: ['set', 'certificate'], diff: ['set', 'changed'],
   judge: ['set', 'settings'], releases: ['set', 'until'], simulate: ['set', 'releases'],
   draw: ['set', 'releases'], play: ['script'],
+  tell: ['command', 'first', 'second', 'until'],
 };
+// The commands by the numbers that include/desk.h gives them, from 1.
+const NUMBERED = ['admit', 'certify', 'check', 'limits', 'settings', 'explain', 'judge', 'diff',
+  'releases', 'simulate', 'draw', 'play'];
 let module = null, desk = null;
 
 function room_of(length) {
@@ -51,11 +56,27 @@ function call(name, given) {
   }
 }
 
+const text_of = bytes => new TextDecoder().decode(bytes);
+// What is told beside an answer; notes on a set are told once, beside the first.
+function told(name, given, status) {
+  if (status !== 4 && status !== 5 && name !== 'admit') return '';
+  const [first, second] = INPUTS[name].map(it => given[it]), none = new Uint8Array();
+  const is_number = typeof second === 'bigint';
+  const inputs =
+    { first, second: is_number ? none : second ?? none, until: is_number ? second : 0n };
+  try {
+    return text_of(call('tell', { command: 1 + NUMBERED.indexOf(name), ...inputs }).bytes);
+  } catch {
+    desk = null;
+    return '';
+  }
+}
+
 // Nothing is left of a call that failed: the next one has a module of its own.
 function answer(name, given) {
   try {
     const { bytes, status } = call(name, given);
-    return { bytes, text: new TextDecoder().decode(bytes), status };
+    return { bytes, text: text_of(bytes), status, told: told(name, given, status) };
   } catch (error) {
     desk = null;
     return { trouble: String(error), status: null };
@@ -108,9 +129,9 @@ onmessage = ({ data }) => {
   try {
     module ??= data.module;
     SAY[kind]?.(data, (name, given) => {
-      const it = answer(name, given);
-      postMessage({ id, name, text: it.text, status: it.status, trouble: it.trouble });
-      return it;
+      const { bytes, ...said } = answer(name, given);
+      postMessage({ id, name, ...said });
+      return { bytes, ...said };
     });
   } catch (error) {
     postMessage({ id, trouble: String(error) });

@@ -18,17 +18,37 @@ export function change(text, { key = null, by = '' } = {}) {
 function become(text, by = '') {
   state.text = text;
   notice('');
-  if (by !== 'text') {
-    const area = at('set'), { scrollTop } = area;
-    area.value = text;
-    area.scrollTop = scrollTop;
-  }
+  if (by !== 'text') fill_area_soon();
   state.document = followed(text);
   ask();
   keep_set(state);
   show_document();
   draw_bars();
 }
+// The text area gets the newest text, and stays where it was scrolled to. Since a long text takes
+// the browser a while, it gets that one once the edits have stopped and it can be seen, or somebody
+// goes to it.
+const LONG_TEXT = 20000, STOPPED = 300;
+let area_timer = 0, is_seen = true;
+const is_long = () => state.text.length > LONG_TEXT;
+function fill_area_soon() {
+  clearTimeout(area_timer);
+  area_timer = setTimeout(safely(() => {
+    if (is_seen || !is_long()) fill_area();
+  }), is_long() ? STOPPED : 0);
+}
+export function fill_area() {
+  clearTimeout(area_timer);
+  const area = at('set'), { scrollTop } = area;
+  if (area.value === state.text) return;
+  area.value = state.text;
+  // (its lines are laid out here, and painted in a task of the browser)
+  if (scrollTop || is_long() && area.scrollHeight) area.scrollTop = scrollTop;
+}
+new IntersectionObserver(safely(all => {
+  is_seen = all.at(-1).isIntersecting;
+  if (is_seen) fill_area_soon();
+})).observe(at('set'));
 export const edit =
   safely((splices, key = null) => change(spliced(state.text, splices), { key, by: 'table' }));
 export function travel(text) {
@@ -37,6 +57,7 @@ export function travel(text) {
   let from = 0;
   while (from < text.length && text[from] === was[from]) from++;
   become(text);
+  fill_area();
   if (document.activeElement === area) area.setSelectionRange(from, from);
 }
 export function grow(name, cost) {
@@ -73,7 +94,8 @@ export function take_file({ name, text, has_mark, has_crlf, is_utf8 }) {
   show_document();
   show_lines();
   keep_set(state);
-  notice(is_utf8 ? `Opened ${name}.` : `${name} isn't UTF-8: what couldn't be read is shown as �.`);
+  notice(is_utf8 ? `Opened ${name}.` :
+    `${name} isn't UTF-8: what couldn't be read is shown as �.`);
 }
 export async function take_fragment() {
   if (!location.hash.startsWith('#set=')) return false;

@@ -13,6 +13,7 @@ class Command(NamedTuple):
     readers: tuple  # of each input
     number: tuple = ()  # the least and the greatest number of a last word
     options: dict = {}  # for each what its word says; of a flag, which has no word, FLAG
+    by_file: tuple = ()  # the option that names a second input, and the command that it then is
 
 
 FLAG = None
@@ -35,6 +36,9 @@ def call_of(words, commands):
     if len(plain) != len(command.readers) + bool(command.number):
         raise Wrong
     paths, numbers = plain[: len(command.readers)], plain[len(command.readers) :]
+    if command.by_file and command.by_file[0] in options:
+        paths.append(options.pop(command.by_file[0]))
+        command = command.by_file[1]
     if paths.count("-") > 1:
         raise Wrong
     return Call(command, paths, [number_of(word, *command.number) for word in numbers], options)

@@ -9,6 +9,7 @@ import calls
 import commands
 import make_lines
 import make_sets
+import make_traces
 import picture
 import rushes
 import sets
@@ -16,7 +17,7 @@ import sets
 # how often each command is asked
 SHARES = {
     "admit": 12, "certify": 8, "check": 16, "explain": 8, "limits": 8, "settings": 5, "judge": 12, "diff": 10, "simulate": 12,
-    "releases": 8, "draw": 4, "script": 3, "play": 20, "rush": 6, "words": 4,
+    "releases": 8, "draw": 4, "observe": 12, "script": 3, "play": 20, "rush": 6, "words": 4,
 }  # fmt: skip
 
 
@@ -48,6 +49,7 @@ SECOND_INPUTS = {
     "judge": make_lines.settings_of,
     "simulate": make_lines.releases_of,
     "draw": make_lines.releases_of,
+    "observe": make_traces.trace_of,
 }
 
 
@@ -64,18 +66,33 @@ def of_set(rng, subject):
     options = [] if prefer is None or rng.random() < 0.05 else [("prefer", prefer)]
     if subject in ("explain", "limits") and rng.random() < 0.3:
         options.append(("task", rng.choice([*(sheet.name for sheet in sheets), "none", "0", ""])))
-    if subject == "releases" and rng.random() < 0.6:
-        options.append(("seed", str(rng.choice([0, 1, rng.getrandbits(32), 2**32 - 1, 2**32]))))
+    number = None
+    if subject == "releases":
+        seed = rng.choice([0, 1, rng.getrandbits(32), 2**32 - 1, 2**32]) if rng.random() < 0.6 else None
+        options += [] if seed is None else [("seed", str(seed))]
+        number = make_lines.until_of(rng, sets.by_rank(sheets), seed)
     if subject == "simulate" and rng.random() < 0.3:
         options.append(("tasks", None))
-    return called(rng, subject, inputs, options)
+    if subject == "observe" and rng.random() < 0.3:
+        options.append(("tolerance", rng.choice(["0", "1", "5", str(rng.randint(0, 5000)), "60000000", "60000001", "", "-1"])))
+    if subject == "judge" and rng.random() < 0.3:
+        options.append(("lower-is-higher", None))
+        if rng.random() < 0.8:
+            inputs[1] = make_lines.turned(inputs[1])
+    if subject == "settings" and rng.random() < 0.3:
+        options.append(("base", rng.choice(["1", "2", "80", "+007", "999999", "1000000", "1000001", "0"])))
+    if subject == "settings" and rng.random() < 0.5:
+        others = make_sets.changed(rng, sheets) if rng.random() < 0.7 else sheets
+        inputs.append(make_lines.settings_of(rng, sets.by_rank(others)))
+        return called(rng, subject, inputs, options, by="keep")
+    return called(rng, subject, inputs, options, number)
 
 
 def sheets_for(rng, subject):
     """Small sets where an answer takes long; mostly sets with an order where a command needs one."""
     most = 6 if subject == "limits" and rng.random() < 0.95 else 32
     sheets = make_sets.some_sheets(rng, most)
-    if subject in ("simulate", "draw", "settings"):
+    if subject in ("simulate", "draw", "settings", "observe"):
         for _ in range(4):
             if not analysis.is_feasible(sets.by_rank(sheets)):
                 sheets = make_sets.some_sheets(rng, most)
@@ -88,9 +105,10 @@ def set_input(rng, sheets, damaged, own=None):
         return set_text(rng, sheets, damaged, own)
     owns = [None, own, own, own, rng.choice([None, "weight"])]
     parts = make_sets.teams_of(rng, sheets, lambda part: set_text(rng, part, damaged / 3, rng.choice(owns)))
+    node = make_sets.node_of(rng, parts, sheets) if rng.random() < 0.5 else None
     if rng.random() < 0.5:
-        return make_sets.gathered(rng, parts)
-    return make_sets.folder(rng, parts)
+        return make_sets.gathered(rng, parts, node)
+    return make_sets.folder(rng, parts, node)
 
 
 def set_text(rng, sheets, damaged, own=None):
@@ -106,23 +124,27 @@ def set_text(rng, sheets, damaged, own=None):
     return make_sets.damaged_bytes(rng, text) if kind < damaged else text
 
 
-def called(rng, subject, inputs, options=()):
-    """A call on inputs, of which one may come by standard input, and rarely one is missing; with options by name."""
-    words, files, stdin = [subject], {}, b""
+def called(rng, subject, inputs, options=(), number=None, by=None):
+    """A call on inputs, of which one may come by standard input, and rarely one is missing; with options by name, of which
+    one may name the second input."""
+    words, files, stdin, options = [subject], {}, b"", list(options)
     piped = rng.randrange(len(inputs)) if rng.random() < 0.3 else None
     for place, data in enumerate(inputs):
-        if place == piped and isinstance(data, bytes):
+        is_piped = place == piped and isinstance(data, bytes)
+        path = "-" if is_piped else f"input{place + 1}"
+        if by is not None and place == 1:
+            options.append((by, path))
+        else:
+            words.append(path)
+        if is_piped:
             stdin = data
-            words.append("-")
             continue
-        path = f"input{place + 1}"
-        words.append(path)
         if isinstance(data, dict):
             files |= {f"{path}/{name}": document for name, document in data.items()}
         elif rng.random() < 0.995:
             files[path] = data
-    if subject == "releases":
-        words.append(str(rng.choice([0, 1, 1000, 60_000_000, rng.randint(0, 60_000), rng.randint(0, 2_000_000), 60_000_001])))
+    if number is not None:
+        words.append(str(number))
     if subject == "script":
         words.append(str(rng.choice([1, 2, 3, 8, 8, 0, 9] if rng.random() < 0.1 else [1, 2, 8])))
     if subject == "rush":
@@ -135,7 +157,7 @@ def called(rng, subject, inputs, options=()):
 
 
 WORDS = ["-", "--", "set", "set", "none", "folder", "--prefer", "deadline", "--prefer=deadline", "--prefer=weight", "--prefer=name", "--prefer=",
-         "--task", "--task=a", "--task=", "--seed", "--seed=8", "--seed=4294967296", "--tasks", "--tasks=", "--base=1", "-x", "--x",
+         "--task", "--task=a", "--task=", "--seed", "--seed=8", "--seed=4294967296", "--tasks", "--tasks=", "--tolerance", "--tolerance=8", "--base=1", "--base=0", "--base", "--lower-is-higher", "--lower-is-higher=1", "--keep", "--keep=set", "--keep=-", "-x", "--x",
          "", "0", "1", "8", "9", "+8", "007", "+", "++8", "0x8", "-8", " 8", "8_0", "60000000", "60000001", "1" * 25]  # fmt: skip
 
 

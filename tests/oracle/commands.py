@@ -1,5 +1,6 @@
 """What each command answers: FORMATS.md."""
 
+from fractions import Fraction
 from typing import NamedTuple
 
 import analysis
@@ -9,6 +10,7 @@ import desk
 import differences
 import kernel
 import limits
+import observed
 import scripts
 import settings
 import teams
@@ -173,11 +175,17 @@ def read_change(data, preference):
 
 
 @with_order
-def settings_of(tasks, order):
-    return settings.settings(tasks, order)
+def settings_of(tasks, order, base=1):
+    return settings.settings(tasks, order, base)
 
 
-def judge(tasks, rows):
+def keep(tasks, rows, base=1):
+    return settings.keep(tasks, settings.kept_order(tasks, rows), base)
+
+
+def judge(tasks, rows, lower_is_higher=False):
+    if lower_is_higher:
+        rows = [(line, kind, name, -number) for line, kind, name, number in rows]
     return settings.judge(tasks, settings.node_order(tasks, rows))
 
 
@@ -200,6 +208,13 @@ def script(tasks, team):
     return "".join([f"open {team}\n", *puts, "commit 1\n"]), 0
 
 
+def observe(tasks, said, tolerance=0):
+    order = analysis.best_order(tasks)
+    if order is None:
+        return admitted(tasks, None), INFEASIBLE
+    return observed.observe(tasks, order, *said, tolerance)
+
+
 def draw(tasks, said):
     """Refusals as those of `simulate`; what a picture has to show is another module's."""
     text, status = simulate(tasks, said)
@@ -218,8 +233,11 @@ PREFERS = {"prefer": calls.one_of("weight", "deadline")}
 OF_TASK = {**PREFERS, "task": calls.any_word}
 
 
-def on_set(run, *readers, number=(), options=PREFERS):
-    return calls.Command(run, (teams.read_set, *readers), number, options)
+def on_set(run, *readers, number=(), options=PREFERS, by_file=()):
+    return calls.Command(run, (teams.read_set, *readers), number, options, by_file)
+
+
+KEEP = on_set(keep, settings.read_settings)
 
 
 COMMANDS = {
@@ -228,17 +246,20 @@ COMMANDS = {
     "check": on_set(check, certificate.read),
     "explain": on_set(explain, options=OF_TASK),
     "limits": on_set(limits_of, options=OF_TASK),
-    "settings": on_set(settings_of),
-    "judge": on_set(judge, settings.read_settings),
+    "settings": on_set(settings_of, options={**PREFERS, "keep": calls.any_word, "base": calls.number_within(1, settings.NUMBER_MOST)}, by_file=("keep", KEEP)),
+    "judge": on_set(judge, settings.read_settings, options={**PREFERS, "lower-is-higher": calls.FLAG}),
     "diff": on_set(diff, read_change),
     "simulate": on_set(simulate, kernel.read_releases, options={**PREFERS, "tasks": calls.FLAG}),
     "releases": on_set(releases, number=(0, kernel.HORIZON), options={**PREFERS, "seed": calls.number_within(0, 2**32 - 1)}),
     "draw": on_set(draw, kernel.read_releases),
+    "observe": on_set(
+        observe, observed.read_trace, options={**PREFERS, "tolerance": calls.number_within(0, observed.TOLERANCE_MOST)}
+    ),
     "script": on_set(script, number=(1, scripts.TEAMS)),
     "play": calls.Command(play, (scripts.read_script,)),
     "rush": calls.Command(rush, (scripts.read_script,), (1, scripts.TEAMS)),
 }
-KEYWORDS = {"tasks": "by_task"}  # options by another name
+KEYWORDS = {"tasks": "by_task", "lower-is-higher": "lower_is_higher"}  # options by another name
 OF_THE_ORDER = ("admit", "explain", "limits", "settings")  # commands whose answer speaks of the order alone
 OF_A_PREFERENCE = (teams.read_set, read_change)  # readers that are told it
 HELP = {(word,) for word in ("help", "-h", "--help", "-V", "--version")}
@@ -260,7 +281,8 @@ def answer(words, files, stdin=b""):
         return Answer(refusal.line, refusal.status, SAID)
     if call.command.readers[0] is not teams.read_set:
         return Answer(text, status, "")
-    return Answer(text, status, choice_note(call, said[0]) + notes(said[0]))
+    told = choice_note(call, said[0]) + notes(call, said[0]) + no_note(call, said[0], status) + parted_note(call, text)
+    return Answer(text, status, told)
 
 
 def choice_note(call, tasks):
@@ -277,14 +299,48 @@ def choice_note(call, tasks):
     return 'note: names decide the order; prefer = "deadline" in front of the tasks bears most\n'
 
 
-def notes(tasks):
-    """A line for each lock that has one user."""
+def notes(call, tasks):
+    """A line for each lock that has one user and each name that a task outranks and no task has; where there is no task,
+    but for `diff`; and where the processor's time doesn't do."""
     lines = []
     for lock in analysis.ceilings(tasks, range(len(tasks))):
         users = [task.name for i, task in enumerate(tasks) if lock in analysis.uses(tasks, i)]
         if len(users) == 1:
             lines.append(f"note: lock {lock} has one user, {users[0]}\n")
+    names = {task.name for task in tasks}
+    for task in tasks:
+        for name in task.outranks:
+            if name not in names:
+                lines.append(f"note: {task.name} outranks {name}, which is no task of the set: that binds nothing\n")
+    if not tasks and call.command is not COMMANDS["diff"]:
+        lines.append("note: the set has no task\n")
+    if sum(Fraction(task.cost, task.period) for task in tasks) > 1:
+        lines.append("note: the costs over the periods come to more than 1: no order can pass\n")
     return "".join(lines)
+
+
+def no_note(call, tasks, status):
+    """A line beside a no that prints the greatest obstruction alone."""
+    if status != INFEASIBLE:
+        return ""
+    if call.command in (COMMANDS["simulate"], COMMANDS["draw"]):
+        return "note: no order passes, so there is no run: desk explain says why\n"
+    if call.command not in (COMMANDS["admit"], COMMANDS["settings"]):
+        return ""
+    greatest = analysis.greatest_obstruction(tasks, range(len(tasks)))
+    least = sorted(analysis.least_conflict(tasks, greatest))
+    of_these = " of these" if len(least) < len(greatest) else ""
+    names = ", ".join(tasks[i].name for i in least)
+    how = "alone can't be met" if len(least) == 1 else "can't be met together"
+    return f"note:{of_these} {names} {how}: desk explain says why\n"
+
+
+def parted_note(call, text):
+    """A line beside the pair that has to change."""
+    if call.command is not KEEP or not text.startswith("parted "):
+        return ""
+    _, low, high = text.split()
+    return f"note: with {high} above {low}, and those below as they are, no order passes: without the line of one it may move\n"
 
 
 def read_inputs(call, files, stdin):

@@ -10,6 +10,7 @@ import make_sets
 import scripts
 import settings
 from certificate import Best, Fails, Level, Nothing
+from refusals import Refused
 from sets import by_rank
 
 NUMBERS = ["0", "1", "2", "8", "9", "32", "33", "999", "1000", "1001", "65", "00", "01", "-1", "+1", "9999999999", "10000000000",
@@ -125,9 +126,11 @@ def loose_fails(rng, fails, tasks):
     chain = list(chain)
     for _ in range(rng.choice([1, 1, 2])):
         place = rng.randrange(len(chain))
-        kind = rng.randrange(4)
+        kind = rng.randrange(5)
         if kind == 0 and 0 < place < len(chain) - 1:
             del chain[place]
+        elif kind == 4:
+            chain.insert(place, chain[place])
         elif kind == 1 and place > 0 and chain[place] > chain[place - 1] + 1:
             chain.insert(place, rng.randint(chain[place - 1] + 1, chain[place] - 1))
         elif kind == 2 and place > 0:
@@ -175,6 +178,18 @@ def releases_of(rng, tasks):
     return damaged_lines(rng, data) if rng.random() < 0.1 else data
 
 
+def until_of(rng, tasks, seed):
+    """The end of a list that is to be made, mostly where a job of that list becomes ready, or one later."""
+    until = rng.choice([0, 1, 1000, 60_000_000, rng.randint(0, 60_000), rng.randint(0, 2_000_000), 60_000_001])
+    if rng.random() < 0.5 or until > 2_000_000:
+        return until
+    try:
+        releases = kernel.densest(tasks, until) if seed is None else kernel.random_list(tasks, until, seed)
+    except Refused:  # too many
+        return until
+    return rng.choice(releases).ready + rng.randint(0, 1) if releases else until
+
+
 # Settings
 
 
@@ -210,6 +225,11 @@ def settings_of(rng, tasks):
     return damaged_lines(rng, data) if rng.random() < 0.2 else data
 
 
+def turned(data):
+    """The same settings for a kernel of which the smaller number is higher."""
+    return re.sub(rb"(?m)(?<= )\d{1,7}$", lambda number: b"%d" % max(settings.NUMBER_MOST + 1 - int(number[0]), 0), data)
+
+
 # Scripts
 
 
@@ -242,7 +262,10 @@ def small_script(rng):
             else:
                 fresh = [event(rng, world, draft, live, names, opened)]
         for text in fresh:
-            row = scripts.read_row(len(rows) + 1, text.split(" "), opened)
+            try:
+                row = scripts.read_row(len(rows) + 1, text.split(" "), opened)
+            except Refused:  # a put past a limit
+                return [*rows, text]
             opened += isinstance(row, scripts.Open)
             world.play(row)
             rows.append(text)
@@ -267,6 +290,8 @@ def event(rng, world, draft, live, names, opened):
 
 
 def put_words(rng, name, sheet, names, share):
+    if rng.random() < 0.01:
+        return past_lists(rng, name, sheet)
     cost = max(1, sheet.last_end, sheet.cost // share)
     words = [name, sheet.weight, sheet.period, sheet.deadline, cost]
     if sheet.jitter or rng.random() < 0.03:
@@ -275,6 +300,15 @@ def put_words(rng, name, sheet, names, share):
         others = [other for other in [*names, "absent"] if other != name]
         words.append("over=" + "+".join(rng.sample(others, min(len(others), rng.choice([1, 1, 2])))))
     words += [f"{'+'.join(section.locks)}@{section.at}:{section.len}" for section in sheet.sections]
+    return " ".join(map(str, words))
+
+
+def past_lists(rng, name, sheet):
+    """A put with as many sections, locks or names to outrank as a sheet may have, or with more."""
+    sections, locks, names = rng.choice([(rng.choice([8, 9, 10]), 1, 0), (1, rng.choice([4, 5]), 0), (0, 0, rng.choice([8, 9]))])
+    words = [name, sheet.weight, sheet.period, sheet.deadline, max(sheet.cost, 2 * sections)]
+    words += ["over=" + "+".join(f"z{k}" for k in range(names))] if names else []
+    words += ["+".join(f"L{k}" for k in range(locks)) + f"@{2 * place}:1" for place in range(sections)]
     return " ".join(map(str, words))
 
 

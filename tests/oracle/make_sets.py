@@ -14,7 +14,7 @@ def some_sheets(rng, most=12):
     """A valid set's sheets, in no order."""
     count = min(most, rng.choice([0, 1, 1, 2, 2, 3, 3, 3, 4, 4, 5, 5, 6, 7, 8, 10, 12, 16, 32]))
     names = rng.sample(NAMES, count) if count <= len(NAMES) else [f"t{k}" for k in range(count)]
-    locks = rng.sample(LOCKS, rng.choice([0, 1, 1, 2, 3]))
+    locks = rng.sample(LOCKS, rng.choice([0, 1, 1, 2, 3, 5]))
     weights = rng.choice([[0], [0, 1], [0, 5, 1000], range(1001)])
     late, bound = rng.random() < 0.35, rng.random() < 0.3
     period_of = rng.choice([small_period, harmonic_period, any_period])
@@ -149,9 +149,25 @@ def teams_of(rng, sheets, text_of):
     return [(team, text_of(hand)) for team, hand in hands.items()]
 
 
-def gathered(rng, parts):
+def node_of(rng, parts, sheets):
+    """What teams may take, near what they take; some of it is wrong."""
+    total, longest = analysis.load(sheets) // 1000, max((part.len for sheet in sheets for part in sheet.sections), default=0)
+    out = ""
+    for team in rng.sample([team for team, _ in parts], rng.randrange(len(parts) + 1)):
+        out += rng.choice([f"[team.{team}]\n", f"[team.{team}]\n", f'[team."{team}"]\n'])
+        keys = {"load": [total, total + 1, total // 2, 1000, rng.randrange(1000)], "section": [longest, longest - 1, 1000, 0]}
+        for key in rng.sample(list(keys), rng.choice([0, 1, 1, 2])):
+            out += f"{key} = {max(0, rng.choice(keys[key]))}\n"
+        if rng.random() < 0.08:
+            out += rng.choice(["extra = 1\n", 'load = "1"\n', "section = -1\n", "load = 1.0\n", "section = [1]\n", "load = true\n"])
+    if rng.random() < 0.08:
+        out = rng.choice(["x = 1\n", "team = 1\n", "team = []\n", "[team]\ncam = 1\n", '[team."1"]\n', "[team.nobody]\n", "[[task]]\n"]) + out
+    return out.encode()
+
+
+def gathered(rng, parts, node=None):
     """One text of documents; some heads are wrong."""
-    out = b""
+    out = b"" if node is None else b"#%% %d\n%s" % (len(node) + (rng.random() < 0.03), node)
     for team, document in parts:
         head = f"#% {team} {len(document)}\n"
         if rng.random() < 0.06:
@@ -165,9 +181,11 @@ def gathered(rng, parts):
     return damaged_bytes(rng, out) if rng.random() < 0.05 else out
 
 
-def folder(rng, parts):
+def folder(rng, parts, node=None):
     """The files of a folder by their names; some aren't a team's document."""
     files = {f"{team}.toml": document for team, document in parts}
+    if node is not None:
+        files["node.toml"] = node
     if rng.random() < 0.2:
         files[rng.choice(["README", "a.tom", "toml", ".toml", "1.toml", "a.b.toml", "b.TOML", "sub/c.toml", "d.toml/x", "e.toml/"])] = b"x"
     return files or {"": b""}

@@ -1,12 +1,16 @@
-"""Sets of one document or of several teams', and folders: FORMATS.md, Documents of several teams."""
+"""Sets of one document or of several teams', budgets and folders: FORMATS.md, Documents of several teams, Budgets."""
 
 import re
 
+import analysis
 from lines import Faulty, NUMBER
 from refusals import Refused
 from sets import by_limits, by_rank, is_name, read_document, TASKS_MOST
+from toml_tree import tree_of
 
 MARK = b"#% "
+NODE_HEAD = re.compile(rb"#% ([^ \n]*)\n")
+NODE = "node"
 HEAD = re.compile(rb"#% ([^ \n]*) ([^ \n]*)\n")
 ENDING = ".toml"
 
@@ -27,6 +31,8 @@ def read_set(data, preference=None):
 
 def read_teams(data):
     """What the documents prefer, if one says so, and the sheets of all, document by document."""
+    node, data = node_document(data)
+    budgets = {} if node is None else read_budgets(node)
     teams, part = [], 0
     while data:
         part += 1
@@ -48,8 +54,60 @@ def read_teams(data):
             owner[sheet.name] = team
     if len(owner) > TASKS_MOST:
         raise Refused(4, "TooManyTasks")
+    keep_budgets(budgets, teams)
     own = preferring[0][1] if preferring else None
     return own, [sheet for _, _, sheets in teams for sheet in sheets]
+
+
+def node_document(data):
+    """The node's document, or None, and what stands behind it."""
+    head = NODE_HEAD.match(data)
+    count = head[1].decode("latin-1") if head else ""
+    if not NUMBER.fullmatch(count) or len(data) - head.end() < int(count):
+        return None, data
+    end = head.end() + int(count)
+    return data[head.end() : end], data[end:]
+
+
+def read_budgets(data):
+    """What each team may take, by its name."""
+    try:
+        root = tree_of(data)
+    except Refused as refusal:
+        raise refusal.behind("node") from None
+    if set(root) - {"team"}:
+        raise Refused(4, "node", "UnknownKey")
+    budgets = root.get("team", {})
+    if not isinstance(budgets, dict):
+        raise Refused(4, "node", "WrongKind")
+    for team, budget in sorted(budgets.items(), key=lambda it: it[0].encode()):
+        if not is_name(team):
+            raise Refused(4, "node", "BadName")
+        if not isinstance(budget, dict):
+            raise Refused(4, "node", "WrongKind", team)
+        if set(budget) - {"load", "section"}:
+            raise Refused(4, "node", "UnknownKey", team)
+        for key in "load", "section":
+            number = budget.get(key, 0)
+            if type(number) is not int or number < 0:
+                raise Refused(4, "node", "WrongKind", team, key)
+    return budgets
+
+
+def keep_budgets(budgets, teams):
+    """Refuses the first budget whose team has no document, or takes more."""
+    for team, budget in sorted(budgets.items()):
+        if team not in {name for name, _, _ in teams}:
+            raise Refused(4, "NoSuchTeam", team)
+        own = [sheet for name, _, sheets in teams if name == team for sheet in sheets]
+        others = [sheet for name, _, sheets in teams if name != team for sheet in sheets]
+        used = {lock for sheet in others for section in sheet.sections for lock in section.locks}
+        load = analysis.load(own)
+        if load > 1000 * budget.get("load", load):
+            raise Refused(4, "PastBudget", team, "load", -(-load // 1000), budget["load"])
+        section = max((part.len for sheet in own for part in sheet.sections if used & set(part.locks)), default=0)
+        if section > budget.get("section", section):
+            raise Refused(4, "PastBudget", team, "section", section, budget["section"])
 
 
 def next_document(data, part):
@@ -70,11 +128,14 @@ def text_of(path, files):
     inside = {file.removeprefix(path + "/"): data for file, data in files.items() if file.startswith(path + "/")}
     if path in files or not inside:
         return files.get(path)
-    documents = {}
+    documents, node = {}, b""
     for name, data in inside.items():
         name, *below = name.split("/")
         if name.endswith(ENDING):
             if below or not is_name(name.removesuffix(ENDING)):
                 return None
-            documents[name.removesuffix(ENDING).encode()] = data
-    return b"".join(b"#%% %s %d\n%s" % (team, len(data), data) for team, data in sorted(documents.items()))
+            if name == NODE + ENDING:
+                node = b"#%% %d\n%s" % (len(data), data)
+            else:
+                documents[name.removesuffix(ENDING).encode()] = data
+    return node + b"".join(b"#%% %s %d\n%s" % (team, len(data), data) for team, data in sorted(documents.items()))

@@ -1,13 +1,21 @@
 //! An audience that writes what a person is to know.
+ghost use Rattle.assignment.specs.Placings.{IsPlacingOf};
 
-use crate::sentence::sentence_of;
-use command_line::{Call, Input, OfOne};
-use desk_cli::{Audience, CommandRefusal, Which};
+use crate::causes::LastError;
+use crate::sentence::{Known, sentence_of};
+use assignment::Placing;
+use ceilings::LockTable;
+use command_line::{Call, Input, OfNumber, OfOne, OfTwo};
+use desk_cli::{Audience, CommandRefusal, Status, Which};
+use explain::least_conflict;
 use preferences::Choice;
-use sentences::{push_clean, put_names_decide, put_notes, put_override};
+use sentences::{
+    greatest_until, push_clean, put_conflict, put_empty, put_names_decide, put_notes, put_overload,
+    put_override, put_parted, put_strangers, put_unrun,
+};
 use std::alloc::{AllocError, Global};
 use std::io::Write;
-use streams::Watched;
+use streams::{Watched, WriteFailed};
 use task_sheet::TaskSet;
 
 /// Tells a person what is wrong with an input, and what is odd in a set. A sentence for which memory is wanting, or that
@@ -15,10 +23,10 @@ use task_sheet::TaskSet;
 #[derive(Drop)]
 pub struct Advice<'a, W: Write + Drop> {
     alloc: Global,
-    first: Input<'a>,
-    second: Input<'a>,
-    // Whether the answer speaks of the order of the set's tasks.
-    is_placing: bool,
+    call: Call<'a>,
+    last: &'a LastError,
+    // Up to when the densest list of the set is short enough, where the call asks for that list.
+    greatest_until: Option<u64>,
     errors: Watched<W>,
 }
 
@@ -33,12 +41,64 @@ fn is_placing(call: Call<'_>) -> bool {
     }
 }
 
-// The inputs of a call, in the order in which it names them; the same twice where it names one alone.
-fn inputs_of(call: Call<'_>) -> (Input<'_>, Input<'_>) {
+// Whether the answer of a call on a set of which no order passes says that alone.
+fn says_no_alone(call: Call<'_>) -> bool {
     match call {
-        Call::One { input, .. } => (input, input),
-        Call::Two { first, second, .. } => (first, second),
-        Call::Number { input, .. } => (input, input),
+        Call::One { command, .. } => match command {
+            OfOne::Admit | OfOne::Settings => true,
+            OfOne::Limits | OfOne::Explain | OfOne::Certify | OfOne::Play => false,
+        },
+        _ => false,
+    }
+}
+
+// Whether a call runs a list.
+fn is_run(call: Call<'_>) -> bool {
+    match call {
+        Call::Two { command, .. } => match command {
+            OfTwo::Simulate | OfTwo::Draw => true,
+            OfTwo::Check | OfTwo::Diff | OfTwo::Judge | OfTwo::Observe | OfTwo::Keep => false,
+        },
+        _ => false,
+    }
+}
+
+// Whether a call compares two sets: nothing is odd about one without tasks.
+fn is_diff(call: Call<'_>) -> bool {
+    match call {
+        Call::Two { command, .. } => match command {
+            OfTwo::Diff => true,
+            OfTwo::Simulate | OfTwo::Draw => false,
+            OfTwo::Check | OfTwo::Judge | OfTwo::Observe | OfTwo::Keep => false,
+        },
+        _ => false,
+    }
+}
+
+// Whether a call asks for the densest list.
+fn asks_densest(call: Call<'_>) -> bool {
+    match call {
+        Call::Number {
+            command,
+            options,
+            ..
+        } => match command {
+            OfNumber::Releases => options.seed.is_none(),
+            OfNumber::Script | OfNumber::Rush => false,
+        },
+        _ => false,
+    }
+}
+
+// The input of a call that a refusal is of.
+fn input_of(call: Call<'_>, which: Which) -> Input<'_> {
+    match call {
+        Call::One { input, .. } => input,
+        Call::Two { first, second, .. } => match which {
+            Which::First => first,
+            Which::Second => second,
+        },
+        Call::Number { input, .. } => input,
     }
 }
 
@@ -56,39 +116,78 @@ fn line_of(alloc: Global, input: Input<'_>, sentence: &str) -> Result<String, Al
 }
 
 impl<'a, W: Write + Drop> Advice<'a, W> {
-    /// On the inputs of a call, written to the errors.
-    pub fn new(alloc: Global, call: Call<'a>, errors: Watched<W>) -> Advice<'a, W> {
-        let (first, second) = inputs_of(call);
-        let is_placing = is_placing(call);
+    /// On the inputs of a call, whose last error is kept, written to the errors.
+    pub fn new(
+        alloc: Global,
+        call: Call<'a>,
+        last: &'a LastError,
+        errors: Watched<W>,
+    ) -> Advice<'a, W> {
         Advice {
             alloc,
-            first,
-            second,
-            is_placing,
+            call,
+            last,
+            greatest_until: None,
             errors,
         }
     }
 
-    // The input that a refusal is of.
-    fn input(&self, which: Which) -> Input<'a> {
-        match which {
-            Which::First => self.first,
-            Which::Second => self.second,
+    /// What was written to, and what became of that.
+    pub fn into_errors(self) -> Watched<W> {
+        self.errors
+    }
+
+    // What is odd in a set.
+    fn put_oddities(&mut self, set: &TaskSet) -> Result<(), WriteFailed> {
+        put_notes(set, &mut self.errors)?;
+        put_strangers(set, &mut self.errors)?;
+        if !is_diff(self.call) {
+            put_empty(set, &mut self.errors)?;
+        }
+        put_overload(set, &mut self.errors)
+    }
+
+    /// The call has ended.
+    pub fn ended(&mut self, status: Status) {
+        if status == Status::Infeasible && is_run(self.call) {
+            let _ = put_unrun(&mut self.errors);
         }
     }
 }
 
 impl<'a, W: Write + Drop> Audience for Advice<'a, W> {
     fn read(&mut self, set: &TaskSet) {
-        let _ = put_notes(set, &mut self.errors);
+        let _ = self.put_oddities(set);
+    }
+
+    fn placed(&mut self, set: &TaskSet, placing: &Placing)
+        requires { IsPlacingOf set.now placing.now }
+    {
+        let Placing::Stuck(greatest) = placing else {
+            return;
+        };
+        if !says_no_alone(self.call) {
+            return;
+        }
+        if let Ok(table) = LockTable::new(self.alloc, set) {
+            let least = least_conflict(set, &table, *greatest);
+            let _ = put_conflict(set, *greatest, least, &mut self.errors);
+        }
+    }
+
+    fn parted(&mut self, set: &TaskSet, low: usize, high: usize) {
+        let _ = put_parted(set, low, high, &mut self.errors);
     }
 
     fn preferred(&mut self, set: &TaskSet, choice: Choice) {
+        if asks_densest(self.call) {
+            self.greatest_until = Some(greatest_until(set));
+        }
         match (choice.call, choice.own) {
             (Some(call), Some(own)) if call != own => {
                 let _ = put_override(call, own, &mut self.errors);
             }
-            (None, None) if self.is_placing => {
+            (None, None) if is_placing(self.call) => {
                 let _ = put_names_decide(set, &mut self.errors);
             }
             _ => {}
@@ -96,10 +195,14 @@ impl<'a, W: Write + Drop> Audience for Advice<'a, W> {
     }
 
     fn refused(&mut self, which: Which, bytes: &[u8], refusal: CommandRefusal) {
-        let Some(sentence) = sentence_of(self.alloc, bytes, refusal) else {
+        let known = Known {
+            last: self.last,
+            greatest_until: self.greatest_until,
+        };
+        let Some(sentence) = sentence_of(self.alloc, known, bytes, refusal) else {
             return;
         };
-        if let Ok(line) = line_of(self.alloc, self.input(which), sentence.as_str()) {
+        if let Ok(line) = line_of(self.alloc, input_of(self.call, which), sentence.as_str()) {
             let _ = self.errors.write(line.as_bytes());
         }
     }

@@ -2,6 +2,8 @@
 #![tactic(auto)]
 
 mod advice;
+mod causes;
 mod sentence;
 
 pub use advice::Advice;
+pub use causes::{LastError, tell_unwritten};

@@ -1,33 +1,76 @@
 //! The sentence of each refusal.
 
+use crate::causes::{LastError, push_last};
+use ceiling_kernel::RunFault;
 use desk_cli::{CommandRefusal, TextFault};
 use sentences::{
-    of_certificate, of_check, of_release_line, of_run, of_script, of_set_text, of_settings,
+    of_certificate, of_check, of_density, of_release_line, of_run, of_script, of_set_text,
+    of_settings, of_trace,
 };
-use std::alloc::Global;
+use std::alloc::{AllocError, Global};
 use streams::InputFault;
 
+/// What is known beside the bytes of an input.
+#[derive(Clone, Copy)]
+pub(crate) struct Known<'a> {
+    /// The error of the last call on the inputs.
+    pub(crate) last: &'a LastError,
+    /// Up to when the densest list of the set is short enough, where the call asks for that list.
+    pub(crate) greatest_until: Option<u64>,
+}
+
+// That an input could not be opened or read, and why.
+fn unread(alloc: Global, last: &LastError) -> Result<String, AllocError> {
+    let mut text = String::from_str(alloc, "can't be opened or read")?;
+    push_last(&mut text, alloc, last)?;
+    Ok(text)
+}
+
 // What is wrong with an input that was not read; none where memory ran out.
-fn of_input(alloc: Global, fault: InputFault) -> Option<String> {
-    let said = match fault {
-        InputFault::TooLong => "longer than the 16777216 bytes that an input may have",
-        InputFault::ReadFailed => "can't be opened or read",
-        InputFault::OutOfMemory => return None,
-    };
-    String::from_str(alloc, said).ok()
+fn of_input(alloc: Global, last: &LastError, fault: InputFault) -> Option<String> {
+    match fault {
+        InputFault::TooLong => {
+            String::from_str(
+                alloc,
+                "longer than the 16777216 bytes that an input may have",
+            )
+            .ok()
+        }
+        InputFault::ReadFailed => unread(alloc, last).ok(),
+        InputFault::OutOfMemory => None,
+    }
+}
+
+// Why a list of releases was not made or run.
+fn of_list(
+    alloc: Global,
+    greatest_until: Option<u64>,
+    bytes: &[u8],
+    fault: RunFault,
+) -> Option<String> {
+    match (fault, greatest_until) {
+        (RunFault::TooMany, Some(until)) => of_density(alloc, until),
+        _ => of_run(alloc, bytes, fault),
+    }
 }
 
 /// What is wrong with an input, from its bytes. None for want of memory, here or before, and for what is no fault of an
 /// input.
-pub(crate) fn sentence_of(alloc: Global, bytes: &[u8], refusal: CommandRefusal) -> Option<String> {
+pub(crate) fn sentence_of(
+    alloc: Global,
+    known: Known<'_>,
+    bytes: &[u8],
+    refusal: CommandRefusal,
+) -> Option<String> {
     match refusal {
-        CommandRefusal::Input(fault) => of_input(alloc, fault),
+        CommandRefusal::Input(fault) => of_input(alloc, known.last, fault),
         CommandRefusal::Set(fault) | CommandRefusal::New(fault) => of_set_text(alloc, bytes, fault),
         CommandRefusal::Certificate(fault) => of_certificate(alloc, bytes, fault),
         CommandRefusal::Check(fault) => of_check(alloc, fault),
         CommandRefusal::Text(TextFault::BadLine { line }) => of_release_line(alloc, bytes, line),
-        CommandRefusal::Run(fault) => of_run(alloc, bytes, fault),
+        CommandRefusal::Run(fault) => of_list(alloc, known.greatest_until, bytes, fault),
         CommandRefusal::Settings(fault) => of_settings(alloc, bytes, fault),
+        CommandRefusal::Trace(fault) => of_trace(alloc, bytes, fault),
         CommandRefusal::Script(fault) => of_script(alloc, bytes, fault),
         CommandRefusal::Text(TextFault::OutOfMemory)
         | CommandRefusal::Rush(_)

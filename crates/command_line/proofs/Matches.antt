@@ -7,7 +7,7 @@ use Rattle.clap.specs.declared.parser.matches.ArgMatches.{ArgMatches}
 use Rattle.clap.specs.declared.parser.matches.SubCommand.{SubCommand}
 use Rattle.clap.specs.declared.parser.matches.ArgMatches.TheViews.{out-ArgMatches, out-SubCommand}
 use Rattle.command_line.specs.Calls.{AreOptions, CountsWithin, HasNumber, HaveNumbers, IsCall, IsTaken}
-use Rattle.command_line.specs.declared.calls.TheConstants.{MOST_PRIORITY, MOST_SEED}
+use Rattle.command_line.specs.declared.calls.TheConstants.{MOST_PRIORITY, MOST_SEED, MOST_TOLERANCE}
 use Rattle.command_line.specs.declared.calls.Takes.TheVariants as takes
 use Rattle.command_line.specs.declared.calls.Options.{Options}
 use Rattle.command_line.specs.Commands.{least_of, most_of}
@@ -35,13 +35,17 @@ number_within least most text None given = tt
 number_within least most text (Some n) given = within least most text n given
 
 have_numbers : (rows : List Row) (options : Options) → AreOptions rows options → HaveNumbers options
-have_numbers rows options are = (number_within 1 MOST_PRIORITY _ options.base are.base, number_within 0 MOST_SEED _ options.seed are.seed)
+have_numbers rows options are = (
+  number_within 1 MOST_PRIORITY _ options.base are.base,
+  number_within 0 MOST_SEED _ options.seed are.seed,
+  number_within 0 MOST_TOLERANCE _ options.tolerance are.tolerance,
+)
 
 -- a call that a command names has a number that the command takes
 pub call_has_number : (o : Option (Text × List Row)) (call : Call) → IsCall o call → HasNumber call
 call_has_number None call none = absurd none
-call_has_number (Some found) (One c input options) is = have_numbers found.1 options is.2
-call_has_number (Some found) (Two c first second options) is = have_numbers found.1 options is.3
+call_has_number (Some found) (One c input options) is = have_numbers found.1 options is.3
+call_has_number (Some found) (Two c first second options) is = have_numbers found.1 options is.2
 call_has_number (Some found) (Number c input number options) is =
     let fits = within (least_of c) (most_of c) _ number is.2 in
     (have_numbers found.1 options is.3, fits.0, fits.1)

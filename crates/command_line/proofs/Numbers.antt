@@ -12,7 +12,7 @@ use Rattle.clap.specs.Faults.{action_fault, check_fault, defaults_fault, level_f
 use Rattle.clap.specs.Simple.{Shape}
 use Rattle.clap.specs.Takes.{is_given}
 use Rattle.clap.specs.ValueTests.{accepts}
-use Rattle.clap.specs.Walk.{Row, Rule, Text, action_of, at_row, default_rows, first_of, has_row, is_empty, more_values, most_values, nothing_held, one_of, reading_by, row_text, rows_after, settled, used_as, values_or_missing, walk, walk_from, with_default, with_values, without}
+use Rattle.clap.specs.Walk.{Row, Rule, Text, action_of, at_row, default_rows, has_row, is_empty, more_values, most_values, nothing_held, reading_by, row_text, rows_after, settled, used_as, values_or_missing, walk, walk_from, with_default, with_values, without}
 use Rattle.clap.specs.Values.{reading_of}
 use Rattle.clap.specs.Words.{IsUnsignedIn}
 use Rattle.clap.specs.declared.builder.action.ArgAction.{ArgAction}

@@ -3,10 +3,10 @@ use Rattle.std.specs.Prelude.{◌≡◌, ◌≢◌, ◌⊎◌, ◌≤◌, ℕ, L
 use Rattle.std.specs.Str.Parse.{digits_value, without_leading_plus}
 use Rattle.clap.specs.Words.{HasKind, IsUnsignedIn, Row, Text, fault_of, first_of, one_of, subcommand_of}
 use Rattle.command_line.specs.App.{desk_app}
-use Rattle.command_line.specs.Commands.{choice_name, input_of, least_of, most_of, number_choices, number_name, second_of, takes_of, verb_of}
-use Rattle.command_line.specs.declared.calls.TheConstants.{MOST_PRIORITY, MOST_SEED}
+use Rattle.command_line.specs.Commands.{choice_name, input_of, least_of, most_of, number_choices, number_name, second_of, takes_of, verb_of, by_file}
+use Rattle.command_line.specs.declared.calls.TheConstants.{MOST_PRIORITY, MOST_SEED, MOST_TOLERANCE}
 use Rattle.command_line.specs.declared.calls.Choice.{Choice}
-use Rattle.command_line.specs.declared.calls.Choice.TheVariants.{Base, LowerIsHigher, Seed, Tasks}
+use Rattle.command_line.specs.declared.calls.Choice.TheVariants.{Base, LowerIsHigher, Seed, Tasks, Tolerance}
 use Rattle.command_line.specs.declared.calls.Takes.{Takes}
 use Rattle.command_line.specs.declared.calls.Takes.TheVariants as takes
 use Rattle.command_line.specs.declared.calls.Preferred.{Preferred}
@@ -14,7 +14,9 @@ use Rattle.command_line.specs.declared.calls.Preferred.TheVariants.{Weight, Dead
 use Rattle.command_line.specs.declared.calls.Options.{Options as OptionsData}
 use Rattle.command_line.specs.declared.calls.Input.{Input}
 use Rattle.command_line.specs.declared.calls.Input.TheVariants.{Standard, File}
+use Rattle.command_line.specs.declared.calls.OfOne.{OfOne}
 use Rattle.command_line.specs.declared.calls.OfOne.TheVariants.{Admit}
+use Rattle.command_line.specs.declared.calls.OfTwo.{OfTwo}
 use Rattle.command_line.specs.declared.calls.OfNumber.{OfNumber}
 use Rattle.command_line.specs.declared.calls.Verb.{Verb}
 use Rattle.command_line.specs.declared.calls.Verb.TheVariants as verb
@@ -123,6 +125,7 @@ pub record AreOptions (rows : List Row) (options : OptionsData) : Type 0 where
   pub lower_is_higher : Flags LowerIsHigher rows options.lower_is_higher
   pub seed : IsNumberOf Seed rows options.seed
   pub by_task : Flags Tasks rows options.by_task
+  pub tolerance : IsNumberOf Tolerance rows options.tolerance
 
 -- nothing is chosen
 abbrev pub no_options : OptionsData
@@ -134,6 +137,7 @@ no_options =
       lower_is_higher = false;
       seed = None;
       by_task = false;
+      tolerance = None;
     }
 
 -- the numbers that are chosen are ones that their options take
@@ -141,16 +145,35 @@ abbrev pub HaveNumbers : OptionsData → Type 0
 HaveNumbers options =
     IfSome options.base (λ base. (1 ≤ base) × (base ≤ MOST_PRIORITY))
     × IfSome options.seed (λ seed. (0 ≤ seed) × (seed ≤ MOST_SEED))
+    × IfSome options.tolerance (λ tolerance. (0 ≤ tolerance) × (tolerance ≤ MOST_TOLERANCE))
+
+-- the word of the option that names a command of one input a second one
+abbrev pub file_of : Option (Choice × OfTwo) → List Row → Option Text
+file_of None rows = None
+file_of (Some by) rows = first_of (choice_name by.0) rows
+
+-- that option is given, makes this command of two inputs, and names this one
+abbrev pub NamesFile : Option (Choice × OfTwo) → List Row → OfTwo → Input → Type 0
+NamesFile None rows c second = ⊥
+NamesFile (Some by) rows c second =
+    (by.1 ≡ c) × (word : Text) × (first_of (choice_name by.0) rows ≡ Some word)
+    × Names (Some word) second
+
+-- a command of two inputs and its second one: they are of a verb of two; or an option gives one of one input a second
+abbrev pub IsOfTwo : (word : Text) → List Row → OfTwo → Input → Type 0
+IsOfTwo word rows c second =
+    ((verb_of word ≡ Some (verb.Two c)) × Names (first_of (second_of c) rows) second)
+    ⊎ ((o : OfOne) × (verb_of word ≡ Some (verb.One o)) × NamesFile (by_file o) rows c second)
 
 -- the call that a command names, with what was found of its arguments
 abbrev pub IsCall : Option (Text × List Row) → Call → Type 0
 IsCall None call = ⊥
 IsCall (Some found) (One c input options) =
-    (verb_of found.0 ≡ Some (verb.One c)) × Names (first_of (input_of (verb.One c)) found.1) input
-    × AreOptions found.1 options
+    (verb_of found.0 ≡ Some (verb.One c)) × (file_of (by_file c) found.1 ≡ None)
+    × Names (first_of (input_of (verb.One c)) found.1) input × AreOptions found.1 options
 IsCall (Some found) (Two c first second options) =
-    (verb_of found.0 ≡ Some (verb.Two c)) × Names (first_of (codes "SET") found.1) first
-    × Names (first_of (second_of c) found.1) second × AreOptions found.1 options
+    IsOfTwo found.0 found.1 c second × Names (first_of (codes "SET") found.1) first
+    × AreOptions found.1 options
 IsCall (Some found) (Number c input number options) =
     (verb_of found.0 ≡ Some (verb.Number c))
     × Names (first_of (input_of (verb.Number c)) found.1) input

@@ -1,20 +1,22 @@
 -- The commands of `desk`: their words, and the names of what they take.
-use Rattle.std.specs.Prelude.{ℕ, List, [], ◌∷◌, Option, codes, option_map}
+use Rattle.std.specs.Prelude.{ℕ, List, [], ◌∷◌, Option, Some, None, codes, option_map}
 use Rattle.std.specs.List.{find}
 use Rattle.std.specs.Str.{bytes_eq}
 use Rattle.clap.specs.Words.{Text}
+use Rattle.command_line.specs.declared.calls.OfOne.{OfOne}
 use Rattle.command_line.specs.declared.calls.OfOne.TheVariants.{Admit, Certify, Limits, Settings, Explain, Play}
 use Rattle.command_line.specs.declared.calls.OfTwo.{OfTwo}
-use Rattle.command_line.specs.declared.calls.OfTwo.TheVariants.{Check, Judge, Diff, Simulate, Draw}
+use Rattle.command_line.specs.declared.calls.OfTwo.TheVariants.{Check, Judge, Diff, Simulate, Draw, Observe}
+use Rattle.command_line.specs.declared.calls.OfTwo.TheVariants as of_two
 use Rattle.command_line.specs.declared.calls.OfNumber.{OfNumber}
 use Rattle.command_line.specs.declared.calls.OfNumber.TheVariants.{Releases, Script, Rush}
 use Rattle.command_line.specs.declared.calls.Verb.{Verb}
 use Rattle.command_line.specs.declared.calls.Verb.TheVariants.{One, Two, Number}
 use Rattle.command_line.specs.declared.calls.Choice.{Choice}
-use Rattle.command_line.specs.declared.calls.Choice.TheVariants.{Prefer, Task, Base, LowerIsHigher, Seed, Tasks}
+use Rattle.command_line.specs.declared.calls.Choice.TheVariants.{Prefer, Task, Base, LowerIsHigher, Seed, Tasks, Tolerance, Keep}
 use Rattle.command_line.specs.declared.calls.Takes.{Takes}
 use Rattle.command_line.specs.declared.calls.Takes.TheVariants as takes
-use Rattle.command_line.specs.declared.calls.TheConstants.{MOST_WORKERS, MOST_TEAM, MOST_PRIORITY, MOST_SEED, LATEST_END}
+use Rattle.command_line.specs.declared.calls.TheConstants.{MOST_WORKERS, MOST_TEAM, MOST_PRIORITY, MOST_SEED, MOST_TOLERANCE, LATEST_END}
 
 -- the commands with their words and the options that they take, as help lists them: those that answer on a task set,
 -- those for certificates and runs, those for scripts
@@ -23,14 +25,15 @@ commands =
     (codes "admit", One Admit, Prefer ∷ [])
     ∷ (codes "explain", One Explain, Prefer ∷ Task ∷ [])
     ∷ (codes "limits", One Limits, Prefer ∷ Task ∷ [])
-    ∷ (codes "settings", One Settings, Prefer ∷ [])
-    ∷ (codes "judge", Two Judge, Prefer ∷ [])
+    ∷ (codes "settings", One Settings, Prefer ∷ Base ∷ Keep ∷ [])
+    ∷ (codes "judge", Two Judge, Prefer ∷ LowerIsHigher ∷ [])
     ∷ (codes "diff", Two Diff, Prefer ∷ [])
     ∷ (codes "certify", One Certify, Prefer ∷ [])
     ∷ (codes "check", Two Check, Prefer ∷ [])
     ∷ (codes "releases", Number Releases, Prefer ∷ Seed ∷ [])
     ∷ (codes "simulate", Two Simulate, Prefer ∷ Tasks ∷ [])
     ∷ (codes "draw", Two Draw, Prefer ∷ [])
+    ∷ (codes "observe", Two Observe, Prefer ∷ Tolerance ∷ [])
     ∷ (codes "script", Number Script, Prefer ∷ [])
     ∷ (codes "play", One Play, [])
     ∷ (codes "rush", Number Rush, [])
@@ -51,7 +54,14 @@ abbrev pub second_of : OfTwo → Text
 second_of Check = codes "CERT"
 second_of Judge = codes "SETTINGS"
 second_of Diff = codes "NEW"
+second_of Observe = codes "TRACE"
+second_of of_two.Keep = codes "SETTINGS"
 second_of _ = codes "RELEASES"
+
+-- the option that names a second input to a command of one, and the command of two that it then is
+abbrev pub by_file : OfOne → Option (Choice × OfTwo)
+by_file Settings = Some (Keep, of_two.Keep)
+by_file _ = None
 
 -- the name of the number of a command that takes one
 abbrev pub number_name : OfNumber → Text
@@ -79,6 +89,8 @@ choice_name Base = codes "base"
 choice_name LowerIsHigher = codes "lower-is-higher"
 choice_name Seed = codes "seed"
 choice_name Tasks = codes "tasks"
+choice_name Tolerance = codes "tolerance"
+choice_name Keep = codes "keep"
 
 -- what an option takes
 abbrev pub takes_of : Choice → Takes
@@ -88,7 +100,9 @@ takes_of Base = takes.Number 1 MOST_PRIORITY
 takes_of LowerIsHigher = takes.Flag
 takes_of Seed = takes.Number 0 MOST_SEED
 takes_of Tasks = takes.Flag
+takes_of Tolerance = takes.Number 0 MOST_TOLERANCE
+takes_of Keep = takes.Word
 
 -- the options that take a number
 abbrev pub number_choices : List Choice
-number_choices = Base ∷ Seed ∷ []
+number_choices = Base ∷ Seed ∷ Tolerance ∷ []

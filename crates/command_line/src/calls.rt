@@ -2,7 +2,7 @@
 ghost use Rattle.std.specs.Prelude.{◌≡◌, pos};
 ghost use Rattle.command_line.specs.Calls.{is_standard, is_twice};
 ghost use Rattle.command_line.specs.Calls.{no_options};
-ghost use Rattle.command_line.specs.Commands.{choice_name, input_of, least_of, most_of, number_name, second_of, takes_of};
+ghost use Rattle.command_line.specs.Commands.{by_file, choice_name, input_of, least_of, most_of, number_name, second_of, takes_of};
 
 /// The most threads that test the set of a commit.
 pub const MOST_WORKERS: usize = 8;
@@ -15,6 +15,9 @@ pub const LATEST_END: usize = 60_000_000;
 
 /// The greatest number of a priority.
 pub const MOST_PRIORITY: usize = 1_000_000;
+
+/// The greatest tolerance of a trace, in microseconds.
+pub const MOST_TOLERANCE: usize = 60_000_000;
 
 /// The greatest seed of a random release list.
 pub const MOST_SEED: usize = 4_294_967_295;
@@ -58,6 +61,10 @@ pub enum OfTwo {
     Simulate,
     /// `draw SET RELEASES`
     Draw,
+    /// `observe SET TRACE`
+    Observe,
+    /// `settings SET --keep SETTINGS`
+    Keep,
 }
 
 /// A command of an input and a number.
@@ -103,6 +110,10 @@ pub(crate) enum Choice {
     Seed,
     // `--tasks`
     Tasks,
+    // `--tolerance N`
+    Tolerance,
+    // `--keep SETTINGS`
+    Keep,
 }
 
 // What an option takes: a word, a number from the least to the most, or nothing.
@@ -122,7 +133,8 @@ pub enum Preferred {
     Deadline,
 }
 
-/// What a call's words choose beside its inputs. Where a command does not take an option, no words choose it.
+/// What a call's words choose beside its inputs, of which an option may name the second. Where a command does not take
+/// an option, no words choose it.
 #[derive(Clone, Copy, Debug, PartialEq, Eq)]
 pub struct Options<'a> {
     /// `--prefer weight|deadline`
@@ -137,6 +149,8 @@ pub struct Options<'a> {
     pub seed: Option<usize>,
     /// `--tasks`: what each task came to in a run, in place of its trace.
     pub by_task: bool,
+    /// `--tolerance N`: by so many microseconds the times of a trace may be past what is promised.
+    pub tolerance: Option<usize>,
 }
 
 /// A command with its inputs, and what its words choose.
@@ -169,6 +183,18 @@ impl Input<'_> {
     }
 }
 
+impl OfOne {
+    // The option that names it a second input, and the command of two that it then is.
+    pub(crate) fn by_file(self) -> Option<(Choice, OfTwo)>
+        ensures { result ≡ by_file self }
+    {
+        match self {
+            OfOne::Settings => Some((Choice::Keep, OfTwo::Keep)),
+            _ => None,
+        }
+    }
+}
+
 impl OfTwo {
     // The name of its second input.
     pub(crate) fn second<'a>(self) -> &'a str
@@ -176,9 +202,10 @@ impl OfTwo {
     {
         match self {
             OfTwo::Check => "CERT",
-            OfTwo::Judge => "SETTINGS",
+            OfTwo::Judge | OfTwo::Keep => "SETTINGS",
             OfTwo::Diff => "NEW",
             OfTwo::Simulate | OfTwo::Draw => "RELEASES",
+            OfTwo::Observe => "TRACE",
         }
     }
 }
@@ -225,6 +252,8 @@ impl Choice {
             Choice::LowerIsHigher => "lower-is-higher",
             Choice::Seed => "seed",
             Choice::Tasks => "tasks",
+            Choice::Tolerance => "tolerance",
+            Choice::Keep => "keep",
         }
     }
 
@@ -233,7 +262,7 @@ impl Choice {
         ensures { result ≡ takes_of self }
     {
         match self {
-            Choice::Prefer | Choice::Task => Takes::Word,
+            Choice::Prefer | Choice::Task | Choice::Keep => Takes::Word,
             Choice::Base => Takes::Number {
                 least: 1,
                 most: MOST_PRIORITY as u32,
@@ -241,6 +270,10 @@ impl Choice {
             Choice::Seed => Takes::Number {
                 least: 0,
                 most: MOST_SEED as u32,
+            },
+            Choice::Tolerance => Takes::Number {
+                least: 0,
+                most: MOST_TOLERANCE as u32,
             },
             Choice::LowerIsHigher | Choice::Tasks => Takes::Flag,
         }
@@ -251,7 +284,12 @@ impl Choice {
         match self {
             Choice::Prefer => "ORDER",
             Choice::Task => "NAME",
-            Choice::Base | Choice::Seed | Choice::LowerIsHigher | Choice::Tasks => "N",
+            Choice::Keep => "SETTINGS",
+            Choice::Base
+            | Choice::Seed
+            | Choice::LowerIsHigher
+            | Choice::Tasks
+            | Choice::Tolerance => "N",
         }
     }
 
@@ -264,6 +302,10 @@ impl Choice {
             Choice::LowerIsHigher => "The smaller number is the higher priority",
             Choice::Seed => "A random list in place of the densest, the same for the same seed",
             Choice::Tasks => "What each task came to, in place of who executes when",
+            Choice::Tolerance => {
+                "By how many microseconds a time may be past what is promised, up to 60000000"
+            }
+            Choice::Keep => "Settings of a node whose order stays, as far as both have its tasks",
         }
     }
 }
@@ -280,6 +322,7 @@ impl<'a> Options<'a> {
             lower_is_higher: false,
             seed: None,
             by_task: false,
+            tolerance: None,
         }
     }
 }

@@ -41,7 +41,7 @@ macro_rules! example {
 }
 
 // The commands, as help lists them: those that answer on a task set, those for certificates and runs, those for scripts.
-const COMMANDS: [Listed; 14] = [
+const COMMANDS: [Listed; 15] = [
     Listed {
         verb: Verb::One(OfOne::Admit),
         word: "admit",
@@ -75,7 +75,7 @@ const COMMANDS: [Listed; 14] = [
     Listed {
         verb: Verb::One(OfOne::Settings),
         word: "settings",
-        options: &[Choice::Prefer],
+        options: &[Choice::Prefer, Choice::Base, Choice::Keep],
         about: "Prints the level of each thread and the ceiling of each mutex in the best order",
         example: example!(
             "settings examples/shared-lock.toml",
@@ -85,7 +85,7 @@ const COMMANDS: [Listed; 14] = [
     Listed {
         verb: Verb::Two(OfTwo::Judge),
         word: "judge",
-        options: &[Choice::Prefer],
+        options: &[Choice::Prefer, Choice::LowerIsHigher],
         about: "Prints which tasks meet their deadlines at priorities that are given",
         example: example!(
             "settings examples/shared-lock.toml | desk judge examples/shared-lock.toml -",
@@ -153,6 +153,16 @@ const COMMANDS: [Listed; 14] = [
         ),
     },
     Listed {
+        verb: Verb::Two(OfTwo::Observe),
+        word: "observe",
+        options: &[Choice::Prefer, Choice::Tolerance],
+        about: "Prints what a trace of a node shows of each task, and each promise that it breaks",
+        example: example!(
+            "observe examples/shared-lock.toml examples/shared-lock.trace",
+            "0 none is broken, 3 some is or infeasible, 4 the set or the trace is refused"
+        ),
+    },
+    Listed {
         verb: Verb::Number(OfNumber::Script),
         word: "script",
         options: &[Choice::Prefer],
@@ -216,6 +226,7 @@ fn input_help<'a>(name: &str) -> &'a str {
         "NEW" => "The task set that it becomes: a path, or - for standard input",
         "RELEASES" => "A release list: a path, or - for standard input",
         "SCRIPT" => "A script: a path, or - for standard input",
+        "TRACE" => "A trace as simulate prints it: a path, or - for standard input",
         "SETTINGS" => "Lines as settings prints them: a path, or - for standard input",
         _ => "A task set in TOML: a path, or - for standard input",
     }

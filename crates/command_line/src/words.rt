@@ -1,11 +1,12 @@
 //! The words of a command line.
-ghost use Rattle.std.specs.Prelude.{◌≡◌, ◌≢◌, map, Ok, Some, None, Err, IfOk, IfErr, IfSome, true, false, codes};
+ghost use Rattle.std.specs.Prelude.{◌≡◌, ◌≢◌, ℕ, List, map, Ok, Some, None, Err, IfOk, IfErr, IfSome, true, false, codes};
 ghost use Rattle.clap.specs.Words.{FailsBy, fault_of, first_of, found_of, rows_of, subcommand_of, subcommand_rows_of};
 ghost use Rattle.command_line.specs.App.{desk_app};
-ghost use Rattle.command_line.specs.Commands.{number_name};
-ghost use Rattle.command_line.specs.Calls.{AreOptions, Calls, Counts, Flags, HasNumber, IsCall, IsCommand, AreTakenWords, IsWordsFault, MayNumber, IsNumberOf, Names, Prefers, PrefersOther, SayChoices, TakesNumber, is_twice};
+ghost use Rattle.command_line.specs.Commands.{by_file, input_of, number_name, verb_of};
+ghost use Rattle.command_line.specs.declared.calls.Verb.TheVariants.{One};
+ghost use Rattle.command_line.specs.Calls.{AreOptions, Calls, Counts, Flags, HasNumber, IsCall, IsCommand, AreTakenWords, IsWordsFault, MayNumber, file_of, IsNumberOf, Names, NamesFile, Prefers, PrefersOther, SayChoices, TakesNumber, is_twice};
 
-use crate::calls::{Call, Choice, Input, OfNumber, OfOne, Options, Preferred, Verb};
+use crate::calls::{Call, Choice, Input, OfNumber, OfOne, OfTwo, Options, Preferred, Verb};
 use crate::commands::{desk_command, verb_named};
 use clap::{ArgMatches, Error};
 use std::alloc::Global;
@@ -89,6 +90,7 @@ fn options_at<'a>(matches: &ArgMatches<'a>) -> Option<Options<'a>>
         lower_is_higher: flag_chosen(matches, Choice::LowerIsHigher),
         seed: number_chosen(matches, Choice::Seed),
         by_task: flag_chosen(matches, Choice::Tasks),
+        tolerance: number_chosen(matches, Choice::Tolerance),
     })
 }
 
@@ -104,6 +106,47 @@ fn number_at(matches: &ArgMatches<'_>, command: OfNumber) -> usize
     }
 }
 
+// The command of two inputs that an option makes of one, with the input that it names; none where it is not given.
+fn second_named<'a>(command: OfOne, found: &ArgMatches<'a>) -> Option<(OfTwo, Input<'a>)>
+    ensures some { IfSome result (λ named.
+        NamesFile (by_file command) (rows_of (found_of found.now)) named.0 named.1) }
+    ensures none { result ≡ None → file_of (by_file command) (rows_of (found_of found.now)) ≡ None }
+{
+    let (choice, of_two) = command.by_file()?;
+    match found.get_str(choice.name()) {
+        None => None,
+        Some("-") => Some((of_two, Input::Standard)),
+        Some(path) => Some((of_two, Input::File(path))),
+    }
+}
+
+// The call of a command of one input.
+fn call_of_one<'a>(
+    command: OfOne,
+    input: Input<'a>,
+    found: &ArgMatches<'a>,
+    options: Options<'a>,
+) -> Call<'a>
+    ensures { (name : List ℕ) → verb_of name ≡ Some (One command)
+        → Names (first_of (input_of (One command)) (rows_of (found_of found.now))) input.entry
+        → AreOptions (rows_of (found_of found.now)) options.entry
+        → IsCall (Some (name, rows_of (found_of found.now))) result }
+{
+    match second_named(command, found) {
+        Some((of_two, second)) => Call::Two {
+            command: of_two,
+            first: input,
+            second,
+            options,
+        },
+        None => Call::One {
+            command,
+            input,
+            options,
+        },
+    }
+}
+
 // The call that a command names.
 fn call_named<'a>(name: &str, found: &ArgMatches<'a>, options: Options<'a>) -> Call<'a>
     requires command { IsCommand (Some (name.now, rows_of (found_of found.now))) }
@@ -116,11 +159,7 @@ fn call_named<'a>(name: &str, found: &ArgMatches<'a>, options: Options<'a>) -> C
     };
     let input = input_at(found, verb.input());
     match verb {
-        Verb::One(command) => Call::One {
-            command,
-            input,
-            options,
-        },
+        Verb::One(command) => call_of_one(command, input, found, options),
         Verb::Two(command) => Call::Two {
             command,
             first: input,

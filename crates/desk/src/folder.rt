@@ -19,21 +19,58 @@ impl Read for Documents {
 // More bytes than an input may have: no more of them are read.
 const ENOUGH: usize = 16_777_217;
 
-// The teams of which a folder has a document `TEAM.toml`, by their names. A file `.toml` whose name is no team's is an
-// error, so that no document is left out unseen.
-fn teams_in(rt: &HostRuntime, folder: &str) -> io::Result<Vec<Name>> {
-    let mut teams = Vec::new(rt.alloc());
+// That a file `.toml` has no name of a team.
+fn nameless(rt: &HostRuntime, stem: &str) -> Error {
+    match format!(in rt.alloc(); "no name of a team: {stem}.toml") {
+        Ok(said) => Error::new(ErrorKind::InvalidInput, said.as_str()),
+        Err(error) => Error::from(error),
+    }
+}
+
+// The same error, of a document.
+fn of_document(rt: &HostRuntime, stem: &str, error: Error) -> Error {
+    match format!(in rt.alloc(); "{stem}.toml: {error}") {
+        Ok(said) => Error::new(error.kind(), said.as_str()),
+        Err(_) => error,
+    }
+}
+
+// The documents of a folder: the teams that have one, `TEAM.toml`, by their names, and whether the node has, `node.toml`.
+#[derive(Drop)]
+struct Listed {
+    teams: Vec<Name>,
+    has_node: bool,
+}
+
+impl Listed {
+    // Takes a file `.toml`. One whose name is no team's is an error, so that no document is left out unseen.
+    fn take(&mut self, rt: &HostRuntime, stem: &str) -> io::Result<()> {
+        if stem == "node" {
+            self.has_node = true;
+            return Ok(());
+        }
+        match Name::read(stem.as_bytes()) {
+            Ok(team) => self.teams.push(team)?,
+            Err(_) => return Err(nameless(rt, stem)),
+        }
+        Ok(())
+    }
+}
+
+// The documents that a folder has.
+fn documents_in(rt: &HostRuntime, folder: &str) -> io::Result<Listed> {
+    let mut listed = Listed {
+        teams: Vec::new(rt.alloc()),
+        has_node: false,
+    };
     for entry in fs::read_dir(rt, folder)? {
         let entry = entry?;
         if let Some(stem) = entry.file_name().strip_suffix(".toml") {
-            match Name::read(stem.as_bytes()) {
-                Ok(team) => teams.push(team)?,
-                Err(_) => return Err(Error::from(ErrorKind::InvalidInput)),
-            }
+            listed.take(rt, stem)?;
         }
     }
-    teams.sort_unstable();
-    Ok(teams)
+    listed.teams.sort_unstable();
+    Ok(listed)
 }
 
 // The bytes of a file, the first of them where there are too many.
@@ -44,24 +81,53 @@ fn bytes_of(rt: &HostRuntime, path: &str) -> io::Result<Vec<u8>> {
     Ok(bytes)
 }
 
-// The documents of a folder in one text, each behind a line `#% TEAM COUNT`, by the names of the teams.
+// The bytes of a document.
+fn document_of(rt: &HostRuntime, folder: &str, stem: &str) -> io::Result<Vec<u8>> {
+    let path = format!(in rt.alloc(); "{folder}/{stem}.toml")?;
+    match bytes_of(rt, path.as_str()) {
+        Ok(bytes) => Ok(bytes),
+        Err(error) => Err(of_document(rt, stem, error)),
+    }
+}
+
+// Adds the node's document behind a line `#% COUNT`.
+fn push_node(rt: &HostRuntime, text: &mut Vec<u8>, folder: &str) -> io::Result<()> {
+    let document = document_of(rt, folder, "node")?;
+    let count = document.len();
+    let head = format!(in rt.alloc(); "#% {count}\n")?;
+    text.extend_from_slice(head.as_bytes())?;
+    text.extend_from_slice(&document)?;
+    Ok(())
+}
+
+// Adds a team's document behind a line `#% TEAM COUNT`.
+fn push_team(rt: &HostRuntime, text: &mut Vec<u8>, folder: &str, team: &Name) -> io::Result<()> {
+    let document = document_of(rt, folder, team.as_str())?;
+    let count = document.len();
+    let head = format!(in rt.alloc(); "#% {team} {count}\n")?;
+    text.extend_from_slice(head.as_bytes())?;
+    text.extend_from_slice(&document)?;
+    Ok(())
+}
+
+// The documents of a folder in one text: the node's, where there is one, and those of the teams by their names.
 fn text_of(rt: &HostRuntime, folder: &str) -> io::Result<Vec<u8>> {
     let mut text = Vec::new(rt.alloc());
-    for team in &teams_in(rt, folder)? {
-        let path = format!(in rt.alloc(); "{folder}/{team}.toml")?;
-        let document = bytes_of(rt, path.as_str())?;
-        let count = document.len();
-        let head = format!(in rt.alloc(); "#% {team} {count}\n")?;
-        text.extend_from_slice(head.as_bytes())?;
-        text.extend_from_slice(&document)?;
+    let listed = documents_in(rt, folder)?;
+    if listed.has_node {
+        push_node(rt, &mut text, folder)?;
+    }
+    for team in &listed.teams {
         if text.len() >= ENOUGH {
             break;
         }
+        push_team(rt, &mut text, folder, team)?;
     }
     Ok(text)
 }
 
-/// The documents of a folder, each behind a line `#% TEAM COUNT`, by the names of the teams.
+/// The documents of a folder: the node's, `node.toml`, where there is one, behind a line `#% COUNT`, and those of the
+/// teams, each behind a line `#% TEAM COUNT`, by their names.
 pub(crate) fn open_folder(rt: &HostRuntime, folder: &str) -> io::Result<Documents> {
     let text = text_of(rt, folder)?;
     Ok(Documents {

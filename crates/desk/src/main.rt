@@ -4,64 +4,85 @@
 ghost use Rattle.std.specs.Prelude.{None};
 
 mod folder;
+mod noted;
 
 use crate::folder::{Documents, open_folder};
-use advice::Advice;
+use crate::noted::{Closed, Noted, note};
+use advice::{Advice, LastError, tell_unwritten};
 use command_line::{Input, read_words};
 use desk_cli::{CommandRefusal, Status, refuse, refuse_words};
 use dispatch::{NotOpened, Opens, run_call};
 use either::{Either, Left, Right};
+use std::cell::Cell;
 use std::fs::File;
 use std::io::{self, ErrorKind, Stderr, Stdin, Stdout};
+use std::os::fd::AsRawFd;
 use std::process::ExitCode;
 use std::sync::Wait;
 use std::thread::Threads;
 use std::{env, fs};
 use streams::Watched;
 
-/// An input, opened: a file, standard input, or the documents of a folder.
-type Source = Either<File, Either<Stdin, Documents>>;
+/// An input, opened: a file, standard input, the documents of a folder, or a standard input that is closed.
+type Source = Either<File, Either<Stdin, Either<Documents, Closed>>>;
 
 fn main(rt: HostRuntime) -> ExitCode {
     ExitCode::from(run(&rt, &rt).code())
 }
 
-// Reads the words and runs the call that they name, on these threads.
+// Runs the call, and tells why its output could not be written.
 fn run<T: Threads + Wait + Sync>(rt: &HostRuntime, threads: &T) -> Status {
-    let mut output = Watched::new(rt.stdout());
+    let written = Cell::new(None);
+    let mut output = Watched::new(Noted::new(rt.stdout(), &written));
     let mut errors = Watched::new(rt.stderr());
+    let status = run_words(rt, threads, &mut output, &mut errors);
+    tell_unwritten(rt.alloc(), &written, &mut errors);
+    status
+}
+
+// Reads the words and runs the call that they name, on these threads.
+fn run_words<T: Threads + Wait + Sync>(
+    rt: &HostRuntime,
+    threads: &T,
+    output: &mut Watched<Noted<'_, Stdout>>,
+    errors: &mut Watched<Stderr>,
+) -> Status {
     let words = match words_of(rt) {
         Ok(words) => words,
-        Err(error) => return refuse_system(&error, &mut output, &mut errors),
+        Err(error) => return refuse_system(&error, output, errors),
     };
     let mut texts = Vec::new(rt.alloc());
     for word in &words {
         if texts.push(word.as_str()).is_err() {
-            return refuse(CommandRefusal::OutOfMemory, &mut output);
+            return refuse(CommandRefusal::OutOfMemory, output);
         }
     }
     // Takes the number of a standard stream that is closed, so that no input gets it: a folder is neither read nor
     // written.
     let folder = fs::open(rt, "/");
+    let last = Cell::new(None);
     let process = Process {
         rt,
         is_guarded: folder.is_ok(),
+        is_closed: is_standard_input(&folder),
+        last: &last,
     };
     match read_words(rt.alloc(), &texts) {
         Ok(call) => {
-            let mut people = Advice::new(rt.alloc(), call, Watched::new(rt.stderr()));
-            run_call(
+            let mut people = Advice::new(rt.alloc(), call, &last, Watched::new(rt.stderr()));
+            let end = run_call(
                 threads,
                 rt.alloc(),
                 call,
                 &process,
-                &mut output,
-                &mut errors,
+                output,
+                errors,
                 &mut people,
-            )
-            .status
+            );
+            people.ended(end.status);
+            end.status
         }
-        Err(fault) => refuse_words(&fault, &mut output, &mut errors),
+        Err(fault) => refuse_words(&fault, output, errors),
     }
 }
 
@@ -77,7 +98,7 @@ fn words_of(rt: &HostRuntime) -> io::Result<Vec<String>> {
 // The words could not be had: memory ran out, or one is not UTF-8.
 fn refuse_system(
     error: &io::Error,
-    output: &mut Watched<Stdout>,
+    output: &mut Watched<Noted<'_, Stdout>>,
     errors: &mut Watched<Stderr>,
 ) -> Status {
     if error.kind() == ErrorKind::OutOfMemory {
@@ -89,26 +110,36 @@ fn refuse_system(
     }
 }
 
+// Whether a file got the number of standard input, which was closed then.
+fn is_standard_input(file: &io::Result<File>) -> bool {
+    match file {
+        Ok(file) => file.as_raw_fd() == 0,
+        Err(_) => false,
+    }
+}
+
 // The file at a path, or the documents of the folder there.
 fn open_path(rt: &HostRuntime, path: &str) -> io::Result<Source> {
     if fs::metadata(rt, path)?.is_dir() {
         let documents = open_folder(rt, path)?;
-        return Ok(Right(Right(documents)));
+        return Ok(Right(Right(Left(documents))));
     }
     let file = fs::open(rt, path)?;
     Ok(Left(file))
 }
 
-// The files and the standard input of a process. No file is opened unless it is guarded: one that got the number of a
-// closed standard stream would be read as that stream.
+// The files and the standard input of a process, and the error of the last call on them. No file is opened unless it is
+// guarded: one that got the number of a closed standard stream would be read as that stream.
 #[derive(Clone, Copy)]
 struct Process<'a> {
     rt: &'a HostRuntime,
     is_guarded: bool,
+    is_closed: bool,
+    last: &'a LastError,
 }
 
 impl<'a> Opens for Process<'a> {
-    type Source = Source;
+    type Source = Noted<'a, Source>;
 
     // No contract can say what a file has.
     ghost bytes = { λ _ _. None };
@@ -116,14 +147,16 @@ impl<'a> Opens for Process<'a> {
     // Nor which it does not open.
     ghost may_refuse = { λ _ _. Unit {0} };
 
-    fn open(&self, input: Input<'_>) -> Result<Source, NotOpened> {
-        match input {
+    fn open(&self, input: Input<'_>) -> Result<Noted<'a, Source>, NotOpened> {
+        let source = match input {
+            Input::Standard if self.is_closed => Ok(Right(Right(Right(Closed)))),
             Input::Standard => Ok(Right(Left(self.rt.stdin()))),
-            Input::File(_) if !self.is_guarded => Err(NotOpened),
-            Input::File(path) => match open_path(self.rt, path) {
-                Ok(source) => Ok(source),
-                Err(_) => Err(NotOpened),
-            },
+            Input::File(_) if !self.is_guarded => return Err(NotOpened),
+            Input::File(path) => note(self.last, open_path(self.rt, path)),
+        };
+        match source {
+            Ok(source) => Ok(Noted::new(source, self.last)),
+            Err(_) => Err(NotOpened),
         }
     }
 }

@@ -9,6 +9,7 @@ use Rattle.teams.specs.declared.fault.TeamsFault.TheVariants as set_fault
 use Rattle.certificate.specs.declared.fault.CertFault.TheVariants as certificate_fault
 use Rattle.ceiling_kernel.specs.declared.trace.RunFault.TheVariants as run_fault
 use Rattle.judge.specs.declared.fault.SettingsFault.TheVariants as settings_fault
+use Rattle.trace_text.specs.declared.fault.TraceFault.TheVariants as trace_fault
 use Rattle.scripts.specs.declared.line.ScriptFault.TheVariants as script_fault
 use Rattle.streams.specs.declared.input.InputFault.TheVariants as input_fault
 use Rattle.assignment.specs.declared.placing.Placing.{Placing}
@@ -37,6 +38,7 @@ failed_by (refusal.Certificate certificate_fault.OutOfMemory) is = cc
 failed_by (refusal.Text text_fault.OutOfMemory) is = cc
 failed_by (refusal.Run run_fault.OutOfMemory) is = cc
 failed_by (refusal.Settings settings_fault.OutOfMemory) is = cc
+failed_by (refusal.Trace trace_fault.OutOfMemory) is = cc
 failed_by (refusal.Script script_fault.OutOfMemory) is = cc
 failed_by _ is = cc
 

@@ -1,11 +1,12 @@
 -- What is printed of what a command finds is what the command says.
-use Rattle.std.proofs.Common.{◌≡◌, ℕ, true, false, List, Option, Ok, Err, inl, inr}
+use Rattle.std.proofs.Common.{◌≡◌, ℕ, true, false, List, Option, Ok, Err, inl, inr, subst}
 use Rattle.std.specs.Io.KnownBytes.{Appends}
 use Rattle.task_sheet.specs.Sheet.{Task}
 use Rattle.command_line.specs.declared.calls.Options.{Options}
 use Rattle.command_line.specs.declared.calls.OfTwo.{OfTwo}
 use Rattle.command_line.specs.declared.calls.OfTwo.TheVariants as command
 use Rattle.desk_cli.specs.Found.{FindsIn, found_said, found_status}
+use Rattle.desk_cli.specs.Keep.{keeping_lines}
 use Rattle.desk_cli.specs.Outcomes.{failed_read}
 use Rattle.desk_cli.specs.Printed.{IsPrinted}
 use Rattle.desk_cli.specs.Refusals.{refusal_line, status_of}
@@ -14,7 +15,7 @@ use Rattle.desk_cli.specs.Commands.{preference_of}
 use Rattle.desk_cli.specs.Sets.{HaveBoth}
 use Rattle.desk_cli.specs.Simulate.{SaysSimulation}
 use Rattle.desk_cli.specs.declared.of_two.Found.{Found}
-use Rattle.desk_cli.specs.declared.of_two.Found.TheVariants.{Shown, Compared, Judged, Simulated, Reached, Drawn}
+use Rattle.desk_cli.specs.declared.of_two.Found.TheVariants.{Shown, Compared, Judged, Simulated, Reached, Drawn, Observed, Keeping}
 use Rattle.desk_cli.specs.declared.refusal.CommandRefusal.{CommandRefusal}
 use Rattle.desk_cli.specs.declared.refusal.CommandRefusal.TheVariants as refusal
 use Rattle.desk_cli.specs.declared.status.Status.{Status}
@@ -27,6 +28,8 @@ never_unread command.Diff options U text never = never
 never_unread command.Judge options U text never = never
 never_unread command.Simulate options U text never = never
 never_unread command.Draw options U text never = never
+never_unread command.Observe options U text never = never
+never_unread command.Keep options U text never = never
 
 module _ (options : Options) (U : List Task) (text : List ℕ) (before after : Option (List ℕ)) (s : Status) where
   -- a refusal was printed
@@ -40,6 +43,8 @@ module _ (options : Options) (U : List Task) (text : List ℕ) (before after : O
         | false ↦ λ set other both. (Err r, inr (U, text, both, why), wrote, is)
       ]
   refused_in command.Draw r why wrote is = λ set other both. (Err r, inr (U, text, both, why), wrote, is)
+  refused_in command.Observe r why wrote is = λ set other both. (Err r, inr (U, text, both, why), wrote, is)
+  refused_in command.Keep r why wrote is = λ set other both. (Err r, inr (U, text, both, why), wrote, is)
 
   -- what was found was printed
   said_in : (c : OfTwo) (found : Found) → FindsIn c options U text (Ok found) → Appends before after (found_said U found) → s ≡ found_status found → SaysOfBoth c options U text before after s
@@ -49,6 +54,8 @@ module _ (options : Options) (U : List Task) (text : List ℕ) (before after : O
   said_in command.Simulate (Simulated answer) finds wrote is = λ set other both. rw finds.0 (Ok (U, answer), (text, both, finds.1), wrote, is)
   said_in command.Simulate (Reached answer) finds wrote is = λ set other both. rw finds.0 (Ok (U, answer), (text, both, finds.1), wrote, is)
   said_in command.Draw (Drawn answer) finds wrote is = λ set other both. (Ok (U, answer), (text, both, finds), wrote, is)
+  said_in command.Observe (Observed tolerance sight) finds wrote is = λ set other both. rw (← finds.0) (Ok (U, sight), (text, both, finds.1), wrote, is)
+  said_in command.Keep (Keeping keeping base) finds wrote is = λ set other both. (Ok (U, keeping), (text, both, finds.1), subst (λ (b : ℕ). Appends before after (keeping_lines U b keeping)) finds.0 wrote, is)
   said_in _ _ finds wrote is = absurd finds
 
   -- the same; or that memory was wanting for it, which is an answer of its own

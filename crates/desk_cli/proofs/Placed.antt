@@ -17,7 +17,7 @@ use Rattle.assignment.specs.declared.placing.Placing.TheVariants.{Best, Stuck}
 use Rattle.assignment.specs.declared.verdict.Verdict.{Verdict}
 use Rattle.assignment.specs.declared.verdict.Verdict.TheVariants.{Admitted, Infeasible}
 use Rattle.assignment.proofs.VerdictPlacings.{some_verdict_says}
-use Rattle.settings.specs.Settings.{settings_lines}
+use Rattle.settings.specs.Settings.{settings_from}
 use Rattle.desk_cli.specs.Admit.{Places, Says, admit_lines, placing_status, verdict_status}
 use Rattle.limit_lines.specs.Lines.{places_in}
 use Rattle.desk_cli.specs.Limits.{first_line, placing_first, verdict_places}
@@ -35,7 +35,7 @@ pub record IsSaidBy (U : List Task) (p : Placing) (v : Verdict) : Type 0 where
   pub set : verdict_set v ≡ U
   pub verdict : IsVerdictOf (verdict_set v) (verdict_of v)
   pub lines : admit_lines v ≡ placing_said Levels U p
-  pub settings : settings_of v ≡ placing_said Settings U p
+  pub settings : (base : ℕ) → settings_of base v ≡ placing_said (Settings base) U p
   pub first : first_line v ≡ placing_first U p
   pub status : verdict_status v ≡ placing_status p
   pub places : verdict_places v ≡ places_in p
@@ -59,7 +59,7 @@ said_by U kept p placing =
         set = refl;
         verdict = verdict;
         lines = ap (λ ps. admitted_lines U ps) (sym same);
-        settings = ap (λ tasks. settings_lines U tasks) (sym (ap tasks_of_places same ∙ tasks_of_levels levels));
+        settings = λ base. ap (λ tasks. settings_from U base tasks) (sym (ap tasks_of_places same ∙ tasks_of_levels levels));
         first = ap (λ (n : ℕ). codes "admitted " ++ decimal n ++ codes "\n") (sym (ap (λ (ps : List PlaceData). length ps) same ∙ length_of_levels levels));
         status = refl;
         places = ap (λ (ps : List PlaceData). Some ps) (sym same);
@@ -67,7 +67,7 @@ said_by U kept p placing =
     )
     by (data_of.Infeasible members) (Stuck left) verdict same =
         let line = ap (λ tasks. infeasible_line U tasks) same in
-        (Infeasible (record { set = U; members = members }), record { set = refl; verdict = verdict; lines = line; settings = line; first = line; status = refl; places = refl })
+        (Infeasible (record { set = U; members = members }), record { set = refl; verdict = verdict; lines = line; settings = λ base. line; first = line; status = refl; places = refl })
     by (data_of.Admitted levels) (Stuck left) verdict same = absurd same
     by (data_of.Infeasible members) (Best places) verdict same = absurd same
 

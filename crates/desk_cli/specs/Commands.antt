@@ -1,20 +1,23 @@
 -- What each command says of what its readers have.
-use Rattle.std.specs.Prelude.{ℕ, List, Option, Some, None, option_map}
+use Rattle.std.specs.Prelude.{ℕ, List, Option, Some, None, min, option_map}
 use Rattle.task_sheet.specs.declared.prefer.Preference.{Preference}
 use Rattle.task_sheet.specs.declared.prefer.Preference.TheVariants as preference
+use Rattle.command_line.specs.declared.calls.TheConstants.{MOST_PRIORITY}
 use Rattle.command_line.specs.declared.calls.Options.{Options}
 use Rattle.command_line.specs.declared.calls.Preferred.{Preferred}
 use Rattle.command_line.specs.declared.calls.Preferred.TheVariants as preferred
 use Rattle.command_line.specs.declared.calls.OfOne.{OfOne}
 use Rattle.command_line.specs.declared.calls.OfOne.TheVariants.{Admit, Certify, Limits, Settings, Explain, Play}
 use Rattle.command_line.specs.declared.calls.OfTwo.{OfTwo}
-use Rattle.command_line.specs.declared.calls.OfTwo.TheVariants.{Check, Judge, Diff, Simulate, Draw}
+use Rattle.command_line.specs.declared.calls.OfTwo.TheVariants.{Check, Judge, Diff, Simulate, Draw, Observe, Keep}
 use Rattle.desk_cli.specs.Admit.{Says, admit_lines}
 use Rattle.desk_cli.specs.Certify.{certificate_lines}
 use Rattle.desk_cli.specs.Check.{SaysChecked}
 use Rattle.desk_cli.specs.Diff.{SaysCompared}
 use Rattle.desk_cli.specs.Draw.{SaysDrawn}
 use Rattle.desk_cli.specs.Judge.{SaysJudged}
+use Rattle.desk_cli.specs.Observe.{SaysObserved, tolerance_of}
+use Rattle.desk_cli.specs.Keep.{SaysKeeping}
 use Rattle.desk_cli.specs.OneTask.{SaysLimitsOf, SaysReasonsOf}
 use Rattle.desk_cli.specs.Play.{SaysPlayed}
 use Rattle.desk_cli.specs.Settings.{settings_of}
@@ -31,6 +34,15 @@ preferred_by None = None
 abbrev pub preference_of : Options → Option Preference
 preference_of options = preferred_by options.prefer
 
+-- a priority that words choose for level 1, else 1; they choose none above the greatest
+abbrev pub base_chosen : Option ℕ → ℕ
+base_chosen (Some base) = min base MOST_PRIORITY
+base_chosen None = 1
+
+-- the same of what a call's words choose
+abbrev pub base_of : Options → ℕ
+base_of options = base_chosen options.base
+
 -- the word that names the task that is asked about
 abbrev pub task_of : Options → Option (List ℕ)
 task_of options = option_map (λ word. word.now) options.task
@@ -46,7 +58,7 @@ OneSays Certify options known before after s =
 OneSays Limits options known before after s =
     SaysLimitsOf (task_of options) (preference_of options) known before after s
 OneSays Settings options known before after s =
-    Says settings_of (preference_of options) known before after s
+    Says (settings_of (base_of options)) (preference_of options) known before after s
 OneSays Explain options known before after s =
     SaysReasonsOf (task_of options) (preference_of options) known before after s
 OneSays Play options known before after s = SaysPlayed known before after s
@@ -58,10 +70,14 @@ abbrev pub TwoSay :
 TwoSay Check options first second before after s =
     SaysChecked (preference_of options) first second before after s
 TwoSay Judge options first second before after s =
-    SaysJudged (preference_of options) first second before after s
+    SaysJudged options.lower_is_higher (preference_of options) first second before after s
 TwoSay Diff options first second before after s =
     SaysCompared (preference_of options) first second before after s
 TwoSay Simulate options first second before after s =
     SaysSimulation options.by_task (preference_of options) first second before after s
 TwoSay Draw options first second before after s =
     SaysDrawn (preference_of options) first second before after s
+TwoSay Observe options first second before after s =
+    SaysObserved (tolerance_of options) (preference_of options) first second before after s
+TwoSay Keep options first second before after s =
+    SaysKeeping (base_of options) (preference_of options) first second before after s

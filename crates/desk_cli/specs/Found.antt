@@ -9,14 +9,16 @@ use Rattle.command_line.specs.declared.calls.OfTwo.TheVariants as command
 use Rattle.judge.specs.Lines.{judged_lines}
 use Rattle.desk_cli.specs.Check.{ChecksText, checked_line}
 use Rattle.desk_cli.specs.Admit.{placing_status}
-use Rattle.desk_cli.specs.Commands.{preference_of}
+use Rattle.desk_cli.specs.Commands.{base_of, preference_of}
 use Rattle.desk_cli.specs.Diff.{ComparesText, compared_lines}
 use Rattle.desk_cli.specs.Draw.{drawing_said}
 use Rattle.desk_cli.specs.Judge.{JudgesText, judged_status}
+use Rattle.desk_cli.specs.Observe.{ObservesText, sight_said, sight_status, tolerance_of}
 use Rattle.desk_cli.specs.Printed.{IsPrinted}
 use Rattle.desk_cli.specs.Simulate.{IsInOrder, SimulatesText, reached_said, simulation_said, simulation_status}
 use Rattle.desk_cli.specs.declared.of_two.Found.{Found}
-use Rattle.desk_cli.specs.declared.of_two.Found.TheVariants.{Shown, Compared, Judged, Simulated, Reached, Drawn}
+use Rattle.desk_cli.specs.declared.of_two.Found.TheVariants.{Shown, Compared, Judged, Simulated, Reached, Drawn, Observed, Keeping}
+use Rattle.desk_cli.specs.Keep.{IsKeptIn, KeepsText, keeping_lines, keeping_status}
 use Rattle.desk_cli.specs.declared.refusal.CommandRefusal.{CommandRefusal}
 use Rattle.desk_cli.specs.declared.status.Status.{Status}
 use Rattle.desk_cli.specs.declared.status.Status.TheVariants.{Done}
@@ -27,8 +29,9 @@ FindsIn command.Check options U text (Ok (Shown kind)) = ChecksText U text (Ok k
 FindsIn command.Check options U text (Err r) = ChecksText U text (Err r)
 FindsIn command.Diff options U text (Ok (Compared c)) = ComparesText (preference_of options) U text (Ok c)
 FindsIn command.Diff options U text (Err r) = ComparesText (preference_of options) U text (Err r)
-FindsIn command.Judge options U text (Ok (Judged judged)) = JudgesText U text (Ok judged)
-FindsIn command.Judge options U text (Err r) = JudgesText U text (Err r)
+FindsIn command.Judge options U text (Ok (Judged judged)) =
+    JudgesText options.lower_is_higher U text (Ok judged)
+FindsIn command.Judge options U text (Err r) = JudgesText options.lower_is_higher U text (Err r)
 FindsIn command.Simulate options U text (Ok (Simulated answer)) =
     (options.by_task ≡ false) × SimulatesText U text (Ok answer)
 FindsIn command.Simulate options U text (Ok (Reached answer)) =
@@ -36,6 +39,12 @@ FindsIn command.Simulate options U text (Ok (Reached answer)) =
 FindsIn command.Simulate options U text (Err r) = SimulatesText U text (Err r)
 FindsIn command.Draw options U text (Ok (Drawn answer)) = SimulatesText U text (Ok answer)
 FindsIn command.Draw options U text (Err r) = SimulatesText U text (Err r)
+FindsIn command.Observe options U text (Ok (Observed tolerance sight)) =
+    (tolerance ≡ tolerance_of options) × ObservesText U text (Ok sight)
+FindsIn command.Observe options U text (Err r) = ObservesText U text (Err r)
+FindsIn command.Keep options U text (Ok (Keeping keeping base)) =
+    (base ≡ base_of options) × KeepsText U text (Ok keeping)
+FindsIn command.Keep options U text (Err r) = KeepsText U text (Err r)
 FindsIn _ options U text _ = ⊥
 
 -- what was found speaks of tasks that a set may have, and of a run in an order of the set
@@ -44,6 +53,7 @@ IsFoundOf U (Judged judged) = All (λ j. j.task < TASK_LIMIT) judged.items
 IsFoundOf U (Compared c) = IsPlacingOf U c.was × IsPlacingOf c.set c.is
 IsFoundOf U (Reached answer) = IsInOrder U answer
 IsFoundOf U (Drawn answer) = IsInOrder U answer
+IsFoundOf U (Keeping keeping base) = IsKeptIn U keeping
 IsFoundOf U _ = Unit {0}
 
 -- what is printed of what was found of a set
@@ -54,6 +64,8 @@ found_said U (Judged judged) = judged_lines U judged.items
 found_said U (Simulated answer) = simulation_said U answer
 found_said U (Reached answer) = reached_said U answer
 found_said U (Drawn answer) = drawing_said U answer
+found_said U (Observed tolerance sight) = sight_said tolerance U sight
+found_said U (Keeping keeping base) = keeping_lines U base keeping
 
 -- the exit status of what was found
 abbrev pub found_status : Found → Status
@@ -63,6 +75,8 @@ found_status (Judged judged) = judged_status judged.items
 found_status (Simulated answer) = simulation_status answer
 found_status (Reached answer) = simulation_status answer
 found_status (Drawn answer) = simulation_status answer
+found_status (Observed tolerance sight) = sight_status tolerance sight
+found_status (Keeping keeping base) = keeping_status keeping
 
 -- that is printed after what the writer held, with its status; or that there was no memory for it
 abbrev pub PrintsFound : List Task → Found → (before after : Option (List ℕ)) → Status → Type 0

@@ -8,7 +8,9 @@ pub mod Explain
 pub mod Found
 pub mod Limits
 pub mod Judge
+pub mod Keep
 pub mod Lines
+pub mod Observe
 pub mod OneTask
 pub mod OrderParts
 pub mod Outcomes

@@ -7,16 +7,17 @@ use Rattle.assignment.specs.Places.{PlaceData}
 use Rattle.assignment.specs.Placings.{tasks_of_places}
 use Rattle.assignment.specs.declared.placing.Placing.{Placing}
 use Rattle.assignment.specs.declared.placing.Placing.TheVariants.{Best, Stuck}
-use Rattle.settings.specs.Settings.{settings_lines}
+use Rattle.settings.specs.Settings.{settings_from}
 use Rattle.desk_cli.specs.Lines.{admitted_lines, infeasible_line}
 use Rattle.desk_cli.specs.declared.answer.OrderPart.{OrderPart}
 use Rattle.desk_cli.specs.declared.answer.OrderPart.TheVariants.{Count, Levels, Settings}
 
--- so much of an order: how many levels it has; that, and each level; or what a node is set to
+-- so much of an order: how many levels it has; that, and each level; or what a node is set to,
+-- where level 1 has a priority
 abbrev pub order_said : OrderPart → List Task → List PlaceData → List ℕ
 order_said Count U places = codes "admitted " ++ decimal (length places) ++ codes "\n"
 order_said Levels U places = admitted_lines U places
-order_said Settings U places = settings_lines U (tasks_of_places places)
+order_said (Settings base) U places = settings_from U base (tasks_of_places places)
 
 -- so much of the order of a placing, or the line of its obstruction
 abbrev pub placing_said : OrderPart → List Task → Placing → List ℕ

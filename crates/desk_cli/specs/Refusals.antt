@@ -10,6 +10,9 @@ use Rattle.task_sheet.specs.declared.keys.Key.{Key}
 use Rattle.task_sheet.specs.Tree.{word_of}
 use Rattle.task_sheet.specs.declared.read.SetFault.{SetFault}
 use Rattle.task_sheet.specs.declared.read.SetFault.TheVariants as fault
+use Rattle.teams.specs.NodeDocument.{quantity_word}
+use Rattle.teams.specs.declared.node.NodeFault.{NodeFault}
+use Rattle.teams.specs.declared.node.NodeFault.TheVariants as node
 use Rattle.teams.specs.declared.fault.TeamsFault.{TeamsFault}
 use Rattle.teams.specs.declared.fault.TeamsFault.TheVariants as teams
 use Rattle.certificate.specs.declared.fault.CertFault.{CertFault}
@@ -24,6 +27,8 @@ use Rattle.scripts.specs.declared.line.ScriptFault.{ScriptFault}
 use Rattle.scripts.specs.declared.line.ScriptFault.TheVariants as script
 use Rattle.judge.specs.declared.fault.SettingsFault.{SettingsFault}
 use Rattle.judge.specs.declared.fault.SettingsFault.TheVariants as settings
+use Rattle.trace_text.specs.declared.fault.TraceFault.{TraceFault}
+use Rattle.trace_text.specs.declared.fault.TraceFault.TheVariants as trace
 use Rattle.rushes.specs.declared.fault.RushFault.{RushFault}
 use Rattle.rushes.specs.declared.fault.RushFault.TheVariants as rush
 use Rattle.streams.specs.declared.input.InputFault.TheVariants as input
@@ -102,6 +107,18 @@ fault_words (fault.SameName task) = at_task (codes "SameName") task
 fault_words fault.TooManyTasks = codes "TooManyTasks"
 fault_words fault.OutOfMemory = codes "OutOfMemory"
 
+-- the fault of a node's document: the team and the key, where it is one of them
+abbrev pub node_words : NodeFault → List ℕ
+node_words node.Syntax = codes "Syntax"
+node_words node.UnknownRoot = codes "UnknownKey"
+node_words node.NoTeams = codes "WrongKind"
+node_words node.BadName = codes "BadName"
+node_words (node.NoBudget team) = codes "WrongKind " ++ team
+node_words (node.UnknownKey team) = codes "UnknownKey " ++ team
+node_words (node.NoNumber team quantity) =
+    codes "WrongKind " ++ team ++ codes " " ++ quantity_word quantity
+node_words node.OutOfMemory = codes "OutOfMemory"
+
 -- the fault of a set's text; that of a team's document stands behind the team
 abbrev pub teams_words : TeamsFault → List ℕ
 teams_words (teams.Alone fault) = fault_words fault
@@ -111,6 +128,11 @@ teams_words (teams.Taken team task other) =
     codes "TakenName " ++ team ++ codes " " ++ task ++ codes " " ++ other
 teams_words (teams.OtherPreference team other) =
     codes "OtherPreference " ++ team ++ codes " " ++ other
+teams_words (teams.Node fault) = codes "node " ++ node_words fault
+teams_words (teams.NoSuchTeam team) = codes "NoSuchTeam " ++ team
+teams_words (teams.PastBudget team quantity number limit) =
+    codes "PastBudget " ++ team ++ codes " " ++ quantity_word quantity ++ codes " " ++ decimal number
+    ++ codes " " ++ decimal limit
 teams_words teams.TooManyTasks = codes "TooManyTasks"
 teams_words teams.OutOfMemory = codes "OutOfMemory"
 
@@ -171,6 +193,15 @@ settings_words (settings.MissingLock name) = codes "MissingLock " ++ name
 settings_words (settings.WrongCeiling name) = codes "WrongCeiling " ++ name
 settings_words settings.OutOfMemory = codes "OutOfMemory"
 
+-- the fault of a trace: its line
+abbrev pub trace_words : TraceFault → List ℕ
+trace_words (trace.BadLine number) = at_task (codes "BadLine") number
+trace_words (trace.SliceOverlap number) = at_task (codes "SliceOverlap") number
+trace_words (trace.JobUnsorted number) = at_task (codes "JobUnsorted") number
+trace_words trace.TooManyLines = codes "TooManyLines"
+trace_words (trace.NoJob number) = at_task (codes "NoJob") number
+trace_words trace.OutOfMemory = codes "OutOfMemory"
+
 -- why lines were not run to the end of all teams
 abbrev pub rush_words : RushFault → List ℕ
 rush_words rush.OutOfMemory = codes "OutOfMemory"
@@ -192,6 +223,7 @@ words_of (refusal.Check fault) = check_words fault
 words_of (refusal.Text fault) = text_words fault
 words_of (refusal.Run fault) = run_words fault
 words_of (refusal.Settings fault) = settings_words fault
+words_of (refusal.Trace fault) = trace_words fault
 words_of (refusal.Script fault) = script_words fault
 words_of (refusal.Rush fault) = rush_words fault
 words_of (refusal.NoSuchTask (Some name)) = codes "NoSuchTask " ++ name
@@ -220,6 +252,8 @@ status_of (refusal.Run run.OutOfMemory) = status.OutOfMemory
 status_of (refusal.Run _) = status.BadInput
 status_of (refusal.Settings settings.OutOfMemory) = status.OutOfMemory
 status_of (refusal.Settings _) = status.BadInput
+status_of (refusal.Trace trace.OutOfMemory) = status.OutOfMemory
+status_of (refusal.Trace _) = status.BadInput
 status_of (refusal.Script script.OutOfMemory) = status.OutOfMemory
 status_of (refusal.Script _) = status.BadInput
 status_of (refusal.Rush _) = status.OutOfMemory

@@ -47,6 +47,7 @@ pub(crate) fn place<R: Read + Drop, P: Audience>(
     let table = LockTable::new(alloc, &tasks)?;
     let placing = place_all(alloc, &tasks, &table)?;
     people.read(&tasks);
+    people.placed(&tasks, &placing);
     Ok((tasks, placing))
 }
 

@@ -24,8 +24,8 @@ pub enum OrderPart {
     Count,
     /// That, and each level, the lowest first.
     Levels,
-    /// What a node is set to.
-    Settings,
+    /// What a node is set to, where level 1 has this priority.
+    Settings { base: u32 },
 }
 
 // The line of a level, which has a number.
@@ -57,7 +57,11 @@ fn admitted_text(alloc: Global, set: &TaskSet, places: &[Place]) -> Result<Strin
 }
 
 // The line of an obstruction.
-fn infeasible_text(alloc: Global, set: &TaskSet, members: Members) -> Result<String, AllocError>
+pub(crate) fn infeasible_text(
+    alloc: Global,
+    set: &TaskSet,
+    members: Members,
+) -> Result<String, AllocError>
     ensures { IfOk result (λ text. string_bytes text
         ≡ infeasible_line set.now (listed_below (length set.now) (indexes_of members))) }
 {
@@ -85,7 +89,7 @@ pub(crate) fn placing_text(
     match part {
         OrderPart::Count => format!(in alloc; "admitted {count}\n"),
         OrderPart::Levels => admitted_text(alloc, set, places),
-        OrderPart::Settings => settings_text(alloc, set, places),
+        OrderPart::Settings { base } => settings_text(alloc, set, base, places),
     }
 }
 

@@ -1,6 +1,8 @@
 //! Who is told what became of a command's inputs.
+ghost use Rattle.assignment.specs.Placings.{IsPlacingOf};
 
 use crate::refusal::CommandRefusal;
+use assignment::Placing;
 use preferences::Choice;
 use task_sheet::TaskSet;
 
@@ -17,6 +19,13 @@ pub trait Audience {
     /// A set was read, and an answer on it follows, or want of memory for its lines.
     fn read(&mut self, set: &TaskSet);
 
+    /// What becomes of the tasks of a set that was read, by their analysis.
+    fn placed(&mut self, set: &TaskSet, placing: &Placing)
+        requires { IsPlacingOf set.now placing.now };
+
+    /// No order of a set that passes keeps one that is given: the first pair of it that has to change.
+    fn parted(&mut self, set: &TaskSet, low: usize, high: usize);
+
     /// A set was read by a preference, and who says so; it may still be refused for what is read beside it.
     fn preferred(&mut self, set: &TaskSet, choice: Choice);
 
@@ -30,6 +39,10 @@ pub struct Nobody;
 
 impl Audience for Nobody {
     fn read(&mut self, _set: &TaskSet) {}
+
+    fn placed(&mut self, _set: &TaskSet, _placing: &Placing) {}
+
+    fn parted(&mut self, _set: &TaskSet, _low: usize, _high: usize) {}
 
     fn preferred(&mut self, _set: &TaskSet, _choice: Choice) {}
 

@@ -70,7 +70,10 @@ pub(crate) fn compare_text(
 ) -> Result<Compared, CommandRefusal>
     ensures { ComparesText preference tasks.now text.now result }
 {
-    let (set, weighs) = read_new(alloc, preference, text).map_err(CommandRefusal::New)?;
+    let (set, weighs) = match read_new(alloc, preference, text) {
+        Ok(new) => new,
+        Err(fault) => return Err(CommandRefusal::New(fault)),
+    };
     let was = place_set(alloc, tasks)?;
     let is = place_set(alloc, &set)?;
     Ok(Compared {

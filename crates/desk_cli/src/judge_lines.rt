@@ -9,16 +9,17 @@ use judge::{JudgedTask, all_meet, judge_settings};
 use std::alloc::Global;
 use task_sheet::TaskSet;
 
-// What becomes of a set's tasks in the order that the text of settings gives.
+// What becomes of a set's tasks in the order that the text of settings gives; a smaller number may be the higher one.
 pub(crate) fn judge_text(
     alloc: Global,
+    lower_is_higher: bool,
     tasks: &TaskSet,
     text: &[u8],
 ) -> Result<Vec<JudgedTask>, CommandRefusal>
-    ensures answer { JudgesText tasks.now text.now result }
+    ensures answer { JudgesText lower_is_higher tasks.now text.now result }
     ensures within { IfOk result (λ judged. All (λ j. j.task < TASK_LIMIT) judged.items) }
 {
-    judge_settings(alloc, tasks, text).map_err(CommandRefusal::Settings)
+    judge_settings(alloc, tasks, lower_is_higher, text).map_err(CommandRefusal::Settings)
 }
 
 // The exit status of an order.

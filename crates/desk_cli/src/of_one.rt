@@ -12,7 +12,7 @@ use crate::certify::print_verdict;
 use crate::one_task::{say_limits, say_reasons};
 use crate::output::{print_made, refuse};
 use crate::play::{lines_of, play};
-use crate::sets::preference_of;
+use crate::sets::{base_of, preference_of};
 use crate::status::Status;
 use assignment::Placing;
 use command_line::{OfOne, Options};
@@ -43,7 +43,10 @@ fn say_placing<W: Write + Drop>(
         }
         OfOne::Limits => say_limits(alloc, options.task, set, placing, output),
         OfOne::Settings => {
-            let text = placing_text(alloc, OrderPart::Settings, set, placing);
+            let part = OrderPart::Settings {
+                base: base_of(options),
+            };
+            let text = placing_text(alloc, part, set, placing);
             print_made(text, status, output)
         }
         OfOne::Explain => say_reasons(alloc, options.task, set, placing, output),

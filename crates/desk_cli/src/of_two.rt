@@ -12,15 +12,20 @@ use crate::check::{check_text, line_of};
 use crate::diff_lines::{Compared, compare_text, compared_text};
 use crate::draw::draw_run;
 use crate::judge_lines::{judge_text, judged_status};
+use crate::keep_lines::{keep_text, keeping_status, keeping_text};
+use crate::observe_lines::{observed_status, sight_of, tolerance_of};
 use crate::output::{print, print_made, refuse};
 use crate::refusal::CommandRefusal;
-use crate::sets::{preference_of, read_two, tell};
+use crate::sets::{base_of, preference_of, read_two, tell};
 use crate::simulate::{Simulated, reached_text, simulate_text};
 use crate::status::Status;
 use crate::trace::trace_text;
 use cert_checker::Checked;
 use command_line::{OfTwo, Options};
 use judge::{JudgedTask, judged_text};
+use kept_order::Keeping;
+use observed::Sight;
+use observed_lines::observed_text;
 use std::alloc::Global;
 use std::io::{Read, Write};
 use streams::Watched;
@@ -41,6 +46,10 @@ pub enum Found {
     Reached(Simulated),
     /// The same, to be shown as an SVG 1.1 document.
     Drawn(Simulated),
+    /// What a trace shows, by so many microseconds that a time may be past what is promised.
+    Observed(u64, Sight),
+    /// What becomes of a set that is to keep the order that settings give, and the priority of level 1.
+    Keeping { keeping: Keeping, base: u32 },
 }
 
 // What a command finds of a set and a text.
@@ -62,7 +71,7 @@ fn find(
             tasks,
             text,
         )?)),
-        OfTwo::Judge => Ok(Found::Judged(judge_text(alloc, tasks, text)?)),
+        OfTwo::Judge => Ok(Found::Judged(judge_text(alloc, options.lower_is_higher, tasks, text)?)),
         OfTwo::Simulate => {
             let answer = simulate_text(alloc, tasks, text)?;
             if options.by_task {
@@ -72,6 +81,14 @@ fn find(
             }
         }
         OfTwo::Draw => Ok(Found::Drawn(simulate_text(alloc, tasks, text)?)),
+        OfTwo::Observe => {
+            let sight = sight_of(alloc, tasks, text)?;
+            Ok(Found::Observed(tolerance_of(options), sight))
+        }
+        OfTwo::Keep => Ok(Found::Keeping {
+            keeping: keep_text(alloc, tasks, text)?,
+            base: base_of(options),
+        }),
     }
 }
 
@@ -111,6 +128,36 @@ fn print_found<W: Write + Drop>(
             print_stuck(alloc, tasks, *members, output)
         }
         Found::Drawn(Simulated::Infeasible(members)) => print_stuck(alloc, tasks, *members, output),
+        Found::Observed(tolerance, Sight::Seen(shown)) => print_made(
+            observed_text(alloc, *tolerance, &shown.promises, &shown.seen),
+            observed_status(*tolerance, shown),
+            output,
+        ),
+        Found::Observed(_, Sight::Infeasible(members)) => {
+            print_stuck(alloc, tasks, *members, output)
+        }
+        Found::Keeping { keeping, base } => print_made(
+            keeping_text(alloc, tasks, *base, keeping),
+            keeping_status(keeping),
+            output,
+        ),
+    }
+}
+
+// Tells the audience of a pair that has to change.
+fn tell_parted<P: Audience>(
+    answer: &Result<Found, CommandRefusal>,
+    tasks: &TaskSet,
+    people: &mut P,
+) {
+    if let Ok(
+        Found::Keeping {
+            keeping: Keeping::Parted { low, high },
+            ..
+        },
+    ) = answer
+    {
+        people.parted(tasks, *low, *high);
     }
 }
 
@@ -129,6 +176,7 @@ fn say_both<W: Write + Drop, P: Audience>(
 {
     let answer = find(alloc, command, options, tasks, text);
     tell(&answer, tasks, Which::Second, text, people);
+    tell_parted(&answer, tasks, people);
     match answer {
         Ok(found) => print_found(alloc, tasks, &found, output),
         Err(refusal) => refuse(refusal, output),

@@ -77,7 +77,7 @@ pub fn refuse_words<O: Write + Drop, E: Write + Drop>(
         → result ≡ fault_status fault.now }
     ensures preference { fault.now ≡ WordsFault.NoSuchPreference → errors.new.has_failed ≡ false
         → Appends (E.contents errors.old.inner) (E.contents errors.new.inner)
-        (codes "no such preference\n") }
+        (codes "no such preference: --prefer takes weight or deadline\n") }
     ensures twice { fault.now ≡ WordsFault.InputTwice → errors.new.has_failed ≡ false
         → Appends (E.contents errors.old.inner) (E.contents errors.new.inner)
         (codes "standard input named twice\n") }
@@ -92,7 +92,11 @@ pub fn refuse_words<O: Write + Drop, E: Write + Drop>(
 {
     match fault {
         WordsFault::NoSuchPreference => {
-            print(b"no such preference\n", Status::BadArguments, errors)
+            print(
+                b"no such preference: --prefer takes weight or deadline\n",
+                Status::BadArguments,
+                errors,
+            )
         }
         WordsFault::InputTwice => print(
             b"standard input named twice\n",

@@ -2,7 +2,7 @@
 ghost use Rattle.std.specs.Prelude.{◌≡◌, Some};
 ghost use Rattle.std.specs.Fmt.{DisplaysOnOk};
 ghost use Rattle.desk_cli.specs.declared.refusal.CommandRefusal.TheVariants.{OutOfMemory};
-ghost use Rattle.desk_cli.specs.Refusals.{cause_words, certificate_words, check_words, fault_words, lone_cause_words, outranks_words, refusal_line, run_words, rush_words, script_words, settings_words, status_of, teams_words, text_words, words_of};
+ghost use Rattle.desk_cli.specs.Refusals.{cause_words, certificate_words, check_words, fault_words, lone_cause_words, node_words, outranks_words, refusal_line, run_words, rush_words, script_words, settings_words, status_of, teams_words, text_words, trace_words, words_of};
 
 use crate::release_text::TextFault;
 use crate::status::Status;
@@ -16,7 +16,8 @@ use std::alloc::AllocError;
 use std::fmt;
 use streams::InputFault;
 use task_sheet::{Name, OutranksCause, SetFault, SheetCause};
-use teams::TeamsFault;
+use teams::{NodeFault, TeamsFault};
+use trace_text::TraceFault;
 
 /// Why a command was refused. Its `Display` is the line that the command prints.
 #[derive(Clone, Copy)]
@@ -37,6 +38,8 @@ pub enum CommandRefusal {
     Run(RunFault),
     /// The settings' input is no settings of the set.
     Settings(SettingsFault),
+    /// The trace's input is no trace of the set.
+    Trace(TraceFault),
     /// The script's input is no script.
     Script(ScriptFault),
     /// The lines of a script were not run to the end of all teams.
@@ -77,6 +80,8 @@ impl CommandRefusal {
             CommandRefusal::Run(_) => Status::BadInput,
             CommandRefusal::Settings(SettingsFault::OutOfMemory) => Status::OutOfMemory,
             CommandRefusal::Settings(_) => Status::BadInput,
+            CommandRefusal::Trace(TraceFault::OutOfMemory) => Status::OutOfMemory,
+            CommandRefusal::Trace(_) => Status::BadInput,
             CommandRefusal::Script(ScriptFault::OutOfMemory) => Status::OutOfMemory,
             CommandRefusal::Script(_) => Status::BadInput,
             CommandRefusal::Rush(_) => Status::OutOfMemory,
@@ -191,6 +196,25 @@ fn write_fault<W: fmt::Write>(fault: SetFault, f: &mut fmt::Formatter<W>) -> fmt
     }
 }
 
+// The name of the fault of a node's document, with the team and the key.
+fn write_node_fault<W: fmt::Write>(fault: NodeFault, f: &mut fmt::Formatter<W>) -> fmt::Result
+    ensures { DisplaysOnOk W.write_str_gives f.old result (Some (node_words fault)) f.new }
+{
+    match fault {
+        NodeFault::Syntax => f.write_str("Syntax"),
+        NodeFault::UnknownRoot => f.write_str("UnknownKey"),
+        NodeFault::NoTeams => f.write_str("WrongKind"),
+        NodeFault::BadName => f.write_str("BadName"),
+        NodeFault::NoBudget { team } => write!(f, "WrongKind {team}"),
+        NodeFault::UnknownKey { team } => write!(f, "UnknownKey {team}"),
+        NodeFault::NoNumber { team, quantity } => {
+            let word = quantity.word();
+            write!(f, "WrongKind {team} {word}")
+        }
+        NodeFault::OutOfMemory => f.write_str("OutOfMemory"),
+    }
+}
+
 // The name of the fault of a set's text, with its fields: that of a team's document stands behind the team.
 fn write_teams_fault<W: fmt::Write>(fault: TeamsFault, f: &mut fmt::Formatter<W>) -> fmt::Result
     ensures { DisplaysOnOk W.write_str_gives f.old result (Some (teams_words fault)) f.new }
@@ -204,6 +228,20 @@ fn write_teams_fault<W: fmt::Write>(fault: TeamsFault, f: &mut fmt::Formatter<W>
         }
         TeamsFault::Taken { team, task, other } => write!(f, "TakenName {team} {task} {other}"),
         TeamsFault::OtherPreference { team, other } => write!(f, "OtherPreference {team} {other}"),
+        TeamsFault::Node { fault } => {
+            f.write_str("node ")?;
+            write_node_fault(fault, f)
+        }
+        TeamsFault::NoSuchTeam { team } => write!(f, "NoSuchTeam {team}"),
+        TeamsFault::PastBudget {
+            team,
+            quantity,
+            number,
+            limit,
+        } => {
+            let word = quantity.word();
+            write!(f, "PastBudget {team} {word} {number} {limit}")
+        }
         TeamsFault::TooManyTasks => f.write_str("TooManyTasks"),
         TeamsFault::OutOfMemory => f.write_str("OutOfMemory"),
     }
@@ -301,6 +339,20 @@ fn write_settings_fault<W: fmt::Write>(
     }
 }
 
+// The name of a fault of a trace, with its line.
+fn write_trace_fault<W: fmt::Write>(fault: TraceFault, f: &mut fmt::Formatter<W>) -> fmt::Result
+    ensures { DisplaysOnOk W.write_str_gives f.old result (Some (trace_words fault)) f.new }
+{
+    match fault {
+        TraceFault::BadLine { line } => write!(f, "BadLine {line}"),
+        TraceFault::SliceOverlap { line } => write!(f, "SliceOverlap {line}"),
+        TraceFault::JobUnsorted { line } => write!(f, "JobUnsorted {line}"),
+        TraceFault::TooManyLines => f.write_str("TooManyLines"),
+        TraceFault::NoJob { line } => write!(f, "NoJob {line}"),
+        TraceFault::OutOfMemory => f.write_str("OutOfMemory"),
+    }
+}
+
 // The name of why lines were not run to the end.
 fn write_rush_fault<W: fmt::Write>(fault: RushFault, f: &mut fmt::Formatter<W>) -> fmt::Result
     ensures { DisplaysOnOk W.write_str_gives f.old result (Some (rush_words fault)) f.new }
@@ -329,6 +381,7 @@ fn write_words<W: fmt::Write>(refusal: CommandRefusal, f: &mut fmt::Formatter<W>
         CommandRefusal::Text(fault) => write_text_fault(fault, f),
         CommandRefusal::Run(fault) => write_run_fault(fault, f),
         CommandRefusal::Settings(fault) => write_settings_fault(fault, f),
+        CommandRefusal::Trace(fault) => write_trace_fault(fault, f),
         CommandRefusal::Script(fault) => write_script_fault(fault, f),
         CommandRefusal::Rush(fault) => write_rush_fault(fault, f),
         CommandRefusal::NoSuchTask { name: Some(name) } => write!(f, "NoSuchTask {name}"),

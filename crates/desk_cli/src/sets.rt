@@ -2,14 +2,14 @@
 ghost use Rattle.std.specs.Prelude.{◌≡◌, Err, IfOk, MatchResult};
 ghost use Rattle.preferences.specs.ReadsPreferred.{SaysPreferred};
 ghost use Rattle.teams.specs.ReadsText.{ReadsText};
-ghost use Rattle.desk_cli.specs.Commands.{preference_of};
+ghost use Rattle.desk_cli.specs.Commands.{base_of, preference_of};
 ghost use Rattle.desk_cli.specs.Sets.{HasNoSet, HasSet, HaveBoth, HaveNotBoth};
 ghost use Rattle.desk_cli.specs.Outcomes.{AreRead, IsRead, failed_read};
 ghost use Rattle.streams.specs.Inputs.{IsReadFrom, IsTooLong};
 
 use crate::audience::{Audience, Which};
 use crate::refusal::CommandRefusal;
-use command_line::{Options, Preferred};
+use command_line::{MOST_PRIORITY, Options, Preferred};
 use preferences::{Preference, read_preferred};
 use std::alloc::Global;
 use std::io::Read;
@@ -43,6 +43,16 @@ pub(crate) fn preference_of(options: Options<'_>) -> Option<Preference>
         Some(Preferred::Deadline) => Some(Preference::Deadline),
         Some(Preferred::Weight) => Some(Preference::Weights),
         None => None,
+    }
+}
+
+// The priority of level 1.
+pub(crate) fn base_of(options: Options<'_>) -> u32
+    ensures { result ≡ base_of options.entry }
+{
+    match options.base {
+        Some(base) => base.min(MOST_PRIORITY) as u32,
+        None => 1,
     }
 }
 
@@ -80,7 +90,10 @@ pub(crate) fn read_one<R: Read + Drop, P: Audience>(
     ensures read { IsRead failed_read set.old set.new result }
 {
     let bytes = read_told(alloc, Which::First, set, people).map_err(CommandRefusal::Input)?;
-    set_told(alloc, preference, &bytes, people).map_err(CommandRefusal::Set)
+    match set_told(alloc, preference, &bytes, people) {
+        Ok(tasks) => Ok(tasks),
+        Err(fault) => Err(CommandRefusal::Set(fault)),
+    }
 }
 
 // The set that the first reader has, by a preference, and what the second has; or why there are not both, which the
@@ -102,8 +115,10 @@ pub(crate) fn read_two<R: Read + Drop, S: Read + Drop, P: Audience>(
 {
     let bytes = read_told(alloc, Which::First, set, people).map_err(CommandRefusal::Input)?;
     let text = read_told(alloc, Which::Second, other, people).map_err(CommandRefusal::Input)?;
-    let tasks = set_told(alloc, preference, &bytes, people).map_err(CommandRefusal::Set)?;
-    Ok((tasks, text))
+    match set_told(alloc, preference, &bytes, people) {
+        Ok(tasks) => Ok((tasks, text)),
+        Err(fault) => Err(CommandRefusal::Set(fault)),
+    }
 }
 
 // Tells what became of a set: that an answer on it follows, or that the text of an input, or a number beside the set,

@@ -12,6 +12,7 @@ const PLAIN: Options<'static> = Options {
     lower_is_higher: false,
     seed: None,
     by_task: false,
+    tolerance: None,
 };
 
 // Where deadlines are preferred.
@@ -22,6 +23,7 @@ const BY_DEADLINE: Options<'static> = Options {
     lower_is_higher: false,
     seed: None,
     by_task: false,
+    tolerance: None,
 };
 
 // Where weights are.
@@ -32,10 +34,11 @@ const BY_WEIGHT: Options<'static> = Options {
     lower_is_higher: false,
     seed: None,
     by_task: false,
+    tolerance: None,
 };
 
 // Words, and the call that they name.
-const CALLS: [(&[&str], Call<'static>); 17] = [
+const CALLS: [(&[&str], Call<'static>); 20] = [
     (
         &[],
         Call::One {
@@ -185,6 +188,36 @@ const CALLS: [(&[&str], Call<'static>); 17] = [
         },
     ),
     (
+        &["observe", "s", "-", "--tolerance", "60000000"],
+        Call::Two {
+            command: OfTwo::Observe,
+            first: Input::File("s"),
+            second: Input::Standard,
+            options: Options {
+                tolerance: Some(60_000_000),
+                ..PLAIN
+            },
+        },
+    ),
+    (
+        &["settings", "s", "--keep", "n"],
+        Call::Two {
+            command: OfTwo::Keep,
+            first: Input::File("s"),
+            second: Input::File("n"),
+            options: PLAIN,
+        },
+    ),
+    (
+        &["settings", "--keep=-", "s", "--prefer=deadline"],
+        Call::Two {
+            command: OfTwo::Keep,
+            first: Input::File("s"),
+            second: Input::Standard,
+            options: BY_DEADLINE,
+        },
+    ),
+    (
         &["admit", "--", "--prefer"],
         Call::One {
             command: OfOne::Admit,
@@ -205,7 +238,7 @@ const OTHERS: [&[&str]; 5] = [
 
 // Words that an option is no part of: twice, with no word or number, before the command, at another command, by half its
 // name, with a number that it doesn't take.
-const NONE: [&[&str]; 12] = [
+const NONE: [&[&str]; 16] = [
     &["admit", "--prefer", "deadline", "--prefer", "deadline", "s"],
     &["admit", "s", "--prefer"],
     &["--prefer", "deadline", "admit", "s"],
@@ -218,6 +251,10 @@ const NONE: [&[&str]; 12] = [
     &["releases", "s", "100", "--seed", "-1"],
     &["draw", "s", "r", "--tasks"],
     &["simulate", "s", "r", "--tasks", "--tasks"],
+    &["observe", "s", "t", "--tolerance", "60000001"],
+    &["judge", "s", "t", "--tolerance", "1"],
+    &["settings", "s", "--keep"],
+    &["judge", "s", "n", "--keep", "m"],
 ];
 
 #[test]

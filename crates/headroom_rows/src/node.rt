@@ -11,7 +11,7 @@ fn settings_of(alloc: Global, document: &str) -> Result<String, Fail> {
     let set = set_of(alloc, document)?;
     let table = again!(LockTable::new(alloc, &set))?;
     match again!(place_all(alloc, &set, &table))? {
-        Placing::Best(places) => Ok(again!(settings_text(alloc, &set, &places))?),
+        Placing::Best(places) => Ok(again!(settings_text(alloc, &set, 1, &places))?),
         Placing::Stuck(_) => Ok(String::from_str(alloc, "none")?),
     }
 }

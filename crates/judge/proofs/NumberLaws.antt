@@ -1,38 +1,55 @@
 -- The order that the numbers of threads give.
-use Rattle.std.proofs.Common.{◌≡◌, ◌∙◌, ℕ, zero, suc, ◌+◌, ◌<◌, ◌≤◌, Bool, true, false, not, cond, ◌==◌, inl, inr, List, [], ◌∷◌, ◌++◌, map, length, get_or, append_assoc, length-append, Some, None, All, refl, sym, ap, subst, arith, count_by}
+use Rattle.std.proofs.Common.{◌≡◌, ◌∙◌, ℕ, zero, suc, ◌+◌, ◌<◌, ◌≤◌, Bool, true, false, not, cond, ◌==◌, inl, inr, List, [], ◌∷◌, ◌++◌, map, length, get_or, append_assoc, append-nil, length-append, Some, None, All, refl, sym, ap, subst, arith, count_by}
 use Rattle.std.specs.List.{find, list_any, AllByRecursion}
 use Rattle.std.specs.List.Sorted.{IsPermutation, IsNonDecreasingBy}
 use Rattle.std.specs.Option.{option_map}
 use Rattle.std.proofs.lemmas.Option.{none-some}
-use Rattle.std.proofs.lemmas.Bool.{cases_Bool, cases_eq, cases_lt, cases_order, both_ways, true≢false, lt-ltb, eq-eqb, or_parts, or_cases}
+use Rattle.std.proofs.lemmas.Bool.{cases_Bool, cases_eq, cases_lt, cases_order, both_ways, true≢false, lt-ltb, ltb-true, eq-eqb, and_parts, and_from, or_left, or_right, or_parts, or_cases}
 use Rattle.std.proofs.lemmas.List.{get_or-map, get_or_append_left, map_push, length-map}
 use Rattle.std.proofs.Math.Seq.{get_or-append_seam}
 use Rattle.std.proofs.lemmas.Slice.Eq.{bytes_eq-Decides}
-use Rattle.ceiling_kernel.proofs.OrderLaws.{order_iff}
 use Rattle.std.proofs.lemmas.List.Elements.{All-push}
 use Rattle.std.proofs.lemmas.List.Sorted.{All-permutation, IsPermutation-map, sum_by-IsPermutation}
 use Rattle.std.specs.Cmp.Lexicographic.{nat_list_eq_equiv}
 use Rattle.task_sheet.specs.Sheet.{Task, same_bytes, task_at}
 use Rattle.task_sheet.specs.TaskSet.{IsTaskSet, AreDistinct, same_name}
-use Rattle.task_sheet.specs.Indexes.{Indexes, listed_below, without_index}
-use Rattle.task_sheet.specs.Orders.{all_of, IsOrder, IsOrderOf}
-use Rattle.task_sheet.proofs.IndexLaws.{without-parts, IsOrderOf-head, IsOrderOf-rest, listed-order}
-use Rattle.assignment.proofs.GatherLaws.{listed_below-member}
+use Rattle.task_sheet.specs.Indexes.{Indexes, among, listed_below, without_index}
+use Rattle.task_sheet.specs.Orders.{all_of, IsOrderOf}
+use Rattle.task_sheet.proofs.IndexLaws.{without-parts, IsOrderOf-among, IsOrderOf-head, IsOrderOf-rest, listed-order}
+use Rattle.assignment.proofs.GatherLaws.{listed_below-member, listed_below-other}
 use Rattle.judge.specs.Faults.{is_set, line_again, thread_number, setting_number, same_number, threadless}
+use Rattle.judge.specs.Kept.{IsOrderOfThreads, numbered_at, with_thread_in}
 use Rattle.judge.specs.Node.{IsOrderBy}
 use Rattle.judge.specs.declared.order.Numbered.{Numbered}
 use Rattle.judge.specs.declared.rows.Setting.{Setting}
 
 -- one more task, by rank
-pub numbered_step : (U : List Task) (threads : List Setting) (k : ℕ) (xs xs' : List Numbered) (number : ℕ) → k < length U → number ≡ thread_number U threads k
-    → map (λ n. n.task) xs ≡ listed_below k (all_of U) → All (λ n. n.number ≡ thread_number U threads n.task) xs → xs' ≡ xs ++ record { number = number; task = k } ∷ []
-    → (map (λ n. n.task) xs' ≡ listed_below (k + 1) (all_of U)) × All (λ n. n.number ≡ thread_number U threads n.task) xs'
-numbered_step U threads k xs xs' number lt is tasks numbers pushed =
-    let one : Numbered = record { number = number; task = k } in
-    let P : Numbered → Type 0 = λ n. n.number ≡ thread_number U threads n.task in (
-      ap (λ (ns : List Numbered). map (λ (n : Numbered). n.task) ns) pushed ∙ map_push (λ (n : Numbered). n.task) xs one ∙ ap (λ (ts : List ℕ). ts ++ k ∷ []) tasks ∙ sym (listed_below-member k (all_of U) (lt-ltb k (length U) lt)),
-      subst (λ (ns : List Numbered). All P ns) (sym pushed) (All-push P xs one numbers is),
-    )
+pub numbered_step : (U : List Task) (threads : List Setting) (k : ℕ) (xs xs' : List Numbered) (name : List ℕ) → k < length U → name ≡ (task_at U k).name
+    → map (λ n. n.task) xs ≡ listed_below k (with_thread_in U threads) → All (λ n. n.number ≡ thread_number U threads n.task) xs → xs' ≡ xs ++ numbered_at threads name k
+    → (map (λ n. n.task) xs' ≡ listed_below (k + 1) (with_thread_in U threads)) × All (λ n. n.number ≡ thread_number U threads n.task) xs'
+numbered_step U threads k xs xs' name lt is tasks numbers pushed =
+    by (is_set threads name) refl (pushed)
+  where
+    P : Numbered → Type 0
+    P n = n.number ≡ thread_number U threads n.task
+
+    here : all_of U k ≡ true
+    here = lt-ltb k (length U) lt
+
+    by : (b : Bool) → is_set threads name ≡ b → xs' ≡ xs ++ cond b (record { number = setting_number threads name; task = k } ∷ []) []
+        → (map (λ n. n.task) xs' ≡ listed_below (k + 1) (with_thread_in U threads)) × All P xs'
+    by true has pushed =
+        let one : Numbered = record { number = setting_number threads name; task = k } in
+        let member : with_thread_in U threads k ≡ true = and_from _ _ here (ap (is_set threads) (sym is) ∙ has) in (
+          ap (λ (ns : List Numbered). map (λ (n : Numbered). n.task) ns) pushed ∙ map_push (λ (n : Numbered). n.task) xs one ∙ ap (λ (ts : List ℕ). ts ++ k ∷ []) tasks ∙ sym (listed_below-member k (with_thread_in U threads) member),
+          subst (λ (ns : List Numbered). All P ns) (sym pushed) (All-push P xs one numbers (ap (setting_number threads) is)),
+        )
+    by false none pushed =
+        let same : xs' ≡ xs = pushed ∙ append-nil xs in
+        let other : with_thread_in U threads k ≡ false = rw (here, ← is, none) refl in (
+          ap (λ (ns : List Numbered). map (λ (n : Numbered). n.task) ns) same ∙ tasks ∙ sym (listed_below-other k (with_thread_in U threads) other),
+          subst (λ (ns : List Numbered). All P ns) (sym same) numbers,
+        )
 
 -- ---- names and numbers
 -- stands past the end of a list
@@ -104,7 +121,31 @@ all_threads (t ∷ U) threads none k lt = by (is_set threads t.name) refl none (
     by true e h rest zero lt = e
     by true e h rest (suc k) lt = rest h k (omega arith)
 
-module _ (U : List Task) (threads : List Setting) (kept : IsTaskSet U) (all : threadless U threads ≡ None) (apart : line_again same_number [] threads ≡ None) where
+-- where each task has a thread, those that have one are all
+pub all_ordered : (U : List Task) (threads : List Setting) → threadless U threads ≡ None → (order : List ℕ) → IsOrderOfThreads U threads order → IsOrderBy U threads order
+all_ordered U threads all order is = record { each_once = λ k. is.each_once k ∙ ap (λ b. cond b 1 0) (same k); rises = is.rises }
+  where
+    same : (k : ℕ) → with_thread_in U threads k ≡ all_of U k
+    same k = elim (cases_Bool (all_of U k)) [
+      | inl here ↦ and_from _ _ here (all_threads U threads all k (ltb-true k (length U) here)) ∙ sym here
+      | inr out ↦ rw out refl
+    ]
+
+-- an element of a list is among it
+pub among_at : (xs : List ℕ) (k : ℕ) → k < length xs → among xs (get_or xs k 0) ≡ true
+among_at [] k lt = absurd (omega arith)
+among_at (x ∷ xs) zero lt = or_left _ _ (eq-eqb x x refl)
+among_at (x ∷ xs) (suc k) lt = or_right _ _ (among_at xs k (omega (arith, lt)))
+
+-- each task of an order of threads is one of the set that has a thread
+pub order_member : (U : List Task) (threads : List Setting) (order : List ℕ) → IsOrderOf (with_thread_in U threads) order → (k : ℕ) → k < length order
+    → (get_or order k 0 < length U) × (is_set threads (task_at U (get_or order k 0)).name ≡ true)
+order_member U threads order each k lt =
+    let member = sym (ap (λ X. X (get_or order k 0)) (IsOrderOf-among (with_thread_in U threads) order each)) ∙ among_at order k lt in
+    let both = and_parts (all_of U (get_or order k 0)) _ member in
+    (ltb-true (get_or order k 0) (length U) both.0, both.1)
+
+module _ (U : List Task) (threads : List Setting) (kept : IsTaskSet U) (apart : line_again same_number [] threads ≡ None) where
   -- two settings of one number are one
   one_place : (p q : ℕ) → p < length threads → q < length threads → (get_or threads p no_setting).number ≡ (get_or threads q no_setting).number → p ≡ q
   one_place p q lt lt' same = elim (cases_order p q) [
@@ -116,22 +157,24 @@ module _ (U : List Task) (threads : List Setting) (kept : IsTaskSet U) (all : th
   ]
 
   -- two tasks of one number have one name
-  one_name : (i j : ℕ) → i < length U → j < length U → thread_number U threads i ≡ thread_number U threads j → same_name (task_at U i) (task_at U j) ≡ true
-  one_name i j lt lt' same =
-      let first = number_found threads (task_at U i).name (all_threads U threads all i lt) in
-      let second = number_found threads (task_at U j).name (all_threads U threads all j lt') in
+  one_name : (i j : ℕ) → is_set threads (task_at U i).name ≡ true → is_set threads (task_at U j).name ≡ true → thread_number U threads i ≡ thread_number U threads j
+      → same_name (task_at U i) (task_at U j) ≡ true
+  one_name i j has has' same =
+      let first = number_found threads (task_at U i).name has in
+      let second = number_found threads (task_at U j).name has' in
       let place = one_place first.0 second.0 first.1 second.1 (sym first.3 ∙ same ∙ second.3) in
       let own = (bytes_eq-Decides (get_or threads first.0 no_setting).name (task_at U i).name).0 first.2 in
       let other = (bytes_eq-Decides (get_or threads second.0 no_setting).name (task_at U j).name).0 second.2 in
       let names : (task_at U i).name ≡ (task_at U j).name = sym own ∙ ap (λ p. (get_or threads p no_setting).name) place ∙ other in
       subst (λ name. same_bytes (task_at U i).name name ≡ true) names (nat_list_eq_equiv.refl (task_at U i).name)
 
-  one_task : (i j : ℕ) → i < length U → j < length U → thread_number U threads i ≡ thread_number U threads j → i ≡ j
-  one_task i j lt lt' same = elim (cases_order i j) [
+  one_task : (i j : ℕ) → (i < length U) × (is_set threads (task_at U i).name ≡ true) → (j < length U) × (is_set threads (task_at U j).name ≡ true)
+      → thread_number U threads i ≡ thread_number U threads j → i ≡ j
+  one_task i j here there same = elim (cases_order i j) [
     | inl e ↦ e
     | inr either ↦ elim either [
-      | inl less ↦ absurd (both_ways _ (distinct_at U kept.distinct i j less lt') (one_name i j lt lt' same))
-      | inr more ↦ absurd (both_ways _ (distinct_at U kept.distinct j i more lt) (one_name j i lt' lt (sym same)))
+      | inl less ↦ absurd (both_ways _ (distinct_at U kept.distinct i j less there.0) (one_name i j here.1 there.1 same))
+      | inr more ↦ absurd (both_ways _ (distinct_at U kept.distinct j i more here.0) (one_name j i there.1 here.1 (sym same)))
     ]
   ]
 
@@ -147,15 +190,15 @@ module _ (U : List Task) (threads : List Setting) (kept : IsTaskSet U) (all : th
   abbrev no_numbered : Numbered
   no_numbered = record { number = 0; task = 0 }
 
-  module _ (xs ys : List Numbered) (tasks : map (λ n. n.task) xs ≡ listed_below (length U) (all_of U)) (numbers : All (λ n. n.number ≡ thread_number U threads n.task) xs)
+  module _ (xs ys : List Numbered) (tasks : map (λ n. n.task) xs ≡ listed_below (length U) (with_thread_in U threads)) (numbers : All (λ n. n.number ≡ thread_number U threads n.task) xs)
       (moved : IsPermutation xs ys) (rising : IsNonDecreasingBy (λ n. n.number) ys) where
     abbrev order : List ℕ
     order = map (λ n. n.task) ys
 
-    each : IsOrder U order
+    each : IsOrderOf (with_thread_in U threads) order
     each k =
         sum_by-IsPermutation (λ x. cond (x == k) 1 0) (map (λ (n : Numbered). n.task) xs) order (IsPermutation-map (λ (n : Numbered). n.task) xs ys moved)
-        ∙ ap (λ ts. count_by (λ x. x == k) ts) tasks ∙ listed-order (length U) (all_of U) (λ j h. h) k
+        ∙ ap (λ ts. count_by (λ x. x == k) ts) tasks ∙ listed-order (length U) (with_thread_in U threads) (λ j h. (and_parts (all_of U j) _ h).0) k
 
     task_here : (k : ℕ) → k < length ys → get_or order k 0 ≡ (get_or ys k no_numbered).task
     task_here k lt = get_or-map (λ (n : Numbered). n.task) ys k no_numbered 0 lt
@@ -163,8 +206,8 @@ module _ (U : List Task) (threads : List Setting) (kept : IsTaskSet U) (all : th
     number_here : (k : ℕ) → k < length ys → thread_number U threads (get_or order k 0) ≡ (get_or ys k no_numbered).number
     number_here k lt = ap (thread_number U threads) (task_here k lt) ∙ sym (All-permutation (λ (n : Numbered). n.number ≡ thread_number U threads n.task) xs ys moved numbers k no_numbered lt)
 
-    in_set : (k : ℕ) → k < length ys → get_or order k 0 < length U
-    in_set k lt = ((order_iff (length U) order).1 each).0 k 0 (omega (arith, length-map ys (λ (n : Numbered). n.task)))
+    in_set : (k : ℕ) → k < length ys → (get_or order k 0 < length U) × (is_set threads (task_at U (get_or order k 0)).name ≡ true)
+    in_set k lt = order_member U threads order each k (omega (arith, lt, length-map ys (λ (n : Numbered). n.task)))
 
     step : (k : ℕ) → k + 1 < length ys → thread_number U threads (get_or order k 0) < thread_number U threads (get_or order (k + 1) 0)
     step k lt =
@@ -176,10 +219,10 @@ module _ (U : List Task) (threads : List Setting) (kept : IsTaskSet U) (all : th
           | inr not_less ↦
               let same : get_or order k 0 ≡ get_or order (k + 1) 0 = one_task _ _ (in_set k (omega arith)) (in_set (k + 1) lt) (omega arith) in
               let after : suc k ≡ k + 1 = omega arith in
-              absurd (adjacent (all_of U) order each k (omega (arith, length-map ys (λ (n : Numbered). n.task))) (same ∙ ap (λ m. get_or order m 0) (sym after)))
+              absurd (adjacent (with_thread_in U threads) order each k (omega (arith, length-map ys (λ (n : Numbered). n.task))) (same ∙ ap (λ m. get_or order m 0) (sym after)))
         ]
 
-    pub ordered : IsOrderBy U threads order
+    pub ordered : IsOrderOfThreads U threads order
     ordered = record {
       each_once = each;
       rises = λ k lt.

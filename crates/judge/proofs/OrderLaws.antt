@@ -1,5 +1,5 @@
 -- How an order is judged: in one way, and as passing where it passes.
-use Rattle.std.proofs.Common.{◌≡◌, ◌∙◌, ℕ, suc, ◌+◌, ◌<◌, ◌≤◌, inl, inr, true, ◌==◌, Result, Ok, Err, slice_index, List, [], ◌∷◌, map, length, refl, sym, ap, subst, arith}
+use Rattle.std.proofs.Common.{◌≡◌, ◌∙◌, ℕ, suc, ◌+◌, ◌<◌, ◌≤◌, inl, inr, Bool, true, ◌==◌, Result, Ok, Err, slice_index, List, [], ◌∷◌, map, length, refl, sym, ap, subst, arith}
 use Rattle.std.specs.List.Sorted.{IsStrictlyIncreasing}
 use Rattle.std.proofs.lemmas.Bool.{both_ways, cases_eq, cases_order, ne_eqb, or_cases, true≢false, and_parts, and_from, ltb-true}
 use Rattle.task_sheet.specs.Sheet.{Task, AllTasks, task_at}
@@ -13,8 +13,8 @@ use Rattle.assignment.specs.Places.{PlaceData}
 use Rattle.assignment.specs.Placings.{AllRespond, IsBestPlacing, tasks_of_places}
 use Rattle.judge.specs.Judgements.{AllJudged, IsJudgementOf, all_meet, does_meet, judged_of, order_judged}
 use Rattle.judge.specs.Faults.{thread_number}
-use Rattle.judge.specs.Rows.{threads_of}
-use Rattle.judge.specs.Node.{IsNodeOrder}
+use Rattle.judge.specs.Rows.{heights, threads_of}
+use Rattle.judge.specs.Node.{IsNodeOrderBy}
 use Rattle.judge.specs.declared.rows.SettingRow.{SettingRow}
 use Rattle.judge.specs.declared.judging.JudgedTask.{JudgedTask}
 use Rattle.judge.specs.declared.judging.Judgement.{Judgement}
@@ -159,8 +159,8 @@ abbrev rows_or_none : Result (List SettingRow) ℕ → List SettingRow
 rows_or_none (Ok rows) = rows
 rows_or_none (Err line) = []
 
-pub one_node_order : (U : List Task) (text first second : List ℕ) → IsNodeOrder U text first → IsNodeOrder U text second → first ≡ second
-one_node_order U text first second a b =
+pub one_node_order : (lower : Bool) (U : List Task) (text first second : List ℕ) → IsNodeOrderBy lower U text first → IsNodeOrderBy lower U text second → first ≡ second
+one_node_order lower U text first second a b =
     let rows : b.rows ≡ a.rows = ap rows_or_none (sym b.read ∙ a.read) in
-    let rises = subst (λ (rows : List SettingRow). IsStrictlyIncreasing (map (thread_number U (threads_of rows)) second)) rows b.by_numbers.rises in
-    one_order (thread_number U (threads_of a.rows)) (all_of U) first second a.by_numbers.each_once b.by_numbers.each_once a.by_numbers.rises rises
+    let rises = subst (λ (rows : List SettingRow). IsStrictlyIncreasing (map (thread_number U (heights lower (threads_of rows))) second)) rows b.by_numbers.rises in
+    one_order (thread_number U (heights lower (threads_of a.rows))) (all_of U) first second a.by_numbers.each_once b.by_numbers.each_once a.by_numbers.rises rises

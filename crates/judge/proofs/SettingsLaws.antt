@@ -28,7 +28,7 @@ use Rattle.judge.specs.Faults.{is_no_lock, is_no_task, is_set, line_again, line_
 use Rattle.std.specs.Option.{option_map}
 use Rattle.judge.specs.Node.{IsNodeOrder, IsOrderBy}
 use Rattle.judge.specs.declared.rows.Setting.{Setting}
-use Rattle.judge.proofs.NumberLaws.{distinct_at}
+use Rattle.judge.proofs.NumberLaws.{among_at, distinct_at}
 use Rattle.judge.proofs.SpelledLaws.{Entry, IsEntry, entries_read, rows_of, text_of}
 
 -- ---- lists
@@ -273,11 +273,6 @@ place_of (x ∷ xs) k h = elim (or_cases (x == k) (among xs k) h) [
   | inr later ↦ let place = place_of xs k later in (suc place.0, omega (arith, place.1), place.2)
 ]
 
-among_at : (xs : List ℕ) (j : ℕ) → j < length xs → among xs (get_or xs j 0) ≡ true
-among_at [] j lt = absurd (omega arith)
-among_at (x ∷ xs) zero lt = or_left _ _ (eq-eqb x x refl)
-among_at (x ∷ xs) (suc j) lt = or_right _ _ (among_at xs j (omega arith))
-
 module _ (U : List Task) (kept : IsTaskSet U) where
   names_apart : (i j : ℕ) → i < length U → j < length U → (j ≡ i → ⊥) → same_bytes (task_at U i).name (task_at U j).name ≡ false
   names_apart i j lt lt' ne = elim (cases_order i j) [
@@ -463,7 +458,7 @@ module _ (U : List Task) (kept : IsTaskSet U) where
         let lines = threads_rows U order order (locks_of U) 1 1 in
         let more = mutexes_rows U order order (locks_of U) 1 1 in
         record {
-          sound = ap (rows_fault U) read
+          sound = ap (rows_fault false U) read
               ∙ ap (λ (ts : List Setting). setting_fault U ts (mutexes_of (rows_of 1 entries))) lines
               ∙ ap (λ (ms : List Setting). setting_fault U (set_in 1 (threads_in U 1 order)) ms) more.1
               ∙ rw (no_line more.0) (no_name more.0);

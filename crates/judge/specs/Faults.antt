@@ -1,12 +1,12 @@
 -- Why a text is no settings of a set: the first reason, in the order of the tests.
-use Rattle.std.specs.Prelude.{◌≡◌, ℕ, Bool, not, ◌==◌, List, [], ◌∷◌, ◌++◌, length, find, position, is_none, Option, Some, None, Result, Ok, Err, if◌then◌else◌}
+use Rattle.std.specs.Prelude.{◌≡◌, ℕ, Bool, false, not, ◌==◌, List, [], ◌∷◌, ◌++◌, length, find, position, is_none, Option, Some, None, Result, Ok, Err, if◌then◌else◌}
 use Rattle.std.specs.List.{list_any}
 use Rattle.std.specs.Option.{option_or, option_map}
 use Rattle.task_sheet.specs.Sheet.{Task, same_bytes, task_at}
 use Rattle.task_sheet.specs.Indexes.{greatest_below}
 use Rattle.task_sheet.specs.Locks.{uses}
 use Rattle.ceilings.specs.IsTableOf.{locks_of}
-use Rattle.judge.specs.Rows.{mutexes_of, rows_in, threads_of}
+use Rattle.judge.specs.Rows.{heights, mutexes_of, rows_in, threads_of}
 use Rattle.judge.specs.declared.fault.SettingsFault.{SettingsFault}
 use Rattle.judge.specs.declared.fault.SettingsFault.TheVariants as fault
 use Rattle.judge.specs.declared.settings_fault.SettingField.{SettingField}
@@ -106,14 +106,19 @@ abbrev pub setting_fault : List Task → (threads mutexes : List Setting) → Op
 setting_fault U threads mutexes =
     option_or (line_fault U threads mutexes) (name_fault U threads mutexes)
 
--- the first reason of a reading
-abbrev pub rows_fault : List Task → Result (List SettingRow) ℕ → Option SettingsFault
-rows_fault U (Err line) = Some (fault.BadLine line)
-rows_fault U (Ok rows) = setting_fault U (threads_of rows) (mutexes_of rows)
+-- the first reason of a reading, whose numbers count so
+abbrev pub rows_fault : (lower : Bool) → List Task → Result (List SettingRow) ℕ → Option SettingsFault
+rows_fault lower U (Err line) = Some (fault.BadLine line)
+rows_fault lower U (Ok rows) =
+    setting_fault U (heights lower (threads_of rows)) (heights lower (mutexes_of rows))
 
--- the first reason why a text is no settings of a set
+-- the first reason why a text, whose numbers count so, is no settings of a set
+abbrev pub settings_fault_by : (lower : Bool) → List Task → List ℕ → Option SettingsFault
+settings_fault_by lower U text = rows_fault lower U (rows_in text)
+
+-- the same, where a greater number is higher
 abbrev pub settings_fault : List Task → List ℕ → Option SettingsFault
-settings_fault U text = rows_fault U (rows_in text)
+settings_fault = settings_fault_by false
 
 -- ---- how they are found
 -- a fault is want of memory, or the first faulty line

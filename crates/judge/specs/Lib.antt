@@ -3,3 +3,4 @@ pub mod Rows
 pub mod Faults
 pub mod Lines
 pub mod Node
+pub mod Kept

@@ -1,6 +1,6 @@
 -- The lines of settings: what a node's threads and mutexes are set to (POSIX.1-2017, SCHED_FIFO and
 -- PTHREAD_PRIO_PROTECT). A greater number is a higher priority.
-use Rattle.std.specs.Prelude.{ℕ, ◌&&◌, nat_le, List, [], ◌∷◌, ◌++◌, Option, Some, None, Result, Ok, Err, bytes_eq, codes, if◌then◌else◌}
+use Rattle.std.specs.Prelude.{ℕ, ◌+◌, ◌-◌, Bool, true, false, ◌&&◌, nat_le, List, [], ◌∷◌, ◌++◌, Option, Some, None, Result, Ok, Err, bytes_eq, codes, map, if◌then◌else◌}
 use Rattle.lines.specs.Lines.{kept_lines}
 use Rattle.lines.specs.Words.{name_in, number_in, words}
 use Rattle.judge.specs.declared.rows.SettingRow.{SettingRow}
@@ -86,3 +86,13 @@ threads_of (row ∷ rows) = with_thread row (threads_of rows)
 abbrev pub mutexes_of : List SettingRow → List Setting
 mutexes_of [] = []
 mutexes_of (row ∷ rows) = with_mutex row (mutexes_of rows)
+
+-- ---- how numbers count
+-- a setting with its number turned around, by which the smallest becomes the greatest
+abbrev pub turned : Setting → Setting
+turned s = record { line = s.line; name = s.name; number = (NUMBER_LIMIT + 1) - s.number }
+
+-- settings with numbers of which a greater one is higher: as they are, or, where lower is higher, turned
+abbrev pub heights : (lower : Bool) → List Setting → List Setting
+heights false settings = settings
+heights true settings = map turned settings

@@ -1,5 +1,5 @@
 //! Laws of orders that a node has. Each is the contract of a function that does nothing.
-ghost use Rattle.std.specs.Prelude.{◌≡◌, ◌↔◌, ℕ, List, IsTrue};
+ghost use Rattle.std.specs.Prelude.{◌≡◌, ◌↔◌, ℕ, Bool, List, IsTrue};
 ghost use Rattle.task_sheet.specs.Sheet.{Task, AllTasks};
 ghost use Rattle.task_sheet.specs.TaskSet.{IsTaskSet};
 ghost use Rattle.task_sheet.specs.Orders.{AllStand, IsOrder};
@@ -7,7 +7,7 @@ ghost use Rattle.assignment.specs.Places.{PlaceData};
 ghost use Rattle.assignment.specs.Placings.{IsBestPlacing, tasks_of_places};
 ghost use Rattle.settings.specs.Settings.{settings_lines};
 ghost use Rattle.judge.specs.Judgements.{AllJudged, all_meet, judged_of, order_judged};
-ghost use Rattle.judge.specs.Node.{IsNodeOrder};
+ghost use Rattle.judge.specs.Node.{IsNodeOrder, IsNodeOrderBy};
 ghost use Rattle.judge.specs.declared.judging.JudgedTask.{JudgedTask};
 
 /// An order is judged in one way at most.
@@ -31,10 +31,10 @@ pub fn best_is_judged()
     ensures meets { (places : List PlaceData) → IsTrue (all_meet (judged_of places)) }
 {}
 
-/// A text gives a set one order at most.
+/// A text gives a set one order at most, whichever way its numbers count.
 pub fn node_order_is_one()
-    ensures { (U : List Task) (text first second : List ℕ) → IsNodeOrder U text first
-        → IsNodeOrder U text second → first ≡ second }
+    ensures { (lower : Bool) (U : List Task) (text first second : List ℕ)
+        → IsNodeOrderBy lower U text first → IsNodeOrderBy lower U text second → first ≡ second }
 {}
 
 /// What the settings of an order print gives the order back, for each order of a set, passing or not.

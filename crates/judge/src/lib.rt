@@ -4,6 +4,7 @@
 
 mod fault;
 mod judging;
+mod kept;
 pub mod laws;
 mod node;
 mod order;
@@ -14,7 +15,8 @@ mod text;
 
 pub use crate::fault::SettingsFault;
 pub use crate::judging::{JudgedTask, Judgement, all_meet, judge_order};
+pub use crate::kept::read_kept;
 pub use crate::node::judge_settings;
-pub use crate::reading::read_settings;
+pub use crate::reading::{read_settings, read_settings_by};
 pub use crate::rows::{NUMBER_LIMIT, Setting, SettingRow};
 pub use crate::text::judged_text;

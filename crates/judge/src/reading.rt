@@ -1,12 +1,12 @@
 //! Reading settings.
 ghost use Rattle.std.specs.Prelude.{◌≡◌, MatchResult};
 ghost use Rattle.ceilings.specs.IsTableOf.{IsTableOf};
-ghost use Rattle.judge.specs.Faults.{IsSettingsFault, settings_fault};
-ghost use Rattle.judge.specs.Node.{IsNodeOrder};
+ghost use Rattle.judge.specs.Faults.{IsSettingsFault, settings_fault, settings_fault_by};
+ghost use Rattle.judge.specs.Node.{IsNodeOrder, IsNodeOrderBy};
 
 use crate::fault::SettingsFault;
 use crate::order::order_by;
-use crate::rows::{read_rows, sort_rows};
+use crate::rows::{by_height, read_rows, sort_rows};
 use crate::settings_fault::setting_fault;
 use ceilings::LockTable;
 use std::alloc::Global;
@@ -25,8 +25,25 @@ pub fn read_settings(
         (λ order. IsNodeOrder set.now text.now order.items)
         (λ fault. IsSettingsFault fault (settings_fault set.now text.now)) }
 {
+    read_settings_by(alloc, set, table, false, text)
+}
+
+/// The same, where a smaller number may be the higher one.
+pub fn read_settings_by(
+    alloc: Global,
+    set: &TaskSet,
+    table: &LockTable,
+    lower_is_higher: bool,
+    text: &[u8],
+) -> Result<Vec<usize>, SettingsFault>
+    requires { IsTableOf set.now table.now }
+    ensures { MatchResult result
+        (λ order. IsNodeOrderBy lower_is_higher set.now text.now order.items)
+        (λ fault. IsSettingsFault fault (settings_fault_by lower_is_higher set.now text.now)) }
+{
     let rows = read_rows(alloc, text)?;
-    let settings = sort_rows(alloc, &rows)?;
+    let sorted = sort_rows(alloc, &rows)?;
+    let settings = by_height(alloc, lower_is_higher, sorted)?;
     if let Some(fault) = setting_fault(set, table, &settings) {
         return Err(fault);
     }

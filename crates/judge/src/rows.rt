@@ -1,8 +1,8 @@
 //! The lines of settings: `thread NAME NUMBER` and `mutex NAME NUMBER`.
-ghost use Rattle.std.specs.Prelude.{◌≡◌, Ok, MatchResult, IfOk};
+ghost use Rattle.std.specs.Prelude.{◌≡◌, Ok, MatchResult, IfOk, map};
 ghost use Rattle.lines.specs.Words.{words};
 ghost use Rattle.judge.specs.Faults.{IsRowsFault};
-ghost use Rattle.judge.specs.Rows.{mutexes_of, number_in_range, setting_row_in, setting_row, rows_in, threads_of};
+ghost use Rattle.judge.specs.Rows.{heights, mutexes_of, number_in_range, setting_row_in, setting_row, rows_in, threads_of, turned};
 
 use crate::fault::SettingsFault;
 use lines::{TextPlace, Words, name_of, next_kept, number_of};
@@ -112,5 +112,46 @@ pub(crate) fn sort_rows(alloc: Global, rows: &[SettingRow]) -> Result<NodeSettin
             SettingRow::Mutex(setting) => mutexes.push(*setting)?,
         }
     }
+    Ok(NodeSettings { threads, mutexes })
+}
+
+// A setting with its number turned around.
+fn turned(setting: Setting) -> Setting
+    ensures { result ≡ turned setting }
+{
+    Setting {
+        line: setting.line,
+        name: setting.name,
+        number: (NUMBER_LIMIT + 1).saturating_sub(setting.number),
+    }
+}
+
+// Settings with their numbers turned around.
+fn all_turned(alloc: Global, settings: &[Setting]) -> Result<Vec<Setting>, AllocError>
+    ensures { IfOk result (λ all. all.items ≡ map turned settings.now) }
+{
+    let mut all = Vec::with_capacity(alloc, settings.len())?;
+    for setting in settings {
+        all.push(turned(*setting))?;
+    }
+    Ok(all)
+}
+
+// What a node is set to, with numbers of which a greater one is higher, also where its own count the other way round.
+pub(crate) fn by_height(
+    alloc: Global,
+    lower_is_higher: bool,
+    settings: NodeSettings,
+) -> Result<NodeSettings, AllocError>
+    ensures threads { IfOk result (λ high. high.threads.items
+        ≡ heights lower_is_higher settings.threads.items) }
+    ensures mutexes { IfOk result (λ high. high.mutexes.items
+        ≡ heights lower_is_higher settings.mutexes.items) }
+{
+    if !lower_is_higher {
+        return Ok(settings);
+    }
+    let threads = all_turned(alloc, &settings.threads)?;
+    let mutexes = all_turned(alloc, &settings.mutexes)?;
     Ok(NodeSettings { threads, mutexes })
 }

@@ -10,7 +10,7 @@ use ceilings::LockTable;
 use task_sheet::{Name, TaskSet};
 
 // Some setting is of this name.
-fn is_set(settings: &[Setting], name: Name) -> bool
+pub(crate) fn is_set(settings: &[Setting], name: Name) -> bool
     ensures { result ≡ is_set settings.now name }
 {
     settings.iter().any(|setting| setting.name == name)
@@ -104,7 +104,7 @@ fn some_shares(settings: &[Setting], field: SettingField, other: &Setting) -> bo
 }
 
 // The line of the first setting that shares this with one before it.
-fn first_again(settings: &[Setting], field: SettingField) -> Option<u64>
+pub(crate) fn first_again(settings: &[Setting], field: SettingField) -> Option<u64>
     ensures { result ≡ line_again (share field) [] settings.now }
 {
     for (place, setting) in settings.iter().enumerate() {

@@ -7,7 +7,7 @@ use std::alloc::{AllocError, Global};
 use std::test::Fail;
 
 // A fault, by its name and its field.
-fn fault_text(alloc: Global, fault: SettingsFault) -> Result<String, AllocError> {
+pub(crate) fn fault_text(alloc: Global, fault: SettingsFault) -> Result<String, AllocError> {
     match fault {
         SettingsFault::BadLine { line } => format!(in alloc; "BadLine {line}"),
         SettingsFault::UnknownTask { line } => format!(in alloc; "UnknownTask {line}"),
@@ -26,7 +26,7 @@ fn fault_text(alloc: Global, fault: SettingsFault) -> Result<String, AllocError>
 fn answer_to(alloc: Global, document: &str, settings: &str) -> Result<String, Fail> {
     let set = set_of(alloc, document)?;
     let answer = again!(
-        judge_settings(alloc, &set, settings.as_bytes()),
+        judge_settings(alloc, &set, false, settings.as_bytes()),
         SettingsFault::OutOfMemory
     );
     let text = match answer {

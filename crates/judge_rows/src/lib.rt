@@ -4,6 +4,8 @@
 #[cfg(test)]
 mod answers;
 #[cfg(test)]
+mod kept;
+#[cfg(test)]
 mod orders;
 #[cfg(test)]
 mod refusals;

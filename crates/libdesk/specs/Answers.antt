@@ -22,6 +22,22 @@ GivesCall says before after count number =
 abbrev pub GivesUp : List ℕ → List ℕ → ℕ → ℕ → Type 0
 GivesUp before after count number = (after ≡ before) × (count ≡ 0) × (number ≡ code_of OutOfMemory)
 
+-- the room and the count are those of what a person is told, and the number that of the status with which a command
+-- answers; what is told is open
+abbrev pub TellsPerson : (Option (List ℕ) → Option (List ℕ) → Status → Type 0) → List ℕ → List ℕ → ℕ
+    → ℕ
+    → Type 0
+TellsPerson says before after count number =
+    (told text : List ℕ) × (s : Status) × says (Some []) (Some text) s
+    × Fills told before after × (count ≡ length told) × (number ≡ code_of s)
+
+-- what a call that tells a person answers, by a command over its inputs
+abbrev pub TellsCall : (Option (List ℕ) → Option (List ℕ) → Status → Type 0) → List ℕ → List ℕ → ℕ
+    → ℕ
+    → Type 0
+TellsCall says before after count number =
+    TellsPerson says before after count number ⊎ GivesUp before after count number
+
 -- what a call answers, by a command over its inputs
 abbrev pub AnswersCall : (Option (List ℕ) → Option (List ℕ) → Status → Type 0) → List ℕ → List ℕ → ℕ
     → ℕ

@@ -5,7 +5,7 @@ ghost use Rattle.libdesk.specs.Asked.{AskedSays};
 
 use crate::hand_out::hand_out;
 use command_line::{OfOne, OfTwo, Options};
-use desk_cli::{Nobody, Status, carry_out, carry_out_on_both, run_releases};
+use desk_cli::{Audience, Nobody, Status, carry_out, carry_out_on_both, run_releases};
 use std::alloc::Global;
 use streams::Watched;
 
@@ -18,8 +18,13 @@ pub enum Asked<'a> {
     Releases(&'a [u8], u64),
 }
 
-// Runs a command on what it is given.
-fn run<'a>(alloc: Global, asked: Asked<'a>, output: &mut Watched<Vec<u8>>) -> Status
+// Runs a command on what it is given, and tells the audience what becomes of that.
+pub(crate) fn run<'a, P: Audience>(
+    alloc: Global,
+    asked: Asked<'a>,
+    output: &mut Watched<Vec<u8>>,
+    people: &mut P,
+) -> Status
     ensures printed { output.new.has_failed ≡ false
         → AskedSays asked.entry (Some output.old.inner.items) (Some output.new.inner.items) result }
     ensures unwritten { output.old.has_failed ≡ false → output.new.has_failed ≡ true
@@ -29,12 +34,11 @@ fn run<'a>(alloc: Global, asked: Asked<'a>, output: &mut Watched<Vec<u8>>) -> St
     match asked {
         Asked::One(command, input) => {
             let mut input = Watched::new(input);
-            carry_out(alloc, command, options, &mut input, output, &mut Nobody)
+            carry_out(alloc, command, options, &mut input, output, people)
         }
         Asked::Two(command, first, second) => {
             let mut first = Watched::new(first);
             let mut second = Watched::new(second);
-            let people = &mut Nobody;
             carry_out_on_both(
                 alloc,
                 command,
@@ -47,7 +51,7 @@ fn run<'a>(alloc: Global, asked: Asked<'a>, output: &mut Watched<Vec<u8>>) -> St
         }
         Asked::Releases(set, until) => {
             let mut set = Watched::new(set);
-            run_releases(alloc, options, &mut set, until, output, &mut Nobody)
+            run_releases(alloc, options, &mut set, until, output, people)
         }
     }
 }
@@ -58,6 +62,6 @@ pub(crate) fn answer<'a>(alloc: Global, asked: Asked<'a>, room: &mut [u8], statu
     ensures answer { AnswersCall (AskedSays asked.entry) room.old room.new result status.new }
 {
     let mut output = Watched::new(Vec::new(alloc));
-    let ended = run(alloc, asked, &mut output);
+    let ended = run(alloc, asked, &mut output, &mut Nobody);
     hand_out(ended, output, room, status)
 }

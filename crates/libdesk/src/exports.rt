@@ -1,5 +1,5 @@
-//! The functions that a program in C calls: a command each.
-ghost use Rattle.std.specs.Prelude.{◌≡◌, length, None, Some};
+//! The functions that a program in C calls: a command each, and what a person is told.
+ghost use Rattle.std.specs.Prelude.{◌≡◌, length, IfSome, None, Some, false};
 ghost use Rattle.desk_cli.specs.Admit.{Says, admit_lines};
 ghost use Rattle.desk_cli.specs.Certify.{certificate_lines};
 ghost use Rattle.desk_cli.specs.Check.{SaysChecked};
@@ -8,14 +8,20 @@ ghost use Rattle.desk_cli.specs.Draw.{SaysDrawn};
 ghost use Rattle.desk_cli.specs.Explain.{SaysExplained};
 ghost use Rattle.desk_cli.specs.Limits.{SaysLimits};
 ghost use Rattle.desk_cli.specs.Judge.{SaysJudged};
+ghost use Rattle.desk_cli.specs.Observe.{SaysObserved};
 ghost use Rattle.desk_cli.specs.Play.{SaysPlayed};
 ghost use Rattle.desk_cli.specs.Releases.{SaysList};
 ghost use Rattle.desk_cli.specs.Settings.{settings_of};
 ghost use Rattle.desk_cli.specs.Simulate.{SaysSimulated};
-ghost use Rattle.libdesk.specs.Answers.{AnswersCall};
+ghost use Rattle.desk_cli.specs.Statuses.{code_of};
+ghost use Rattle.libdesk.specs.Answers.{AnswersCall, TellsCall};
+ghost use Rattle.libdesk.specs.Asked.{AskedSays};
+ghost use Rattle.libdesk.specs.Numbers.{command_of};
 
 use crate::asked::{Asked, answer};
+use crate::tell::{command_of, tell};
 use command_line::{OfOne, OfTwo};
+use desk_cli::Status;
 use std::alloc::Global;
 
 /// What `desk admit` prints of a task set.
@@ -57,7 +63,7 @@ pub extern "C" fn desk_settings(
     status: &mut u8,
 ) -> usize
     ensures room { length room.new ≡ length room.old }
-    ensures answer { AnswersCall (Says settings_of None
+    ensures answer { AnswersCall (Says (settings_of 1) None
         (Some set.now)) room.old room.new result status.new }
 {
     answer(alloc, Asked::One(OfOne::Settings, set), room, status)
@@ -129,7 +135,7 @@ pub extern "C" fn desk_judge(
     status: &mut u8,
 ) -> usize
     ensures room { length room.new ≡ length room.old }
-    ensures answer { AnswersCall (SaysJudged None (Some set.now)
+    ensures answer { AnswersCall (SaysJudged false None (Some set.now)
         (Some settings.now)) room.old room.new result status.new }
 {
     answer(alloc, Asked::Two(OfTwo::Judge, set, settings), room, status)
@@ -186,4 +192,47 @@ pub extern "C" fn desk_draw(
         (Some releases.now)) room.old room.new result status.new }
 {
     answer(alloc, Asked::Two(OfTwo::Draw, set, releases), room, status)
+}
+
+/// What `desk observe` prints of a task set and a trace, with no tolerance.
+#[unsafe(no_mangle)]
+pub extern "C" fn desk_observe(
+    alloc: Global,
+    set: &[u8],
+    trace: &[u8],
+    room: &mut [u8],
+    status: &mut u8,
+) -> usize
+    ensures room { length room.new ≡ length room.old }
+    ensures answer { AnswersCall (SaysObserved 0 None (Some set.now)
+        (Some trace.now)) room.old room.new result status.new }
+{
+    answer(alloc, Asked::Two(OfTwo::Observe, set, trace), room, status)
+}
+
+/// What a person is told of what the command of a number is given: what `desk` writes on standard error beside its answer.
+/// No contract says what is told; the status is that of the command's answer. A number without a command is refused.
+#[unsafe(no_mangle)]
+pub extern "C" fn desk_tell(
+    alloc: Global,
+    command: u8,
+    first: &[u8],
+    second: &[u8],
+    until: u64,
+    room: &mut [u8],
+    status: &mut u8,
+) -> usize
+    ensures room { length room.new ≡ length room.old }
+    ensures told { IfSome (command_of command first.entry second.entry until) (λ asked.
+        TellsCall (AskedSays asked) room.old room.new result status.new) }
+    ensures unknown { command_of command first.entry second.entry until ≡ None
+        → (room.new ≡ room.old) × (result ≡ 0) × (status.new ≡ code_of Status.BadArguments) }
+{
+    match command_of(command, first, second, until) {
+        Some(asked) => tell(alloc, asked, room, status),
+        None => {
+            *status = Status::BadArguments.code();
+            0
+        }
+    }
 }

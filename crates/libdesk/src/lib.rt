@@ -4,5 +4,6 @@
 mod asked;
 mod exports;
 mod hand_out;
+mod tell;
 #[cfg(test)]
 mod tests;

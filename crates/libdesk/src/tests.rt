@@ -1,7 +1,7 @@
 //! That an answer comes where there is memory, and none into a room that is too small.
 use crate::exports::{
-    desk_admit, desk_certify, desk_check, desk_draw, desk_explain, desk_judge, desk_limits,
-    desk_play, desk_releases, desk_settings, desk_simulate,
+    desk_admit, desk_certify, desk_check, desk_diff, desk_draw, desk_explain, desk_judge,
+    desk_limits, desk_observe, desk_play, desk_releases, desk_settings, desk_simulate, desk_tell,
 };
 use std::alloc::Global;
 
@@ -23,8 +23,10 @@ enum Call {
     Releases(&'static [u8], u64),
     Check(&'static [u8], &'static [u8]),
     Judge(&'static [u8], &'static [u8]),
+    Diff(&'static [u8], &'static [u8]),
     Simulate(&'static [u8], &'static [u8]),
     Draw(&'static [u8], &'static [u8]),
+    Observe(&'static [u8], &'static [u8]),
 }
 
 // Makes a call.
@@ -39,8 +41,10 @@ fn made(alloc: Global, call: Call, room: &mut [u8], status: &mut u8) -> usize {
         Call::Releases(set, until) => desk_releases(alloc, set, until, room, status),
         Call::Check(set, certificate) => desk_check(alloc, set, certificate, room, status),
         Call::Judge(set, settings) => desk_judge(alloc, set, settings, room, status),
+        Call::Diff(set, changed) => desk_diff(alloc, set, changed, room, status),
         Call::Simulate(set, releases) => desk_simulate(alloc, set, releases, room, status),
         Call::Draw(set, releases) => desk_draw(alloc, set, releases, room, status),
+        Call::Observe(set, trace) => desk_observe(alloc, set, trace, room, status),
     }
 }
 
@@ -55,7 +59,7 @@ fn holds(alloc: Global, call: Call, room: &mut [u8], text: &[u8], wanted: u8) ->
 }
 
 // Calls, with what each puts into the room and its status.
-const ANSWERS: [(Call, &[u8], u8); 11] = [
+const ANSWERS: [(Call, &[u8], u8); 14] = [
     (Call::Admit(SET), b"admitted 1\n1 x 1000\n", 0),
     (Call::Admit(b"x = 1"), b"refused: UnknownKey 0 0\n", 4),
     (Call::Certify(b""), CERTIFICATE, 0),
@@ -72,6 +76,7 @@ const ANSWERS: [(Call, &[u8], u8); 11] = [
         b"meets 1\n1 x 1000 of 1000\n",
         0,
     ),
+    (Call::Diff(SET, SET), b"admitted 1\nwas admitted 1\n", 0),
     (Call::Releases(SET, 1000), RELEASES, 0),
     (
         Call::Simulate(SET, RELEASES),
@@ -82,6 +87,16 @@ const ANSWERS: [(Call, &[u8], u8); 11] = [
         Call::Play(b"open 1\n"),
         b"draft 1 version 0\nversion 0\n",
         0,
+    ),
+    (
+        Call::Observe(SET, b"0 1000 x\njob x 0 1000\n"),
+        b"task x 1 1000 1000 - 1000 1000 1000\n",
+        0,
+    ),
+    (
+        Call::Observe(SET, b"0 1001 x\njob x 0 1001\n"),
+        b"task x 1 1001 1000 - 1000 1001 1000\ncost x 0 1001 of 1000\nbound x 0 1001 of 1000\n",
+        3,
     ),
 ];
 
@@ -121,4 +136,53 @@ fn draws(rt: HostRuntime) {
     assert!(rt; status == 0 && count <= 8192);
     assert!(rt; room.starts_with(b"<?xml version=\"1.0\" encoding=\"UTF-8\"?>\n"));
     assert!(rt; room[..count.min(8192)].ends_with(b"</svg>\n"));
+}
+
+// Numbers of commands with two inputs, with what is told of them and the status.
+const TOLD: [(u8, &[u8], &[u8], &[u8], u8); 7] = [
+    (1, SET, b"", b"", 0),
+    (
+        1,
+        b"x = 1",
+        b"",
+        b"set: unknown key x; a set has tasks alone, each headed by [[task]], and may have prefer in front of them\n",
+        4,
+    ),
+    (
+        3,
+        b"",
+        b"",
+        b"certificate: the complete lines stop before the line end; each line ends with LF, the last, too\n",
+        5,
+    ),
+    (7, SET, b"", b"settings: no line thread x NUMBER\n", 4),
+    (
+        12,
+        b"shut\n",
+        b"",
+        b"script: line 1, \"shut\" has to be of open, put, remove, found, test, commit or abandon\n",
+        4,
+    ),
+    (0, SET, b"", b"", 2),
+    (14, SET, b"", b"", 2),
+];
+
+#[test]
+fn tells(rt: HostRuntime) {
+    for (command, first, second, text, wanted) in TOLD {
+        let (mut room, mut status) = ([0; 256], 9);
+        let count = desk_tell(
+            rt.alloc(),
+            command,
+            first,
+            second,
+            0,
+            &mut room,
+            &mut status,
+        );
+        assert!(rt;
+            room.starts_with(text) && count == text.len() && status == wanted,
+            "not {text:?}"
+        );
+    }
 }

@@ -1,9 +1,12 @@
 -- The lines of a task's numbers, one after the other.
-use Rattle.std.proofs.Common.{◌≡◌, ℕ, zero, suc, ◌+◌, ◌<◌, ◌++◌, List, length, Option, refl, subst, arith}
+use Rattle.std.proofs.Common.{◌≡◌, ℕ, zero, suc, ◌+◌, ◌<◌, ◌++◌, List, length, Option, Some, None, IfSome, refl, sym, subst, arith}
 use Rattle.task_sheet.specs.Sheet.{Task}
+use Rattle.task_sheet.specs.Orders.{IsFeasible}
 use Rattle.assignment.specs.Places.{PlaceData}
-use Rattle.limits.specs.Numbers.{HasNumber}
-use Rattle.limit_lines.specs.Lines.{number_at, IsNumberLine, AreNumberLines}
+use Rattle.assignment.specs.Placings.{tasks_of_places}
+use Rattle.limits.specs.declared.number.Number.{Number}
+use Rattle.limits.specs.Numbers.{HasNumber, MayHave, numbered}
+use Rattle.limit_lines.specs.Lines.{number_at, AnswersIn, IsNumberLine, AreNumberLines}
 
 -- one line more
 pub lines_more : (U : List Task) (places : Option (List PlaceData)) (i k : ℕ) (front line : List ℕ) → AreNumberLines U places i k front → IsNumberLine U places i (number_at k) line
@@ -19,3 +22,14 @@ has-at t (suc zero) lt = tt
 has-at t (suc (suc zero)) lt = tt
 has-at t (suc (suc (suc zero))) lt = tt
 has-at t (suc (suc (suc (suc k)))) lt = omega arith
+
+-- with the furthest value in the order the sheet is valid, and some order passes: that one
+pub may_in : (U : List Task) (places : Option (List PlaceData)) (i : ℕ) (number : Number) (own : Option ℕ) → AnswersIn U places i number own → IfSome own (MayHave U i number)
+may_in U (Some places) i number (Some value) is = is.may
+may_in U (Some places) i number None is = tt
+may_in U None i number own is = subst (λ (o : Option ℕ). IfSome o (MayHave U i number)) (sym is) tt
+
+pub passes_in : (U : List Task) (places : Option (List PlaceData)) (i : ℕ) (number : Number) (own : Option ℕ) → AnswersIn U places i number own → IfSome own (λ value. IsFeasible (numbered U i number value))
+passes_in U (Some places) i number (Some value) is = (tasks_of_places places, is.passes)
+passes_in U (Some places) i number None is = tt
+passes_in U None i number own is = subst (λ (o : Option ℕ). IfSome o (λ value. IsFeasible (numbered U i number value))) (sym is) tt

@@ -1,21 +1,22 @@
 //! The lines of a task, and the last one.
-ghost use Rattle.std.specs.Prelude.{◌≡◌, ◌++◌, ◌<◌, ℕ, length, IfOk, OnOk, string_bytes};
+ghost use Rattle.std.specs.Prelude.{◌≡◌, ◌++◌, ◌<◌, ℕ, length, IfOk, IfSome, OnOk, string_bytes};
 ghost use Rattle.task_sheet.specs.Sheet.{task_at};
+ghost use Rattle.task_sheet.specs.Orders.{IsFeasible};
 ghost use Rattle.task_sheet.specs.declared.sheet.TheConstants.{SECTION_LIMIT};
 ghost use Rattle.task_sheet.specs.TaskSet.{IsTaskSet};
 ghost use Rattle.ceilings.specs.IsTableOf.{IsTableOf};
 ghost use Rattle.assignment.specs.Placings.{IsPlacingOf};
 ghost use Rattle.factor.specs.Factors.{AnswersFactor};
-ghost use Rattle.limits.specs.Numbers.{HasNumber, value_of};
+ghost use Rattle.limits.specs.Numbers.{AnswersFurthest, HasNumber, MayHave, numbered};
 ghost use Rattle.limit_lines.specs.Lines.{AnswersFactorIn, AnswersIn, AreTaskLines, IsFactorLine, IsLast, IsNumberLine, label_of, number_at, number_line, order_in, places_in, slack_in, slack_line, slack_of, some_words};
 
 use assignment::{Place, Placing};
 use ceilings::LockTable;
 use factor::{factor, factor_in_order, first_to_fail};
-use limits::{Number, furthest, furthest_in_order};
+use limits::{Number, furthest, furthest_from, furthest_in_order, value_of};
 use lines::push_name;
 use std::alloc::{AllocError, Global};
-use task_sheet::{Sheet, TaskSet};
+use task_sheet::TaskSet;
 
 // The number of a task that stands at a place among its numbers, from 0.
 fn number_at(place: usize) -> Number
@@ -27,23 +28,6 @@ fn number_at(place: usize) -> Number
         2 => Number::Deadline,
         3 => Number::Jitter,
         _ => Number::Len(place - 4),
-    }
-}
-
-// What a number of a sheet is.
-fn value_of(sheet: &Sheet, number: Number) -> u64
-    requires { HasNumber sheet.now number }
-    ensures { result ≡ value_of number sheet.now }
-{
-    match number {
-        Number::Cost => sheet.cost(),
-        Number::Period => sheet.period(),
-        Number::Deadline => sheet.deadline(),
-        Number::Jitter => sheet.jitter(),
-        Number::Len(place) => {
-            let section = &sheet.sections()[place];
-            section.len
-        }
     }
 }
 
@@ -125,6 +109,32 @@ fn in_order(
     }
 }
 
+// The furthest value of a number with which some order passes; none where none helps. It is sought
+// from one on with which some order is known to pass, where there is one.
+fn in_any(
+    alloc: Global,
+    set: &TaskSet,
+    table: &LockTable,
+    task: usize,
+    number: Number,
+    known: Option<u64>,
+) -> Result<Option<u64>, AllocError>
+    requires table { IsTableOf set.now table.now }
+    requires task { task < length set.now }
+    requires has { HasNumber (task_at set.now task) number }
+    requires may { IfSome known (MayHave set.now task number) }
+    requires passes { IfSome known (λ value. IsFeasible (numbered set.now task number value)) }
+    ensures { IfOk result (λ most. AnswersFurthest set.now task number most) }
+{
+    match known {
+        Some(value) => {
+            let most = furthest_from(alloc, set, table, task, number, value)?;
+            Ok(Some(most))
+        }
+        None => furthest(alloc, set, table, task, number),
+    }
+}
+
 // The line of a number.
 fn number_text(
     alloc: Global,
@@ -144,7 +154,7 @@ fn number_text(
         (string_bytes text)) }
 {
     let own = in_order(alloc, set, table, placing, order, task, number)?;
-    let most = furthest(alloc, set, table, task, number)?;
+    let most = in_any(alloc, set, table, task, number, own)?;
     let mut text = String::new(alloc);
     push_number(&mut text, set, task, number, own, most)?;
     Ok(text)

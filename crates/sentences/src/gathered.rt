@@ -1,19 +1,20 @@
 //! Why a set's text is no task set.
 
+use crate::node::{of_budget, of_node, of_stranger};
 use crate::sets::of_set;
-use std::alloc::Global;
+use crate::texts::push_unseen;
+use crate::told::told;
+use std::alloc::{AllocError, Global};
 use task_sheet::{Name, SetFault, read_set};
-use teams::{TeamsFault, first_part};
+use teams::{TeamsFault, first_part, node_part};
 
 /// What a person is told of the fault of a set's text, from its bytes; none where memory is wanting. What is said of a
-/// team's document names it as a file, `TEAM.toml`, and its own lines.
+/// team's document names it as a file, `TEAM.toml`, and its own lines; what is said of the node's, `node.toml`.
 pub fn of_set_text(alloc: Global, bytes: &[u8], fault: TeamsFault) -> Option<String> {
     match fault {
         TeamsFault::Alone { fault } => of_set(alloc, bytes, fault),
-        TeamsFault::Of { team, fault } => of_document(alloc, bytes, team, fault),
-        TeamsFault::BadHead { part } => {
-            format!(in alloc; "part {part}: no line `#% TEAM COUNT` that so many bytes follow").ok()
-        }
+        TeamsFault::Of { team, fault } => of_document(alloc, teams_in(bytes), team, fault),
+        TeamsFault::BadHead { part } => told(alloc, |text| push_head(text, teams_in(bytes), part)),
         TeamsFault::Taken { team, task, other } => {
             format!(in alloc; "{team}.toml: {task} is the name of a task of {other}").ok()
         }
@@ -22,11 +23,55 @@ pub fn of_set_text(alloc: Global, bytes: &[u8], fault: TeamsFault) -> Option<Str
                 "{team}.toml: prefers otherwise than {other}.toml; one team says it for all"
             ).ok()
         }
+        TeamsFault::Node { fault } => of_node(alloc, node_in(bytes), fault),
+        TeamsFault::NoSuchTeam { team } => of_stranger(alloc, node_in(bytes), team),
+        TeamsFault::PastBudget {
+            team,
+            quantity,
+            number,
+            limit,
+        } => of_budget(alloc, node_in(bytes), team, quantity, number, limit),
         TeamsFault::TooManyTasks => {
             String::from_str(alloc, "the teams have more than 32 tasks together").ok()
         }
         TeamsFault::OutOfMemory => None,
     }
+}
+
+// The node's document of a text; nothing where there is none.
+fn node_in(bytes: &[u8]) -> &[u8] {
+    match node_part(bytes) {
+        Some((node, _)) => node,
+        None => b"",
+    }
+}
+
+// The documents of teams of a text.
+fn teams_in(bytes: &[u8]) -> &[u8] {
+    match node_part(bytes) {
+        Some((_, rest)) => rest,
+        None => bytes,
+    }
+}
+
+// What stands from a part on, counted from 1.
+fn part_at(bytes: &[u8], part: usize) -> &[u8] {
+    let mut rest = bytes;
+    for _ in 1..part {
+        if let Some((_, after)) = first_part(rest) {
+            rest = after;
+        }
+    }
+    rest
+}
+
+// A part without its head, or with too few bytes behind it.
+fn push_head(text: &mut String, bytes: &[u8], part: usize) -> Result<(), AllocError> {
+    write!(
+        text,
+        "part {part}: no line `#% TEAM COUNT` that so many bytes follow"
+    )?;
+    push_unseen(text, part_at(bytes, part), 1)
 }
 
 // The document is one of the team, and is no set.

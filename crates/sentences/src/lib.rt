@@ -3,22 +3,33 @@
 
 mod causes;
 mod choices;
+mod conflicts;
+mod density;
 mod gathered;
 mod lists;
+mod node;
 mod notes;
+mod overload;
 mod puts;
 mod records;
 mod sets;
 mod shown;
+mod strangers;
 mod texts;
 mod told;
+mod traces;
 mod tree;
 mod values;
 
 pub use choices::{put_names_decide, put_override};
+pub use conflicts::{put_conflict, put_parted, put_unrun};
+pub use density::{greatest_until, of_density};
 pub use gathered::of_set_text;
 pub use lists::{of_release_line, of_run, of_settings};
 pub use notes::put_notes;
+pub use overload::put_overload;
 pub use puts::of_script;
 pub use records::{of_certificate, of_check};
 pub use shown::push_clean;
+pub use strangers::{put_empty, put_strangers};
+pub use traces::of_trace;

@@ -5,7 +5,8 @@ use crate::shown::{push_behind, push_shown};
 use crate::texts::line_at;
 use crate::told::told;
 use crate::tree::{
-    bad_name_in, items_at, place_of_name, push_place, repeated_in, table_of, text_at, unknown_key,
+    bad_name_in, items_at, line_of_task, place_of_name, push_place, repeated_in, table_of, text_at,
+    unknown_key,
 };
 use crate::values::{no_span, numbers_in, span_at};
 use std::alloc::{AllocError, Global};
@@ -21,7 +22,7 @@ pub(crate) fn of_set(alloc: Global, bytes: &[u8], fault: SetFault) -> Option<Str
         return None;
     }
     match toml::table_from_slice(alloc, bytes) {
-        Ok(root) => told(alloc, |text| push_tree(text, &root, fault)),
+        Ok(root) => told(alloc, |text| push_tree(text, alloc, bytes, &root, fault)),
         Err(error) if error.is_memory() => None,
         Err(error) => told(alloc, |text| push_syntax(text, bytes, &error)),
     }
@@ -54,9 +55,16 @@ fn push_syntax(text: &mut String, bytes: &[u8], error: &toml::de::Error) -> Resu
 }
 
 // What the tree of a document shows of a fault.
-fn push_tree(text: &mut String, root: &Table, fault: SetFault) -> Result<(), AllocError> {
+fn push_tree(
+    text: &mut String,
+    alloc: Global,
+    bytes: &[u8],
+    root: &Table,
+    fault: SetFault,
+) -> Result<(), AllocError> {
     let (task, section) = place_of(fault);
-    push_place(text, root, task, section)?;
+    let line = line_of_task(alloc, bytes, task)?;
+    push_place(text, root, line, task, section)?;
     push_fault(text, root, fault)
 }
 
@@ -181,8 +189,8 @@ fn kind_of(key: Key) -> &'static str {
     }
 }
 
-// A value, or its kind.
-fn push_one(text: &mut String, value: &Value) -> Result<(), AllocError> {
+/// A value, or its kind.
+pub(crate) fn push_one(text: &mut String, value: &Value) -> Result<(), AllocError> {
     match value {
         Value::String(shown) => {
             text.push_str("the string \"")?;

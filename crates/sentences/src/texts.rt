@@ -3,6 +3,9 @@
 use crate::shown::push_behind;
 use std::alloc::AllocError;
 
+// The byte order mark in UTF-8.
+const MARK: &[u8] = b"\xef\xbb\xbf";
+
 /// The line of a number, from 1, without its LF.
 pub(crate) fn line_at(bytes: &[u8], number: u64) -> Option<&[u8]> {
     let mut left = number;
@@ -54,6 +57,9 @@ pub(crate) fn push_unseen(text: &mut String, bytes: &[u8], number: u64) -> Resul
     let Some(line) = line_at(bytes, number) else {
         return Ok(());
     };
+    if line.starts_with(MARK) {
+        text.push_str("; it begins with a byte order mark, which only a set may have")?;
+    }
     if line.last() == Some(&b'\r') {
         return text.push_str("; it ends with CR and LF, where LF alone is wanted");
     }

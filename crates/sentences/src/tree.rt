@@ -1,7 +1,7 @@
 //! Finding in a document what a fault names by its place.
 
 use crate::shown::push_shown;
-use std::alloc::AllocError;
+use std::alloc::{AllocError, Global};
 use task_sheet::{Key, Name};
 use toml::{Table, Value};
 
@@ -44,15 +44,19 @@ pub(crate) fn text_at<'a>(key: Key, table: &'a Table) -> Option<&'a str> {
     table.get(key.word())?.as_str()
 }
 
-/// The place of a task, with its name where it has one, and of a section.
+/// The place of a task, with the line that heads it and its name where it has them, and of a section.
 pub(crate) fn push_place(
     text: &mut String,
     root: &Table,
+    line: Option<u64>,
     task: usize,
     section: usize,
 ) -> Result<(), AllocError> {
     if task == 0 {
         return Ok(());
+    }
+    if let Some(line) = line {
+        write!(text, "line {line}, ")?;
     }
     write!(text, "task {task}")?;
     push_task_name(text, root, task)?;
@@ -60,6 +64,68 @@ pub(crate) fn push_place(
         write!(text, ", section {section}")?;
     }
     text.push_str(": ")
+}
+
+// Whether a line heads a task.
+fn heads_task(line: &[u8]) -> bool {
+    let Ok(line) = std::str::from_utf8(line) else {
+        return false;
+    };
+    let bare = line.strip_prefix("\u{feff}").unwrap_or(line);
+    let Some(inside) = bare.trim().strip_prefix("[[") else {
+        return false;
+    };
+    match inside.split("]]").next() {
+        Some(key) => key.trim() == Key::Task.word(),
+        None => false,
+    }
+}
+
+// Where the line ends that heads a task of a place, from 1, and its number, where no such line stands elsewhere.
+fn header_of(bytes: &[u8], task: usize) -> Option<(u64, usize)> {
+    let mut left = task;
+    let mut number = 0u64;
+    let mut end = 0usize;
+    for line in bytes.split(|byte| *byte == b'\n') {
+        number = number.saturating_add(1);
+        end = end.saturating_add(line.len());
+        if heads_task(line) {
+            left = left.saturating_sub(1);
+            if left == 0 {
+                return Some((number, end));
+            }
+        }
+        end = end.saturating_add(1);
+    }
+    None
+}
+
+// Whether a table has so many tasks, the last of them without a key.
+fn has_begun(root: &Table, task: usize) -> bool {
+    match (items_at(Key::Task, root), table_at(Key::Task, task, root)) {
+        (Some(items), Some(own)) => items.len() == task && own.is_empty(),
+        _ => false,
+    }
+}
+
+/// The number of the line that heads a task, where the document up to that line says so: none heads a task that stands
+/// in an array, and no line inside a string heads one.
+pub(crate) fn line_of_task(
+    alloc: Global,
+    bytes: &[u8],
+    task: usize,
+) -> Result<Option<u64>, AllocError> {
+    let Some((number, end)) = header_of(bytes, task) else {
+        return Ok(None);
+    };
+    // With the line's LF, which a CR needs behind it.
+    let head = bytes.get(..end.saturating_add(1)).unwrap_or(bytes);
+    match toml::table_from_slice(alloc, head) {
+        Ok(root) if has_begun(&root, task) => Ok(Some(number)),
+        Ok(_) => Ok(None),
+        Err(error) if error.is_memory() => Err(AllocError),
+        Err(_) => Ok(None),
+    }
 }
 
 // The name of a task in brackets.

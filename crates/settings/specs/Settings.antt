@@ -1,6 +1,6 @@
 -- What a node is set to, as text: the priority of each thread and the priority ceiling of each mutex (POSIX.1-2017,
 -- SCHED_FIFO and PTHREAD_PRIO_PROTECT). A level is counted from 1, the lowest.
-use Rattle.std.specs.Prelude.{ℕ, ◌+◌, List, [], ◌∷◌, ◌++◌, Option, Some, None, codes}
+use Rattle.std.specs.Prelude.{ℕ, ◌+◌, ◌-◌, List, [], ◌∷◌, ◌++◌, Option, Some, None, codes, option_map}
 use Rattle.std.specs.Fmt.{decimal}
 use Rattle.task_sheet.specs.Sheet.{Task}
 use Rattle.task_sheet.specs.Locks.{ceiling_of}
@@ -31,3 +31,19 @@ mutex_lines U order (lock ∷ locks) =
 -- the threads of an order, the lowest first, and then the mutexes of the set's locks in order of first sight
 abbrev pub settings_lines : List Task → List ℕ → List ℕ
 settings_lines U order = thread_lines U 1 order ++ mutex_lines U order (locks_of U)
+
+-- ---- real priorities
+-- the priority of a level, where this is that of level 1
+abbrev pub priority_of : (base level : ℕ) → ℕ
+priority_of base level = (base + level) - 1
+
+-- a line for each lock, with the priority of its ceiling in an order
+abbrev pub mutex_lines_from : List Task → ℕ → List ℕ → List (List ℕ) → List ℕ
+mutex_lines_from U base order [] = []
+mutex_lines_from U base order (lock ∷ locks) =
+    mutex_line lock (option_map (priority_of base) (ceiling_of U order lock))
+    ++ mutex_lines_from U base order locks
+
+-- the same settings, with priorities from this one on
+abbrev pub settings_from : List Task → ℕ → List ℕ → List ℕ
+settings_from U base order = thread_lines U base order ++ mutex_lines_from U base order (locks_of U)

@@ -1,12 +1,12 @@
 //! The lines of an order's settings.
-ghost use Rattle.std.specs.Prelude.{◌≡◌, ◌++◌, ◌<◌, ◌≤◌, ℕ, List, length, slice_get, Some, All, OnOk, IfOk, string_bytes};
+ghost use Rattle.std.specs.Prelude.{◌≡◌, ◌++◌, ◌<◌, ◌≤◌, ℕ, List, length, slice_get, Some, All, OnOk, IfOk, option_map, string_bytes};
 ghost use Rattle.task_sheet.specs.Sheet.{Task};
 ghost use Rattle.task_sheet.specs.declared.set.TheConstants.{TASK_LIMIT};
 ghost use Rattle.task_sheet.specs.Locks.{ceiling_of};
 ghost use Rattle.task_sheet.specs.Orders.{IsOrder};
 ghost use Rattle.ceilings.specs.IsTableOf.{IsTableOf, locks_of};
 ghost use Rattle.assignment.specs.Placings.{tasks_of_places};
-ghost use Rattle.settings.specs.Settings.{mutex_line, mutex_lines, settings_lines, thread_line, thread_lines};
+ghost use Rattle.settings.specs.Settings.{mutex_line, mutex_lines_from, priority_of, settings_from, thread_line, thread_lines};
 
 use assignment::{Place, tasks_of_places};
 use ceilings::LockTable;
@@ -18,34 +18,40 @@ use task_sheet::TaskSet;
 fn push_thread(
     text: &mut String,
     set: &TaskSet,
-    level: usize,
+    priority: u64,
     task: usize,
 ) -> Result<(), AllocError>
     ensures { OnOk result (string_bytes text.new ≡ string_bytes text.old
-        ++ thread_line set.now level task) }
+        ++ thread_line set.now priority task) }
 {
     text.push_str("thread ")?;
     push_name(text, set, task)?;
-    writeln!(text, " {level}")
+    writeln!(text, " {priority}")
 }
 
-// A line for each task of an order.
-fn push_threads(text: &mut String, set: &TaskSet, order: &[usize]) -> Result<(), AllocError>
+// A line for each task of an order, of which the first has the base.
+fn push_threads(
+    text: &mut String,
+    set: &TaskSet,
+    base: u32,
+    order: &[usize],
+) -> Result<(), AllocError>
     requires { length order.now ≤ TASK_LIMIT }
     ensures { OnOk result (string_bytes text.new ≡ string_bytes text.old
-        ++ thread_lines set.now 1 order.now) }
+        ++ thread_lines set.now base order.now) }
 {
     for (below, task) in order.iter().enumerate() {
-        push_thread(text, set, below + 1, *task)?;
+        push_thread(text, set, u64::from(base) + below as u64, *task)?;
     }
     Ok(())
 }
 
-// The line of the mutex of the lock at a place, with its ceiling in an order.
+// The line of the mutex of the lock at a place, with the priority of its ceiling in an order.
 fn push_lock(
     text: &mut String,
     table: &LockTable,
     place: usize,
+    base: u32,
     order: &[usize],
 ) -> Result<(), AllocError>
     requires within { All (λ index. index < TASK_LIMIT) order.now }
@@ -53,41 +59,56 @@ fn push_lock(
     ensures { OnOk result ((U : List Task) → IsTableOf U table.now
         → (lock : List ℕ) → slice_get (locks_of U) place ≡ Some lock
         → string_bytes text.new ≡ string_bytes text.old
-        ++ mutex_line lock (ceiling_of U order.now lock)) }
+        ++ mutex_line lock (option_map (priority_of base) (ceiling_of U order.now lock))) }
 {
     let Some(lock) = table.lock_at(place) else {
         return Ok(());
     };
     match table.ceiling(lock, order) {
-        Some(level) => writeln!(text, "mutex {lock} {level}"),
+        Some(level) => {
+            let priority = (u64::from(base) + u64::from(level)).saturating_sub(1);
+            writeln!(text, "mutex {lock} {priority}")
+        }
         None => Ok(()),
     }
 }
 
-// A line for each lock of the table, with its ceiling in an order.
-fn push_mutexes(text: &mut String, table: &LockTable, order: &[usize]) -> Result<(), AllocError>
+// A line for each lock of the table, with the priority of its ceiling in an order.
+fn push_mutexes(
+    text: &mut String,
+    table: &LockTable,
+    base: u32,
+    order: &[usize],
+) -> Result<(), AllocError>
     requires within { All (λ index. index < TASK_LIMIT) order.now }
     requires few { length order.now ≤ TASK_LIMIT }
     ensures { OnOk result ((U : List Task) → IsTableOf U table.now
-        → string_bytes text.new ≡ string_bytes text.old ++ mutex_lines U order.now (locks_of U)) }
+        → string_bytes text.new ≡ string_bytes text.old
+        ++ mutex_lines_from U base order.now (locks_of U)) }
 {
     for place in 0..table.count() {
-        push_lock(text, table, place, order)?;
+        push_lock(text, table, place, base, order)?;
     }
     Ok(())
 }
 
 /// The lines that say what a node is set to for an order of a set, its places the lowest first: the level of each
-/// task's thread, and the ceiling of each lock's mutex. The error is want of memory.
-pub fn settings_text(alloc: Global, set: &TaskSet, places: &[Place]) -> Result<String, AllocError>
+/// task's thread, and the ceiling of each lock's mutex, as priorities of which level 1 has the base. The error is want of
+/// memory.
+pub fn settings_text(
+    alloc: Global,
+    set: &TaskSet,
+    base: u32,
+    places: &[Place],
+) -> Result<String, AllocError>
     requires { IsOrder set.now (tasks_of_places places.now) }
     ensures { IfOk result (λ text. string_bytes text
-        ≡ settings_lines set.now (tasks_of_places places.now)) }
+        ≡ settings_from set.now base (tasks_of_places places.now)) }
 {
     let order = tasks_of_places(alloc, places)?;
     let table = LockTable::new(alloc, set)?;
     let mut text = String::new(alloc);
-    push_threads(&mut text, set, &order)?;
-    push_mutexes(&mut text, &table, &order)?;
+    push_threads(&mut text, set, base, &order)?;
+    push_mutexes(&mut text, &table, base, &order)?;
     Ok(text)
 }

@@ -1,1 +1,2 @@
 pub mod TeamLaws
+pub mod BudgetLaws

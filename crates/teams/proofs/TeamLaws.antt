@@ -12,12 +12,14 @@ use Rattle.task_sheet.specs.SheetsFault.{sheets_fault}
 use Rattle.task_sheet.specs.declared.set.TheConstants.{TASK_LIMIT}
 use Rattle.task_sheet.specs.declared.set.SetCause.{SetCause}
 use Rattle.task_sheet.specs.declared.set.SetCause.TheVariants as cause
-use Rattle.teams.specs.Gathering.{AreGathered, Begins, HasNoHead, IsCutOff, IsFirstPart, IsHead, IsNotGathered}
+use Rattle.teams.specs.Gathering.{AreGathered, Begins, HasNoHead, HasNoNode, IsCutOff, IsFirstPart, IsHead, IsNodeHead, IsNotGathered}
 use Rattle.teams.specs.Owned.{TeamSetData}
 use Rattle.teams.specs.ReadsTeams.{AreRead, IsFirstRefused, ReadsPart}
+use Rattle.teams.specs.Budgets.{budgets_fault}
+use Rattle.teams.specs.ReadsText.{AreJudged, HasBudgets, IsUnited, ReadsBounded}
 use Rattle.teams.specs.declared.reading.Part.{Part}
 use Rattle.teams.specs.declared.fault.TeamsFault.{TeamsFault}
-use Rattle.teams.specs.declared.fault.TeamsFault.TheVariants.{Alone, BadHead, Of, OtherPreference, Taken, TooManyTasks, OutOfMemory}
+use Rattle.teams.specs.declared.fault.TeamsFault.TheVariants.{Alone, BadHead, Node, NoSuchTeam, Of, OtherPreference, PastBudget, Taken, TooManyTasks, OutOfMemory}
 
 -- ---- one document more
 read_push : (parts : List Part) (sets : List TeamSetData) (p : Part) (s : TeamSetData) → AreRead parts sets → ReadsPart p (Ok s) → AreRead (parts ++ p ∷ []) (sets ++ s ∷ [])
@@ -54,6 +56,9 @@ first_refused parts k sets p e lt same all why = by e why
     by TooManyTasks why = absurd why
     by (BadHead part) why = absurd why
     by (Alone fault) why = absurd why
+    by (Node fault) why = absurd why
+    by (NoSuchTeam team) why = absurd why
+    by (PastBudget team quantity number limit) why = absurd why
 
 -- ---- a text of documents that is none
 stopped_by : (text rest after : List ℕ) (sets : List TeamSetData) (p : Part) (e : TeamsFault) → AreGathered text rest sets → IsFirstPart rest p.team p.text.now after → ReadsPart p (Err e)
@@ -65,6 +70,9 @@ stopped_by text rest after sets p (OtherPreference team other) all first why = a
 stopped_by text rest after sets p TooManyTasks all first why = absurd why
 stopped_by text rest after sets p (BadHead part) all first why = absurd why
 stopped_by text rest after sets p (Alone fault) all first why = absurd why
+stopped_by text rest after sets p (Node fault) all first why = absurd why
+stopped_by text rest after sets p (NoSuchTeam team) all first why = absurd why
+stopped_by text rest after sets p (PastBudget team quantity number limit) all first why = absurd why
 
 pub stopped : (text rest after : List ℕ) (sets : List TeamSetData) (p : Part) (e : TeamsFault) → AreGathered text rest sets → IsFirstPart rest p.team p.text.now after → ReadsPart p (Err e)
     → IsNotGathered text e
@@ -106,6 +114,29 @@ module _ (text line rest : List ℕ) (e : parts text ≡ line ∷ parts rest) wh
       let whole : length rest ≡ length document + length after = ap length (one.1 ∙ first.4) ∙ length-append document after in
       omega (arith, is, whole, short)
 
+  pub nodeless : ((count : ℕ) → IsNodeHead line count → ⊥) → HasNoNode text
+  nodeless none document after first =
+      let one = one_line first.0 first.1 first.2 in
+      none (length document) (subst (λ (l : List ℕ). IsNodeHead l (length document)) (sym one.0) first.3)
+
+  pub node_short : (count : ℕ) → IsNodeHead line count → length rest < count → HasNoNode text
+  node_short count head short document after first =
+      let one = one_line first.0 first.1 first.2 in
+      let again : IsNodeHead line (length document) = subst (λ (l : List ℕ). IsNodeHead l (length document)) (sym one.0) first.3 in
+      let same : codes "#%" ∷ head.0 ∷ [] ≡ codes "#%" ∷ again.0 ∷ [] = sym head.1 ∙ again.1 in
+      let number : head.0 ≡ again.0 = cc in
+      let counts : Some count ≡ Some (length document) = sym head.2 ∙ ap number_in number ∙ again.2 in
+      let is : count ≡ length document = cc in
+      let whole : length rest ≡ length document + length after = ap length (one.1 ∙ first.4) ∙ length-append document after in
+      omega (arith, is, whole, short)
+
+pub node_uncut : (text : List ℕ) → parts text ≡ text ∷ [] → HasNoNode text
+node_uncut text e document after first =
+    let both : text ∷ [] ≡ first.0 ∷ parts first.1 = sym e ∙ first.2 in
+    let none : [] ≡ parts first.1 = cc in
+    let some : length (parts first.1) ≡ count_by (λ b. b == 10) first.1 + 1 = length-slice_split (λ (b : ℕ). b == 10) first.1 in
+    omega (arith, some, ap length none)
+
 pub uncut : (text : List ℕ) → parts text ≡ text ∷ [] → HasNoHead text
 uncut text e team document after first =
     let both : text ∷ [] ≡ first.0 ∷ parts first.1 = sym e ∙ first.2 in
@@ -138,3 +169,12 @@ repeat_at xs n e = by (first_repeat [] 1 xs) refl
 -- the fault of sheets, where it is not want of memory, is this one
 pub same_name_not_memory : (xs : List Task) (why : SetCause) (n : ℕ) → why ≡ cause.SameName n → (why ≢ cause.OutOfMemory → sheets_fault xs ≡ Some why) → sheets_fault xs ≡ Some (cause.SameName n)
 same_name_not_memory xs why n is known = known (λ never. let both : cause.SameName n ≡ cause.OutOfMemory = sym is ∙ never in absurd (cc)) ∙ ap Some is
+
+-- ---- the node's document before those of teams
+pub refused_gathered : (document text : List ℕ) (e : TeamsFault) → HasBudgets document → IsNotGathered text e → ReadsBounded document text (Err e)
+refused_gathered document text OutOfMemory budgets why = tt
+refused_gathered document text e budgets why = inr (inl (budgets, why))
+
+pub refused_budget : (document text : List ℕ) (e : TeamsFault) → AreJudged document text (λ sets budgets. IsUnited sets × (budgets_fault sets budgets ≡ Some e)) → ReadsBounded document text (Err e)
+refused_budget document text OutOfMemory why = tt
+refused_budget document text e why = inr (inr why)

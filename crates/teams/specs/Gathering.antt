@@ -22,6 +22,21 @@ IsFirstPart text team document after =
     (line : List ℕ) × (rest : List ℕ) × (parts text ≡ line ∷ parts rest)
     × IsHead line team (length document) × (rest ≡ document ++ after)
 
+-- the line is `#% COUNT`
+abbrev pub IsNodeHead : List ℕ → ℕ → Type 0
+IsNodeHead line count =
+    (number : List ℕ) × (words line ≡ codes "#%" ∷ number ∷ []) × (number_in number ≡ Some count)
+
+-- a text begins with the node's document, and this stands behind it
+abbrev pub IsNodePart : List ℕ → (document after : List ℕ) → Type 0
+IsNodePart text document after =
+    (line : List ℕ) × (rest : List ℕ) × (parts text ≡ line ∷ parts rest)
+    × IsNodeHead line (length document) × (rest ≡ document ++ after)
+
+-- a text begins with no node's document
+abbrev pub HasNoNode : List ℕ → Type 0
+HasNoNode text = (document after : List ℕ) → IsNodePart text document after → ⊥
+
 -- a text begins with these documents, and this stands behind them
 abbrev pub Begins : List ℕ → List Part → List ℕ → Type 0
 Begins text [] rest = text ≡ rest

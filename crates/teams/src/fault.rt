@@ -2,6 +2,7 @@
 ghost use Rattle.std.specs.Prelude.{◌≡◌};
 ghost use Rattle.teams.specs.declared.fault.TeamsFault.TheVariants.{OutOfMemory};
 
+use crate::node::{NodeFault, Quantity};
 use std::alloc::AllocError;
 use task_sheet::{Name, SetFault};
 use thiserror::Error;
@@ -11,19 +12,51 @@ use thiserror::Error;
 pub enum TeamsFault {
     /// The text is one document, which is no set.
     #[error("{fault}")]
-    Alone { fault: SetFault },
+    Alone {
+        fault: SetFault,
+    },
     /// The part, by its place from 1, doesn't begin with a line `#% TEAM COUNT`, or has fewer bytes than that.
     #[error("part {part}: no head")]
-    BadHead { part: usize },
+    BadHead {
+        part: usize,
+    },
     /// A team's document is no set by itself.
     #[error("{team}: {fault}")]
-    Of { team: Name, fault: SetFault },
+    Of {
+        team: Name,
+        fault: SetFault,
+    },
     /// A task of a team has the name of a task of another, which stands before it.
     #[error("{team}: {task} is a task of {other}")]
-    Taken { team: Name, task: Name, other: Name },
+    Taken {
+        team: Name,
+        task: Name,
+        other: Name,
+    },
     /// A team's document prefers otherwise than that of another, which stands before it.
     #[error("{team}: prefers otherwise than {other}")]
-    OtherPreference { team: Name, other: Name },
+    OtherPreference {
+        team: Name,
+        other: Name,
+    },
+    /// The node's document says no budgets.
+    #[error("node: {fault}")]
+    Node {
+        fault: NodeFault,
+    },
+    /// The node's document has a budget of a team that has no document.
+    #[error("no document of {team}")]
+    NoSuchTeam {
+        team: Name,
+    },
+    /// A team takes more than its budget has. A load is in thousandths, rounded up.
+    #[error("{team}: {quantity:?} {number} of {limit}")]
+    PastBudget {
+        team: Name,
+        quantity: Quantity,
+        number: u64,
+        limit: u64,
+    },
     /// There are more than 32 tasks.
     #[error("more than 32 tasks")]
     TooManyTasks,

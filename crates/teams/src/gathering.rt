@@ -1,6 +1,6 @@
 //! The documents of teams in one text.
 ghost use Rattle.std.specs.Prelude.{◌<◌, ℕ, List, [], length, IfOk, IfErr, IfSome, MatchOption};
-ghost use Rattle.teams.specs.Gathering.{AreGathered, HasNoHead, IsFirstPart, IsHead, IsNotGathered, ReadsGathered};
+ghost use Rattle.teams.specs.Gathering.{AreGathered, HasNoHead, HasNoNode, IsFirstPart, IsHead, IsNodeHead, IsNodePart, IsNotGathered, ReadsGathered};
 
 use crate::fault::TeamsFault;
 use crate::reading::{Part, read_part};
@@ -26,6 +26,35 @@ fn head_of(line: &[u8]) -> Option<(Name, u64)>
     }
 }
 
+// The count that a line `#% COUNT` has.
+fn count_of(line: &[u8]) -> Option<u64>
+    ensures { MatchOption result ((count : ℕ) → IsNodeHead line.now count → ⊥)
+        (λ count. IsNodeHead line.now count) }
+{
+    let mut words = Words::of(line);
+    let mark = words.next()?;
+    let count = number_of(words.next()?)?;
+    if mark == b"#%".as_slice() && words.next().is_none() {
+        Some(count)
+    } else {
+        None
+    }
+}
+
+/// The node's document at the head of a text, and what stands behind it; none where the text begins with no line
+/// `#% COUNT` that so many bytes follow.
+pub fn node_part<'a>(text: &'a [u8]) -> Option<(&'a [u8], &'a [u8])>
+    ensures { MatchOption result (HasNoNode text.entry.now)
+        (λ x. IsNodePart text.entry.now x.0.now x.1.now) }
+{
+    let (line, rest) = cut(text, b'\n')?;
+    let count = count_of(line)?;
+    if count > rest.len() as u64 {
+        return None;
+    }
+    Some(rest.split_at(count as usize))
+}
+
 /// The first document of a text, with its team, and what stands behind it; none where the text begins with no line
 /// `#% TEAM COUNT` that so many bytes follow.
 pub fn first_part<'a>(text: &'a [u8]) -> Option<(Part<'a>, &'a [u8])>
@@ -43,7 +72,7 @@ pub fn first_part<'a>(text: &'a [u8]) -> Option<(Part<'a>, &'a [u8])>
 }
 
 // The set of each document that a text has, in their order.
-fn read_documents(alloc: Global, text: &[u8]) -> Result<Vec<TeamSet>, TeamsFault>
+pub(crate) fn read_documents(alloc: Global, text: &[u8]) -> Result<Vec<TeamSet>, TeamsFault>
     ensures ok { IfOk result (λ sets. AreGathered text.now [] sets.items) }
     ensures err { IfErr result (IsNotGathered text.now) }
 {

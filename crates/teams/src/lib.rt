@@ -4,11 +4,15 @@
 
 mod fault;
 mod gathering;
+mod keeping;
+pub mod laws;
+mod node;
 mod reading;
 mod text;
 mod uniting;
 
 pub use crate::fault::TeamsFault;
-pub use crate::gathering::{first_part, read_gathered};
+pub use crate::gathering::{first_part, node_part, read_gathered};
+pub use crate::node::{Budget, NodeFault, Quantity, read_budgets};
 pub use crate::reading::{Part, read_teams};
 pub use crate::text::read_text;

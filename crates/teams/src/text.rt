@@ -1,9 +1,14 @@
 //! A set's text.
-ghost use Rattle.std.specs.Prelude.{◌≡◌};
-ghost use Rattle.teams.specs.ReadsText.{ReadsAlone, ReadsText, is_gathered};
+ghost use Rattle.std.specs.Prelude.{◌≡◌, [], Ok, IfOk, IfErr};
+ghost use Rattle.teams.specs.Gathering.{AreGathered, IsNotGathered};
+ghost use Rattle.teams.specs.ReadsText.{ReadsAlone, ReadsBounded, ReadsDocuments, ReadsText, is_gathered};
+ghost use Rattle.teams.specs.ReadsTeams.{UnitesAll};
 
 use crate::fault::TeamsFault;
-use crate::gathering::read_gathered;
+use crate::gathering::{node_part, read_documents, read_gathered};
+use crate::keeping::budgets_fault;
+use crate::node::read_node;
+use crate::uniting::{TeamSet, owned_all, united};
 use std::alloc::Global;
 use task_sheet::{Document, SetFault, read_document};
 
@@ -25,13 +30,48 @@ fn read_alone(alloc: Global, text: &[u8]) -> Result<Document, TeamsFault>
     }
 }
 
+// The sets of the documents of teams, and what these say together.
+fn read_united(alloc: Global, text: &[u8]) -> Result<(Vec<TeamSet>, Document), TeamsFault>
+    ensures ok { IfOk result (λ x. AreGathered text.now [] x.0.items × UnitesAll x.0.items (Ok x.1)) }
+    ensures err { IfErr result (IsNotGathered text.now) }
+{
+    let sets = read_documents(alloc, text)?;
+    let document = united(alloc, &sets)?;
+    Ok((sets, document))
+}
+
+// What the documents of teams say, where the node's document has budgets that the teams keep to.
+fn read_bounded(alloc: Global, node: &[u8], text: &[u8]) -> Result<Document, TeamsFault>
+    ensures { ReadsBounded node.now text.now result }
+{
+    let budgets = read_node(alloc, node)?;
+    let (sets, document) = read_united(alloc, text)?;
+    let tasks = owned_all(alloc, &sets)?;
+    match budgets_fault(&sets, &tasks, &budgets) {
+        Some(fault) => Err(fault),
+        None => Ok(document),
+    }
+}
+
+// What documents say: the node's and those of the teams, or the latter alone.
+fn read_several(alloc: Global, text: &[u8]) -> Result<Document, TeamsFault>
+    ensures { ReadsDocuments text.now result }
+{
+    match node_part(text) {
+        Some((node, rest)) => read_bounded(alloc, node, rest),
+        None => read_gathered(alloc, text),
+    }
+}
+
 /// The set that a text says, and what it prefers: of documents of teams where it begins with `#% `, as `read_gathered`
-/// reads them; else of one document, as `task_sheet::read_document` does. To TOML the line `#% TEAM COUNT` is a comment.
+/// reads them; else of one document, as `task_sheet::read_document` does. In front of the teams' documents that of the
+/// node may stand, behind a line `#% COUNT`: what it refuses comes first, and last the first budget by the names of the
+/// teams whose team has no document, or takes more. To TOML the lines with `#% ` are comments.
 pub fn read_text(alloc: Global, text: &[u8]) -> Result<Document, TeamsFault>
     ensures { ReadsText text.now result }
 {
     if is_gathered(text) {
-        read_gathered(alloc, text)
+        read_several(alloc, text)
     } else {
         read_alone(alloc, text)
     }

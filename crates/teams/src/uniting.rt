@@ -28,9 +28,9 @@ impl Model for TeamSet {
 
 // A team's task.
 #[derive(Drop)]
-struct Owned {
-    team: Name,
-    sheet: Sheet,
+pub(crate) struct Owned {
+    pub team: Name,
+    pub sheet: Sheet,
 }
 
 impl Model for Owned {
@@ -59,7 +59,7 @@ fn push_tasks(
 }
 
 // The tasks of all, in their order.
-fn owned_all(alloc: Global, sets: &[TeamSet]) -> Result<Vec<Owned>, AllocError>
+pub(crate) fn owned_all(alloc: Global, sets: &[TeamSet]) -> Result<Vec<Owned>, AllocError>
     ensures { IfOk result (λ tasks. tasks.items ≡ owned_all sets.now) }
 {
     let mut tasks = Vec::new(alloc);

@@ -188,3 +188,32 @@ fn a_stale_proposal(rt: HostRuntime) -> Result<(), Fail> {
     assert!(rt; found == (Some(1), Some((1, 6000)), 1));
     Ok(())
 }
+
+// The place of a proposal of team 2 on the present state, which puts b; none where it isn't decided.
+fn settle_second<L: Ledger, R: Threads + Wait>(
+    two: &mut Pair<'_, L, R>,
+) -> Result<Option<usize>, Fail> {
+    let draft = two.site.drafted(&two.second, "b", 4000)?;
+    let proposal = proposed(two.site.alloc, draft)?;
+    let outcome = outcome_of(&two.site, &mut two.second, proposal)?;
+    Ok(place_of(&outcome))
+}
+
+// The place of team 2's proposal on version 1, which team 1's commit made; and the length of the log.
+fn settled_later_on<L: Ledger, R: Threads + Wait>(
+    start: Start<'_, R>,
+) -> Result<(Option<usize>, usize), Fail>
+    requires { (start.blank.name ≡ L.name) × (start.blank.parts ≡ L.parts) × (L.parts ≡ 8) }
+{
+    let mut two = two_teams::<L, R>(start)?;
+    let _ = two.commit_first("a", 4000)?;
+    let place = settle_second(&mut two)?;
+    Ok((place, two.closed()?.log.len()))
+}
+
+#[test]
+fn a_proposal_on_a_later_state(rt: HostRuntime) -> Result<(), Fail> {
+    let found = settled_later_on::<Brand, _>(Start::new(&rt, rt.alloc()))?;
+    assert!(rt; found == (Some(2), 2));
+    Ok(())
+}

@@ -11,4 +11,5 @@ returns-clause-known c = record {
   lower_is_higher = c.flag_chosen.ensures;
   seed = c.number_chosen-2.ensures;
   by_task = c.flag_chosen-2.ensures;
+  tolerance = c.number_chosen-3.ensures;
 }

@@ -5,6 +5,7 @@ use Rattle.clap.specs.Words.{Row, Text, subcommand_of}
 use Rattle.command_line.specs.App.{desk_app}
 use Rattle.command_line.specs.Calls.{Calls, IsCall, PrefersOther}
 use Rattle.command_line.specs.declared.calls.Call.{Call}
+use Rattle.command_line.proofs.Matches.{call_has_number}
 use Rattle.command_line.proofs.words.read_words.Goals as goal
 
 some_words : {A B : Type 0} (f : A → B) (words : List A) → (length words == 0) ≡ false → map f words ≢ []
@@ -44,3 +45,6 @@ returns-then-is_twice c =
       number = tt;
       fault = (inr c.in-Ok.ensures.kinds, c.in-Some.call, calls_named _ _ some named, sym c.is_twice.ensures ∙ c.if-is_twice.true);
     }
+
+pub returns-clause-number : goal.returns-clause-number
+returns-clause-number c = call_has_number _ _ c.in-Some.ensures.call

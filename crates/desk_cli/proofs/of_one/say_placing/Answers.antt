@@ -1,6 +1,6 @@
-use Rattle.std.proofs.Common.{string_bytes}
+use Rattle.std.proofs.Common.{◌∙◌, ℕ, ap, sym, string_bytes}
 use Rattle.desk_cli.specs.Admit.{admit_lines}
-use Rattle.desk_cli.specs.Commands.{preference_of}
+use Rattle.desk_cli.specs.Commands.{base_of, preference_of}
 use Rattle.desk_cli.specs.Settings.{settings_of}
 use Rattle.desk_cli.proofs.CarriedOut.{made_printed, said_as}
 use Rattle.desk_cli.proofs.Placed.{printed_says}
@@ -15,7 +15,8 @@ returns-in-Admit g c =
 pub returns-in-Settings : goal.returns-in-Settings
 returns-in-Settings g c =
     rw c.in-Settings.is (said_as (made_printed c.placing_text-text-in-Settings.result (λ t. string_bytes t) _ _ c.placing_text-text-in-Settings.ensures c.print_made-in-Settings.ensures) (λ told. λ known has.
-    printed_says settings_of (preference_of c.args.options) known _ _ c.args.set.now c.args.placing.now _ _ _ c.requires.kept (has, c.requires.placing) (λ v says. says.settings) c.placing_status-status.ensures told))
+    printed_says (settings_of (base_of c.args.options)) (preference_of c.args.options) known _ _ c.args.set.now c.args.placing.now _ _ _ c.requires.kept (has, c.requires.placing)
+    (λ v says. ap (λ (base : ℕ). settings_of base v) (sym c.base_of.ensures) ∙ says.settings c.base_of.result) c.placing_status-status.ensures told))
 
 pub returns-in-Explain : goal.returns-in-Explain
 returns-in-Explain g c = rw c.in-Explain.is (said_as c.say_reasons.ensures (λ told. λ known has. told _ known has))

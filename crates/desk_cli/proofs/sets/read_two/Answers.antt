@@ -18,8 +18,8 @@ SaysOrRefuses preference bytes answer =
 set_refused : (set other : Option (List ℕ)) (bytes text : List ℕ) → IsReadFrom set bytes → IsReadFrom other text → (fault : TeamsFault) → ReadsText bytes (Err fault) → HaveNotBoth set other (refusal.Set fault)
 set_refused set other bytes text first second fault reads = (bytes, text, first, second, reads)
 
-pub returns-in_err-tasks-clause-answer : goal.returns-in_err-tasks-clause-answer
-returns-in_err-tasks-clause-answer g c =
+pub returns-clause-answer : goal.returns-clause-answer
+returns-clause-answer g c =
     let set = g.R.Read.remaining c.args.set.now.inner in
     let other = g.S.Read.remaining c.args.other.now.inner in
     let bytes : List ℕ = c.in_ok-bytes.bytes.items in

@@ -4,7 +4,7 @@ use Rattle.task_sheet.specs.Sheet.{Task}
 use Rattle.task_sheet.specs.Orders.{IsOrder}
 use Rattle.ceiling_kernel.proofs.OrderLaws.{order_iff}
 use Rattle.judge.specs.Judgements.{order_judged}
-use Rattle.judge.specs.Node.{IsNodeOrder}
+use Rattle.judge.specs.Node.{IsNodeOrderBy}
 use Rattle.judge.specs.declared.judging.JudgedTask.{JudgedTask}
 use Rattle.judge.proofs.node.judge_settings.Goals as goal
 
@@ -18,7 +18,7 @@ judge_order-requires-clause-within c =
 pub returns-clause-judged : goal.returns-clause-judged
 returns-clause-judged c =
     let same = c.in_ok-judged.ensures.order ∙ c.deref.ensures.value in
-    (subst (λ (order : List ℕ). IsNodeOrder c.args.set.now c.args.text.now order) (sym same) c.in_ok-order.ensures, c.in_ok-judged.ensures.judged)
+    (subst (λ (order : List ℕ). IsNodeOrderBy c.args.lower_is_higher c.args.set.now c.args.text.now order) (sym same) c.in_ok-order.ensures, c.in_ok-judged.ensures.judged)
 
 pub returns-clause-within : goal.returns-clause-within
 returns-clause-within c = λ k d lt.

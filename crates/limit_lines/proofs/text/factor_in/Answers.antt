@@ -1,4 +1,4 @@
-use Rattle.std.proofs.Common.{◌≡◌, List, ℕ, Some, sym, ◌∙◌, ap, subst}
+use Rattle.std.proofs.Common.{List, ℕ, Some, sym, ◌∙◌, ap, subst}
 use Rattle.task_sheet.specs.Orders.{IsPassingOrder}
 use Rattle.assignment.specs.Placings.{IsPlacingOf}
 use Rattle.assignment.specs.declared.placing.Placing.{Placing}

@@ -1,4 +1,4 @@
-use Rattle.std.proofs.Common.{◌+◌, arith}
+use Rattle.std.proofs.Common.{arith}
 use Rattle.limit_lines.proofs.text.push_label.Goals as goal
 
 pub overflow_add-count : goal.overflow_add-count

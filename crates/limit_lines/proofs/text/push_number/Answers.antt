@@ -1,4 +1,4 @@
-use Rattle.std.proofs.Common.{◌<◌, ◌≤◌, length, subst, arith}
+use Rattle.std.proofs.Common.{◌<◌, length, subst, arith}
 use Rattle.task_sheet.specs.Sheet.{task_at}
 use Rattle.task_sheet.proofs.TaskLaws.{valid_at}
 use Rattle.limits.specs.Numbers.{HasNumber}

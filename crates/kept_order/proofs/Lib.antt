@@ -1,0 +1,3 @@
+pub mod KeepsLaws
+pub mod ClimbLaws
+pub mod PartedLaws

@@ -1,0 +1,36 @@
+use Rattle.std.proofs.Common.{◌∙◌, ap, sym, subst}
+use Rattle.std.proofs.lemmas.Bool.{both_ways}
+use Rattle.task_sheet.specs.Indexes.{Indexes, indexes_of}
+use Rattle.task_sheet.specs.Demand.{IsResponseOf}
+use Rattle.task_sheet.proofs.MembersIndexes.{indexes_of-remove}
+use Rattle.kept_order.specs.Keeping.{StandsKept}
+use Rattle.kept_order.proofs.ClimbLaws.{one_more_fails}
+use Rattle.kept_order.proofs.climbing.lowest.Goals as goal
+use Rattle.kept_order.proofs.climbing.lowest.Goals.{then-has+in_default, else-has}
+
+pub returns-in-Some-clause-chosen : goal.returns-in-Some-clause-chosen
+returns-in-Some-clause-chosen c =
+    let rest = ap indexes_of c.without.ensures ∙ indexes_of-remove c.args.left c.loop-task.task in
+    record {
+      member = sym c.has.ensures ∙ c.if-has.true;
+      stands = subst (λ (X : Indexes). StandsKept c.args.set.now c.args.kept.now c.loop-task.task X) rest c.in-Some.ensures.stands;
+      first = c.loop-task.invariant;
+    }
+
+pub returns-in-Some-clause-response : goal.returns-in-Some-clause-response
+returns-in-Some-clause-response c =
+    let rest = ap indexes_of c.without.ensures ∙ indexes_of-remove c.args.left c.loop-task.task in
+    subst (λ (X : Indexes). IsResponseOf c.args.set.now c.loop-task.task X c.in-Some.response) rest c.in-Some.ensures.some
+
+pub loop-task-preserved : goal.loop-task-preserved
+loop-task-preserved c =
+    let U = c.args.set.now in
+    let K = c.args.kept.now in
+    let L = indexes_of c.args.left in
+    let i = c.loop-task.task in
+    elim c.if-has.branch [
+      | then-has+in_default w ↦
+          let rest = ap indexes_of w.without.ensures ∙ indexes_of-remove c.args.left i in
+          one_more_fails U K L i c.loop-task.invariant (λ _. subst (λ (X : Indexes). ¬ StandsKept U K i X) rest w.in_default.ensures.none)
+      | else-has w ↦ one_more_fails U K L i c.loop-task.invariant (λ member. absurd (both_ways c.has.result w.if-has.false (c.has.ensures ∙ member)))
+    ]

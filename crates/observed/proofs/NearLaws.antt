@@ -1,0 +1,187 @@
+-- What is seen of a job is seen in the pieces near it.
+use Rattle.std.proofs.Common.{◌≡◌, ◌∙◌, ℕ, zero, suc, ◌+◌, ◌<◌, ◌≤◌, nat_le, nat_lt, Bool, true, false, cond, List, [], ◌∷◌, take, length, get_or, Option, Some, None, option_map, refl, sym, ap, arith}
+use Rattle.std.specs.List.{find}
+use Rattle.std.specs.Prelude.{if◌then◌else◌}
+use Rattle.std.proofs.Math.Nat.{min-le_left, min-le_right, le-max_left, le-max_right}
+use Rattle.std.proofs.lemmas.Bool.{and_parts, le-leb, leb-true}
+use Rattle.trace_text.specs.declared.rows.TraceJob.{TraceJob}
+use Rattle.observed.specs.Near.{ahead, behind, near, rise_from}
+use Rattle.observed.specs.Seen.{ready_by, seen_job, until_of}
+use Rattle.observed.specs.Shares.{counts, first_name, overlap, share_of, time_in}
+use Rattle.observed.specs.declared.pieces.Piece.{Piece}
+use Rattle.observed.specs.declared.promises.Promise.{Promise}
+use Rattle.observed.specs.declared.shares.Whom.{Whom}
+use Rattle.observed.specs.declared.shares.Whom.TheVariants.{Job, Below, Foreign, Anyone}
+
+-- ---- what lies behind a time
+
+-- from a later time on
+pub behind-behind : (first time : ℕ) (pieces : List Piece) → first ≤ time → behind time (behind first pieces) ≡ behind time pieces
+behind-behind first time [] le = refl
+behind-behind first time (p ∷ pieces) le = go (behind-behind first time pieces le) (nat_le p.stop first) refl
+  where
+    go : behind time (behind first pieces) ≡ behind time pieces → (b : Bool) → nat_le p.stop first ≡ b
+        → behind time (if b then behind first pieces else p ∷ pieces) ≡ (if nat_le p.stop time then behind time pieces else p ∷ pieces)
+    go more true ended =
+        let stop : p.stop ≤ first = leb-true p.stop first ended in
+        rw (le-leb p.stop time (omega (arith, stop, le))) more
+    go more false goes = refl
+
+-- pieces that rise do so behind a time
+lower : (least : ℕ) (pieces : List Piece) → rise_from least pieces ≡ true → rise_from 0 pieces ≡ true
+lower least [] rises = refl
+lower least (p ∷ pieces) rises = rw (le-leb 0 p.start (omega (arith))) (and_parts _ _ rises).1
+
+pub behind-rises : (time : ℕ) (pieces : List Piece) → rise_from 0 pieces ≡ true → rise_from 0 (behind time pieces) ≡ true
+behind-rises time [] rises = refl
+behind-rises time (p ∷ pieces) rises = go (behind-rises time pieces (lower p.start pieces (and_parts _ _ rises).1)) (nat_le p.stop time)
+  where
+    go : rise_from 0 (behind time pieces) ≡ true → (b : Bool) → rise_from 0 (if b then behind time pieces else p ∷ pieces) ≡ true
+    go more true = more
+    go more false = rises
+
+module _ (whom : Whom) (from to : ℕ) where
+  abbrev share : Piece → ℕ
+  share p = share_of whom from to p
+
+  abbrev named : List Piece → Option (List ℕ)
+  named pieces = first_name whom from to pieces
+
+  -- nothing of a piece that ends before, or begins after
+  no_share : (p : Piece) → overlap from to p ≡ 0 → share p ≡ 0
+  no_share p none = go (counts whom p)
+    where
+      go : (b : Bool) → (if b then overlap from to p else 0) ≡ 0
+      go true = none
+      go false = refl
+
+  before : (p : Piece) → p.stop ≤ from → share p ≡ 0
+  before p le = no_share p (omega (arith, le, min-le_left p.stop to, le-max_right p.start from))
+
+  after : (p : Piece) → to ≤ p.start → share p ≡ 0
+  after p le = no_share p (omega (arith, le, min-le_right p.stop to, le-max_left p.start from))
+
+  -- so it adds nothing, and isn't the first
+  adds : (p : Piece) (pieces : List Piece) → share p ≡ 0 → time_in whom from to (p ∷ pieces) ≡ time_in whom from to pieces
+  adds p pieces none = omega (arith, none)
+
+  passed : (p : Piece) (pieces : List Piece) → share p ≡ 0 → named (p ∷ pieces) ≡ named pieces
+  passed p pieces none =
+      ap (λ n. option_map (λ (q : Piece). q.name) (cond (nat_lt 0 n) (Some p) (find (λ q. nat_lt 0 (share q)) pieces))) none
+
+  pub behind-time : (time : ℕ) (pieces : List Piece) → time ≤ from → time_in whom from to (behind time pieces) ≡ time_in whom from to pieces
+  behind-time time [] le = refl
+  behind-time time (p ∷ pieces) le = go (behind-time time pieces le) (nat_le p.stop time) refl
+    where
+      go : time_in whom from to (behind time pieces) ≡ time_in whom from to pieces → (b : Bool) → nat_le p.stop time ≡ b → time_in whom from to (if b then behind time pieces else p ∷ pieces) ≡ time_in whom from to (p ∷ pieces)
+      go more true ended =
+          let stop : p.stop ≤ time = leb-true p.stop time ended in
+          more ∙ sym (adds p pieces (before p (omega (arith, stop, le))))
+      go more false goes = refl
+
+  pub behind-name : (time : ℕ) (pieces : List Piece) → time ≤ from → named (behind time pieces) ≡ named pieces
+  behind-name time [] le = refl
+  behind-name time (p ∷ pieces) le = go (behind-name time pieces le) (nat_le p.stop time) refl
+    where
+      go : named (behind time pieces) ≡ named pieces → (b : Bool) → nat_le p.stop time ≡ b → named (if b then behind time pieces else p ∷ pieces) ≡ named (p ∷ pieces)
+      go more true ended =
+          let stop : p.stop ≤ time = leb-true p.stop time ended in
+          more ∙ sym (passed p pieces (before p (omega (arith, stop, le))))
+      go more false goes = refl
+
+  -- ---- what lies ahead of the end
+
+  -- nothing of pieces that rise from there
+  none_left : (least : ℕ) (pieces : List Piece) → to ≤ least → rise_from least pieces ≡ true → (time_in whom from to pieces ≡ 0) × (named pieces ≡ None)
+  none_left least [] le rises = (refl, refl)
+  none_left least (p ∷ pieces) le rises =
+      let each = and_parts (nat_le least p.start) (rise_from p.start pieces) rises in
+      let start : least ≤ p.start = leb-true least p.start each.0 in
+      let none = after p (omega (arith, le, start)) in
+      let more = none_left p.start pieces (omega (arith, le, start)) each.1 in
+      (adds p pieces none ∙ more.0, passed p pieces none ∙ more.1)
+
+  pub ahead-time : (least : ℕ) (pieces : List Piece) → rise_from least pieces ≡ true → time_in whom from to (ahead to pieces) ≡ time_in whom from to pieces
+  ahead-time least [] rises = refl
+  ahead-time least (p ∷ pieces) rises = go (ahead-time p.start pieces (and_parts (nat_le least p.start) (rise_from p.start pieces) rises).1) (nat_le to p.start) refl
+    where
+      each : (nat_le least p.start ≡ true) × (rise_from p.start pieces ≡ true)
+      each = and_parts (nat_le least p.start) (rise_from p.start pieces) rises
+
+      go : time_in whom from to (ahead to pieces) ≡ time_in whom from to pieces → (b : Bool) → nat_le to p.start ≡ b → time_in whom from to (if b then [] else p ∷ ahead to pieces) ≡ time_in whom from to (p ∷ pieces)
+      go more true over =
+          let start : to ≤ p.start = leb-true to p.start over in
+          sym (adds p pieces (after p start) ∙ (none_left p.start pieces start each.1).0)
+      go more false goes = ap (λ n. share p + n) more
+
+  pub ahead-name : (least : ℕ) (pieces : List Piece) → rise_from least pieces ≡ true → named (ahead to pieces) ≡ named pieces
+  ahead-name least [] rises = refl
+  ahead-name least (p ∷ pieces) rises = go (ahead-name p.start pieces (and_parts (nat_le least p.start) (rise_from p.start pieces) rises).1) (nat_le to p.start) refl
+    where
+      each : (nat_le least p.start ≡ true) × (rise_from p.start pieces ≡ true)
+      each = and_parts (nat_le least p.start) (rise_from p.start pieces) rises
+
+      name : Bool → Option (List ℕ) → Option (List ℕ)
+      name b rest = if b then Some p.name else rest
+
+      split : (b : Bool) (rest : Option Piece) → option_map (λ (q : Piece). q.name) (cond b (Some p) rest) ≡ name b (option_map (λ (q : Piece). q.name) rest)
+      split true rest = refl
+      split false rest = refl
+
+      go : named (ahead to pieces) ≡ named pieces → (b : Bool) → nat_le to p.start ≡ b → named (if b then [] else p ∷ ahead to pieces) ≡ named (p ∷ pieces)
+      go more true over =
+          let start : to ≤ p.start = leb-true to p.start over in
+          sym (passed p pieces (after p start) ∙ (none_left p.start pieces start each.1).1)
+      go more false goes =
+          let here = nat_lt 0 (share p) in
+          let seen = λ (qs : List Piece). find (λ q. nat_lt 0 (share q)) qs in
+          split here (seen (ahead to pieces)) ∙ ap (name here) more ∙ sym (split here (seen pieces))
+
+  -- both, where the pieces rise, or the first alone
+  near-time : (b : Bool) (time : ℕ) (pieces : List Piece) → rise_from 0 pieces ≡ b → time ≤ from → time_in whom from to (near b to (behind time pieces)) ≡ time_in whom from to pieces
+  near-time true time pieces rises le = ahead-time 0 (behind time pieces) (behind-rises time pieces rises) ∙ behind-time time pieces le
+  near-time false time pieces rises le = behind-time time pieces le
+
+  near-name : (b : Bool) (time : ℕ) (pieces : List Piece) → rise_from 0 pieces ≡ b → time ≤ from → named (near b to (behind time pieces)) ≡ named pieces
+  near-name true time pieces rises le = ahead-name 0 (behind time pieces) (behind-rises time pieces rises) ∙ behind-name time pieces le
+  near-name false time pieces rises le = behind-name time pieces le
+
+-- what is seen of a job is seen in the pieces near it
+pub seen-near : (promise : Promise) (level end : ℕ) (pieces : List Piece) (past : List TraceJob) (job : TraceJob)
+    → seen_job promise level end (near (rise_from 0 pieces) (until_of end job) (behind job.arrival pieces)) past job ≡ seen_job promise level end pieces past job
+seen-near promise level end pieces past job =
+    let b = rise_from 0 pieces in
+    let to = until_of end job in
+    let ready = ready_by promise job in
+    let at : job.arrival ≤ job.arrival = omega (arith) in
+    let soon : job.arrival ≤ ready = omega (arith) in
+    rw (
+      near-time (Job (length past)) job.arrival to b job.arrival pieces refl at,
+      near-time (Below level) ready to b job.arrival pieces refl soon,
+      near-name (Below level) ready to b job.arrival pieces refl soon,
+      near-time Foreign ready to b job.arrival pieces refl soon,
+      near-name Foreign ready to b job.arrival pieces refl soon,
+      near-time Anyone ready to b job.arrival pieces refl soon,
+    )
+    refl
+
+-- ---- the first that begins at a time or after it
+
+-- stands past the end of a list of pieces
+abbrev pub no_piece : Piece
+no_piece = record { line = 0; name = []; level = None; job = None; start = 0; stop = 0 }
+
+abbrev pub begins : ℕ → Piece → Bool
+begins time p = nat_le time p.start
+
+pub all-ahead : (time : ℕ) (pieces : List Piece) (d : Piece) → ((k : ℕ) → k < length pieces → begins time (get_or pieces k d) ≡ false) → ahead time pieces ≡ pieces
+all-ahead time [] d none = refl
+all-ahead time (p ∷ pieces) d none =
+    rw (none 0 (omega (arith))) (ap (λ qs. p ∷ qs) (all-ahead time pieces d (λ k lt. none (suc k) (omega (arith, lt)))))
+
+pub some-ahead : (time : ℕ) (pieces : List Piece) (count : ℕ) (d : Piece) → count < length pieces → begins time (get_or pieces count d) ≡ true
+    → ((k : ℕ) → k < count → begins time (get_or pieces k d) ≡ false) → take count pieces ≡ ahead time pieces
+some-ahead time [] count d lt here none = absurd (omega (arith, lt))
+some-ahead time (p ∷ pieces) zero d lt here none = rw here refl
+some-ahead time (p ∷ pieces) (suc count) d lt here none =
+    rw (none 0 (omega (arith))) (ap (λ qs. p ∷ qs) (some-ahead time pieces count d (omega (arith, lt)) here (λ k below. none (suc k) (omega (arith, below)))))

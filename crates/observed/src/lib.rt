@@ -1,0 +1,17 @@
+//! What a trace shows of the jobs of a set's tasks, beside what the set promises of them.
+#![tactic(auto)]
+
+mod end;
+mod near;
+mod observing;
+mod pieces;
+mod promises;
+mod seen;
+mod shares;
+mod sight;
+
+pub use crate::observing::observe;
+pub use crate::pieces::Piece;
+pub use crate::promises::{Promise, promises_of};
+pub use crate::seen::Seen;
+pub use crate::sight::{Observed, Sight, observe_text};

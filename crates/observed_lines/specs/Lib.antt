@@ -1,0 +1,4 @@
+pub mod Breaks
+pub mod Broken
+pub mod Reached
+pub mod Lines

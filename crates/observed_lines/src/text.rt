@@ -1,0 +1,123 @@
+//! What a trace shows: a line for each task, and then the promises that are broken.
+ghost use Rattle.std.specs.Prelude.{◌≡◌, ◌++◌, OnOk, IfOk, string_bytes};
+ghost use Rattle.observed_lines.specs.Lines.{bound_part, cost_part, gap_words, observed_lines, period_part, response_words, task_line, task_lines};
+
+use crate::broken::push_all_broken;
+use crate::reached::{done_of, executed_of, gap_of, jobs_of, response_of};
+use observed::{Promise, Seen};
+use std::alloc::{AllocError, Global};
+
+// The least gap, or `-` for none.
+fn push_gap(text: &mut String, gap: Option<u64>) -> Result<(), AllocError>
+    ensures { OnOk result (string_bytes text.new ≡ string_bytes text.old ++ gap_words gap) }
+{
+    match gap {
+        Some(gap) => write!(text, "{gap}"),
+        None => text.push_str("-"),
+    }
+}
+
+// The greatest response of so many jobs that are done, or `-` of none.
+fn push_response(text: &mut String, done: usize, response: u64) -> Result<(), AllocError>
+    ensures { OnOk result (string_bytes text.new
+        ≡ string_bytes text.old ++ response_words done response) }
+{
+    if done == 0 {
+        return text.push_str("-");
+    }
+    write!(text, "{response}")
+}
+
+// The jobs of a task at a level, their longest execution, and its cost.
+fn push_cost_part(
+    text: &mut String,
+    level: usize,
+    promise: &Promise,
+    seen: &[Seen],
+) -> Result<(), AllocError>
+    ensures { OnOk result (string_bytes text.new
+        ≡ string_bytes text.old ++ cost_part level promise.now seen.now) }
+{
+    let name = promise.name;
+    let jobs = jobs_of(level, seen);
+    let executed = executed_of(level, seen);
+    let cost = promise.cost;
+    write!(text, "task {name} {jobs} {executed} {cost}")
+}
+
+// Their least gap, and its period.
+fn push_period_part(
+    text: &mut String,
+    level: usize,
+    promise: &Promise,
+    seen: &[Seen],
+) -> Result<(), AllocError>
+    ensures { OnOk result (string_bytes text.new
+        ≡ string_bytes text.old ++ period_part level promise.now seen.now) }
+{
+    let period = promise.period;
+    text.push_str(" ")?;
+    push_gap(text, gap_of(level, seen))?;
+    write!(text, " {period}")
+}
+
+// Their greatest response, and its bound.
+fn push_bound_part(
+    text: &mut String,
+    level: usize,
+    promise: &Promise,
+    seen: &[Seen],
+) -> Result<(), AllocError>
+    ensures { OnOk result (string_bytes text.new
+        ≡ string_bytes text.old ++ bound_part level promise.now seen.now) }
+{
+    let bound = promise.bound;
+    text.push_str(" ")?;
+    push_response(text, done_of(level, seen), response_of(level, seen))?;
+    writeln!(text, " {bound}")
+}
+
+// The line of a task at a level.
+fn push_task(
+    text: &mut String,
+    level: usize,
+    promise: &Promise,
+    seen: &[Seen],
+) -> Result<(), AllocError>
+    ensures { OnOk result (string_bytes text.new
+        ≡ string_bytes text.old ++ task_line level promise.now seen.now) }
+{
+    push_cost_part(text, level, promise, seen)?;
+    push_period_part(text, level, promise, seen)?;
+    push_bound_part(text, level, promise, seen)
+}
+
+// A line for each task.
+fn push_tasks(text: &mut String, promises: &[Promise], seen: &[Seen]) -> Result<(), AllocError>
+    ensures { OnOk result (string_bytes text.new
+        ≡ string_bytes text.old ++ task_lines 0 promises.now seen.now) }
+{
+    for (level, promise) in promises.iter().enumerate() {
+        push_task(text, level, promise, seen)?;
+    }
+    Ok(())
+}
+
+/// The lines that say what a trace shows: for each task of these promises, the lowest level first, its name, how many jobs
+/// it has, the longest execution of one and its cost, the least time between two arrivals, `-` where there is none, and
+/// its period, the greatest response, `-` where no job is done, and its bound; then, for each job in its order, the
+/// promises that it breaks by more than the tolerance. Times are in microseconds. The error is want of memory.
+pub fn observed_text(
+    alloc: Global,
+    tolerance: u64,
+    promises: &[Promise],
+    seen: &[Seen],
+) -> Result<String, AllocError>
+    ensures { IfOk result (λ text. string_bytes text
+        ≡ observed_lines tolerance promises.now seen.now) }
+{
+    let mut text = String::new(alloc);
+    push_tasks(&mut text, promises, seen)?;
+    push_all_broken(&mut text, tolerance, seen)?;
+    Ok(text)
+}

@@ -1,0 +1,87 @@
+//! Whether a set asks for more than all of the processor's time.
+
+use std::io::Write;
+use streams::{Held, Watched, WriteFailed};
+use task_sheet::{Sheet, TaskSet};
+
+// How many limbs a number has. The product of 32 periods is below 2^745, and so many costs over them below 2^750.
+const LIMBS: usize = 24;
+
+// The numbers below which a limb is.
+const BASE: u64 = 0x1_0000_0000;
+
+// A number below 2^768: its limbs, the least first.
+#[derive(Clone, Copy)]
+struct Wide {
+    limbs: [u64; LIMBS],
+}
+
+impl Wide {
+    // A number that has one limb.
+    fn small(number: u64) -> Wide {
+        let mut limbs = [0; LIMBS];
+        limbs[0] = number;
+        Wide { limbs }
+    }
+
+    // So many times the number, for a factor of one limb.
+    fn times(mut self, factor: u64) -> Wide {
+        let mut carry = 0;
+        for i in 0..LIMBS {
+            let product = self.limbs[i].wrapping_mul(factor).wrapping_add(carry);
+            self.limbs[i] = product % BASE;
+            carry = product / BASE;
+        }
+        self
+    }
+
+    // The sum of both.
+    fn plus(mut self, other: Wide) -> Wide {
+        let mut carry = 0;
+        for i in 0..LIMBS {
+            let sum = self.limbs[i]
+                .wrapping_add(other.limbs[i])
+                .wrapping_add(carry);
+            self.limbs[i] = sum % BASE;
+            carry = sum / BASE;
+        }
+        self
+    }
+
+    // Whether it is greater than the other.
+    fn is_above(self, other: Wide) -> bool {
+        for i in (0..LIMBS).rev() {
+            if self.limbs[i] != other.limbs[i] {
+                return self.limbs[i] > other.limbs[i];
+            }
+        }
+        false
+    }
+}
+
+// Whether costs over periods come to more than 1, as fractions of one denominator, the product of the periods.
+fn is_overloaded(sheets: &[Sheet]) -> bool {
+    let mut costs = Wide::small(0);
+    let mut periods = Wide::small(1);
+    for sheet in sheets {
+        let own = periods.times(sheet.cost());
+        costs = costs.times(sheet.period()).plus(own);
+        periods = periods.times(sheet.period());
+    }
+    costs.is_above(periods)
+}
+
+/// Writes a note where the costs of a set over their periods come to more than 1. It takes no memory.
+pub fn put_overload<W: Write + Drop>(
+    set: &TaskSet,
+    out: &mut Watched<W>,
+) -> Result<(), WriteFailed> {
+    let mut held = Held::new();
+    if is_overloaded(set.sheets()) {
+        held.put(
+            b"note: the costs over the periods come to more than 1: no order can pass\n",
+            out,
+        )?;
+    }
+    held.send(out)
+}

@@ -1,0 +1,45 @@
+//! Tasks that a set speaks of, or should have, and doesn't have.
+
+use std::io::Write;
+use streams::{Held, Watched, WriteFailed};
+use task_sheet::{Name, TaskSet};
+
+// The note on a name that a task outranks.
+fn put_stranger<W: Write + Drop>(
+    task: &Name,
+    stranger: &Name,
+    held: &mut Held,
+    out: &mut Watched<W>,
+) -> Result<(), WriteFailed> {
+    held.put(b"note: ", out)?;
+    held.put(task.bytes(), out)?;
+    held.put(b" outranks ", out)?;
+    held.put(stranger.bytes(), out)?;
+    held.put(b", which is no task of the set: that binds nothing\n", out)
+}
+
+/// Writes a note for each name that a task outranks and that no task of the set has, by rank, then as written. It takes
+/// no memory.
+pub fn put_strangers<W: Write + Drop>(
+    set: &TaskSet,
+    out: &mut Watched<W>,
+) -> Result<(), WriteFailed> {
+    let mut held = Held::new();
+    for sheet in set.sheets() {
+        for name in sheet.outranks() {
+            if set.find(*name).is_none() {
+                put_stranger(&sheet.name(), name, &mut held, out)?;
+            }
+        }
+    }
+    held.send(out)
+}
+
+/// Writes a note where a set has no task. It takes no memory.
+pub fn put_empty<W: Write + Drop>(set: &TaskSet, out: &mut Watched<W>) -> Result<(), WriteFailed> {
+    let mut held = Held::new();
+    if set.is_empty() {
+        held.put(b"note: the set has no task\n", out)?;
+    }
+    held.send(out)
+}

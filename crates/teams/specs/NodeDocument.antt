@@ -1,0 +1,117 @@
+-- What the node's document says that teams may take.
+use Rattle.std.specs.Prelude.{◌≡◌, ℕ, List, [], ◌∷◌, Bool, true, ◌&&◌, Option, Some, None, option_map, unwrap_or, is_some, Result, Ok, Err, codes, if◌then◌else◌}
+use Rattle.std.specs.Option.{option_or}
+use Rattle.std.specs.List.{list_any}
+use Rattle.std.specs.declared.alloc.Global.{Global}
+use Rattle.std.specs.Prelude.{Vec}
+use Rattle.toml.specs.Data.{Data, Members, no_members, member, get_member, as_table}
+use Rattle.task_sheet.specs.Name.{is_name}
+use Rattle.task_sheet.specs.Sheet.{same_bytes}
+use Rattle.task_sheet.specs.Tree.{number_of}
+use Rattle.task_sheet.specs.ReadsSet.{IsDocument}
+use Rattle.teams.specs.declared.node.Budget.{Budget}
+use Rattle.teams.specs.declared.node.Quantity.{Quantity}
+use Rattle.teams.specs.declared.node.Quantity.TheVariants.{Load, Section}
+use Rattle.teams.specs.declared.node.NodeKey.{NodeKey}
+use Rattle.teams.specs.declared.node.NodeKey.TheVariants.{Team, Limit}
+use Rattle.teams.specs.declared.node.NodeFault.{NodeFault}
+use Rattle.teams.specs.declared.node.NodeFault.TheVariants as fault
+
+-- how a quantity is written
+abbrev pub quantity_word : Quantity → List ℕ
+quantity_word Load = codes "load"
+quantity_word Section = codes "section"
+
+-- how a key of a node's document is written
+abbrev pub key_word : NodeKey → List ℕ
+key_word Team = codes "team"
+key_word (Limit quantity) = quantity_word quantity
+
+-- the text is the word of one of these keys
+abbrev pub is_word_of : List NodeKey → List ℕ → Bool
+is_word_of keys text = list_any (λ k. same_bytes (key_word k) text) keys
+
+-- a table has these keys alone
+abbrev pub only_keys : List NodeKey → Members → Bool
+only_keys keys no_members = true
+only_keys keys (member k d ms) = is_word_of keys k && only_keys keys ms
+
+-- the limit that a value is, where one is there; none where it is no number
+abbrev pub limit_of : Option Data → Option (Option ℕ)
+limit_of None = Some None
+limit_of (Some d) = option_map Some (number_of d)
+
+-- the value at a key is no number
+abbrev pub limit_fault : List ℕ → Quantity → Members → Option NodeFault
+limit_fault team quantity ms =
+    if is_some (limit_of (get_member (quantity_word quantity) ms)) then None
+    else Some (fault.NoNumber team quantity)
+
+-- why a team's table says no budget: its keys, and then its numbers
+abbrev pub table_fault : List ℕ → Members → Option NodeFault
+table_fault team ms =
+    if only_keys (Limit Load ∷ Limit Section ∷ []) ms
+    then option_or (limit_fault team Load ms) (limit_fault team Section ms)
+    else Some (fault.UnknownKey team)
+
+-- the budget that it says
+abbrev pub budget_of : List ℕ → Members → Budget
+budget_of team ms = record {
+  team = team;
+  load = unwrap_or (limit_of (get_member (quantity_word Load) ms)) None;
+  section = unwrap_or (limit_of (get_member (quantity_word Section) ms)) None;
+}
+
+-- why what stands at a name says no budget
+abbrev pub value_fault : List ℕ → Option Members → Option NodeFault
+value_fault team None = Some (fault.NoBudget team)
+value_fault team (Some ms) = table_fault team ms
+
+abbrev pub entry_fault : List ℕ → Data → Option NodeFault
+entry_fault name d = if is_name name then value_fault name (as_table d) else Some fault.BadName
+
+-- the budget that it says
+abbrev pub entry_budget : List ℕ → Data → Budget
+entry_budget name d = budget_of name (unwrap_or (as_table d) no_members)
+
+-- the first fault of a table of budgets, by the names of the teams
+abbrev pub entries_fault : Members → Option NodeFault
+entries_fault no_members = None
+entries_fault (member k d ms) = option_or (entry_fault k d) (entries_fault ms)
+
+-- its budgets
+abbrev pub budgets_of : Members → List Budget
+budgets_of no_members = []
+budgets_of (member k d ms) = entry_budget k d ∷ budgets_of ms
+
+-- the fault of the value at `team`, which may be absent
+abbrev pub teams_fault : Option Data → Option NodeFault
+teams_fault None = None
+teams_fault (Some d) = tables_fault (as_table d)
+  where
+    tables_fault : Option Members → Option NodeFault
+    tables_fault None = Some fault.NoTeams
+    tables_fault (Some ms) = entries_fault ms
+
+-- the first fault of a node's document
+abbrev pub node_fault : Members → Option NodeFault
+node_fault root =
+    if only_keys (Team ∷ []) root then teams_fault (get_member (key_word Team) root)
+    else Some fault.UnknownRoot
+
+-- its budgets
+abbrev pub budgets_at : Option Data → List Budget
+budgets_at None = []
+budgets_at (Some d) = budgets_of (unwrap_or (as_table d) no_members)
+
+abbrev pub budgets_in : Members → List Budget
+budgets_in root = budgets_at (get_member (key_word Team) root)
+
+-- the budgets of the tree, where it has no fault; Syntax: there is no tree; any other fault but want of memory: the
+-- tree's first
+abbrev pub ReadsBudgets : List ℕ → Result (Vec Budget Global) NodeFault → Type 0
+ReadsBudgets text (Ok budgets) =
+    (tree : Members) × IsDocument text tree × (node_fault tree ≡ None) × (budgets.items ≡ budgets_in tree)
+ReadsBudgets text (Err fault.OutOfMemory) = Unit {0}
+ReadsBudgets text (Err fault.Syntax) = (tree : Members) → IsDocument text tree → ⊥
+ReadsBudgets text (Err e) = (tree : Members) × IsDocument text tree × (node_fault tree ≡ Some e)

@@ -1,0 +1,21 @@
+//! Laws of budgets. Each is the contract of a function that does nothing.
+ghost use Rattle.std.specs.Prelude.{◌≡◌, ◌↔◌, ℕ, List, None, Ok};
+ghost use Rattle.task_sheet.specs.declared.read.Document.{Document};
+ghost use Rattle.teams.specs.Budgets.{budget_fault, IsWithin};
+ghost use Rattle.teams.specs.Gathering.{ReadsGathered};
+ghost use Rattle.teams.specs.Owned.{TeamSetData};
+ghost use Rattle.teams.specs.ReadsText.{ReadsBounded};
+ghost use Rattle.teams.specs.declared.node.Budget.{Budget};
+
+/// A budget has no fault exactly where its team has a document, its load in millionths is at most a thousand times the
+/// limit, and its longest shared section is at most the limit.
+pub fn kept_is_within()
+    ensures { (sets : List TeamSetData) (b : Budget)
+        → budget_fault sets b ≡ None ↔ IsWithin sets b }
+{}
+
+/// A set that is read with budgets is the one that its documents are without them.
+pub fn budgets_keep_set()
+    ensures { (document text : List ℕ) (d : Document) → ReadsBounded document text (Ok d)
+        → ReadsGathered text (Ok d) }
+{}

@@ -1,0 +1,260 @@
+//! The node's document: what each team may take.
+ghost use Rattle.std.specs.Prelude.{◌≡◌, ◌≢◌, None, Some, IfOk, IfErr, option_map};
+ghost use Rattle.toml.specs.Data.{get_member};
+ghost use Rattle.toml.specs.View.{view, table_view};
+ghost use Rattle.task_sheet.specs.Tree.{number_of};
+ghost use Rattle.teams.specs.NodeDocument.{budget_of, budgets_in, budgets_of, entries_fault, entry_budget, entry_fault, is_word_of, key_word, limit_of, node_fault, only_keys, ReadsBudgets, table_fault, quantity_word};
+ghost use Rattle.teams.specs.ReadsText.{ReadsNode};
+
+use crate::fault::TeamsFault;
+use std::alloc::{AllocError, Global};
+use task_sheet::Name;
+use thiserror::Error;
+use toml::{Table, Value};
+
+/// What a budget bounds.
+#[derive(Clone, Copy, Debug, PartialEq, Eq)]
+pub enum Quantity {
+    /// `load`: what the team's tasks take of the processor, in thousandths.
+    Load,
+    /// `section`: their longest section on a lock that another team's task uses, too, in microseconds.
+    Section,
+}
+
+impl Quantity {
+    /// The key as it is written in the node's document.
+    pub fn word(self) -> &'static str
+        ensures { result.now ≡ quantity_word self }
+    {
+        match self {
+            Quantity::Load => "load",
+            Quantity::Section => "section",
+        }
+    }
+}
+
+/// What a team may take.
+#[derive(Clone, Copy, Debug)]
+pub struct Budget {
+    pub team: Name,
+    pub load: Option<u64>,
+    pub section: Option<u64>,
+}
+
+/// Why bytes are no node's document.
+#[derive(Clone, Copy, Debug, PartialEq, Eq, Error)]
+pub enum NodeFault {
+    /// The bytes are no TOML document; bytes that are not UTF-8 are none.
+    #[error("the bytes are no document")]
+    Syntax,
+    /// The root has a key but `team`.
+    #[error("a key that is not known")]
+    UnknownRoot,
+    /// `team` of the root is no table.
+    #[error("team is no table")]
+    NoTeams,
+    /// A key of that table is no name.
+    #[error("no name")]
+    BadName,
+    /// What it has for a team is no table.
+    #[error("{team}: no table")]
+    NoBudget { team: Name },
+    /// A team's table has a key that is not known.
+    #[error("{team}: a key that is not known")]
+    UnknownKey { team: Name },
+    /// The value at a team's key is no number: an integer that isn't negative.
+    #[error("{team}: no number at {quantity:?}")]
+    NoNumber { team: Name, quantity: Quantity },
+    /// A growth was refused.
+    #[error("out of memory")]
+    OutOfMemory,
+}
+
+impl From<AllocError> for NodeFault {
+    ghost use Rattle.teams.specs.declared.node.NodeFault.TheVariants.{OutOfMemory};
+
+    ghost from_gives = { λ _ fault. fault ≡ OutOfMemory };
+
+    fn from(_e: AllocError) -> NodeFault {
+        NodeFault::OutOfMemory
+    }
+}
+
+// ---- keys
+
+// The keys of a node's document.
+#[derive(Clone, Copy)]
+pub(crate) enum NodeKey {
+    Team,
+    Limit(Quantity),
+}
+
+impl NodeKey {
+    // The key as it is written.
+    fn word(self) -> &'static str
+        ensures { result.now ≡ key_word self }
+    {
+        match self {
+            NodeKey::Team => "team",
+            NodeKey::Limit(quantity) => quantity.word(),
+        }
+    }
+}
+
+// The text is the word of one of the keys.
+fn is_word_of(keys: &[NodeKey], text: &str) -> bool
+    ensures { result ≡ is_word_of keys.now text.now }
+{
+    keys.iter().any(|key| key.word() == text)
+}
+
+// The table has these keys alone.
+fn only_keys(keys: &[NodeKey], table: &Table) -> bool
+    ensures { result ≡ only_keys keys.now (table_view table.now) }
+{
+    for (key, _) in table.iter() {
+        if !is_word_of(keys, key.as_str()) {
+            return false;
+        }
+    }
+    true
+}
+
+// The value at a key.
+fn value_at<'a>(word: &str, table: &'a Table) -> Option<&'a Value>
+    ensures { option_map (λ v. view v.now) result ≡ get_member word.now (table_view table.now) }
+{
+    table.get(word)
+}
+
+// An integer that is not negative.
+fn number_of(value: &Value) -> Option<u64>
+    ensures { result ≡ number_of (view value.now) }
+{
+    match value.as_integer() {
+        Some(n) if n >= 0 => Some(n as u64),
+        _ => None,
+    }
+}
+
+// ---- a team's table
+
+// The limit at a key, where one is; none where the value there is no number.
+fn limit_at(quantity: Quantity, table: &Table) -> Option<Option<u64>>
+    ensures { result ≡ limit_of (get_member (quantity_word quantity) (table_view table.now)) }
+{
+    match value_at(quantity.word(), table) {
+        Some(value) => match number_of(value) {
+            Some(number) => Some(Some(number)),
+            None => None,
+        },
+        None => Some(None),
+    }
+}
+
+// The budget that a team's table says.
+fn read_table(team: Name, table: &Table) -> Result<Budget, NodeFault>
+    ensures ok { IfOk result (λ b. (table_fault team (table_view table.now) ≡ None)
+        × (b ≡ budget_of team (table_view table.now))) }
+    ensures err { IfErr result (λ e. table_fault team (table_view table.now) ≡ Some e) }
+    ensures tree { IfErr result (λ e. e ≢ NodeFault.Syntax) }
+{
+    let keys = [
+        NodeKey::Limit(Quantity::Load),
+        NodeKey::Limit(Quantity::Section),
+    ];
+    if !only_keys(&keys, table) {
+        return Err(NodeFault::UnknownKey { team });
+    }
+    let quantity = Quantity::Load;
+    let Some(load) = limit_at(quantity, table) else {
+        return Err(NodeFault::NoNumber { team, quantity });
+    };
+    let quantity = Quantity::Section;
+    let Some(section) = limit_at(quantity, table) else {
+        return Err(NodeFault::NoNumber { team, quantity });
+    };
+    Ok(Budget {
+        team,
+        load,
+        section,
+    })
+}
+
+// The budget that stands at a team's name.
+fn read_entry(name: &str, value: &Value) -> Result<Budget, NodeFault>
+    ensures ok { IfOk result (λ b. (entry_fault name.now (view value.now) ≡ None)
+        × (b ≡ entry_budget name.now (view value.now))) }
+    ensures err { IfErr result (λ e. entry_fault name.now (view value.now) ≡ Some e) }
+    ensures tree { IfErr result (λ e. e ≢ NodeFault.Syntax) }
+{
+    let Ok(team) = Name::read(name.as_bytes()) else {
+        return Err(NodeFault::BadName);
+    };
+    match value.as_table() {
+        Some(table) => read_table(team, table),
+        None => Err(NodeFault::NoBudget { team }),
+    }
+}
+
+// ---- the document
+
+// The budgets of a table, by the names of the teams.
+fn read_entries(alloc: Global, table: &Table) -> Result<Vec<Budget>, NodeFault>
+    ensures ok { IfOk result (λ v. (entries_fault (table_view table.now) ≡ None)
+        × (v.items ≡ budgets_of (table_view table.now))) }
+    ensures err { IfErr result (λ e. e ≢ NodeFault.OutOfMemory
+        → entries_fault (table_view table.now) ≡ Some e) }
+    ensures tree { IfErr result (λ e. e ≢ NodeFault.Syntax) }
+{
+    let mut budgets = Vec::new(alloc);
+    for (name, value) in table.iter() {
+        let budget = read_entry(name.as_str(), value)?;
+        budgets.push(budget).map_err(AllocError::from)?;
+    }
+    Ok(budgets)
+}
+
+// The budgets of a document's tree.
+fn read_root(alloc: Global, root: &Table) -> Result<Vec<Budget>, NodeFault>
+    ensures ok { IfOk result (λ v. (node_fault (table_view root.now) ≡ None)
+        × (v.items ≡ budgets_in (table_view root.now))) }
+    ensures err { IfErr result (λ e. e ≢ NodeFault.OutOfMemory
+        → node_fault (table_view root.now) ≡ Some e) }
+    ensures tree { IfErr result (λ e. e ≢ NodeFault.Syntax) }
+{
+    if !only_keys(&[NodeKey::Team], root) {
+        return Err(NodeFault::UnknownRoot);
+    }
+    let Some(value) = value_at("team", root) else {
+        return Ok(Vec::new(alloc));
+    };
+    match value.as_table() {
+        Some(table) => read_entries(alloc, table),
+        None => Err(NodeFault::NoTeams),
+    }
+}
+
+/// What each team may take, by the names of the teams, from the node's document, in TOML: for a team a table
+/// `team.NAME`, with a number at `load`, at `section`, or at both. Refused in this order: `Syntax`; `UnknownRoot`;
+/// `NoTeams`; for each team by its name: `BadName`, `NoBudget`, `UnknownKey`, `NoNumber`.
+pub fn read_budgets(alloc: Global, text: &[u8]) -> Result<Vec<Budget>, NodeFault>
+    ensures { ReadsBudgets text.now result }
+{
+    match toml::table_from_slice(alloc, text) {
+        Ok(root) => read_root(alloc, &root),
+        Err(error) if error.is_memory() => Err(NodeFault::OutOfMemory),
+        Err(_) => Err(NodeFault::Syntax),
+    }
+}
+
+// The same, a refusal as one of a set's text.
+pub(crate) fn read_node(alloc: Global, text: &[u8]) -> Result<Vec<Budget>, TeamsFault>
+    ensures { ReadsNode text.now result }
+{
+    match read_budgets(alloc, text) {
+        Ok(budgets) => Ok(budgets),
+        Err(NodeFault::OutOfMemory) => Err(TeamsFault::OutOfMemory),
+        Err(fault) => Err(TeamsFault::Node { fault }),
+    }
+}

@@ -1,0 +1,106 @@
+-- The lines of a trace, as a simulated run prints them: `START STOP NAME` for a slice, `job NAME ARRIVAL FINISH` for a job,
+-- with `-` where it has no finish. Times are whole microseconds.
+use Rattle.std.specs.Prelude.{ℕ, nat_le, nat_lt, List, [], ◌∷◌, ◌++◌, Option, Some, None, Result, Ok, Err, bytes_eq, codes, if◌then◌else◌}
+use Rattle.std.specs.Option.{option_map}
+use Rattle.lines.specs.Lines.{kept_lines}
+use Rattle.lines.specs.Words.{name_in, number_in, words}
+use Rattle.trace_text.specs.declared.rows.TraceRow.{TraceRow}
+use Rattle.trace_text.specs.declared.rows.TraceRow.TheVariants.{Slice, Job}
+use Rattle.trace_text.specs.declared.rows.TraceSlice.{TraceSlice}
+use Rattle.trace_text.specs.declared.rows.TraceJob.{TraceJob}
+
+-- ---- a line
+-- the slice of two times, of which the first is less, and a name
+abbrev pub slice_of : ℕ → Option ℕ → Option ℕ → Option (List ℕ) → Option TraceRow
+slice_of line None stop name = None
+slice_of line (Some start) None name = None
+slice_of line (Some start) (Some stop) None = None
+slice_of line (Some start) (Some stop) (Some name) =
+    if nat_lt start stop
+    then Some (Slice (record { line = line; start = start; stop = stop; name = name }))
+    else None
+
+-- the slice that the words of a line are
+abbrev pub slice_at : ℕ → (start stop name : List ℕ) → Option TraceRow
+slice_at line start stop name = slice_of line (number_in start) (number_in stop) (name_in name)
+
+-- a finish that isn't before the arrival
+abbrev pub finish_after : ℕ → Option ℕ → Option (Option ℕ)
+finish_after arrival None = None
+finish_after arrival (Some finish) = if nat_le arrival finish then Some (Some finish) else None
+
+-- the finish that a word says: `-`, or a number that isn't before the arrival
+abbrev pub finish_in : ℕ → List ℕ → Option (Option ℕ)
+finish_in arrival word =
+    if bytes_eq word (codes "-") then Some None else finish_after arrival (number_in word)
+
+-- the job of a name and its times
+abbrev pub job_made : ℕ → List ℕ → ℕ → Option (Option ℕ) → Option TraceRow
+job_made line name arrival None = None
+job_made line name arrival (Some finish) =
+    Some (Job (record { line = line; name = name; arrival = arrival; finish = finish }))
+
+-- the job of a name and an arrival, where they are ones
+abbrev pub job_of : ℕ → Option (List ℕ) → Option ℕ → List ℕ → Option TraceRow
+job_of line None arrival finish = None
+job_of line (Some name) None finish = None
+job_of line (Some name) (Some arrival) finish =
+    job_made line name arrival (finish_in arrival finish)
+
+-- the job that the words of a line behind its first are
+abbrev pub job_at : ℕ → (name arrival finish : List ℕ) → Option TraceRow
+job_at line name arrival finish = job_of line (name_in name) (number_in arrival) finish
+
+-- the job of a first word
+abbrev pub job_words : ℕ → (word name arrival finish : List ℕ) → Option TraceRow
+job_words line word name arrival finish =
+    if bytes_eq word (codes "job") then job_at line name arrival finish else None
+
+-- what a line `START STOP NAME` or `job NAME ARRIVAL FINISH` says
+abbrev pub trace_row_in : ℕ → List (List ℕ) → Option TraceRow
+trace_row_in line [] = None
+trace_row_in line (a ∷ []) = None
+trace_row_in line (a ∷ b ∷ []) = None
+trace_row_in line (a ∷ b ∷ c ∷ []) = slice_at line a b c
+trace_row_in line (a ∷ b ∷ c ∷ d ∷ []) = job_words line a b c d
+trace_row_in line (a ∷ b ∷ c ∷ d ∷ more ∷ rest) = None
+
+-- ---- a text
+-- these, and then the rows that are found; a faulty line stays the fault
+abbrev pub before : List TraceRow → Result (List TraceRow) ℕ → Result (List TraceRow) ℕ
+before front (Ok rows) = Ok (front ++ rows)
+before front (Err line) = Err line
+
+-- one row more in front, or the number of the bad line
+abbrev pub with_row : ℕ → Option TraceRow → Result (List TraceRow) ℕ → Result (List TraceRow) ℕ
+with_row line None rest = Err line
+with_row line (Some row) rest = before (row ∷ []) rest
+
+-- the rows of numbered lines, or the number of the first faulty line
+abbrev pub rows_from : List (ℕ × List ℕ) → Result (List TraceRow) ℕ
+rows_from [] = Ok []
+rows_from (l ∷ ls) = with_row l.0 (trace_row_in l.0 (words l.1)) (rows_from ls)
+
+-- the rows of the lines of a text that are not skipped, or the number of the first faulty line
+abbrev pub rows_in : List ℕ → Result (List TraceRow) ℕ
+rows_in text = rows_from (kept_lines text)
+
+-- the slice of a row, in front of others
+abbrev pub with_slice : TraceRow → List TraceSlice → List TraceSlice
+with_slice (Slice slice) slices = slice ∷ slices
+with_slice (Job job) slices = slices
+
+-- the job of a row, in front of others
+abbrev pub with_job : TraceRow → List TraceJob → List TraceJob
+with_job (Slice slice) jobs = jobs
+with_job (Job job) jobs = job ∷ jobs
+
+-- the slices, in the order of the lines
+abbrev pub slices_of : List TraceRow → List TraceSlice
+slices_of [] = []
+slices_of (row ∷ rows) = with_slice row (slices_of rows)
+
+-- the jobs, in the order of the lines
+abbrev pub jobs_of : List TraceRow → List TraceJob
+jobs_of [] = []
+jobs_of (row ∷ rows) = with_job row (jobs_of rows)

@@ -1,0 +1,14 @@
+use Rattle.std.proofs.Common.{ℕ, ◌<◌, ◌≤◌, IfSome, IfNone}
+use Rattle.task_sheet.specs.Sheet.{task_at}
+use Rattle.task_sheet.specs.Indexes.{indexes_of}
+use Rattle.task_sheet.specs.Demand.{limit_of}
+use Rattle.latest_first.specs.LatestFirst.{IsFree}
+use Rattle.worst_lines.proofs.deciding.latest.Given as goal
+
+abbrev pub invariant-loop-task : goal.invariant-loop-task
+invariant-loop-task l = record {
+  inside : IfSome l.found (λ i. i < l.task);
+  free : IfSome l.found (λ i. IsFree l.set (indexes_of l.left) i);
+  longest : IfSome l.found (λ i. (j : ℕ) → j < l.task → IsFree l.set (indexes_of l.left) j → limit_of (task_at l.set j) ≤ limit_of (task_at l.set i));
+  none : IfNone l.found ((j : ℕ) → j < l.task → ¬ IsFree l.set (indexes_of l.left) j);
+}

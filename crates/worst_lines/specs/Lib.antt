@@ -1,0 +1,4 @@
+pub mod Deciding
+pub mod Asked
+pub mod Worst
+pub mod Lines

@@ -1,0 +1,86 @@
+-- The lines of a worst case: a comment that says whose it is and what it comes to, the settings of an order that isn't the
+-- best one, and the release list.
+use Rattle.std.specs.Prelude.{◌≡◌, ℕ, ◌-◌, List, [], ◌++◌, codes, Option, Some, None}
+use Rattle.std.specs.Fmt.{decimal}
+use Rattle.task_sheet.specs.Sheet.{Task, task_at}
+use Rattle.lines.specs.Naming.{name_at}
+use Rattle.assignment.specs.declared.placing.Placing.{Placing}
+use Rattle.assignment.specs.declared.placing.Placing.TheVariants.{Best, Stuck}
+use Rattle.ceiling_kernel.specs.Releases.{release_at}
+use Rattle.judge.specs.Judgements.{AllJudged, order_judged}
+use Rattle.judge.specs.declared.judging.JudgedTask.{JudgedTask}
+use Rattle.miss.specs.declared.reaching.Reached.{Reached}
+use Rattle.miss.specs.declared.reaching.Reached.TheVariants as reached
+use Rattle.miss.specs.declared.reaching.WorstRun.{WorstRun}
+use Rattle.miss.specs.declared.shown.NoRun.{NoRun}
+use Rattle.miss.specs.declared.shown.NoRun.TheVariants as why
+use Rattle.miss.specs.declared.shown.Shown.{Shown}
+use Rattle.miss.specs.declared.shown.Shown.TheVariants as shown
+use Rattle.release_list.specs.Text.{list_lines}
+use Rattle.settings.specs.Settings.{settings_from}
+use Rattle.worst_lines.specs.Worst.{IsLookedAtIn, IsWorstOf, chosen}
+use Rattle.worst_lines.specs.declared.worst.Worst.{Worst}
+use Rattle.worst_lines.specs.declared.worst.Worst.TheVariants.{Comes, Fails}
+
+-- how long after its arrival a job is done, or `-` where it isn't
+abbrev pub response_words : ℕ → Option ℕ → List ℕ
+response_words arrival (Some finish) = decimal (finish - arrival)
+response_words arrival None = codes "-"
+
+-- what the job of a worst case came to, beside its bound
+abbrev pub comes_words : ℕ → WorstRun → List ℕ
+comes_words bound run =
+    response_words (release_at run.releases.items run.job).time run.finish ++ codes " of "
+    ++ decimal bound
+
+-- why there is no run
+abbrev pub reason_words : List Task → NoRun → List ℕ
+reason_words U (why.MustOutrank other) = codes "must-outrank " ++ name_at U other
+reason_words U why.TooMany = codes "too-many-releases"
+reason_words U (why.Below above) = codes "below " ++ name_at U above
+reason_words U why.EndsInside = codes "ends-inside-a-section"
+reason_words U why.WithinTick = codes "within-a-tick"
+
+-- the settings of an order, which a list gives where it isn't the set's best one
+abbrev pub front_of : List Task → Placing → List ℕ → List ℕ
+front_of U (Best places) order = []
+front_of U (Stuck left) order = settings_from U 1 order
+
+-- the line of comment
+abbrev pub comment : List Task → ℕ → List ℕ → List ℕ
+comment U task words = codes "# " ++ name_at U task ++ codes " " ++ words ++ codes "\n"
+
+-- what is printed of how the worst case of a task went
+abbrev pub reached_lines : List Task → List ℕ → JudgedTask → ℕ → Reached → List ℕ
+reached_lines U front j bound (reached.Ran run) =
+    comment U j.task (comes_words bound run) ++ front ++ list_lines run.until run.releases.items
+reached_lines U front j bound reached.TooMany = comment U j.task (codes "too-many-releases")
+reached_lines U front j bound reached.Stopped = comment U j.task (codes "below-a-miss")
+
+-- what is printed of a task that may not stand in its place; a task that stands isn't such a one
+abbrev pub shown_lines : List Task → List ℕ → JudgedTask → Shown → List ℕ
+shown_lines U front j (shown.Misses m) =
+    comment U j.task (codes "misses " ++ decimal (task_at U j.task).deadline) ++ front
+    ++ list_lines m.until m.releases.items
+shown_lines U front j (shown.NoRun reason) = comment U j.task (reason_words U reason)
+shown_lines U front j shown.Stands = []
+
+-- what is printed of a worst case
+abbrev pub worst_lines : List Task → List ℕ → JudgedTask → Worst → List ℕ
+worst_lines U front j (Comes bound reached) = reached_lines U front j bound reached
+worst_lines U front j (Fails shown) = shown_lines U front j shown
+
+-- a text is what is printed of the worst case of a task that was chosen; of a set without tasks the list of no releases
+abbrev pub AreLinesOf : List Task → Placing → List ℕ → Option JudgedTask → List ℕ → Type 0
+AreLinesOf U placing order None text = text ≡ list_lines 0 []
+AreLinesOf U placing order (Some j) text =
+    (worst : Worst) × IsWorstOf U order j worst
+    × (text ≡ worst_lines U (front_of U placing order) j worst)
+
+-- the same of the one that is asked about, in the order in which a set is looked at
+pub record AreWorstLines (U : List Task) (placing : Placing) (asked : Option ℕ) (text : List ℕ)
+    : Type 0 where
+  pub judged : List JudgedTask
+  pub order : IsLookedAtIn U placing (order_judged judged)
+  pub each : AllJudged U judged
+  pub lines : AreLinesOf U placing (order_judged judged) (chosen U placing asked judged) text

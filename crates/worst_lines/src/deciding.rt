@@ -1,0 +1,97 @@
+//! The order in which a refused set is looked at.
+ghost use Rattle.std.specs.Prelude.{◌≡◌, ◌↔◌, ◌<◌, ℕ, length, IfOk, IfSome, IfNone, IsTrue, IsFalse};
+ghost use Rattle.task_sheet.specs.TaskSet.{IsTaskSet};
+ghost use Rattle.task_sheet.specs.Indexes.{indexes_of, IsPart};
+ghost use Rattle.task_sheet.specs.Orders.{all_of};
+ghost use Rattle.latest_first.specs.LatestFirst.{IsFree, IsLatest};
+ghost use Rattle.ceilings.specs.IsTableOf.{IsTableOf};
+ghost use Rattle.assignment.specs.Longer.{is_longer};
+ghost use Rattle.worst_lines.specs.Deciding.{IsDeciding, IsNext};
+
+use assignment::least_over;
+use ceilings::LockTable;
+use std::alloc::{AllocError, Global};
+use task_sheet::{Members, TaskSet};
+
+// Whether a task is left, and need not stand above another one that is.
+fn is_free(set: &TaskSet, table: &LockTable, left: Members, task: usize) -> bool
+    requires table { IsTableOf set.now table.now }
+    requires task { task < length set.now }
+    ensures { IsTrue result ↔ IsFree set.now (indexes_of left) task }
+{
+    left.has(task) && least_over(set, table, task, left.without(task)).is_none()
+}
+
+// Whether a task has a longer limit than the one that was found, or is the first.
+fn is_longer(set: &TaskSet, found: Option<usize>, task: usize) -> bool
+    requires task { task < length set.now }
+    requires found { IfSome found (λ other. other < length set.now) }
+    ensures { result ≡ is_longer set.now found task }
+{
+    let sheets = set.sheets();
+    match found {
+        Some(other) => sheets[other].limit() < sheets[task].limit(),
+        None => true,
+    }
+}
+
+// Of the tasks that are left and need not stand above another of them the first with the longest limit.
+fn latest(set: &TaskSet, table: &LockTable, left: Members) -> Option<usize>
+    requires table { IsTableOf set.now table.now }
+    requires part { IsPart (indexes_of left) (all_of set.now) }
+    ensures some { IfSome result (IsLatest set.now (indexes_of left)) }
+    ensures none { IfNone result ((j : ℕ) → ¬ IsFree set.now (indexes_of left) j) }
+{
+    let mut found = None;
+    for task in 0..set.sheets().len() {
+        if is_free(set, table, left, task) && is_longer(set, found, task) {
+            found = Some(task);
+        }
+    }
+    found
+}
+
+// The first task that is left.
+fn first_left(set: &TaskSet, left: Members) -> Option<usize>
+    requires part { IsPart (indexes_of left) (all_of set.now) }
+    ensures some { IfSome result (λ task. IsTrue (indexes_of left task)) }
+    ensures none { IfNone result ((j : ℕ) → IsFalse (indexes_of left j)) }
+{
+    for task in 0..set.sheets().len() {
+        if left.has(task) {
+            return Some(task);
+        }
+    }
+    None
+}
+
+// Of the tasks that are left one that may be the lowest; none where none is left.
+fn next(set: &TaskSet, table: &LockTable, left: Members) -> Option<usize>
+    requires table { IsTableOf set.now table.now }
+    requires part { IsPart (indexes_of left) (all_of set.now) }
+    ensures some { IfSome result (IsNext set.now (indexes_of left)) }
+    ensures none { IfNone result ((j : ℕ) → IsFalse (indexes_of left j)) }
+{
+    match latest(set, table, left) {
+        Some(task) => Some(task),
+        None => first_left(set, left),
+    }
+}
+
+/// An order of a set that decides, the lowest task first. The error is want of memory; the table is that of the set.
+pub(crate) fn deciding_order(
+    alloc: Global,
+    set: &TaskSet,
+    table: &LockTable,
+) -> Result<Vec<usize>, AllocError>
+    requires { IsTableOf set.now table.now }
+    ensures { IfOk result (λ order. IsDeciding set.now order.items) }
+{
+    let mut left = Members::all(set.sheets().len());
+    let mut order = Vec::with_capacity(alloc, left.len())?;
+    while let Some(task) = next(set, table, left) {
+        left = left.without(task);
+        order.push(task)?;
+    }
+    Ok(order)
+}

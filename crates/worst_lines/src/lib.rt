@@ -1,0 +1,12 @@
+//! The worst case of a task as a release list: of an admitted set how long its job takes there, of a refused one the run in
+//! which it misses its deadline, or why there is none.
+#![tactic(auto)]
+
+mod asked;
+mod deciding;
+pub mod laws;
+mod text;
+mod worst;
+
+pub use crate::text::worst_text;
+pub use crate::worst::Worst;

@@ -1,0 +1,312 @@
+//! The lines of a worst case.
+ghost use Rattle.std.specs.Prelude.{◌≡◌, ◌<◌, ◌++◌, length, codes, IfOk, IfSome, OnOk, string_bytes};
+ghost use Rattle.std.specs.Fmt.{decimal};
+ghost use Rattle.task_sheet.specs.Sheet.{task_at};
+ghost use Rattle.task_sheet.specs.Orders.{IsOrder};
+ghost use Rattle.ceilings.specs.IsTableOf.{IsTableOf};
+ghost use Rattle.assignment.specs.Placings.{IsPlacingOf, tasks_of_places};
+ghost use Rattle.ceiling_kernel.specs.Releases.{release_at};
+ghost use Rattle.release_list.specs.Text.{list_lines};
+ghost use Rattle.settings.specs.Settings.{settings_from};
+ghost use Rattle.worst_lines.specs.Worst.{IsLookedAtIn};
+ghost use Rattle.worst_lines.specs.Lines.{AreLinesOf, AreWorstLines, comes_words, comment, front_of, reached_lines, reason_words, response_words, shown_lines, worst_lines};
+
+use crate::asked::chosen;
+use crate::deciding::deciding_order;
+use crate::worst::{Worst, worst_of};
+use assignment::{Place, Placing, tasks_of_places};
+use ceiling_kernel::Release;
+use ceilings::LockTable;
+use judge::{JudgedTask, judge_order};
+use lines::push_name;
+use miss::{NoRun, Reached, Shown, WorstRun};
+use release_list::list_text;
+use settings::settings_text;
+use std::alloc::{AllocError, Global};
+use task_sheet::TaskSet;
+
+// How long after its arrival a job is done, or `-` where it isn't.
+fn push_response(text: &mut String, arrival: u64, finish: Option<u64>) -> Result<(), AllocError>
+    ensures { OnOk result (string_bytes text.new ≡ string_bytes text.old
+        ++ response_words arrival finish) }
+{
+    match finish {
+        Some(finish) => {
+            let response = finish.saturating_sub(arrival);
+            write!(text, "{response}")
+        }
+        None => text.push_str("-"),
+    }
+}
+
+// When the release at a place arrives.
+fn arrival_of(releases: &[Release], place: usize) -> u64
+    ensures { result ≡ (release_at releases.now place).time }
+{
+    match releases.get(place) {
+        Some(release) => release.time,
+        None => 0,
+    }
+}
+
+// What the job of a worst case came to.
+fn comes_text(alloc: Global, bound: u64, run: &WorstRun) -> Result<String, AllocError>
+    ensures { IfOk result (λ text. string_bytes text ≡ comes_words bound run.now) }
+{
+    let mut text = String::new(alloc);
+    push_response(&mut text, arrival_of(&run.releases, run.job), run.finish)?;
+    write!(text, " of {bound}")?;
+    Ok(text)
+}
+
+// Why there is no run.
+fn reason_text(alloc: Global, set: &TaskSet, reason: NoRun) -> Result<String, AllocError>
+    ensures { IfOk result (λ text. string_bytes text ≡ reason_words set.now reason) }
+{
+    let mut text = String::new(alloc);
+    match reason {
+        NoRun::MustOutrank { other } => {
+            text.push_str("must-outrank ")?;
+            push_name(&mut text, set, other)?;
+        }
+        NoRun::TooMany => text.push_str("too-many-releases")?,
+        NoRun::Below { above } => {
+            text.push_str("below ")?;
+            push_name(&mut text, set, above)?;
+        }
+        NoRun::EndsInside => text.push_str("ends-inside-a-section")?,
+        NoRun::WithinTick => text.push_str("within-a-tick")?,
+    }
+    Ok(text)
+}
+
+// The line of comment.
+fn comment_text(
+    alloc: Global,
+    set: &TaskSet,
+    task: usize,
+    words: &str,
+) -> Result<String, AllocError>
+    ensures { IfOk result (λ text. string_bytes text ≡ comment set.now task words.now) }
+{
+    let mut text = String::from_str(alloc, "# ")?;
+    push_name(&mut text, set, task)?;
+    text.push_str(" ")?;
+    text.push_str(words)?;
+    text.push_str("\n")?;
+    Ok(text)
+}
+
+// A line of comment, and a list behind what stands in front of it.
+fn commented_list(
+    alloc: Global,
+    set: &TaskSet,
+    task: usize,
+    words: &str,
+    front: &str,
+    until: u64,
+    releases: &[Release],
+) -> Result<String, AllocError>
+    ensures { IfOk result (λ text. string_bytes text
+        ≡ comment set.now task words.now ++ front.now ++ list_lines until releases.now) }
+{
+    let mut text = comment_text(alloc, set, task, words)?;
+    text.push_str(front)?;
+    let list = list_text(alloc, until, releases)?;
+    text.push_str(list.as_str())?;
+    Ok(text)
+}
+
+// What is printed of how the worst case of a task went.
+fn reached_text(
+    alloc: Global,
+    set: &TaskSet,
+    front: &str,
+    entry: JudgedTask,
+    bound: u64,
+    reached: &Reached,
+) -> Result<String, AllocError>
+    ensures { IfOk result (λ text. string_bytes text
+        ≡ reached_lines set.now front.now entry bound reached.now) }
+{
+    match reached {
+        Reached::Ran(run) => {
+            let words = comes_text(alloc, bound, run)?;
+            let words = words.as_str();
+            commented_list(
+                alloc,
+                set,
+                entry.task,
+                words,
+                front,
+                run.until,
+                &run.releases,
+            )
+        }
+        Reached::TooMany => comment_text(alloc, set, entry.task, "too-many-releases"),
+        Reached::Stopped => comment_text(alloc, set, entry.task, "below-a-miss"),
+    }
+}
+
+// That a task misses its deadline.
+fn misses_text(alloc: Global, set: &TaskSet, task: usize) -> Result<String, AllocError>
+    requires { task < length set.now }
+    ensures { IfOk result (λ text. string_bytes text
+        ≡ codes "misses " ++ decimal (task_at set.now task).deadline) }
+{
+    let deadline = set.sheets()[task].deadline();
+    format!(in alloc; "misses {deadline}")
+}
+
+// What is printed of a task that may not stand in its place.
+fn shown_text(
+    alloc: Global,
+    set: &TaskSet,
+    front: &str,
+    entry: JudgedTask,
+    shown: &Shown,
+) -> Result<String, AllocError>
+    requires { entry.task < length set.now }
+    ensures { IfOk result (λ text. string_bytes text
+        ≡ shown_lines set.now front.now entry shown.now) }
+{
+    match shown {
+        Shown::Misses(miss) => {
+            let words = misses_text(alloc, set, entry.task)?;
+            let words = words.as_str();
+            commented_list(
+                alloc,
+                set,
+                entry.task,
+                words,
+                front,
+                miss.until,
+                &miss.releases,
+            )
+        }
+        Shown::NoRun(reason) => {
+            let words = reason_text(alloc, set, *reason)?;
+            comment_text(alloc, set, entry.task, words.as_str())
+        }
+        Shown::Stands => Ok(String::new(alloc)),
+    }
+}
+
+// What is printed of a worst case.
+fn lines_text(
+    alloc: Global,
+    set: &TaskSet,
+    front: &str,
+    entry: JudgedTask,
+    worst: &Worst,
+) -> Result<String, AllocError>
+    requires { entry.task < length set.now }
+    ensures { IfOk result (λ text. string_bytes text
+        ≡ worst_lines set.now front.now entry worst.now) }
+{
+    match worst {
+        Worst::Comes { bound, reached } => {
+            reached_text(alloc, set, front, entry, *bound, reached)
+        }
+        Worst::Fails(shown) => shown_text(alloc, set, front, entry, shown),
+    }
+}
+
+// The places of an order, whose responses don't matter.
+fn places_of(alloc: Global, order: &[usize]) -> Result<Vec<Place>, AllocError>
+    ensures { IfOk result (λ places. tasks_of_places places.items ≡ order.now) }
+{
+    let mut places = Vec::with_capacity(alloc, order.len())?;
+    for task in order {
+        places.push(Place {
+            task: *task,
+            response: 0,
+        })?;
+    }
+    Ok(places)
+}
+
+// The settings of an order that decides.
+fn settings_of(alloc: Global, set: &TaskSet, order: &[usize]) -> Result<String, AllocError>
+    requires { IsOrder set.now order.now }
+    ensures { IfOk result (λ text. string_bytes text ≡ settings_from set.now 1 order.now) }
+{
+    let places = places_of(alloc, order)?;
+    settings_text(alloc, set, 1, &places)
+}
+
+// The settings of an order, where it isn't the set's best one.
+fn front_text(
+    alloc: Global,
+    set: &TaskSet,
+    placing: &Placing,
+    order: &[usize],
+) -> Result<String, AllocError>
+    requires { IsOrder set.now order.now }
+    ensures { IfOk result (λ text. string_bytes text ≡ front_of set.now placing.now order.now) }
+{
+    match placing {
+        Placing::Best(_) => Ok(String::new(alloc)),
+        Placing::Stuck(_) => settings_of(alloc, set, order),
+    }
+}
+
+// The order in which a set is looked at.
+fn order_of(
+    alloc: Global,
+    set: &TaskSet,
+    table: &LockTable,
+    placing: &Placing,
+) -> Result<Vec<usize>, AllocError>
+    requires table { IsTableOf set.now table.now }
+    requires placing { IsPlacingOf set.now placing.now }
+    ensures looked { IfOk result (λ order. IsLookedAtIn set.now placing.now order.items) }
+    ensures order { IfOk result (λ order. IsOrder set.now order.items) }
+{
+    match placing {
+        Placing::Best(places) => tasks_of_places(alloc, places),
+        Placing::Stuck(_) => deciding_order(alloc, set, table),
+    }
+}
+
+// What is printed of the task of an order that was chosen.
+fn chosen_text(
+    alloc: Global,
+    set: &TaskSet,
+    placing: &Placing,
+    order: &[usize],
+    chosen: Option<JudgedTask>,
+) -> Result<String, AllocError>
+    requires order { IsOrder set.now order.now }
+    requires chosen { IfSome chosen (λ j. j.task < length set.now) }
+    ensures { IfOk result (λ text. AreLinesOf set.now placing.now order.now chosen
+        (string_bytes text)) }
+{
+    match chosen {
+        Some(entry) => {
+            let front = front_text(alloc, set, placing, order)?;
+            let worst = worst_of(alloc, set, order, entry)?;
+            lines_text(alloc, set, front.as_str(), entry, &worst)
+        }
+        None => list_text(alloc, 0, &[]),
+    }
+}
+
+/// What is printed of a task's worst case: in a set's best order that of the task that is asked about, or of the one of least
+/// slack; of a refused set in an order that decides that of the task that is asked about, or of the highest one that doesn't
+/// meet its deadline there. The error is want of memory.
+pub fn worst_text(
+    alloc: Global,
+    set: &TaskSet,
+    placing: &Placing,
+    asked: Option<usize>,
+) -> Result<String, AllocError>
+    requires { IsPlacingOf set.now placing.now }
+    ensures { IfOk result (λ text. AreWorstLines set.now placing.now asked (string_bytes text)) }
+{
+    let table = LockTable::new(alloc, set)?;
+    let order = order_of(alloc, set, &table, placing)?;
+    let judged = judge_order(alloc, set, &table, &order)?;
+    let chosen = chosen(set, placing, asked, &judged);
+    chosen_text(alloc, set, placing, &order, chosen)
+}

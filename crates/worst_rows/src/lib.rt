@@ -1,0 +1,5 @@
+//! Worst cases, worked out by hand, as tests.
+#![tactic(auto)]
+
+#[cfg(test)]
+mod shown;

@@ -1,0 +1,121 @@
+// Chromium without a window, over the DevTools protocol.
+import { spawn } from 'child_process';
+import { mkdtempSync, rmSync, writeFileSync } from 'fs';
+import { tmpdir } from 'os';
+import { join } from 'path';
+import { Hand } from './hand.mjs';
+
+const WORDS = ['--headless=new', '--no-sandbox', '--disable-gpu', '--remote-debugging-pipe'];
+const CODES = { Tab: 9, Enter: 13, Escape: 27, End: 35, Home: 36, ArrowLeft: 37, ArrowUp: 38,
+  ArrowRight: 39, ArrowDown: 40, Backspace: 8, ' ': 32 };
+const EVENTS = { move: 'mouseMoved', drag: 'mouseMoved', down: 'mousePressed',
+  up: 'mouseReleased' };
+const TOUCHES = { down: 'touchStart', drag: 'touchMove', up: 'touchEnd' };
+
+export class Chromium extends Hand {
+  static async started(program) {
+    const it = new Chromium();
+    it.room = mkdtempSync(join(tmpdir(), 'page-'));
+    it.process = spawn(program, [...WORDS, `--user-data-dir=${it.room}/profile`, 'about:blank'],
+      { stdio: ['ignore', 'ignore', 'ignore', 'pipe', 'pipe'] });
+    it.listen();
+    const { targetId } = await it.send('Target.createTarget', { url: 'about:blank' });
+    it.session = (await it.send('Target.attachToTarget', { targetId, flatten: true })).sessionId;
+    for (const domain of ['Runtime', 'Page', 'DOM', 'Accessibility'])
+      await it.send(`${domain}.enable`);
+    await it.send('Browser.setDownloadBehavior', { behavior: 'allow', downloadPath: it.room });
+    return it;
+  }
+  // Messages end with a byte 0, on two pipes.
+  listen() {
+    Object.assign(this, { waiting: new Map(), complaints: [], heard: '', number: 0 });
+    this.process.stdio[4].setEncoding('utf8').on('data', data => {
+      const messages = (this.heard + data).split('\0');
+      this.heard = messages.pop();
+      for (const it of messages) this.take(JSON.parse(it));
+    });
+    this.process.on('exit', () => {
+      for (const it of this.waiting.values()) it.reject(Error('the browser ended'));
+    });
+  }
+  take({ id, result, error, method, params }) {
+    if (method === 'Runtime.exceptionThrown')
+      this.complaints.push(params.exceptionDetails.exception?.description ??
+        params.exceptionDetails.text);
+    if (method === 'Runtime.consoleAPICalled' && params.type === 'error')
+      this.complaints.push(params.args.map(it => it.description ?? it.value).join(' '));
+    const it = this.waiting.get(id);
+    this.waiting.delete(id);
+    if (it) error ? it.reject(Error(error.message)) : it.resolve(result);
+  }
+  send(method, params = {}) {
+    return new Promise((resolve, reject) => {
+      this.waiting.set(++this.number, { resolve, reject });
+      this.process.stdio[3].write(
+        JSON.stringify({ id: this.number, method, params, sessionId: this.session }) + '\0');
+    });
+  }
+  async ended() {
+    this.process.kill();
+    await new Promise(it => this.process.exitCode === null && this.process.signalCode === null ?
+      this.process.on('exit', it) : it());
+    rmSync(this.room, { recursive: true, force: true, maxRetries: 5 });
+  }
+
+  async evaluate(expression) {
+    const { result, exceptionDetails } =
+      await this.send('Runtime.evaluate', { expression, awaitPromise: true, returnByValue: true });
+    if (exceptionDetails)
+      throw Error(exceptionDetails.exception?.description ?? exceptionDetails.text);
+    return result.value;
+  }
+  navigate(url) {
+    return this.send('Page.navigate', { url });
+  }
+  async looks(width, height, scheme) {
+    await this.send('Emulation.setEmulatedMedia',
+      { features: [{ name: 'prefers-color-scheme', value: scheme }] });
+    await this.send('Emulation.setDeviceMetricsOverride',
+      { width, height, deviceScaleFactor: 1, mobile: width < 500 });
+  }
+  async picture(file, is_whole) {
+    const clip = is_whole && {
+      x: 0, y: 0, width: await this.evaluate('innerWidth'),
+      height: await this.evaluate('document.documentElement.scrollHeight'), scale: 1 };
+    const { data } = await this.send(
+      'Page.captureScreenshot', clip ? { captureBeyondViewport: true, clip } : {});
+    writeFileSync(file, Buffer.from(data, 'base64'));
+  }
+
+  mouse(kind, [x, y]) {
+    const is_held = kind === 'drag' || kind === 'down';
+    return this.send('Input.dispatchMouseEvent',
+      { type: EVENTS[kind], x, y, button: kind === 'move' ? 'none' : 'left',
+      buttons: is_held ? 1 : 0, clickCount: 1 });
+  }
+  finger(kind, [x, y]) {
+    return this.send('Input.dispatchTouchEvent',
+      { type: TOUCHES[kind], touchPoints: kind === 'up' ? [] : [{ x, y }] });
+  }
+  has_fingers(enabled) {
+    return this.send('Emulation.setTouchEmulationEnabled', { enabled });
+  }
+  async give_file(selector, path) {
+    const { root } = await this.send('DOM.getDocument');
+    const { nodeId } = await this.send('DOM.querySelector', { nodeId: root.nodeId, selector });
+    await this.send('DOM.setFileInputFiles', { nodeId, files: [path] });
+  }
+  async press(key, { ctrl = false, shift = false, alt = false } = {}) {
+    const modifiers = (alt ? 1 : 0) + (ctrl ? 2 : 0) + (shift ? 8 : 0);
+    const letter = key.length === 1 && !ctrl;
+    const code = CODES[key] ?? key.toUpperCase().charCodeAt(0);
+    const text = key === 'Enter' ? '\r' : letter ? key : undefined;
+    const commands = ctrl && key === 'a' ? ['selectAll'] : [];
+    await this.send('Input.dispatchKeyEvent',
+      { type: text ? 'keyDown' : 'rawKeyDown', key,
+      code: key.length === 1 ? `Key${key.toUpperCase()}` : key, text, modifiers,
+      windowsVirtualKeyCode: code, commands });
+    await this.send('Input.dispatchKeyEvent',
+      { type: 'keyUp', key, modifiers, windowsVirtualKeyCode: code });
+  }
+}
