@@ -17,6 +17,7 @@ import { delays } from './driving/delays.mjs';
 import { baseline, files, kept_baselines } from './driving/keeping.mjs';
 import { keys, looks, names } from './driving/looking.mjs';
 import { slices, the_run } from './driving/running.mjs';
+import { tracing } from './driving/tracing.mjs';
 import { skipping, troubles } from './driving/troubles.mjs';
 
 const [count = '100', seed = String(Date.now() % 1000000)] = process.argv.slice(2);
@@ -36,7 +37,7 @@ try {
   const in_chromium = is_firefox ? [] : [names, skipping];
   const scenes = [the_table, moving, preference, sorting, sections, other_forms, grips,
     all_execution, conflicts, mending, baseline, kept_baselines, judging, teams, files, the_run,
-    slices, keys, looks, delays, ...in_chromium];
+    slices, tracing, keys, looks, delays, ...in_chromium];
   for (const scene of scenes.filter(it => !SCENES || SCENES.split(',').includes(it.name))) {
     const before = tally.failed;
     try {

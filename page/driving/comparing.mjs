@@ -79,7 +79,7 @@ export function compare_set(what, set, seen) {
       undefined);
   const kind = wanted.admit.text.split(/\s/)[0];
   kinds[kind] = (kinds[kind] ?? 0) + 1;
-  expect(Object.keys(answers).every(it => wanted[it] || ['play', 'judge'].includes(it)),
+  expect(Object.keys(answers).every(it => wanted[it] || ['play', 'judge', 'observe'].includes(it)),
     `${what}: more answers than wanted: ${Object.keys(answers)}`);
   equal(shown.settings, wanted.settings.status === 0 ? wanted.settings.text : '',
     `${what}: settings to copy`);

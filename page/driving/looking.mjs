@@ -21,7 +21,7 @@ export async function keys() {
     reached.add(id);
   }
   for (const id of ['open', 'save', 'share', 'examples', 'add', 'set', 'pin', 'until', 'larger',
-    'picture', 'copy', 'settings', 'certificate', 'lines', 'judged', 'fill'])
+    'picture', 'copy', 'settings', 'certificate', 'lines', 'judged', 'fill', 'trace', 'fill-trace'])
     expect(reached.has(id), `Tab reaches ${id}`);
   expect(opened, 'Enter opens the parts of a bound');
 }

@@ -128,3 +128,25 @@ export function read_play({ text, status, told }) {
   const version = Number(lines[at].split(' ')[1]);
   return { refused: null, replies: lines.slice(0, at), version, levels };
 }
+
+// `observe`: what a trace shows of each task beside what is promised, and each broken promise.
+function read_seen([, name, jobs, ...words]) {
+  const [executed, cost, gap, period, response, bound] = words.map(number);
+  return { name, jobs: Number(jobs), executed, cost, gap, period, response, bound };
+}
+// `KIND NAME AT`, and as the kind has them a time, what was promised, and by whom.
+function read_break([kind, name, time, value, ...words]) {
+  const after = word => words[words.indexOf(word) + 1];
+  return { kind, name, time: Number(time), value: number(value),
+    promised: words[0] === 'of' ? Number(words[1]) : null,
+    by: words.includes('by') ? after('by') : null };
+}
+export function read_observe({ text, status, told }) {
+  if (status !== 0 && status !== 3)
+    return { refused: sentence_of({ text, told }, 'trace'), rows: [], breaks: [] };
+  const lines = lines_of(text).map(it => it.split(' '));
+  if (lines[0]?.[0] === 'infeasible')
+    return { refused: 'No order passes, so a node has nothing to keep to.', rows: [], breaks: [] };
+  return { refused: null, rows: lines.filter(it => it[0] === 'task').map(read_seen),
+    breaks: lines.filter(it => it[0] !== 'task').map(read_break) };
+}

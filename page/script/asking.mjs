@@ -6,8 +6,8 @@ import { safely, trouble } from './trouble.mjs';
 const SOURCE = URL.createObjectURL(
   new Blob([at('worker').textContent], { type: 'text/javascript' }));
 const bytes_of = text => new TextEncoder().encode(text);
-// The lanes: the set, how far its numbers go, the node's settings, the script of teams, the
-// baseline, and what has changed since.
+// The lanes: the set, how far its numbers go, the node's settings, its trace, the script of teams,
+// the baseline, and what has changed since.
 export const lanes = {};
 let on_late = () => {};
 // `heard` has who hears each lane; `late` is called where an answer is late, `fell` where one fell.
@@ -51,6 +51,7 @@ export function ask() {
   lanes.set.ask({ kind: 'set', set, until });
   lanes.growth.ask({ kind: 'limits', set });
   ask_node();
+  ask_trace();
   ask_changes();
 }
 // Of a node that says nothing there is nothing to ask.
@@ -58,6 +59,16 @@ export function ask_node() {
   const settings = at('judged').value;
   if (!settings.trim()) return lanes.node.heard(null);
   lanes.node.ask({ kind: 'judge', set: bytes_of(state.text), settings: bytes_of(settings) });
+}
+export function ask_trace() {
+  const text = at('trace').value;
+  if (!text.trim()) return lanes.trace.heard(null);
+  lanes.trace.ask({ kind: 'observe', set: bytes_of(state.text), trace: bytes_of(text), text });
+}
+// The run that the desk has of the arrivals of a trace.
+export function ask_arrivals(releases) {
+  const set = bytes_of(state.text);
+  lanes.trace.ask({ kind: 'arrivals', set, releases: bytes_of(releases) });
 }
 export function ask_script() {
   const text = at('script').value;

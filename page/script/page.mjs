@@ -1,5 +1,5 @@
 // The page: who hears whom, and the start.
-import { ask, ask_node, ask_script, lanes, open_lanes } from './asking.mjs';
+import { ask, ask_node, ask_script, ask_trace, lanes, open_lanes } from './asking.mjs';
 import { Bars } from './bars.mjs';
 import {
   heard_of_baseline, heard_of_changes, pin_baseline, save_baseline, set_baseline, unpin_baseline,
@@ -19,6 +19,7 @@ import { slice_told } from './slices.mjs';
 import { cut, followed, parts, past, state } from './state.mjs';
 import { Table } from './table.mjs';
 import { show_teams } from './teams.mjs';
+import { heard_of_trace } from './tracing.mjs';
 import { notice, safely, trouble } from './trouble.mjs';
 import { show_view, walk_tabs } from './views.mjs';
 import {
@@ -40,6 +41,10 @@ parts.picture = new Picture(at('picture'), {
   chosen: title => at('slice').replaceChildren(...title === null ? [] :
     slice_told(title, parts.picture.titles(), state.document, point)),
 });
+// The pictures of a trace and of the run beside it scroll, and say what is under the pointer.
+for (const it of ['traced', 'arrivals'])
+  parts[it] = new Picture(at(it), { zoomed: () => {}, chosen: () => {},
+    pointed: text => write(at('trace-pointed'), text) });
 parts.mend = safely(mend);
 parts.redraw = safely(() => {
   draw_bars();
@@ -51,8 +56,8 @@ function heard_of_script({ name, text, status, told }, { text: script }) {
   show_teams(script, { text, status, told });
 }
 open_lanes({
-  set: heard_of_set, growth: heard_of_set, node: heard_of_node, script: heard_of_script,
-  baseline: heard_of_baseline, changes: heard_of_changes,
+  set: heard_of_set, growth: heard_of_set, node: heard_of_node, trace: heard_of_trace,
+  script: heard_of_script, baseline: heard_of_baseline, changes: heard_of_changes,
 }, { late: show_late, fell: show_fallen });
 
 // ---- what is pressed and typed
@@ -90,6 +95,7 @@ on('set', 'input', () => {
 for (const it of ['focus', 'pointerenter']) on('set', it, fill_area);
 on('until', 'input', ask);
 on('judged', 'input', ask_node);
+on('trace', 'input', ask_trace);
 on('script', 'input', ask_script);
 on_example('examples', EXAMPLES, (name, text) =>
   take_file({ name: `${name}.toml`, text, has_mark: false, has_crlf: false, is_utf8: true }));
@@ -99,6 +105,15 @@ on_example('scripts', SCRIPTS, (_, text) => {
 });
 on_file('open', 'file', take_file);
 on_file('open-baseline', 'baseline-file', set_baseline);
+function take_trace({ text }) {
+  at('trace').value = text;
+  ask_trace();
+}
+on_file('open-trace', 'trace-file', take_trace);
+on('fill-trace', 'click', () => {
+  take_trace({ text: state.answers.simulate?.text ?? '' });
+  at('trace').focus();
+});
 const save = () => {
   download(state.file.name, bytes_to_save(state.text, state.file));
   notice(`Saved as ${state.file.name} among the downloads.`);
@@ -153,7 +168,7 @@ addEventListener('keydown', safely(it => {
   const key = it.key.toLowerCase(), undo = () => travel(past.undo());
   const redo = () => travel(past.redo()), open = () => at('file').click();
   const act = { z: it.shiftKey ? redo : undo, y: redo, s: save, o: open }[key];
-  const has_its_own = ['judged', 'script', 'until'].includes(it.target.id);
+  const has_its_own = ['judged', 'trace', 'script', 'until'].includes(it.target.id);
   if (!act || has_its_own && 'zy'.includes(key)) return;
   it.preventDefault();
   act();
@@ -167,7 +182,8 @@ for (const it of ['dragover', 'drop', 'dragleave'])
     event.preventDefault();
     document.body.classList.toggle('is-dropped', it === 'dragover');
     const file = it === 'drop' ? event.dataTransfer.files[0] : null;
-    if (file) return opened(file).then(take_file);
+    const is_trace = event.target.closest?.('#of-trace') || file?.name.endsWith('.trace');
+    if (file) return opened(file).then(is_trace ? take_trace : take_file);
   }));
 
 // ---- the start

@@ -37,8 +37,9 @@ export function heard_of_set({ id, name, text, status, told }) {
   const is_growth = name === 'limits';
   if (!is_growth && id !== state.question) {
     state.question = id;
-    const { limits, judge, play } = state.answers;
-    state.answers = { ...limits && { limits }, ...judge && { judge }, ...play && { play } };
+    const { limits, judge, observe, play } = state.answers;
+    state.answers = { ...limits && { limits }, ...judge && { judge },
+      ...observe && { observe }, ...play && { play } };
     for (const it of ['settings', 'certify', 'check', 'releases', 'simulate', 'draw'])
       at(`printed-${it}`)?.parentElement.remove();
   }

@@ -11,12 +11,12 @@ const INPUTS = {
   admit: ['set'], explain: ['set'], settings: ['set'], certify: ['set'], limits: ['set'],
   check: ['set', 'certificate'], diff: ['set', 'changed'],
   judge: ['set', 'settings'], releases: ['set', 'until'], simulate: ['set', 'releases'],
-  draw: ['set', 'releases'], play: ['script'],
+  draw: ['set', 'releases'], play: ['script'], observe: ['set', 'trace'],
   tell: ['command', 'first', 'second', 'until'],
 };
 // The commands by the numbers that include/desk.h gives them, from 1.
 const NUMBERED = ['admit', 'certify', 'check', 'limits', 'settings', 'explain', 'judge', 'diff',
-  'releases', 'simulate', 'draw', 'play'];
+  'releases', 'simulate', 'draw', 'play', 'observe'];
 let module = null, desk = null;
 
 function room_of(length) {
@@ -118,6 +118,12 @@ const SAY = {
   },
   judge({ set, settings }, ask) {
     ask('judge', { set, settings });
+  },
+  observe({ set, trace }, ask) {
+    ask('observe', { set, trace });
+  },
+  arrivals({ set, releases }, ask) {
+    ask('draw', { set, releases });
   },
   play({ script }, ask) {
     ask('play', { script });

@@ -1,0 +1,43 @@
+// What the page shows of a node's trace: what it breaks, the trace as a picture, and beside it the
+// run that the desk has of the same arrivals.
+import { read_observe, sentence_of } from './answers.mjs';
+import { ask_arrivals, lanes } from './asking.mjs';
+import { at, write } from './dom.mjs';
+import { lead, line_named } from './leading.mjs';
+import {
+  broken_rows, observation, picture_of, read_trace, releases_of, seen_rows,
+} from './observing.mjs';
+import { parts, state } from './state.mjs';
+
+// A longer trace isn't drawn: the browser would be busy with nothing else.
+const MOST_DRAWN = 2000;
+export function heard_of_trace(answer, asked) {
+  if (answer?.name === 'draw') return show_arrivals(answer);
+  if (answer) {
+    const { text, status, told } = answer;
+    state.answers.observe = { text, status, told };
+  }
+  show_trace(answer && read_observe(answer), asked?.text ?? '');
+}
+function show_trace(seen, text) {
+  const { text: told, is_good } = seen ? observation(seen) : { text: '' };
+  lead('trace', seen?.refused ? line_named(seen.refused, text) : null);
+  at('observed').className = is_good ? 'yes' : 'no';
+  write(at('observed'), told);
+  at('broken').replaceChildren(...seen ? broken_rows(seen) : []);
+  at('seen').replaceChildren(...seen ? seen_rows(seen) : []);
+  parts.traced.clear();
+  parts.arrivals.clear();
+  write(at('not-traced'), '');
+  if (!seen || seen.refused) return;
+  const trace = read_trace(text), count = trace.slices.length;
+  if (count > MOST_DRAWN) return write(at('not-traced'), `No picture: the trace has ${count} slices.`);
+  parts.traced.show(picture_of(trace, seen), true);
+  ask_arrivals(releases_of(trace, seen.rows));
+}
+// Arrivals that the desk refuses (too soon, say) have no run.
+function show_arrivals(answer) {
+  if (lanes.trace.waiting) return;
+  if (answer.status === 0) parts.arrivals.show(answer.text, true);
+  else write(at('not-traced'), `No run beside it. ${sentence_of(answer, 'releases')}`);
+}
