@@ -1,4 +1,4 @@
-`desk explain SET` prints what each bound of the best order is made of; or a least conflict, with what each of its tasks
+`desk explain SET` prints what each bound of the best order is made of; or a minimal conflict, with what each of its tasks
 needs. Every part stands once, and they add up.
 
   $ desk explain examples/shared-lock.toml

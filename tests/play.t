@@ -245,6 +245,15 @@ The first faulty line decides, and nothing of the script is played:
   refused: BadLine 1
   [4]
 
+Jitter and a name to outrank behind the cost:
+
+  $ printf 'open 1\nput 1 a 0 7000 7000 3000 j=1000 over=b\ncommit 1\n' | desk play -
+  draft 1 version 0
+  ok
+  admitted 1
+  version 1
+  level 1 a 1 4000
+
 16,777,216 bytes are read, one more is too many:
 
   $ head -c 16777216 /dev/zero | tr '\0' '#' | desk play -

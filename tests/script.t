@@ -15,6 +15,12 @@
 
 The names that a task must outrank, and sections:
 
+  $ desk script examples/shared-lock.toml 1
+  open 1
+  put 1 lo 0 100000 100000 20000 m@100:4000
+  put 1 mid 1 20000 20000 2000
+  put 1 hi 2 10000 10000 1000 m@0:200
+  commit 1
   $ desk script examples/watchdog.toml 1
   open 1
   put 1 log 0 200000 200000 30000 bus@0:1000

@@ -72,7 +72,7 @@ An infeasible set prints as in `admit`, and so does a refused one:
   thread c 1
   thread b 2
   thread a 3
-  $ printf 'thread b 3\nthread a 5\n' > node
+  $ printf 'thread b 3\nthread a 5\nthread gone 4\n' > node
   $ desk settings --keep=node examples/jitter.toml
   thread c 1
   thread b 2

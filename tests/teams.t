@@ -30,6 +30,9 @@ No document says anything of another's tasks: a key in front of the first task i
 
 What a team's document is refused for names the team, and the document's own tasks:
 
+  $ printf '#%% cam 4\n#ok\n#%% arm 9\ntask=[{}]' | desk admit -
+  refused: team arm MissingKey 1 0 name
+  [4]
   $ task pan 20000 0 > node/cam.toml
   $ desk admit node
   refused: team cam CostZero 1
@@ -133,6 +136,16 @@ Teams come by their names, and of a team the load before the section:
   $ desk diff examples/empty-set.toml kept
   refused: new PastBudget arm load 200 199
   [4]
+
+In a text the node's document stands in front, and nothing is rounded before a third is compared:
+
+  $ third() { printf '#%% 22\n[team.cam]\nload = %s\n#%% cam 55\n' $1; echo 'task=[{name="pan",period=3000,deadline=3000,cost=1000}]'; }
+  $ third 333 | head -c -1 | desk admit -
+  refused: PastBudget cam load 334 333
+  [4]
+  $ third 334 | head -c -1 | desk admit -
+  admitted 1
+  1 pan 1000
 
 A budget needs a team that has a document:
 

@@ -41,7 +41,7 @@ function read_part(line) {
   return { kind, time: Number(words[1]) };
 }
 
-// `explain`: the account of each task from the lowest level up, or of each of the least conflict;
+// `explain`: the account of each task from the lowest level up, or of each of the minimal conflict;
 // and the load.
 export function read_explain({ text, status }) {
   if (status !== 0 && status !== 3) return null;

@@ -1,4 +1,4 @@
-// The verdict, the least conflict and the facts beside them, in words.
+// The verdict, the minimal conflict and the facts beside them, in words.
 import { number_told } from './bars.mjs';
 import { element, grouped, plural, thousandths, us } from './dom.mjs';
 
