@@ -81,11 +81,7 @@ const ANSWERS: [(Call, &[u8], u8); 15] = [
     ),
     (Call::Diff(SET, SET), b"admitted 1\nwas admitted 1\n", 0),
     (Call::Releases(SET, 1000), RELEASES, 0),
-    (
-        Call::Worst(SET),
-        b"# x 1000 of 1000\nuntil 1000\n0 x\n",
-        0,
-    ),
+    (Call::Worst(SET), b"# x 1000 of 1000\nuntil 1000\n0 x\n", 0),
     (
         Call::Simulate(SET, RELEASES),
         b"0 1000 x\njob x 0 1000\n",
@@ -171,13 +167,7 @@ const TOLD: [(u8, &[u8], &[u8], &[u8], u8); 8] = [
         b"script: line 1, \"shut\" has to be of open, put, remove, found, test, commit or abandon\n",
         4,
     ),
-    (
-        14,
-        b"",
-        b"",
-        b"note: the set has no task\n",
-        0,
-    ),
+    (14, b"", b"", b"note: the set has no task\n", 0),
     (0, SET, b"", b"", 2),
     (15, SET, b"", b"", 2),
 ];
