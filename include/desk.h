@@ -73,6 +73,10 @@ size_t desk_diff(const uint8_t *set, size_t set_length, const uint8_t *changed, 
 size_t desk_releases(const uint8_t *set, size_t set_length, uint64_t until, uint8_t *room, size_t room_length,
                      uint8_t *status);
 
+/* The release list of a task's worst case: of the task of least slack in the best order, or of a refused set of the highest
+ * task that does not meet its deadline in an order that decides. */
+size_t desk_worst(const uint8_t *set, size_t set_length, uint8_t *room, size_t room_length, uint8_t *status);
+
 /* What a simulated kernel does with a release list at the levels of the best order. */
 size_t desk_simulate(const uint8_t *set, size_t set_length, const uint8_t *releases, size_t releases_length,
                      uint8_t *room, size_t room_length, uint8_t *status);
@@ -103,6 +107,7 @@ enum {
     DESK_DRAW = 11,
     DESK_PLAY = 12,
     DESK_OBSERVE = 13,
+    DESK_WORST = 14,
 };
 
 /* What the program writes on standard error beside that answer: the sentence for a refusal, or the notes on a set, each a

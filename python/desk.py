@@ -285,6 +285,26 @@ class Releases(_Answer):
 
 
 @dataclass(frozen=True)
+class Worst(_Answer):
+    """The worst case of a task in the best order, or, of a refused set, in one that decides, whose
+    `settings` are here; then it is false. `kind` is `comes`, and the task's job takes `response` of
+    its bound, the `limit`; `misses`, and it misses its deadline, the `limit`; or says why there are
+    no `releases`, with the `other` task where it names one."""
+
+    admitted: bool
+    task: str | None
+    kind: str | None
+    response: int | None = None
+    limit: int | None = None
+    other: str | None = None
+    settings: Settings | None = None
+    releases: Releases | None = None
+
+    def __bool__(self) -> bool:
+        return self.admitted
+
+
+@dataclass(frozen=True)
 class Slice:
     """Who executes from when to when."""
 
@@ -401,7 +421,7 @@ def toml(tasks: Iterable[Task], prefer: str | None = None) -> str:
 
 # The commands of include/desk.h, each at its number less 1, and those that take a second input.
 _COMMANDS = ("admit", "certify", "check", "limits", "settings", "explain")
-_COMMANDS += ("judge", "diff", "releases", "simulate", "draw", "play", "observe")
+_COMMANDS += ("judge", "diff", "releases", "simulate", "draw", "play", "observe", "worst")
 _SECOND = ("check", "judge", "diff", "simulate", "draw", "observe")
 
 
@@ -594,10 +614,7 @@ def settings(tasks: Sheets) -> Settings | Infeasible:
     status, said = _ask("settings", tasks)
     if status:
         return _no(said)
-    found: dict[str, dict[str, int]] = {"thread": {}, "mutex": {}}
-    for kind, name, level in (it.split() for it in said.splitlines()):
-        found[kind][name] = int(level)
-    return Settings(found["thread"], found["mutex"], text=said)
+    return _set_to(said.splitlines())
 
 
 def judge(tasks: Sheets, settings: Text | Settings) -> Judged:
@@ -645,10 +662,45 @@ def releases(tasks: Sheets, until: int) -> Releases:
     (Release(arrival=0, task='a', late=5, runs=None),)
     """
     # (what has no 64 bits is past the horizon, too)
-    said = _ask("releases", tasks, until if 0 <= until < 2**64 else 2**64 - 1)[1]
+    return _list(_ask("releases", tasks, until if 0 <= until < 2**64 else 2**64 - 1)[1])
+
+
+def _list(said: str) -> Releases:
     first, *rows = (it.split() for it in said.splitlines())
     jobs = (Release(int(it[0]), it[1], int(it[2]) if len(it) > 2 else 0) for it in rows)
     return Releases(int(first[1]), tuple(jobs), text=said)
+
+
+def _set_to(lines: Iterable[str]) -> Settings:
+    found: dict[str, dict[str, int]] = {"thread": {}, "mutex": {}}
+    for kind, name, level in (it.split() for it in lines):
+        found[kind][name] = int(level)
+    return Settings(found["thread"], found["mutex"], text="".join(it + "\n" for it in lines))
+
+
+def worst(tasks: Sheets) -> Worst:
+    """The worst case of the task of least slack; of a refused set that of the highest task that
+    doesn't meet its deadline in an order that decides.
+
+    >>> found = worst([Task("a", 10_000, 10_000, 6000), Task("b", 5000, 5000, 1000)])
+    >>> found.task, found.response, found.limit, found.releases.jobs[0]
+    ('a', 8000, 8000, Release(arrival=0, task='a', late=0, runs=None))
+    """
+    status, said = _ask("worst", tasks)
+    lines = said.splitlines()
+    words = lines.pop(0).split()[1:] if lines[0].startswith("#") else [None, None]
+    name, kind, *more = words
+    times = {}
+    if kind == "misses":
+        times = {"limit": int(more.pop())}
+    elif more[:1] == ["of"]:
+        times = {"response": _time(kind), "limit": int(more[1])}
+        kind, more = "comes", []
+    first = next((k for k, it in enumerate(lines) if it.startswith("until ")), None)
+    if first is not None:
+        times["settings"] = _set_to(lines[:first]) if status else None
+        times["releases"] = _list("".join(it + "\n" for it in lines[first:]))
+    return Worst(status == 0, name, kind, other=more[0] if more else None, **times, text=said)
 
 
 def simulate(tasks: Sheets, releases: Text | Releases) -> Run | Infeasible:

@@ -68,7 +68,7 @@ static const struct {
     {"admit", DESK_ADMIT},     {"certify", DESK_CERTIFY}, {"check", DESK_CHECK},       {"limits", DESK_LIMITS},
     {"settings", DESK_SETTINGS}, {"explain", DESK_EXPLAIN}, {"judge", DESK_JUDGE},     {"diff", DESK_DIFF},
     {"releases", DESK_RELEASES}, {"simulate", DESK_SIMULATE}, {"draw", DESK_DRAW},     {"play", DESK_PLAY},
-    {"observe", DESK_OBSERVE},
+    {"observe", DESK_OBSERVE}, {"worst", DESK_WORST},
 };
 
 static uint8_t number_of(const char *command)
@@ -91,6 +91,7 @@ static size_t ask(const struct question *it, uint8_t *room, size_t length, uint8
     if (!strcmp(command, "limits")) return desk_limits(a.at, a.length, room, length, status);
     if (!strcmp(command, "settings")) return desk_settings(a.at, a.length, room, length, status);
     if (!strcmp(command, "explain")) return desk_explain(a.at, a.length, room, length, status);
+    if (!strcmp(command, "worst")) return desk_worst(a.at, a.length, room, length, status);
     if (!strcmp(command, "play")) return desk_play(a.at, a.length, room, length, status);
     if (!strcmp(command, "releases")) return desk_releases(a.at, a.length, it->until, room, length, status);
     if (!strcmp(command, "check")) return desk_check(a.at, a.length, b.at, b.length, room, length, status);
@@ -171,7 +172,7 @@ int main(int count, char **words)
     struct answer told = asked(&question);
     hold(told.status == answer.status, "the same status beside what is told");
     hold_unknown(0);
-    hold_unknown(DESK_OBSERVE + 1);
+    hold_unknown(DESK_WORST + 1);
     fwrite(answer.text.at, 1, answer.text.length, stdout);
     fwrite(told.text.at, 1, told.text.length, stderr);
     free(answer.text.at);

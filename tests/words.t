@@ -19,7 +19,7 @@ Help is no mistake:
   output
   $ desk_says help
   output
-  $ for command in admit explain limits settings judge diff certify check releases simulate draw observe script play rush; do desk_says $command --help; desk_says help $command; done | uniq
+  $ for command in admit explain limits settings judge diff certify check releases worst simulate draw observe script play rush; do desk_says $command --help; desk_says help $command; done | uniq
   output
 
 So is the version:
@@ -32,7 +32,7 @@ So is the version:
 Help names each command, and of a command its inputs, an example and its statuses:
 
   $ desk --help > output
-  $ for command in admit explain limits settings judge diff certify check releases simulate draw observe script play rush; do grep -q "^  $command  *[A-Z]" output || echo $command; done
+  $ for command in admit explain limits settings judge diff certify check releases worst simulate draw observe script play rush; do grep -q "^  $command  *[A-Z]" output || echo $command; done
   $ desk admit --help | grep -c '<SET>$'
   1
   $ desk certify --help | grep -c '<SET>$'
@@ -51,13 +51,15 @@ Help names each command, and of a command its inputs, an example and its statuse
   2
   $ desk releases --help | grep -c '<SET> <UNTIL>$'
   1
+  $ desk worst --help | grep -c -e '<SET>$' -e '^ *--task <NAME>  *[A-Z]'
+  2
   $ desk rush --help | grep -c '<SCRIPT> <WORKERS>$'
   1
-  $ for command in admit explain limits settings judge diff certify check releases simulate draw observe script play rush; do desk $command --help | grep -q "^Example: .*desk $command " || echo $command; desk $command --help | grep -q '^Status: 0 ' || echo $command; done
+  $ for command in admit explain limits settings judge diff certify check releases worst simulate draw observe script play rush; do desk $command --help | grep -q "^Example: .*desk $command " || echo $command; desk $command --help | grep -q '^Status: 0 ' || echo $command; done
 
 That of each command that reads a task set names its option:
 
-  $ for command in admit explain limits settings judge diff certify check releases simulate draw observe script; do desk $command --help | grep -q -e '^ *--prefer <ORDER>  *[A-Z].*deadline$' || echo $command; done
+  $ for command in admit explain limits settings judge diff certify check releases worst simulate draw observe script; do desk $command --help | grep -q -e '^ *--prefer <ORDER>  *[A-Z].*deadline$' || echo $command; done
   $ for command in play rush; do ! desk $command --help | grep -e --prefer; done
 
 No such command, also in other letters; a word too few; a word too many; an option that isn't there:

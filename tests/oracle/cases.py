@@ -17,7 +17,7 @@ import sets
 # how often each command is asked
 SHARES = {
     "admit": 12, "certify": 8, "check": 16, "explain": 8, "limits": 8, "settings": 5, "judge": 12, "diff": 10, "simulate": 12,
-    "releases": 8, "draw": 4, "observe": 12, "script": 3, "play": 20, "rush": 6, "words": 4,
+    "releases": 8, "worst": 8, "draw": 4, "observe": 12, "script": 3, "play": 20, "rush": 6, "words": 4,
 }  # fmt: skip
 
 
@@ -64,7 +64,7 @@ def of_set(rng, subject):
     if subject == "diff":
         inputs.append(set_input(rng, make_sets.changed(rng, sheets), 0.1, rng.choice([own, own, None])))
     options = [] if prefer is None or rng.random() < 0.05 else [("prefer", prefer)]
-    if subject in ("explain", "limits") and rng.random() < 0.3:
+    if subject in ("explain", "limits", "worst") and rng.random() < 0.3:
         options.append(("task", rng.choice([*(sheet.name for sheet in sheets), "none", "0", ""])))
     number = None
     if subject == "releases":

@@ -14,6 +14,7 @@ import observed
 import scripts
 import settings
 import teams
+import worst
 from refusals import Refused
 from sets import is_name
 
@@ -251,6 +252,7 @@ COMMANDS = {
     "diff": on_set(diff, read_change),
     "simulate": on_set(simulate, kernel.read_releases, options={**PREFERS, "tasks": calls.FLAG}),
     "releases": on_set(releases, number=(0, kernel.HORIZON), options={**PREFERS, "seed": calls.number_within(0, 2**32 - 1)}),
+    "worst": on_set(of_task(worst.worst), options=OF_TASK),
     "draw": on_set(draw, kernel.read_releases),
     "observe": on_set(
         observe, observed.read_trace, options={**PREFERS, "tolerance": calls.number_within(0, observed.TOLERANCE_MOST)}
@@ -260,7 +262,7 @@ COMMANDS = {
     "rush": calls.Command(rush, (scripts.read_script,), (1, scripts.TEAMS)),
 }
 KEYWORDS = {"tasks": "by_task", "lower-is-higher": "lower_is_higher"}  # options by another name
-OF_THE_ORDER = ("admit", "explain", "limits", "settings")  # commands whose answer speaks of the order alone
+OF_THE_ORDER = ("admit", "explain", "limits", "settings", "worst")  # commands whose answer speaks of the order alone
 OF_A_PREFERENCE = (teams.read_set, read_change)  # readers that are told it
 HELP = {(word,) for word in ("help", "-h", "--help", "-V", "--version")}
 HELP |= {words for name in COMMANDS for words in ((name, "-h"), (name, "--help"), ("help", name))}

@@ -126,6 +126,17 @@ def run(tasks, order, ceilings, until, releases):
     return slices, jobs
 
 
+def has_overrun(jobs):
+    """A job becomes ready and the one before it of its task isn't finished."""
+    last = {}
+    for job in jobs:
+        before = last.get(job.task.name)
+        if before is not None and (before.finish is None or before.finish > job.release.ready):
+            return True
+        last[job.task.name] = job
+    return False
+
+
 def simulated(slices, jobs):
     lines = [f"{part.start} {part.stop} {part.job.task.name}" for part in slices]
     for job in jobs:

@@ -34,7 +34,7 @@ pub struct Advice<'a, W: Write + Drop> {
 fn is_placing(call: Call<'_>) -> bool {
     match call {
         Call::One { command, .. } => match command {
-            OfOne::Admit | OfOne::Limits | OfOne::Settings | OfOne::Explain => true,
+            OfOne::Admit | OfOne::Limits | OfOne::Settings | OfOne::Explain | OfOne::Worst => true,
             OfOne::Certify | OfOne::Play => false,
         },
         _ => false,
@@ -46,7 +46,7 @@ fn says_no_alone(call: Call<'_>) -> bool {
     match call {
         Call::One { command, .. } => match command {
             OfOne::Admit | OfOne::Settings => true,
-            OfOne::Limits | OfOne::Explain | OfOne::Certify | OfOne::Play => false,
+            OfOne::Limits | OfOne::Explain | OfOne::Worst | OfOne::Certify | OfOne::Play => false,
         },
         _ => false,
     }

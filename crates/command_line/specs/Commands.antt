@@ -4,7 +4,7 @@ use Rattle.std.specs.List.{find}
 use Rattle.std.specs.Str.{bytes_eq}
 use Rattle.clap.specs.Words.{Text}
 use Rattle.command_line.specs.declared.calls.OfOne.{OfOne}
-use Rattle.command_line.specs.declared.calls.OfOne.TheVariants.{Admit, Certify, Limits, Settings, Explain, Play}
+use Rattle.command_line.specs.declared.calls.OfOne.TheVariants.{Admit, Certify, Limits, Settings, Explain, Worst, Play}
 use Rattle.command_line.specs.declared.calls.OfTwo.{OfTwo}
 use Rattle.command_line.specs.declared.calls.OfTwo.TheVariants.{Check, Judge, Diff, Simulate, Draw, Observe}
 use Rattle.command_line.specs.declared.calls.OfTwo.TheVariants as of_two
@@ -31,6 +31,7 @@ commands =
     ∷ (codes "certify", One Certify, Prefer ∷ [])
     ∷ (codes "check", Two Check, Prefer ∷ [])
     ∷ (codes "releases", Number Releases, Prefer ∷ Seed ∷ [])
+    ∷ (codes "worst", One Worst, Prefer ∷ Task ∷ [])
     ∷ (codes "simulate", Two Simulate, Prefer ∷ Tasks ∷ [])
     ∷ (codes "draw", Two Draw, Prefer ∷ [])
     ∷ (codes "observe", Two Observe, Prefer ∷ Tolerance ∷ [])

@@ -44,6 +44,8 @@ pub enum OfOne {
     Settings,
     /// `explain SET`
     Explain,
+    /// `worst SET`
+    Worst,
     /// `play SCRIPT`
     Play,
 }

@@ -41,7 +41,7 @@ macro_rules! example {
 }
 
 // The commands, as help lists them: those that answer on a task set, those for certificates and runs, those for scripts.
-const COMMANDS: [Listed; 15] = [
+const COMMANDS: [Listed; 16] = [
     Listed {
         verb: Verb::One(OfOne::Admit),
         word: "admit",
@@ -130,6 +130,16 @@ const COMMANDS: [Listed; 15] = [
         example: example!(
             "releases examples/shared-lock.toml 100000",
             "0 printed, 4 the set is refused or the list too long"
+        ),
+    },
+    Listed {
+        verb: Verb::One(OfOne::Worst),
+        word: "worst",
+        options: &[Choice::Prefer, Choice::Task],
+        about: "Prints the release list of a task's worst case: its latest response, or a missed deadline",
+        example: example!(
+            "worst examples/shared-lock.toml --task lo",
+            "0 admitted, 3 infeasible, 4 the set is refused"
         ),
     },
     Listed {

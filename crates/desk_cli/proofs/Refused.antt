@@ -2,13 +2,13 @@
 use Rattle.std.proofs.Common.{◌≡◌, ℕ, true, false, List, Option, Some, None, Err, inl, refl}
 use Rattle.std.specs.Io.KnownBytes.{Appends}
 use Rattle.command_line.specs.declared.calls.OfOne.{OfOne}
-use Rattle.command_line.specs.declared.calls.OfOne.TheVariants.{Admit, Certify, Limits, Settings, Explain, Play}
+use Rattle.command_line.specs.declared.calls.OfOne.TheVariants.{Admit, Certify, Limits, Settings, Explain, Worst, Play}
 use Rattle.command_line.specs.declared.calls.OfTwo.{OfTwo}
 use Rattle.command_line.specs.declared.calls.OfTwo.TheVariants.{Check, Judge, Diff, Simulate, Draw, Observe, Keep}
 use Rattle.command_line.specs.declared.calls.Options.{Options}
 use Rattle.task_sheet.specs.declared.prefer.Preference.{Preference}
 use Rattle.desk_cli.specs.Commands.{OneSays, TwoSay, preference_of, task_of}
-use Rattle.desk_cli.specs.OneTask.{AnswersOfTask, SaysLimitsOf, SaysReasonsOf}
+use Rattle.desk_cli.specs.OneTask.{AnswersOfTask, SaysLimitsOf, SaysReasonsOf, SaysWorstOf}
 use Rattle.desk_cli.specs.declared.one_task.TaskPart.{TaskPart}
 use Rattle.desk_cli.specs.declared.one_task.TaskPart.TheVariants as part
 use Rattle.desk_cli.specs.Simulate.{SaysSimulation}
@@ -33,12 +33,17 @@ module _ (before after : Option (List ℕ)) (s : Status) (r : CommandRefusal) (w
   reasons_refused None preference known why = (Err r, why, wrote, is)
   reasons_refused (Some word) preference known why = (Err r, no_set part.Reasons word preference known r why, wrote, is)
 
+  worst_refused : (asked : Option (List ℕ)) (preference : Option Preference) (known : Option (List ℕ)) → HasNoSet known r → SaysWorstOf asked preference known before after s
+  worst_refused None preference known why = (Err r, why, wrote, is)
+  worst_refused (Some word) preference known why = (Err r, no_set part.Worst word preference known r why, wrote, is)
+
   pub one_refused : (c : OfOne) (options : Options) (known : Option (List ℕ)) → IsRefusalOf c known r → OneSays c options known before after s
   one_refused Admit options known why = (Err r, why, wrote, is)
   one_refused Certify options known why = (Err r, why, wrote, is)
   one_refused Limits options known why = limits_refused (task_of options) (preference_of options) known why
   one_refused Settings options known why = (Err r, why, wrote, is)
   one_refused Explain options known why = reasons_refused (task_of options) (preference_of options) known why
+  one_refused Worst options known why = worst_refused (task_of options) (preference_of options) known why
   one_refused Play options known why = (refusal_line r, wrote, inl (r, why, refl, is))
 
   pub placed_refused : (c : OfOne) (options : Options) (known : Option (List ℕ)) → (c ≡ Play → ⊥) → HasNoSet known r → OneSays c options known before after s
@@ -47,6 +52,7 @@ module _ (before after : Option (List ℕ)) (s : Status) (r : CommandRefusal) (w
   placed_refused Limits options known other why = one_refused Limits options known why
   placed_refused Settings options known other why = one_refused Settings options known why
   placed_refused Explain options known other why = one_refused Explain options known why
+  placed_refused Worst options known other why = one_refused Worst options known why
   placed_refused Play options known other why = absurd (other refl)
 
   pub two_refused : (c : OfTwo) (options : Options) (first second : Option (List ℕ)) → HaveNotBoth first second r → TwoSay c options first second before after s

@@ -7,7 +7,7 @@ use Rattle.command_line.specs.declared.calls.Options.{Options}
 use Rattle.command_line.specs.declared.calls.Preferred.{Preferred}
 use Rattle.command_line.specs.declared.calls.Preferred.TheVariants as preferred
 use Rattle.command_line.specs.declared.calls.OfOne.{OfOne}
-use Rattle.command_line.specs.declared.calls.OfOne.TheVariants.{Admit, Certify, Limits, Settings, Explain, Play}
+use Rattle.command_line.specs.declared.calls.OfOne.TheVariants.{Admit, Certify, Limits, Settings, Explain, Worst, Play}
 use Rattle.command_line.specs.declared.calls.OfTwo.{OfTwo}
 use Rattle.command_line.specs.declared.calls.OfTwo.TheVariants.{Check, Judge, Diff, Simulate, Draw, Observe, Keep}
 use Rattle.desk_cli.specs.Admit.{Says, admit_lines}
@@ -18,7 +18,7 @@ use Rattle.desk_cli.specs.Draw.{SaysDrawn}
 use Rattle.desk_cli.specs.Judge.{SaysJudged}
 use Rattle.desk_cli.specs.Observe.{SaysObserved, tolerance_of}
 use Rattle.desk_cli.specs.Keep.{SaysKeeping}
-use Rattle.desk_cli.specs.OneTask.{SaysLimitsOf, SaysReasonsOf}
+use Rattle.desk_cli.specs.OneTask.{SaysLimitsOf, SaysReasonsOf, SaysWorstOf}
 use Rattle.desk_cli.specs.Play.{SaysPlayed}
 use Rattle.desk_cli.specs.Settings.{settings_of}
 use Rattle.desk_cli.specs.Simulate.{SaysSimulation}
@@ -61,6 +61,8 @@ OneSays Settings options known before after s =
     Says (settings_of (base_of options)) (preference_of options) known before after s
 OneSays Explain options known before after s =
     SaysReasonsOf (task_of options) (preference_of options) known before after s
+OneSays Worst options known before after s =
+    SaysWorstOf (task_of options) (preference_of options) known before after s
 OneSays Play options known before after s = SaysPlayed known before after s
 
 -- the same of a command of two inputs

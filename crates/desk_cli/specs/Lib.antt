@@ -30,3 +30,4 @@ pub mod Statuses
 pub mod TextFaults
 pub mod TraceLines
 pub mod WordsFaults
+pub mod Worst

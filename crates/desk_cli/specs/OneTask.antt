@@ -1,5 +1,5 @@
 -- What is said of one task of a set, where the words ask about it.
-use Rattle.std.specs.Prelude.{◌≡◌, ℕ, List, ◌++◌, Option, Some, None, Result, Ok, Err}
+use Rattle.std.specs.Prelude.{◌≡◌, ℕ, List, [], ◌++◌, Option, Some, None, Result, Ok, Err}
 use Rattle.task_sheet.specs.declared.prefer.Preference.{Preference}
 use Rattle.task_sheet.specs.Sheet.{Task}
 use Rattle.lines.specs.Words.{name_in}
@@ -9,23 +9,27 @@ use Rattle.explain.specs.Explanations.{Explains}
 use Rattle.explain.specs.TaskLines.{task_lines}
 use Rattle.explain.specs.declared.explanation.Explanation.{Explanation}
 use Rattle.limit_lines.specs.Lines.{AreTaskLines, places_in}
+use Rattle.worst_lines.specs.Lines.{AreWorstLines}
 use Rattle.desk_cli.specs.Admit.{Places, placing_status}
 use Rattle.desk_cli.specs.Explain.{SaysExplained}
 use Rattle.desk_cli.specs.Limits.{SaysLimits, placing_first}
 use Rattle.desk_cli.specs.Printed.{Prints}
 use Rattle.desk_cli.specs.Sets.{HasSet}
+use Rattle.desk_cli.specs.Worst.{SaysWorst}
 use Rattle.desk_cli.specs.declared.one_task.TaskPart.{TaskPart}
-use Rattle.desk_cli.specs.declared.one_task.TaskPart.TheVariants.{Limits, Reasons}
+use Rattle.desk_cli.specs.declared.one_task.TaskPart.TheVariants.{Limits, Reasons, Worst}
 use Rattle.desk_cli.specs.declared.refusal.CommandRefusal.{CommandRefusal}
 use Rattle.desk_cli.specs.declared.refusal.CommandRefusal.TheVariants as refusal
 use Rattle.desk_cli.specs.declared.status.Status.{Status}
 
--- a text is what is said of a task of a placed set: how far its numbers may go, or what explains its response
+-- a text is what is said of a task of a placed set: how far its numbers may go, what explains its response, or its worst
+-- case
 abbrev pub AreLinesOf : TaskPart → List Task → Placing → ℕ → List ℕ → Type 0
 AreLinesOf Limits U placing task text = AreTaskLines U (places_in placing) task text
 AreLinesOf Reasons U placing task text =
     (explanation : Explanation) × Explains U placing explanation
     × (text ≡ task_lines U task explanation)
+AreLinesOf Worst U placing task text = AreWorstLines U placing (Some task) text
 
 -- the task of a set that has the name that a word is
 abbrev pub named_task : List Task → Option (List ℕ) → Option ℕ
@@ -58,16 +62,21 @@ AnswersOfTask part word preference known (Err (refusal.NoSuchTask name)) =
     × (asked_task U word ≡ None) × (name ≡ name_in word)
 AnswersOfTask part word preference known (Err r) = Places preference known (Err r)
 
--- what is printed of such an answer: the first line of the verdict, and then what is said of the task
-abbrev pub task_said : OfTaskData → List ℕ
-task_said d = placing_first d.set d.placing ++ d.lines
+-- what is printed in front of that: the first line of the verdict; before a worst case nothing
+abbrev pub first_said : TaskPart → List Task → Placing → List ℕ
+first_said Worst U placing = []
+first_said _ U placing = placing_first U placing
+
+-- what is printed of such an answer
+abbrev pub task_said : TaskPart → OfTaskData → List ℕ
+task_said part d = first_said part d.set d.placing ++ d.lines
 
 -- the answer on what the reader had is printed after what the writer held, and the status is the answer's
 abbrev pub SaysTask : TaskPart → List ℕ → Option Preference → Option (List ℕ)
     → (before after : Option (List ℕ)) → Status → Type 0
 SaysTask part word preference known before after s =
-    Prints (AnswersOfTask part word preference known) task_said (λ d. placing_status d.placing)
-    before after s
+    Prints (AnswersOfTask part word preference known) (task_said part)
+    (λ d. placing_status d.placing) before after s
 
 -- how far the numbers of all tasks may go, or those of the task that the words ask about
 abbrev pub SaysLimitsOf : Option (List ℕ) → Option Preference → Option (List ℕ)
@@ -82,6 +91,13 @@ abbrev pub SaysReasonsOf : Option (List ℕ) → Option Preference → Option (L
 SaysReasonsOf None preference known before after s = SaysExplained preference known before after s
 SaysReasonsOf (Some word) preference known before after s =
     SaysTask Reasons word preference known before after s
+
+-- the worst case of the task that the words ask about; else that of the one that the set's verdict is about
+abbrev pub SaysWorstOf : Option (List ℕ) → Option Preference → Option (List ℕ)
+    → (before after : Option (List ℕ)) → Status → Type 0
+SaysWorstOf None preference known before after s = SaysWorst preference known before after s
+SaysWorstOf (Some word) preference known before after s =
+    SaysTask Worst word preference known before after s
 
 -- this is said of each reader that has a set
 abbrev pub OfPlaced :

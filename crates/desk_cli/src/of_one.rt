@@ -9,7 +9,7 @@ use crate::admit::{decide, place, placing_status};
 use crate::answer::{OrderPart, placing_text};
 use crate::audience::Audience;
 use crate::certify::print_verdict;
-use crate::one_task::{say_limits, say_reasons};
+use crate::one_task::{say_limits, say_reasons, say_worst};
 use crate::output::{print_made, refuse};
 use crate::play::{lines_of, play};
 use crate::sets::{base_of, preference_of};
@@ -50,6 +50,7 @@ fn say_placing<W: Write + Drop>(
             print_made(text, status, output)
         }
         OfOne::Explain => say_reasons(alloc, options.task, set, placing, output),
+        OfOne::Worst => say_worst(alloc, options.task, set, placing, output),
         OfOne::Certify => unreachable!(),
         OfOne::Play => unreachable!(),
     }

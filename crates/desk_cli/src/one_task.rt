@@ -6,8 +6,7 @@ ghost use Rattle.explain.specs.Explanations.{Explains};
 ghost use Rattle.explain.specs.TaskLines.{task_lines};
 ghost use Rattle.explain.specs.declared.explanation.Explanation.{Explanation};
 ghost use Rattle.limit_lines.specs.Lines.{AreTaskLines, places_in};
-ghost use Rattle.desk_cli.specs.Limits.{placing_first};
-ghost use Rattle.desk_cli.specs.OneTask.{AreLinesOf, OfPlaced, SaysLimitsOf, SaysReasonsOf, SaysTask, asked_task, no_such_task};
+ghost use Rattle.desk_cli.specs.OneTask.{AreLinesOf, OfPlaced, SaysLimitsOf, SaysReasonsOf, SaysTask, SaysWorstOf, asked_task, first_said, no_such_task};
 ghost use Rattle.desk_cli.specs.Outcomes.{IsSaidOn};
 
 use crate::admit::placing_status;
@@ -25,6 +24,7 @@ use std::alloc::{AllocError, Global};
 use std::io::Write;
 use streams::Watched;
 use task_sheet::TaskSet;
+use worst_lines::worst_text;
 
 /// What is said of a task.
 #[derive(Clone, Copy)]
@@ -33,6 +33,8 @@ pub enum TaskPart {
     Limits,
     /// What its response is made of, or why it may not stand below the others of a conflict.
     Reasons,
+    /// Its worst case.
+    Worst,
 }
 
 // The index of the task that a word names.
@@ -105,10 +107,29 @@ fn part_text(
     match part {
         TaskPart::Limits => limits_text(alloc, set, placing, task),
         TaskPart::Reasons => reasons_text(alloc, set, placing, task),
+        TaskPart::Worst => worst_text(alloc, set, placing, Some(task)),
     }
 }
 
-// The first line of a placing, and then what is said of a task.
+// The first line of a placing; before a worst case nothing.
+fn first_text(
+    alloc: Global,
+    part: TaskPart,
+    set: &TaskSet,
+    placing: &Placing,
+) -> Result<String, AllocError>
+    requires { IsPlacingOf set.now placing.now }
+    ensures { IfOk result (λ text. string_bytes text ≡ first_said part set.now placing.now) }
+{
+    match part {
+        TaskPart::Limits | TaskPart::Reasons => {
+            placing_text(alloc, OrderPart::Count, set, placing)
+        }
+        TaskPart::Worst => Ok(String::new(alloc)),
+    }
+}
+
+// That, and then what is said of a task.
 fn task_text(
     alloc: Global,
     part: TaskPart,
@@ -119,10 +140,10 @@ fn task_text(
     requires placing { IsPlacingOf set.now placing.now }
     requires task { task < length set.now }
     ensures { IfOk result (λ text. (lines : _) × AreLinesOf part set.now placing.now task lines
-        × (string_bytes text ≡ placing_first set.now placing.now ++ lines)) }
+        × (string_bytes text ≡ first_said part set.now placing.now ++ lines)) }
 {
     let lines = part_text(alloc, part, set, placing, task)?;
-    let mut text = placing_text(alloc, OrderPart::Count, set, placing)?;
+    let mut text = first_text(alloc, part, set, placing)?;
     text.push_str(lines.as_str())?;
     Ok(text)
 }
@@ -185,6 +206,27 @@ pub(crate) fn say_reasons<W: Write + Drop>(
         None => {
             let status = placing_status(placing);
             print_made(explained_text(alloc, set, placing), status, output)
+        }
+    }
+}
+
+// Prints the worst case of the task that a word names, or that of the one that the placing is about.
+pub(crate) fn say_worst<W: Write + Drop>(
+    alloc: Global,
+    word: Option<&str>,
+    set: &TaskSet,
+    placing: &Placing,
+    output: &mut Watched<W>,
+) -> Status
+    requires { IsPlacingOf set.now placing.now }
+    ensures { IsSaidOn (OfPlaced (SaysWorstOf (option_map (λ w. w.now) word.entry)) set.now)
+        W.contents output.old output.new result }
+{
+    match word {
+        Some(word) => say_task(alloc, TaskPart::Worst, word, set, placing, output),
+        None => {
+            let status = placing_status(placing);
+            print_made(worst_text(alloc, set, placing, None), status, output)
         }
     }
 }

@@ -38,7 +38,7 @@ const BY_WEIGHT: Options<'static> = Options {
 };
 
 // Words, and the call that they name.
-const CALLS: [(&[&str], Call<'static>); 20] = [
+const CALLS: [(&[&str], Call<'static>); 21] = [
     (
         &[],
         Call::One {
@@ -200,6 +200,17 @@ const CALLS: [(&[&str], Call<'static>); 20] = [
         },
     ),
     (
+        &["worst", "s", "--task", "a"],
+        Call::One {
+            command: OfOne::Worst,
+            input: Input::File("s"),
+            options: Options {
+                task: Some("a"),
+                ..PLAIN
+            },
+        },
+    ),
+    (
         &["settings", "s", "--keep", "n"],
         Call::Two {
             command: OfTwo::Keep,
@@ -238,7 +249,7 @@ const OTHERS: [&[&str]; 5] = [
 
 // Words that an option is no part of: twice, with no word or number, before the command, at another command, by half its
 // name, with a number that it doesn't take.
-const NONE: [&[&str]; 16] = [
+const NONE: [&[&str]; 17] = [
     &["admit", "--prefer", "deadline", "--prefer", "deadline", "s"],
     &["admit", "s", "--prefer"],
     &["--prefer", "deadline", "admit", "s"],
@@ -253,6 +264,7 @@ const NONE: [&[&str]; 16] = [
     &["simulate", "s", "r", "--tasks", "--tasks"],
     &["observe", "s", "t", "--tolerance", "60000001"],
     &["judge", "s", "t", "--tolerance", "1"],
+    &["worst", "s", "--tolerance", "1"],
     &["settings", "s", "--keep"],
     &["judge", "s", "n", "--keep", "m"],
 ];

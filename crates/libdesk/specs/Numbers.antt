@@ -1,7 +1,7 @@
 -- The commands by their numbers in include/desk.h.
 use Rattle.std.specs.Prelude.{ℕ, ◌==◌, if◌then◌else◌, List, Option, Some, None}
 use Rattle.std.specs.Borrow.{Bor}
-use Rattle.command_line.specs.declared.calls.OfOne.TheVariants.{Admit, Certify, Limits, Settings, Explain, Play}
+use Rattle.command_line.specs.declared.calls.OfOne.TheVariants.{Admit, Certify, Limits, Settings, Explain, Worst, Play}
 use Rattle.command_line.specs.declared.calls.OfTwo.TheVariants.{Check, Judge, Diff, Simulate, Draw, Observe}
 use Rattle.libdesk.specs.declared.asked.Asked.{Asked}
 use Rattle.libdesk.specs.declared.asked.Asked.TheVariants.{One, Two, Releases}
@@ -22,4 +22,5 @@ command_of number first second until =
     else if number == 11 then Some (Two Draw first second)
     else if number == 12 then Some (One Play first)
     else if number == 13 then Some (Two Observe first second)
+    else if number == 14 then Some (One Worst first)
     else None

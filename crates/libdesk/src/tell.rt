@@ -78,6 +78,7 @@ pub(crate) fn command_of<'a>(
         11 => Asked::Two(OfTwo::Draw, first, second),
         12 => Asked::One(OfOne::Play, first),
         13 => Asked::Two(OfTwo::Observe, first, second),
+        14 => Asked::One(OfOne::Worst, first),
         _ => return None,
     })
 }

@@ -2,6 +2,7 @@
 use crate::exports::{
     desk_admit, desk_certify, desk_check, desk_diff, desk_draw, desk_explain, desk_judge,
     desk_limits, desk_observe, desk_play, desk_releases, desk_settings, desk_simulate, desk_tell,
+    desk_worst,
 };
 use std::alloc::Global;
 
@@ -21,6 +22,7 @@ enum Call {
     Settings(&'static [u8]),
     Play(&'static [u8]),
     Releases(&'static [u8], u64),
+    Worst(&'static [u8]),
     Check(&'static [u8], &'static [u8]),
     Judge(&'static [u8], &'static [u8]),
     Diff(&'static [u8], &'static [u8]),
@@ -39,6 +41,7 @@ fn made(alloc: Global, call: Call, room: &mut [u8], status: &mut u8) -> usize {
         Call::Settings(set) => desk_settings(alloc, set, room, status),
         Call::Play(script) => desk_play(alloc, script, room, status),
         Call::Releases(set, until) => desk_releases(alloc, set, until, room, status),
+        Call::Worst(set) => desk_worst(alloc, set, room, status),
         Call::Check(set, certificate) => desk_check(alloc, set, certificate, room, status),
         Call::Judge(set, settings) => desk_judge(alloc, set, settings, room, status),
         Call::Diff(set, changed) => desk_diff(alloc, set, changed, room, status),
@@ -59,7 +62,7 @@ fn holds(alloc: Global, call: Call, room: &mut [u8], text: &[u8], wanted: u8) ->
 }
 
 // Calls, with what each puts into the room and its status.
-const ANSWERS: [(Call, &[u8], u8); 14] = [
+const ANSWERS: [(Call, &[u8], u8); 15] = [
     (Call::Admit(SET), b"admitted 1\n1 x 1000\n", 0),
     (Call::Admit(b"x = 1"), b"refused: UnknownKey 0 0\n", 4),
     (Call::Certify(b""), CERTIFICATE, 0),
@@ -78,6 +81,7 @@ const ANSWERS: [(Call, &[u8], u8); 14] = [
     ),
     (Call::Diff(SET, SET), b"admitted 1\nwas admitted 1\n", 0),
     (Call::Releases(SET, 1000), RELEASES, 0),
+    (Call::Worst(SET), b"# x 1000 of 1000\nuntil 1000\n0 x\n", 0),
     (
         Call::Simulate(SET, RELEASES),
         b"0 1000 x\njob x 0 1000\n",
@@ -139,7 +143,7 @@ fn draws(rt: HostRuntime) {
 }
 
 // Numbers of commands with two inputs, with what is told of them and the status.
-const TOLD: [(u8, &[u8], &[u8], &[u8], u8); 7] = [
+const TOLD: [(u8, &[u8], &[u8], &[u8], u8); 8] = [
     (1, SET, b"", b"", 0),
     (
         1,
@@ -163,8 +167,9 @@ const TOLD: [(u8, &[u8], &[u8], &[u8], u8); 7] = [
         b"script: line 1, \"shut\" has to be of open, put, remove, found, test, commit or abandon\n",
         4,
     ),
+    (14, b"", b"", b"note: the set has no task\n", 0),
     (0, SET, b"", b"", 2),
-    (14, SET, b"", b"", 2),
+    (15, SET, b"", b"", 2),
 ];
 
 #[test]

@@ -1,6 +1,6 @@
 use Rattle.std.proofs.Common.{◌≡◌, Ok, Err, inl, inr, refl}
 use Rattle.command_line.specs.declared.calls.OfOne.{OfOne}
-use Rattle.command_line.specs.declared.calls.OfOne.TheVariants.{Admit, Certify, Limits, Settings, Explain, Play}
+use Rattle.command_line.specs.declared.calls.OfOne.TheVariants.{Admit, Certify, Limits, Settings, Explain, Worst, Play}
 use Rattle.desk_cli.specs.Saying.{IsOfPlacing}
 use Rattle.desk_cli.specs.declared.refusal.CommandRefusal.TheVariants as refusal
 use Rattle.desk_cli.proofs.CarriedOut.{carried_out, refused, said_as}
@@ -14,6 +14,7 @@ of_placing Certify one other = absurd (one refl)
 of_placing Limits one other = tt
 of_placing Settings one other = tt
 of_placing Explain one other = tt
+of_placing Worst one other = tt
 of_placing Play one other = absurd (other refl)
 
 pub say_placing-requires-clause-command : goal.say_placing-requires-clause-command

@@ -23,3 +23,6 @@ returns-in-Explain g c = rw c.in-Explain.is (said_as c.say_reasons.ensures (λ t
 
 pub returns-in-Limits : goal.returns-in-Limits
 returns-in-Limits g c = rw c.in-Limits.is (said_as c.say_limits.ensures (λ told. λ known has. told _ known has))
+
+pub returns-in-Worst : goal.returns-in-Worst
+returns-in-Worst g c = rw c.in-Worst.is (said_as c.say_worst.ensures (λ told. λ known has. told _ known has))

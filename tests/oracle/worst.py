@@ -1,0 +1,95 @@
+"""The worst case of a task as a release list: DEFINITIONS.md, The worst case as a run; FORMATS.md, worst."""
+
+import analysis
+import kernel
+import settings
+
+
+def deciding_order(tasks):
+    """Lowest first: of those that are left and need not stand above another of them the one of the longest limit, of
+    equals that of least rank; where each must, that of least rank."""
+    order, left = [], set(range(len(tasks)))
+    while left:
+        free = [i for i in sorted(left) if not analysis.bound_by(tasks, i, left - {i})]
+        order.append(max(free, key=lambda i: tasks[i].limit) if free else min(left))
+        left.remove(order[-1])
+    return order
+
+
+def whose(tasks, order):
+    """In a passing order the task of least slack, in another the highest that may not stand in its place."""
+    levels = [(i, above) for _, i, above in analysis.levels_of(order)]
+    failing = [i for i, above in levels if not analysis.stands(tasks, i, above)]
+    if failing:
+        return failing[-1]
+    slack = {i: tasks[i].deadline - analysis.response_of(tasks, i, above) for i, above in levels}
+    return min(reversed(order), key=lambda i: slack[i])
+
+
+def worst_case(tasks, order, i):
+    """The end and the releases: the task and those above it become ready together, when the blocker has executed the first
+    tick of its section."""
+    above = order[order.index(i) + 1 :]
+    members = [tasks[k] for k in [i, *above]]
+    instant, sooner, blocker = max(task.jitter for task in members), 0, None
+    if analysis.blocking_of(tasks, i, set(above)):
+        name, number, _ = analysis.first_blocker(tasks, i, set(above))
+        blocker = next(task for task in tasks if task.name == name)
+        sooner = blocker.sections[number - 1].at + 1
+        instant = max(instant, sooner)
+    until = instant + tasks[i].limit
+    # by time, and those of one time in the order in which they are put here
+    releases = []
+    for task in members:
+        first = instant - task.jitter
+        releases.append(kernel.Release(first, task.name, task.jitter))
+        releases += [kernel.Release(time, task.name, 0) for time in range(first + task.period, until, task.period)]
+    if blocker is not None:
+        releases.append(kernel.Release(instant - sooner, blocker.name, 0))
+    return until, sorted(releases, key=lambda release: release.arrival)
+
+
+def run(tasks, order, i):
+    """What is said of the task's worst case, with its end and releases, or None where there is no list to show."""
+    task, above = tasks[i], set(order[order.index(i) + 1 :])
+    passes, bound_by = analysis.passes(tasks, i, above), analysis.bound_by(tasks, i, above)
+    if passes and bound_by:
+        return f"must-outrank {tasks[bound_by[0]].name}", None
+    until, releases = worst_case(tasks, order, i)
+    if len(releases) > kernel.RELEASES_MOST:
+        return "too-many-releases", None
+    _, jobs = kernel.run(tasks, order, analysis.ceilings(tasks, order), until, releases)
+    own = next(job for job in jobs if job.task.name == task.name)
+    stopped = kernel.has_overrun(jobs)
+    if passes:
+        response = "-" if own.finish is None else own.finish - own.release.arrival
+        return ("below-a-miss", None) if stopped else (f"{response} of {analysis.response_of(tasks, i, above)}", (until, releases))
+    if own.finish is None and not stopped:
+        return f"misses {task.deadline}", (until, releases)
+    return why_not(tasks, order, i), None
+
+
+def why_not(tasks, order, i):
+    """Why the run of a task that doesn't pass doesn't show that."""
+    higher = order[order.index(i) + 1 :]
+    for place, k in enumerate(higher, 1):
+        if not analysis.passes(tasks, k, set(higher[place:])):
+            return f"below {tasks[k].name}"
+    last, reached = tasks[i].cost - 1, set().union(*(analysis.uses(tasks, k) for k in higher))
+    inside = any(section.at < last < section.end and reached & set(section.locks) for section in tasks[i].sections)
+    return "ends-inside-a-section" if inside else "within-a-tick"
+
+
+def worst(tasks, i=None):
+    """What is printed, and the status."""
+    best = analysis.best_order(tasks)
+    order = deciding_order(tasks) if best is None else best
+    status = 3 if best is None else 0
+    if not tasks:
+        return kernel.release_list(0, []), status
+    i = whose(tasks, order) if i is None else i
+    words, listed = run(tasks, order, i)
+    text = f"# {tasks[i].name} {words}\n"
+    if listed is not None:
+        text += (settings.settings(tasks, order) if best is None else "") + kernel.release_list(*listed)
+    return text, status
