@@ -44,7 +44,7 @@ pub fn read_settings_by(
     let rows = read_rows(alloc, text)?;
     let sorted = sort_rows(alloc, &rows)?;
     let settings = by_height(alloc, lower_is_higher, sorted)?;
-    if let Some(fault) = setting_fault(set, table, &settings) {
+    if let Some(fault) = setting_fault(set, table, lower_is_higher, &settings) {
         return Err(fault);
     }
     let order = order_by(alloc, set, &settings.threads)?;

@@ -17,7 +17,9 @@ pub(crate) fn fault_text(alloc: Global, fault: SettingsFault) -> Result<String, 
         SettingsFault::SameNumber { line } => format!(in alloc; "SameNumber {line}"),
         SettingsFault::MissingTask { name } => format!(in alloc; "MissingTask {name}"),
         SettingsFault::MissingLock { name } => format!(in alloc; "MissingLock {name}"),
-        SettingsFault::WrongCeiling { name } => format!(in alloc; "WrongCeiling {name}"),
+        SettingsFault::WrongCeiling { name, number } => {
+            format!(in alloc; "WrongCeiling {name} {number}")
+        },
         SettingsFault::OutOfMemory => format!(in alloc; "OutOfMemory"),
     }
 }
