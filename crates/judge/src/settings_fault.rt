@@ -224,13 +224,7 @@ pub(crate) fn setting_fault(
         return Some(SettingsFault::MissingLock { name });
     }
     match wrong_lock(set, table, settings) {
-        Some(name) => Some(ceiling_fault(
-            set,
-            table,
-            lower_is_higher,
-            &settings.threads,
-            name,
-        )),
+        Some(name) => Some(ceiling_fault(set, table, lower_is_higher, &settings.threads, name)),
         None => None,
     }
 }

@@ -55,11 +55,11 @@ pub const REFUSALS: [Answers; 2] = [
         &[
             (
                 "thread x 1\nthread y 2\n",
-                "meets 2\n1 x 3000 of 10000\n2 y 2100 of 20000\n",
+                "meets 2\n1 x 3000 of 10000 at 1\n2 y 2100 of 20000 at 2\n",
             ),
             (
                 "thread x 1\nthread y 2\nmutex n 2\nmutex m 1\n",
-                "meets 2\n1 x 3000 of 10000\n2 y 2100 of 20000\n",
+                "meets 2\n1 x 3000 of 10000 at 1\n2 y 2100 of 20000 at 2\n",
             ),
             ("thread x 1\nthread y 2\nmutex n 2\n", "MissingLock m"),
             ("thread x 1\nthread y 2\nmutex m 2\n", "MissingLock n"),
