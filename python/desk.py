@@ -158,7 +158,7 @@ class Part:
 @dataclass(frozen=True)
 class Response:
     """A time of a task and its parts. `time` is None where the task must be above another, or where
-    `judge` finds that it misses its deadline."""
+    `judge` finds that it misses its deadline; `number` is that of its thread, of `judge`."""
 
     task: str
     time: int | None = None
@@ -166,6 +166,7 @@ class Response:
     parts: tuple[Part, ...] = ()
     level: int | None = None
     must_be_above: str | None = None
+    number: int | None = None
 
 
 @dataclass(frozen=True)
@@ -621,18 +622,20 @@ def judge(tasks: Sheets, settings: Text | Settings) -> Judged:
     """Which deadlines hold at priorities that are there.
 
     >>> two = [Task("a", 10_000, 10_000, 6000), Task("b", 5000, 5000, 1000)]
-    >>> judge(two, "thread a 20\\nthread b 10\\n").misses
-    ('b',)
+    >>> found = judge(two, "thread a 20\\nthread b 10\\n")
+    >>> found.misses, [(it.task, it.number) for it in found.levels]
+    (('b',), [('b', 10), ('a', 20)])
     """
     said = _ask("judge", tasks, settings)[1]
     first, *lines = said.splitlines()
     levels = []
-    for k, name, what, *more in (it.split() for it in lines):
+    for k, name, what, *more, _, at in (it.split() for it in lines):
+        level, number = int(k), int(at)
         if what == "below":
-            levels.append(Response(name, level=int(k), must_be_above=more[0]))
+            levels.append(Response(name, level=level, must_be_above=more[0], number=number))
         else:
             time = None if what == "misses" else int(what)
-            levels.append(Response(name, time, int(more[-1]), level=int(k)))
+            levels.append(Response(name, time, int(more[-1]), level=level, number=number))
     misses = tuple(first.split()[1:]) if first.startswith("misses") else ()
     return Judged(misses, tuple(levels), text=said)
 

@@ -394,7 +394,10 @@ Settings
   standard input: no line thread hi NUMBER
   [4]
   $ settings 'thread lo 1\nthread mid 2\nthread hi 3\nmutex m 2\n'
-  standard input: line 4, "mutex m 2" isn't at the number of the highest thread that uses it
+  standard input: line 4, "mutex m 2" isn't at 3, the number of the highest thread that uses it
+  [4]
+  $ printf 'thread lo 9\nthread mid 5\nthread hi 2\nmutex m 9\n' | said judge --lower-is-higher examples/shared-lock.toml -
+  standard input: line 4, "mutex m 9" isn't at 2, the number of the highest thread that uses it
   [4]
   $ sed 's/"m"/"m", "n"/' examples/shared-lock.toml > two-locks.toml
   $ printf 'thread lo 1\nthread mid 2\nthread hi 3\nmutex m 3\n' | said judge two-locks.toml -

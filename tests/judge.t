@@ -1,13 +1,13 @@
 `desk judge SET SETTINGS` says what becomes of each task at priorities that a node has: lines as `desk settings` prints
-them, by any distinct numbers from 1 to 1,000,000, of which a greater one is higher.
+them, by any distinct numbers from 1 to 1,000,000, of which a greater one is higher; behind each level it has the number.
 
 What `settings` prints is judged to meet all deadlines, with the responses of `admit`:
 
   $ desk settings examples/shared-lock.toml | desk judge examples/shared-lock.toml -
   meets 3
-  1 lo 27000 of 100000
-  2 mid 7000 of 20000
-  3 hi 5000 of 10000
+  1 lo 27000 of 100000 at 1
+  2 mid 7000 of 20000 at 2
+  3 hi 5000 of 10000 at 3
   $ for set in three-tasks three-tasks-weighted jitter watchdog own-order fills-its-period blocked-out-repaired demand-of-the-deadline; do desk settings examples/$set.toml | desk judge examples/$set.toml - > judged || echo $?; desk admit examples/$set.toml | sed 1d > admitted; sed '1d; s/ of .*//' judged | cmp - admitted; done
 
 Any numbers, in any order of lines; comments and empty lines are skipped; mutexes may be left out:
@@ -15,18 +15,18 @@ Any numbers, in any order of lines; comments and empty lines are skipped; mutexe
   $ printf '# today\nthread hi 90\n\nthread lo 7\nthread mid 8\n' > today
   $ desk judge examples/shared-lock.toml today
   meets 3
-  1 lo 27000 of 100000
-  2 mid 7000 of 20000
-  3 hi 5000 of 10000
+  1 lo 27000 of 100000 at 7
+  2 mid 7000 of 20000 at 8
+  3 hi 5000 of 10000 at 90
 
 An order that doesn't pass:
 
   $ printf 'thread lo 3\nthread mid 2\nthread hi 1\n' > low
   $ desk judge examples/shared-lock.toml low
   misses mid hi
-  1 hi misses 10000
-  2 mid misses 20000
-  3 lo 20200 of 100000
+  1 hi misses 10000 at 1
+  2 mid misses 20000 at 2
+  3 lo 20200 of 100000 at 3
   [3]
 
 A task that stands below one that it must outrank:
@@ -34,10 +34,10 @@ A task that stands below one that it must outrank:
   $ printf 'thread watchdog 1\nthread sensors 2\nthread motion 3\nthread log 4\n' > low
   $ desk judge examples/watchdog.toml low
   misses watchdog sensors motion
-  1 watchdog below sensors
-  2 sensors misses 20000
-  3 motion misses 10000
-  4 log 30500 of 200000
+  1 watchdog below sensors at 1
+  2 sensors misses 20000 at 2
+  3 motion misses 10000 at 3
+  4 log 30500 of 200000 at 4
   [3]
 
 Refused, each over the whole text before the next:
@@ -80,9 +80,9 @@ Where a smaller number is a higher priority, the highest user of a lock has the 
   $ printf 'thread hi 1\nthread mid 5\nthread lo 9\nmutex m 1\n' > rtems
   $ desk judge examples/shared-lock.toml rtems --lower-is-higher
   meets 3
-  1 lo 27000 of 100000
-  2 mid 7000 of 20000
-  3 hi 5000 of 10000
+  1 lo 27000 of 100000 at 9
+  2 mid 7000 of 20000 at 5
+  3 hi 5000 of 10000 at 1
   $ desk settings examples/shared-lock.toml | desk judge examples/shared-lock.toml - --lower-is-higher 2> /dev/null
   refused: WrongCeiling m
   [4]

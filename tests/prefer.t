@@ -55,9 +55,9 @@ What settings say is judged the same by any preference, since they say the order
 
   $ desk settings --prefer deadline set.toml | desk judge --prefer deadline set.toml -
   meets 3
-  1 c 6000 of 20000
-  2 b 3000 of 15000
-  3 a 1000 of 10000
+  1 c 6000 of 20000 at 1
+  2 b 3000 of 15000 at 2
+  3 a 1000 of 10000 at 3
 
 A release list names the tasks by rank, and the simulated kernel runs the best order:
 

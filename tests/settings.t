@@ -58,7 +58,7 @@ An infeasible set prints as in `admit`, and so does a refused one:
   $ desk settings examples/watchdog.toml > levels
   $ desk settings --base=1 examples/watchdog.toml | cmp - levels
   $ desk settings examples/watchdog.toml --base 40 | desk judge examples/watchdog.toml - > judged
-  $ desk judge examples/watchdog.toml levels | cmp - judged
+  $ desk judge examples/watchdog.toml levels | awk 'NR > 1 { $NF += 39 } 1' | cmp - judged
   $ for base in 0 1000001 -1 x ''; do desk settings examples/shared-lock.toml --base "$base" 2> /dev/null || echo $?; done
   2
   2

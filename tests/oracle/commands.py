@@ -185,9 +185,10 @@ def keep(tasks, rows, base=1):
 
 
 def judge(tasks, rows, lower_is_higher=False):
+    heights = rows
     if lower_is_higher:
-        rows = [(line, kind, name, -number) for line, kind, name, number in rows]
-    return settings.judge(tasks, settings.node_order(tasks, rows))
+        heights = [(line, kind, name, -number) for line, kind, name, number in rows]
+    return settings.judge(tasks, settings.node_order(tasks, heights), rows)
 
 
 @with_order

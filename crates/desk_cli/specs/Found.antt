@@ -29,8 +29,8 @@ FindsIn command.Check options U text (Ok (Shown kind)) = ChecksText U text (Ok k
 FindsIn command.Check options U text (Err r) = ChecksText U text (Err r)
 FindsIn command.Diff options U text (Ok (Compared c)) = ComparesText (preference_of options) U text (Ok c)
 FindsIn command.Diff options U text (Err r) = ComparesText (preference_of options) U text (Err r)
-FindsIn command.Judge options U text (Ok (Judged judged)) =
-    JudgesText options.lower_is_higher U text (Ok judged)
+FindsIn command.Judge options U text (Ok (Judged node)) =
+    JudgesText options.lower_is_higher U text (Ok node)
 FindsIn command.Judge options U text (Err r) = JudgesText options.lower_is_higher U text (Err r)
 FindsIn command.Simulate options U text (Ok (Simulated answer)) =
     (options.by_task ≡ false) × SimulatesText U text (Ok answer)
@@ -49,7 +49,7 @@ FindsIn _ options U text _ = ⊥
 
 -- what was found speaks of tasks that a set may have, and of a run in an order of the set
 abbrev pub IsFoundOf : List Task → Found → Type 0
-IsFoundOf U (Judged judged) = All (λ j. j.task < TASK_LIMIT) judged.items
+IsFoundOf U (Judged node) = All (λ j. j.task < TASK_LIMIT) node.judged.items
 IsFoundOf U (Compared c) = IsPlacingOf U c.was × IsPlacingOf c.set c.is
 IsFoundOf U (Reached answer) = IsInOrder U answer
 IsFoundOf U (Drawn answer) = IsInOrder U answer
@@ -60,7 +60,7 @@ IsFoundOf U _ = Unit {0}
 abbrev pub found_said : List Task → Found → List ℕ
 found_said U (Shown kind) = checked_line kind
 found_said U (Compared c) = compared_lines U c
-found_said U (Judged judged) = judged_lines U judged.items
+found_said U (Judged node) = judged_lines U node.judged.items node.numbers.items
 found_said U (Simulated answer) = simulation_said U answer
 found_said U (Reached answer) = reached_said U answer
 found_said U (Drawn answer) = drawing_said U answer
@@ -71,7 +71,7 @@ found_said U (Keeping keeping base) = keeping_lines U base keeping
 abbrev pub found_status : Found → Status
 found_status (Shown kind) = Done
 found_status (Compared c) = placing_status c.is
-found_status (Judged judged) = judged_status judged.items
+found_status (Judged node) = judged_status node.judged.items
 found_status (Simulated answer) = simulation_status answer
 found_status (Reached answer) = simulation_status answer
 found_status (Drawn answer) = simulation_status answer

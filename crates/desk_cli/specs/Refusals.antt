@@ -190,7 +190,7 @@ settings_words (settings.SameLock number) = at_task (codes "SameLock") number
 settings_words (settings.SameNumber number) = at_task (codes "SameNumber") number
 settings_words (settings.MissingTask name) = codes "MissingTask " ++ name
 settings_words (settings.MissingLock name) = codes "MissingLock " ++ name
-settings_words (settings.WrongCeiling name) = codes "WrongCeiling " ++ name
+settings_words (settings.WrongCeiling name number) = codes "WrongCeiling " ++ name
 settings_words settings.OutOfMemory = codes "OutOfMemory"
 
 -- the fault of a trace: its line

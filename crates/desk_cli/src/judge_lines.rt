@@ -5,19 +5,20 @@ ghost use Rattle.desk_cli.specs.Judge.{JudgesText, judged_status};
 
 use crate::refusal::CommandRefusal;
 use crate::status::Status;
-use judge::{JudgedTask, all_meet, judge_settings};
+use judge::{JudgedNode, JudgedTask, all_meet, judge_settings};
 use std::alloc::Global;
 use task_sheet::TaskSet;
 
-// What becomes of a set's tasks in the order that the text of settings gives; a smaller number may be the higher one.
+// What becomes of a set's tasks in the order that the text of settings gives, with the numbers of their threads; a smaller
+// number may be the higher one.
 pub(crate) fn judge_text(
     alloc: Global,
     lower_is_higher: bool,
     tasks: &TaskSet,
     text: &[u8],
-) -> Result<Vec<JudgedTask>, CommandRefusal>
+) -> Result<JudgedNode, CommandRefusal>
     ensures answer { JudgesText lower_is_higher tasks.now text.now result }
-    ensures within { IfOk result (λ judged. All (λ j. j.task < TASK_LIMIT) judged.items) }
+    ensures within { IfOk result (λ node. All (λ j. j.task < TASK_LIMIT) node.judged.items) }
 {
     judge_settings(alloc, tasks, lower_is_higher, text).map_err(CommandRefusal::Settings)
 }

@@ -22,7 +22,7 @@ use crate::status::Status;
 use crate::trace::trace_text;
 use cert_checker::Checked;
 use command_line::{OfTwo, Options};
-use judge::{JudgedTask, judged_text};
+use judge::{JudgedNode, judged_text};
 use kept_order::Keeping;
 use observed::Sight;
 use observed_lines::observed_text;
@@ -39,7 +39,7 @@ pub enum Found {
     /// What becomes of a set and of a new one.
     Compared(Compared),
     /// What becomes of the tasks in the order that settings give.
-    Judged(Vec<JudgedTask>),
+    Judged(JudgedNode),
     /// What comes of a release list, to be shown as the lines of its trace.
     Simulated(Simulated),
     /// The same, to be shown as the lines of what the tasks came to.
@@ -109,9 +109,9 @@ fn print_found<W: Write + Drop>(
             placing_status(&compared.is),
             output,
         ),
-        Found::Judged(judged) => print_made(
-            judged_text(alloc, tasks, judged),
-            judged_status(judged),
+        Found::Judged(node) => print_made(
+            judged_text(alloc, tasks, &node.judged, &node.numbers),
+            judged_status(&node.judged),
             output,
         ),
         Found::Simulated(Simulated::Ran(run)) => {

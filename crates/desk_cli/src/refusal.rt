@@ -334,7 +334,7 @@ fn write_settings_fault<W: fmt::Write>(
         SettingsFault::SameNumber { line } => write!(f, "SameNumber {line}"),
         SettingsFault::MissingTask { name } => write!(f, "MissingTask {name}"),
         SettingsFault::MissingLock { name } => write!(f, "MissingLock {name}"),
-        SettingsFault::WrongCeiling { name } => write!(f, "WrongCeiling {name}"),
+        SettingsFault::WrongCeiling { name, .. } => write!(f, "WrongCeiling {name}"),
         SettingsFault::OutOfMemory => f.write_str("OutOfMemory"),
     }
 }

@@ -12,9 +12,9 @@ use Rattle.task_sheet.proofs.IndexLaws.{IsOrderOf-among, IsOrderOf-head, IsOrder
 use Rattle.assignment.specs.Places.{PlaceData}
 use Rattle.assignment.specs.Placings.{AllRespond, IsBestPlacing, tasks_of_places}
 use Rattle.judge.specs.Judgements.{AllJudged, IsJudgementOf, all_meet, does_meet, judged_of, order_judged}
-use Rattle.judge.specs.Faults.{thread_number}
-use Rattle.judge.specs.Rows.{heights, threads_of}
-use Rattle.judge.specs.Node.{IsNodeOrderBy}
+use Rattle.judge.specs.Faults.{rows_fault, thread_number}
+use Rattle.judge.specs.Rows.{heights, rows_in, threads_of}
+use Rattle.judge.specs.Node.{IsNodeOrderBy, IsOrderOfRows}
 use Rattle.judge.specs.declared.rows.SettingRow.{SettingRow}
 use Rattle.judge.specs.declared.judging.JudgedTask.{JudgedTask}
 use Rattle.judge.specs.declared.judging.Judgement.{Judgement}
@@ -164,3 +164,13 @@ one_node_order lower U text first second a b =
     let rows : b.rows ≡ a.rows = ap rows_or_none (sym b.read ∙ a.read) in
     let rises = subst (λ (rows : List SettingRow). IsStrictlyIncreasing (map (thread_number U (heights lower (threads_of rows))) second)) rows b.by_numbers.rises in
     one_order (thread_number U (heights lower (threads_of a.rows))) (all_of U) first second a.by_numbers.each_once b.by_numbers.each_once a.by_numbers.rises rises
+
+-- the order that the rows of a text give is that of the text
+pub node_order : (lower : Bool) (U : List Task) (text : List ℕ) (rows : List SettingRow) (order : List ℕ) → rows_in text ≡ Ok rows → IsOrderOfRows lower U rows order
+    → IsNodeOrderBy lower U text order
+node_order lower U text rows order read is = record {
+  sound = ap (rows_fault lower U) read ∙ is.sound;
+  rows = rows;
+  read = read;
+  by_numbers = is.by_numbers;
+}

@@ -446,7 +446,7 @@ module _ (U : List Task) (kept : IsTaskSet U) where
       right_number lock is =
           ap not (eq-eqb (setting_number mutexes lock) (top_number U threads lock) (number_lock U order (locks_of U) n lock is ∙ sym (top_is 1 lock (has_ceiling lock U order each is))))
 
-      no_name : name_fault U threads mutexes ≡ None
+      no_name : name_fault false U threads mutexes ≡ None
       no_name =
           let tasks = ap (option_map (λ (t : Task). t.name)) (find_none (λ t. not (is_set threads t.name)) U (recursion_from_All (λ (t : Task). not (is_set threads t.name) ≡ false) U has_thread)) in
           let held = mutexless_none (locks_of U) mutexes (find_none (λ lock. not (is_set mutexes lock)) (locks_of U) (each_to IsLock (λ lock. not (is_set mutexes lock) ≡ false) (locks_of U) (λ lock is. ap not (set_lock U order (locks_of U) n lock is)) each_lock)) in
@@ -459,8 +459,8 @@ module _ (U : List Task) (kept : IsTaskSet U) where
         let more = mutexes_rows U order order (locks_of U) 1 1 in
         record {
           sound = ap (rows_fault false U) read
-              ∙ ap (λ (ts : List Setting). setting_fault U ts (mutexes_of (rows_of 1 entries))) lines
-              ∙ ap (λ (ms : List Setting). setting_fault U (set_in 1 (threads_in U 1 order)) ms) more.1
+              ∙ ap (λ (ts : List Setting). setting_fault false U ts (mutexes_of (rows_of 1 entries))) lines
+              ∙ ap (λ (ms : List Setting). setting_fault false U (set_in 1 (threads_in U 1 order)) ms) more.1
               ∙ rw (no_line more.0) (no_name more.0);
           rows = rows_of 1 entries;
           read = read;

@@ -6,7 +6,7 @@ use Rattle.task_sheet.specs.Sheet.{Task, same_bytes, task_at}
 use Rattle.task_sheet.specs.Indexes.{greatest_below}
 use Rattle.task_sheet.specs.Locks.{uses}
 use Rattle.ceilings.specs.IsTableOf.{locks_of}
-use Rattle.judge.specs.Rows.{heights, mutexes_of, rows_in, threads_of}
+use Rattle.judge.specs.Rows.{as_written, heights, mutexes_of, rows_in, threads_of}
 use Rattle.judge.specs.declared.fault.SettingsFault.{SettingsFault}
 use Rattle.judge.specs.declared.fault.SettingsFault.TheVariants as fault
 use Rattle.judge.specs.declared.settings_fault.SettingField.{SettingField}
@@ -94,23 +94,30 @@ line_fault U threads mutexes =
     (option_or (option_map (λ line. fault.SameLock line) (line_again same_setting_name [] mutexes))
     (option_map (λ line. fault.SameNumber line) (line_again same_number [] threads)))))
 
+-- a mutex isn't at the number of its highest user, which is this one as the text has it
+abbrev pub ceiling_fault : (lower : Bool) → List Task → List Setting → List ℕ → SettingsFault
+ceiling_fault lower U threads lock =
+    fault.WrongCeiling lock (as_written lower (top_number U threads lock))
+
 -- the first reason that a task or a lock gives
-abbrev pub name_fault : List Task → (threads mutexes : List Setting) → Option SettingsFault
-name_fault U threads mutexes =
+abbrev pub name_fault : (lower : Bool) → List Task → (threads mutexes : List Setting)
+    → Option SettingsFault
+name_fault lower U threads mutexes =
     option_or (option_map (λ name. fault.MissingTask name) (threadless U threads))
     (option_or (option_map (λ name. fault.MissingLock name) (mutexless (locks_of U) mutexes))
-    (option_map (λ name. fault.WrongCeiling name) (wrong_lock U (locks_of U) threads mutexes)))
+    (option_map (ceiling_fault lower U threads) (wrong_lock U (locks_of U) threads mutexes)))
 
 -- the first reason that threads and mutexes give: the lines come first
-abbrev pub setting_fault : List Task → (threads mutexes : List Setting) → Option SettingsFault
-setting_fault U threads mutexes =
-    option_or (line_fault U threads mutexes) (name_fault U threads mutexes)
+abbrev pub setting_fault : (lower : Bool) → List Task → (threads mutexes : List Setting)
+    → Option SettingsFault
+setting_fault lower U threads mutexes =
+    option_or (line_fault U threads mutexes) (name_fault lower U threads mutexes)
 
 -- the first reason of a reading, whose numbers count so
 abbrev pub rows_fault : (lower : Bool) → List Task → Result (List SettingRow) ℕ → Option SettingsFault
 rows_fault lower U (Err line) = Some (fault.BadLine line)
 rows_fault lower U (Ok rows) =
-    setting_fault U (heights lower (threads_of rows)) (heights lower (mutexes_of rows))
+    setting_fault lower U (heights lower (threads_of rows)) (heights lower (mutexes_of rows))
 
 -- the first reason why a text, whose numbers count so, is no settings of a set
 abbrev pub settings_fault_by : (lower : Bool) → List Task → List ℕ → Option SettingsFault

@@ -96,3 +96,8 @@ turned s = record { line = s.line; name = s.name; number = (NUMBER_LIMIT + 1) - 
 abbrev pub heights : (lower : Bool) → List Setting → List Setting
 heights false settings = settings
 heights true settings = map turned settings
+
+-- the number by which a text says a height: itself, or, where lower is higher, turned back
+abbrev pub as_written : (lower : Bool) → ℕ → ℕ
+as_written false number = number
+as_written true number = (NUMBER_LIMIT + 1) - number

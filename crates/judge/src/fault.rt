@@ -25,8 +25,9 @@ pub enum SettingsFault {
     MissingTask { name: Name },
     /// Some lock has a mutex, and this one has none: the first such in the order of first sight.
     MissingLock { name: Name },
-    /// The mutex of the lock isn't at the number of its highest user: the first such in the order of first sight.
-    WrongCeiling { name: Name },
+    /// The mutex of the lock isn't at the number of its highest user, which is this: the first such in the order of first
+    /// sight.
+    WrongCeiling { name: Name, number: u64 },
     /// A growth was refused.
     OutOfMemory,
 }

@@ -3,32 +3,47 @@ ghost use Rattle.std.specs.Prelude.{◌≡◌, ◌<◌, All, MatchResult, IfOk};
 ghost use Rattle.task_sheet.specs.declared.set.TheConstants.{TASK_LIMIT};
 ghost use Rattle.judge.specs.Faults.{IsSettingsFault, settings_fault_by};
 ghost use Rattle.judge.specs.Judgements.{AllJudged, order_judged};
-ghost use Rattle.judge.specs.Node.{IsNodeOrderBy};
+ghost use Rattle.judge.specs.Node.{AreNumbersIn, IsNodeOrderBy};
 
 use crate::fault::SettingsFault;
 use crate::judging::{JudgedTask, judge_order};
-use crate::reading::read_settings_by;
+use crate::numbers::numbers_of;
+use crate::reading::order_of_rows;
+use crate::rows::read_rows;
 use ceilings::LockTable;
 use std::alloc::Global;
 use task_sheet::TaskSet;
 
-/// What becomes of each task in the order that a text's settings give a node, the lowest first; a smaller number may be
-/// the higher one. Refused in the order of `SettingsFault`.
+/// What becomes of the tasks of a node.
+#[derive(Drop)]
+pub struct JudgedNode {
+    /// Each task, the lowest first.
+    pub judged: Vec<JudgedTask>,
+    /// The number of each one's thread, as the settings have it.
+    pub numbers: Vec<u64>,
+}
+
+/// What becomes of each task in the order that a text's settings give a node, the lowest first, and the numbers of their
+/// threads; a smaller number may be the higher one. Refused in the order of `SettingsFault`.
 pub fn judge_settings(
     alloc: Global,
     set: &TaskSet,
     lower_is_higher: bool,
     text: &[u8],
-) -> Result<Vec<JudgedTask>, SettingsFault>
+) -> Result<JudgedNode, SettingsFault>
     ensures judged { MatchResult result
-        (λ judged. IsNodeOrderBy lower_is_higher set.now text.now (order_judged judged.items)
-        × AllJudged set.now judged.items)
+        (λ node. IsNodeOrderBy lower_is_higher set.now text.now (order_judged node.judged.items)
+        × AllJudged set.now node.judged.items)
         (λ fault. IsSettingsFault fault
         (settings_fault_by lower_is_higher set.now text.now)) }
-    ensures within { IfOk result (λ judged. All (λ j. j.task < TASK_LIMIT) judged.items) }
+    ensures numbers { IfOk result (λ node. AreNumbersIn set.now text.now
+        (order_judged node.judged.items) node.numbers.items) }
+    ensures within { IfOk result (λ node. All (λ j. j.task < TASK_LIMIT) node.judged.items) }
 {
     let table = LockTable::new(alloc, set)?;
-    let order = read_settings_by(alloc, set, &table, lower_is_higher, text)?;
+    let rows = read_rows(alloc, text)?;
+    let order = order_of_rows(alloc, set, &table, lower_is_higher, &rows)?;
     let judged = judge_order(alloc, set, &table, &order)?;
-    Ok(judged)
+    let numbers = numbers_of(alloc, set, &rows, &order)?;
+    Ok(JudgedNode { judged, numbers })
 }

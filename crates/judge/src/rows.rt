@@ -2,7 +2,7 @@
 ghost use Rattle.std.specs.Prelude.{◌≡◌, Ok, MatchResult, IfOk, map};
 ghost use Rattle.lines.specs.Words.{words};
 ghost use Rattle.judge.specs.Faults.{IsRowsFault};
-ghost use Rattle.judge.specs.Rows.{heights, mutexes_of, number_in_range, setting_row_in, setting_row, rows_in, threads_of, turned};
+ghost use Rattle.judge.specs.Rows.{as_written, heights, mutexes_of, number_in_range, setting_row_in, setting_row, rows_in, threads_of, turned};
 
 use crate::fault::SettingsFault;
 use lines::{TextPlace, Words, name_of, next_kept, number_of};
@@ -154,4 +154,15 @@ pub(crate) fn by_height(
     let threads = all_turned(alloc, &settings.threads)?;
     let mutexes = all_turned(alloc, &settings.mutexes)?;
     Ok(NodeSettings { threads, mutexes })
+}
+
+/// The number by which a text says a height.
+pub(crate) fn as_written(lower_is_higher: bool, height: u64) -> u64
+    ensures { result ≡ as_written lower_is_higher height }
+{
+    if lower_is_higher {
+        (NUMBER_LIMIT + 1).saturating_sub(height)
+    } else {
+        height
+    }
 }

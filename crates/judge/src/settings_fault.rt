@@ -2,10 +2,10 @@
 ghost use Rattle.std.specs.Prelude.{◌≡◌, ℕ, Bool, not, ◌==◌, List, [], find};
 ghost use Rattle.std.specs.List.{list_any};
 ghost use Rattle.ceilings.specs.IsTableOf.{IsTableOf, locks_of};
-ghost use Rattle.judge.specs.Faults.{is_no_lock, is_no_task, is_set, line_again, line_where, mutexless, setting_number, setting_fault, share, threadless, top_number, wrong_lock};
+ghost use Rattle.judge.specs.Faults.{ceiling_fault, is_no_lock, is_no_task, is_set, line_again, line_where, mutexless, setting_number, setting_fault, share, threadless, top_number, wrong_lock};
 
 use crate::fault::SettingsFault;
-use crate::rows::{NodeSettings, Setting};
+use crate::rows::{NodeSettings, Setting, as_written};
 use ceilings::LockTable;
 use task_sheet::{Name, TaskSet};
 
@@ -175,14 +175,31 @@ fn wrong_lock(set: &TaskSet, table: &LockTable, settings: &NodeSettings) -> Opti
     first_lock(set, table, |lock| is_wrong(set, table, settings, lock))
 }
 
-/// The first reason why threads and mutexes are no settings of a set. The table is that of the set.
+// That a lock's mutex isn't at the number of its highest user.
+fn ceiling_fault(
+    set: &TaskSet,
+    table: &LockTable,
+    lower_is_higher: bool,
+    threads: &[Setting],
+    name: Name,
+) -> SettingsFault
+    requires { IsTableOf set.now table.now }
+    ensures { result ≡ ceiling_fault lower_is_higher set.now threads.now name }
+{
+    let number = as_written(lower_is_higher, top_of(set, table, threads, name));
+    SettingsFault::WrongCeiling { name, number }
+}
+
+/// The first reason why threads and mutexes are no settings of a set, whose text's numbers count so. The table is that of
+/// the set.
 pub(crate) fn setting_fault(
     set: &TaskSet,
     table: &LockTable,
+    lower_is_higher: bool,
     settings: &NodeSettings,
 ) -> Option<SettingsFault>
     requires { IsTableOf set.now table.now }
-    ensures { result ≡ setting_fault set.now
+    ensures { result ≡ setting_fault lower_is_higher set.now
         settings.now.threads.items settings.now.mutexes.items }
 {
     if let Some(line) = unknown_task(set, &settings.threads) {
@@ -207,7 +224,7 @@ pub(crate) fn setting_fault(
         return Some(SettingsFault::MissingLock { name });
     }
     match wrong_lock(set, table, settings) {
-        Some(name) => Some(SettingsFault::WrongCeiling { name }),
+        Some(name) => Some(ceiling_fault(set, table, lower_is_higher, &settings.threads, name)),
         None => None,
     }
 }

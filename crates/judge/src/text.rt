@@ -1,9 +1,9 @@
 //! The lines that say what becomes of the tasks of an order.
-ghost use Rattle.std.specs.Prelude.{◌≡◌, ◌++◌, ◌<◌, All, OnOk, IfOk, string_bytes};
+ghost use Rattle.std.specs.Prelude.{◌≡◌, ◌++◌, ◌<◌, codes, All, OnOk, IfOk, string_bytes};
 ghost use Rattle.task_sheet.specs.declared.set.TheConstants.{TASK_LIMIT};
 ghost use Rattle.task_sheet.specs.Sheet.{task_at};
 ghost use Rattle.task_sheet.specs.Indexes.{indexes_of};
-ghost use Rattle.judge.specs.Lines.{judged_words, meets_line, judged_lines, judged_level_lines, missed_line, missed_of};
+ghost use Rattle.judge.specs.Lines.{at_words, judged_words, judgement_words, meets_line, judged_lines, judged_level_lines, missed_line, missed_of};
 
 use crate::judging::{JudgedTask, Judgement, all_meet, does_meet};
 use lines::{push_name, push_names};
@@ -57,40 +57,71 @@ fn push_first(text: &mut String, set: &TaskSet, judged: &[JudgedTask]) -> Result
     push_missed(text, set, missed_of(judged))
 }
 
-// The line of a level after its number: the task, and what becomes of it.
-fn push_judged(text: &mut String, set: &TaskSet, judged: &JudgedTask) -> Result<(), AllocError>
+// What becomes of a task with this deadline.
+fn push_judgement(
+    text: &mut String,
+    set: &TaskSet,
+    deadline: u64,
+    judgement: Judgement,
+) -> Result<(), AllocError>
     ensures { OnOk result (string_bytes text.new
-        ≡ string_bytes text.old ++ judged_words set.now judged.now) }
+        ≡ string_bytes text.old ++ codes " " ++ judgement_words set.now deadline judgement) }
 {
-    let deadline = deadline_of(set, judged.task);
-    push_name(text, set, judged.task)?;
-    match judged.judgement {
-        Judgement::Meets { response } => writeln!(text, " {response} of {deadline}"),
-        Judgement::Misses => writeln!(text, " misses {deadline}"),
+    match judgement {
+        Judgement::Meets { response } => write!(text, " {response} of {deadline}"),
+        Judgement::Misses => write!(text, " misses {deadline}"),
         Judgement::Below { other } => {
             text.push_str(" below ")?;
-            push_name(text, set, other)?;
-            text.push_str("\n")
+            push_name(text, set, other)
         }
     }
 }
 
+// The end of a line, with the number of a thread where one is given.
+fn push_number(text: &mut String, number: Option<u64>) -> Result<(), AllocError>
+    ensures { OnOk result (string_bytes text.new
+        ≡ string_bytes text.old ++ at_words number ++ codes "\n") }
+{
+    match number {
+        Some(number) => writeln!(text, " at {number}"),
+        None => text.push_str("\n"),
+    }
+}
+
+// The line of a level after its number: the task, what becomes of it, and the number of its thread.
+fn push_judged(
+    text: &mut String,
+    set: &TaskSet,
+    judged: &JudgedTask,
+    number: Option<u64>,
+) -> Result<(), AllocError>
+    ensures { OnOk result (string_bytes text.new
+        ≡ string_bytes text.old ++ judged_words set.now judged.now number) }
+{
+    let deadline = deadline_of(set, judged.task);
+    push_name(text, set, judged.task)?;
+    push_judgement(text, set, deadline, judged.judgement)?;
+    push_number(text, number)
+}
+
 /// The lines that say what becomes of the tasks of an order, the lowest first: whether all meet their deadlines, and then
-/// each. The error is want of memory.
+/// each, with the numbers of their threads, where they are given. The error is want of memory.
 pub fn judged_text(
     alloc: Global,
     set: &TaskSet,
     judged: &[JudgedTask],
+    numbers: &[u64],
 ) -> Result<String, AllocError>
     requires { All (λ j. j.task < TASK_LIMIT) judged.now }
-    ensures { IfOk result (λ text. string_bytes text ≡ judged_lines set.now judged.now) }
+    ensures { IfOk result (λ text. string_bytes text
+        ≡ judged_lines set.now judged.now numbers.now) }
 {
     let mut text = String::new(alloc);
     push_first(&mut text, set, judged)?;
     for (place, entry) in judged.iter().enumerate() {
         let level = place + 1;
         write!(text, "{level} ")?;
-        push_judged(&mut text, set, entry)?;
+        push_judged(&mut text, set, entry, numbers.get(place).copied())?;
     }
     Ok(text)
 }

@@ -1,4 +1,5 @@
 //! What settings of a document's set come to, as text.
+use crate::lower::LOWER;
 use crate::orders::ORDERS;
 use crate::refusals::REFUSALS;
 use example_sets::{again, match_rows, set_of};
@@ -17,20 +18,27 @@ pub(crate) fn fault_text(alloc: Global, fault: SettingsFault) -> Result<String, 
         SettingsFault::SameNumber { line } => format!(in alloc; "SameNumber {line}"),
         SettingsFault::MissingTask { name } => format!(in alloc; "MissingTask {name}"),
         SettingsFault::MissingLock { name } => format!(in alloc; "MissingLock {name}"),
-        SettingsFault::WrongCeiling { name } => format!(in alloc; "WrongCeiling {name}"),
+        SettingsFault::WrongCeiling { name, number } => {
+            format!(in alloc; "WrongCeiling {name} {number}")
+        },
         SettingsFault::OutOfMemory => format!(in alloc; "OutOfMemory"),
     }
 }
 
 // The lines of the judgements, or the fault.
-fn answer_to(alloc: Global, document: &str, settings: &str) -> Result<String, Fail> {
+fn answer_to(
+    alloc: Global,
+    lower_is_higher: bool,
+    document: &str,
+    settings: &str,
+) -> Result<String, Fail> {
     let set = set_of(alloc, document)?;
     let answer = again!(
-        judge_settings(alloc, &set, false, settings.as_bytes()),
+        judge_settings(alloc, &set, lower_is_higher, settings.as_bytes()),
         SettingsFault::OutOfMemory
     );
     let text = match answer {
-        Ok(judged) => again!(judged_text(alloc, &set, &judged))?,
+        Ok(node) => again!(judged_text(alloc, &set, &node.judged, &node.numbers))?,
         Err(fault) => fault_text(alloc, fault)?,
     };
     Ok(text)
@@ -40,12 +48,12 @@ fn answer_to(alloc: Global, document: &str, settings: &str) -> Result<String, Fa
 pub type Answers = (&'static str, &'static [(&'static str, &'static str)]);
 
 // Goes through documents with their settings: the failure tells the first settings that come to something else.
-fn match_answers(alloc: Global, sets: &[Answers]) -> Result<(), Fail> {
+fn match_answers(alloc: Global, lower_is_higher: bool, sets: &[Answers]) -> Result<(), Fail> {
     for (document, rows) in sets {
         match_rows(
             alloc,
             *rows,
-            |alloc, settings| answer_to(alloc, *document, settings),
+            |alloc, settings| answer_to(alloc, lower_is_higher, *document, settings),
         )?;
     }
     Ok(())
@@ -53,6 +61,7 @@ fn match_answers(alloc: Global, sets: &[Answers]) -> Result<(), Fail> {
 
 #[test]
 fn answers_by_hand(rt: HostRuntime) -> Result<(), Fail> {
-    match_answers(rt.alloc(), &ORDERS)?;
-    match_answers(rt.alloc(), &REFUSALS)
+    match_answers(rt.alloc(), false, &ORDERS)?;
+    match_answers(rt.alloc(), false, &REFUSALS)?;
+    match_answers(rt.alloc(), true, &LOWER)
 }

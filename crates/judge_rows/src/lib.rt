@@ -6,6 +6,8 @@ mod answers;
 #[cfg(test)]
 mod kept;
 #[cfg(test)]
+mod lower;
+#[cfg(test)]
 mod orders;
 #[cfg(test)]
 mod refusals;

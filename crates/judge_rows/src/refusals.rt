@@ -42,11 +42,11 @@ pub const REFUSALS: [Answers; 2] = [
             ("thread lo 1\nthread mid 2\n", "MissingTask hi"),
             (
                 "thread lo 1\nthread mid 2\nthread hi 3\nmutex m 2\n",
-                "WrongCeiling m",
+                "WrongCeiling m 3",
             ),
             (
                 "thread lo 1\nthread mid 2\nthread hi 3\nmutex m 4\n",
-                "WrongCeiling m",
+                "WrongCeiling m 3",
             ),
         ],
     ),
@@ -55,21 +55,21 @@ pub const REFUSALS: [Answers; 2] = [
         &[
             (
                 "thread x 1\nthread y 2\n",
-                "meets 2\n1 x 3000 of 10000\n2 y 2100 of 20000\n",
+                "meets 2\n1 x 3000 of 10000 at 1\n2 y 2100 of 20000 at 2\n",
             ),
             (
                 "thread x 1\nthread y 2\nmutex n 2\nmutex m 1\n",
-                "meets 2\n1 x 3000 of 10000\n2 y 2100 of 20000\n",
+                "meets 2\n1 x 3000 of 10000 at 1\n2 y 2100 of 20000 at 2\n",
             ),
             ("thread x 1\nthread y 2\nmutex n 2\n", "MissingLock m"),
             ("thread x 1\nthread y 2\nmutex m 2\n", "MissingLock n"),
             (
                 "thread x 1\nthread y 2\nmutex m 2\nmutex n 1\n",
-                "WrongCeiling m",
+                "WrongCeiling m 1",
             ),
             (
                 "thread x 1\nthread y 2\nmutex n 1\nmutex m 1\n",
-                "WrongCeiling n",
+                "WrongCeiling n 2",
             ),
         ],
     ),

@@ -193,7 +193,7 @@ fn push_settings_fault(
             text,
             "no line mutex {name} NUMBER; there is one for each lock or for none"
         ),
-        SettingsFault::WrongCeiling { name } => push_ceiling(text, bytes, &name),
+        SettingsFault::WrongCeiling { name, number } => push_ceiling(text, bytes, &name, number),
         SettingsFault::OutOfMemory => Err(AllocError),
     }
 }
@@ -220,11 +220,16 @@ fn line_of_mutex(bytes: &[u8], lock: &Name) -> Option<u64> {
     })
 }
 
-// A mutex that isn't at its ceiling.
-fn push_ceiling(text: &mut String, bytes: &[u8], lock: &Name) -> Result<(), AllocError> {
+// A mutex that isn't at its ceiling, which is this number.
+fn push_ceiling(
+    text: &mut String,
+    bytes: &[u8],
+    lock: &Name,
+    number: u64,
+) -> Result<(), AllocError> {
     match line_of_mutex(bytes, lock) {
         Some(line) => push_line(text, bytes, line)?,
         None => write!(text, "mutex {lock}")?,
     }
-    text.push_str(" isn't at the number of the highest thread that uses it")
+    write!(text, " isn't at {number}, the number of the highest thread that uses it")
 }
