@@ -146,7 +146,8 @@ note says so; in the set of two tasks above names put a, of the shorter one, low
   1 a 7000
   2 b 1000
   (on standard error) note: names decide the order; prefer = "deadline" in front of the tasks bears most
-  $ for command in limits settings explain; do desk $command late.toml 2>&1 > /dev/null; done
+  $ for command in limits settings explain worst; do desk $command late.toml 2>&1 > /dev/null; done
+  note: names decide the order; prefer = "deadline" in front of the tasks bears most
   note: names decide the order; prefer = "deadline" in front of the tasks bears most
   note: names decide the order; prefer = "deadline" in front of the tasks bears most
   note: names decide the order; prefer = "deadline" in front of the tasks bears most
