@@ -1,10 +1,13 @@
 -- The lines of judgements, one task after the other.
-use Rattle.std.proofs.Common.{◌≡◌, ◌++◌, ◌∙◌, ◌+◌, ◌<◌, ◌==◌, ◌&&◌, ◌||◌, not, ℕ, Bool, true, false, cond, List, [], ◌∷◌, length, get_or, take, refl, ap, sym}
+use Rattle.std.proofs.Common.{◌≡◌, ◌++◌, ◌∙◌, ◌+◌, ◌<◌, ◌==◌, ◌&&◌, ◌||◌, not, ℕ, Bool, true, false, cond, List, [], ◌∷◌, length, get_or, take, slice_get, Bor, Option, Some, None, refl, ap, sym}
 use Rattle.std.proofs.Math.Path.{fun_ext}
 use Rattle.std.specs.Ordering.{nat_cmp}
 use Rattle.std.specs.FinSet as set
+use Rattle.std.specs.Option.{option_copied}
+use Rattle.std.specs.Slice.{IsItemAt}
 use Rattle.std.proofs.lemmas.List.{take_more}
 use Rattle.std.proofs.lemmas.List.Folds.{list_any-append}
+use Rattle.std.proofs.lemmas.Option.{slice_get_past, slice_get_read}
 use Rattle.task_sheet.specs.Indexes.{indexes_of, with_index}
 use Rattle.task_sheet.proofs.MembersIndexes.{indexes_of-insert}
 use Rattle.judge.specs.Judgements.{does_meet}
@@ -45,3 +48,8 @@ missed_step m n xs k d true lt is so next =
 missed_step m n xs k d false lt is so next =
     ap indexes_of next ∙ indexes_of-insert m (get_or xs k d).task ∙ ap (λ H. with_index H (get_or xs k d).task) so
     ∙ sym (ap missed_of (take_more xs k d lt) ∙ missed_push (take k xs) (get_or xs k d) false is)
+
+-- what is copied of an element that is lent
+pub copied_at : (xs : List ℕ) (k : ℕ) (r : Option (Bor ℕ)) → IsItemAt xs k r → option_copied r ≡ slice_get xs k
+copied_at xs k None is = sym (slice_get_past xs k is.3)
+copied_at xs k (Some x) is = sym (slice_get_read xs (length xs) k x.now refl is.3.0 is.1)

@@ -1,5 +1,5 @@
 //! The lines that say what becomes of the tasks of an order.
-ghost use Rattle.std.specs.Prelude.{◌≡◌, ◌++◌, ◌<◌, codes, All, OnOk, IfOk, string_bytes};
+ghost use Rattle.std.specs.Prelude.{◌≡◌, ◌++◌, ◌<◌, codes, slice_get, All, OnOk, IfOk, string_bytes};
 ghost use Rattle.task_sheet.specs.declared.set.TheConstants.{TASK_LIMIT};
 ghost use Rattle.task_sheet.specs.Sheet.{task_at};
 ghost use Rattle.task_sheet.specs.Indexes.{indexes_of};
@@ -77,6 +77,13 @@ fn push_judgement(
     }
 }
 
+// The number at a place, where one is given.
+fn number_at(numbers: &[u64], place: usize) -> Option<u64>
+    ensures { result ≡ slice_get numbers.now place }
+{
+    numbers.get(place).copied()
+}
+
 // The end of a line, with the number of a thread where one is given.
 fn push_number(text: &mut String, number: Option<u64>) -> Result<(), AllocError>
     ensures { OnOk result (string_bytes text.new
@@ -121,7 +128,7 @@ pub fn judged_text(
     for (place, entry) in judged.iter().enumerate() {
         let level = place + 1;
         write!(text, "{level} ")?;
-        push_judged(&mut text, set, entry, numbers.get(place).copied())?;
+        push_judged(&mut text, set, entry, number_at(numbers, place))?;
     }
     Ok(text)
 }
