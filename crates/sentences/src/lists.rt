@@ -231,5 +231,8 @@ fn push_ceiling(
         Some(line) => push_line(text, bytes, line)?,
         None => write!(text, "mutex {lock}")?,
     }
-    write!(text, " isn't at {number}, the number of the highest thread that uses it")
+    write!(
+        text,
+        " isn't at {number}, the number of the highest thread that uses it"
+    )
 }
