@@ -62,8 +62,10 @@ def run(tasks, order, i):
     own = next(job for job in jobs if job.task.name == task.name)
     stopped = kernel.has_overrun(jobs)
     if passes:
+        if stopped:
+            return "below-a-miss", None
         response = "-" if own.finish is None else own.finish - own.release.arrival
-        return ("below-a-miss", None) if stopped else (f"{response} of {analysis.response_of(tasks, i, above)}", (until, releases))
+        return f"{response} of {analysis.response_of(tasks, i, above)}", (until, releases)
     if own.finish is None and not stopped:
         return f"misses {task.deadline}", (until, releases)
     return why_not(tasks, order, i), None
