@@ -17,8 +17,8 @@ use Rattle.assignment.specs.declared.verdict.Verdict.{Verdict}
 use Rattle.task_sheet.specs.declared.prefer.Preference.{Preference}
 use Rattle.limit_lines.specs.Lines.{AreTaskLines, places_in}
 use Rattle.desk_cli.specs.Admit.{Admits, Places, placing_status}
-use Rattle.desk_cli.specs.Limits.{AreLines, AreNamedLines, Lists, SaysPlaced, TellsPlaced, first_line, placing_first, verdict_places}
-use Rattle.desk_cli.specs.Sets.{HasOwned}
+use Rattle.desk_cli.specs.Limits.{AreLines, Lists, SaysPlaced, TellsPlaced, first_line, placing_first, verdict_places}
+use Rattle.desk_cli.specs.Sets.{HasSet}
 use Rattle.desk_cli.specs.declared.refusal.CommandRefusal.{CommandRefusal}
 use Rattle.desk_cli.specs.declared.refusal.CommandRefusal.TheVariants as refusal
 use Rattle.desk_cli.specs.declared.status.Status.{Status}
@@ -30,11 +30,11 @@ where_sound (Ok x) P sound holds = holds
 where_sound (Err e) P sound holds = absurd (true≢false sound)
 
 -- the lines of one task more
-pub lines_more : (owners : List Owner) (U : List Task) (places : Option (List PlaceData)) (k : ℕ) (front lines : List ℕ) → AreLines owners U places k front → AreNamedLines owners U places k lines
-    → AreLines owners U places (k + 1) (front ++ lines)
-lines_more owners U places k front lines before are =
+pub lines_more : (U : List Task) (places : Option (List PlaceData)) (k : ℕ) (front lines : List ℕ) → AreLines U places k front → AreTaskLines U places k lines
+    → AreLines U places (k + 1) (front ++ lines)
+lines_more U places k front lines before are =
     let next : suc k ≡ k + 1 = omega arith in
-    subst (λ n. AreLines owners U places n (front ++ lines)) next (front, lines, before, are, refl)
+    subst (λ n. AreLines U places n (front ++ lines)) next (front, lines, before, are, refl)
 
 -- whether all lines so far are silent, with those of one task more
 pub silent_more : (before after : Bool) (front lines : List ℕ) → before ≡ (length front == 0) → after ≡ (before && (length lines == 0))
@@ -43,25 +43,25 @@ silent_more before after [] lines is then = then ∙ ap (λ b. b && (length line
 silent_more before after (x ∷ xs) lines is then = then ∙ ap (λ b. b && (length lines == 0)) (is ∙ eqb-suc-zero (length xs)) ∙ sym (eqb-suc-zero (length (xs ++ lines)))
 
 -- what is told of a placed set is the answer on what the reader has
-pub admits_placed : (preference : Option Preference) (known : Option (List ℕ)) (owners : List Owner) (U : List Task) → HasOwned preference known U owners → (answer : Result Verdict CommandRefusal) → TellsPlaced U answer
-    → AdmitsOwned preference known owners answer
-admits_placed preference known owners U has (Ok v) told = (subst (λ (V : List Task). HasOwned preference known V owners) (sym told.0) has, told.1)
-admits_placed preference known owners U has (Err refusal.OutOfMemory) told = tt
-admits_placed preference known owners U has (Err _) told = absurd told
+pub admits_placed : (preference : Option Preference) (known : Option (List ℕ)) (U : List Task) (p : Placing) → Places preference known (Ok (U, p)) → (answer : Result Verdict CommandRefusal) → TellsPlaced U answer
+    → Admits preference known answer
+admits_placed preference known U p placed (Ok v) told = (subst (λ (V : List Task). HasSet preference known V) (sym told.0) placed.0, told.1)
+admits_placed preference known U p placed (Err refusal.OutOfMemory) told = tt
+admits_placed preference known U p placed (Err _) told = absurd told
 
 -- the first line and the lines behind it are those of the verdict that says what the placing says
-pub placed_said : (owners : List Owner) (U : List Task) → IsTaskSet U → (p : Placing) → IsPlacingOf U p → (first : List ℕ) → first ≡ placing_first U p
-    → (before after : Option (List ℕ)) (s : Status) (rest : List ℕ) → Lists owners U (places_in p) (placing_status p) rest s → Appends before after (first ++ rest) → SaysPlaced owners U before after s
-placed_said owners U kept p placing first begins before after s rest lists wrote =
+pub placed_said : (U : List Task) → IsTaskSet U → (p : Placing) → IsPlacingOf U p → (first : List ℕ) → first ≡ placing_first U p
+    → (before after : Option (List ℕ)) (s : Status) (rest : List ℕ) → Lists U (places_in p) (placing_status p) rest s → Appends before after (first ++ rest) → SaysPlaced U before after s
+placed_said U kept p placing first begins before after s rest lists wrote =
     let found = said_by U kept p placing in
     let v = found.0 in
     let says = found.1 in
-    let lists_set = subst (λ (X : List Task). Lists owners X (places_in p) (placing_status p) rest s) (sym says.set) lists in
-    let lists_places = subst (λ o. Lists owners (verdict_set v) o (placing_status p) rest s) (sym says.places) lists_set in (
+    let lists_set = subst (λ (X : List Task). Lists X (places_in p) (placing_status p) rest s) (sym says.set) lists in
+    let lists_places = subst (λ o. Lists (verdict_set v) o (placing_status p) rest s) (sym says.places) lists_set in (
       Ok v,
       first_line v ++ rest,
       (says.set, says.verdict),
-      (rest, refl, subst (λ done. Lists owners (verdict_set v) (verdict_places v) done rest s) (sym says.status) lists_places),
+      (rest, refl, subst (λ done. Lists (verdict_set v) (verdict_places v) done rest s) (sym says.status) lists_places),
       subst (λ (text : List ℕ). Appends before after (text ++ rest)) (begins ∙ sym says.first) wrote,
     )
 

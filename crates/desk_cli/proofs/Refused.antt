@@ -1,5 +1,5 @@
 -- A command that was refused says so.
-use Rattle.std.proofs.Common.{◌≡◌, ℕ, true, false, List, [], Option, Some, None, Err, inl, refl}
+use Rattle.std.proofs.Common.{◌≡◌, ℕ, true, false, List, Option, Some, None, Err, inl, refl}
 use Rattle.std.specs.Io.KnownBytes.{Appends}
 use Rattle.command_line.specs.declared.calls.OfOne.{OfOne}
 use Rattle.command_line.specs.declared.calls.OfOne.TheVariants.{Admit, Certify, Limits, Settings, Explain, Play}
@@ -26,7 +26,7 @@ module _ (before after : Option (List ℕ)) (s : Status) (r : CommandRefusal) (w
   no_set part word preference known _ why = why
 
   limits_refused : (asked : Option (List ℕ)) (preference : Option Preference) (known : Option (List ℕ)) → HasNoSet known r → SaysLimitsOf asked preference known before after s
-  limits_refused None preference known why = ([], Err r, refusal_line r, why, (refl, is), wrote)
+  limits_refused None preference known why = (Err r, refusal_line r, why, (refl, is), wrote)
   limits_refused (Some word) preference known why = (Err r, no_set part.Limits word preference known r why, wrote, is)
 
   reasons_refused : (asked : Option (List ℕ)) (preference : Option Preference) (known : Option (List ℕ)) → HasNoSet known r → SaysReasonsOf asked preference known before after s

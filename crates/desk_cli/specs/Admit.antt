@@ -24,14 +24,7 @@ Admits preference known (Ok v) =
     HasSet preference known (verdict_set v) × IsVerdictOf (verdict_set v) (verdict_of v)
 Admits preference known (Err r) = HasNoSet known r
 
--- the same, with whose the set's tasks are
-abbrev pub AdmitsOwned : Option Preference → Option (List ℕ) → List Owner → Result Verdict CommandRefusal
-    → Type 0
-AdmitsOwned preference known owners (Ok v) =
-    HasOwned preference known (verdict_set v) owners × IsVerdictOf (verdict_set v) (verdict_of v)
-AdmitsOwned preference known owners (Err r) = HasNoSet known r
-
--- the answer on what a reader has, where it is a set with its placing
+-- the same, where the answer is a set with its placing
 abbrev pub Places : Option Preference → Option (List ℕ) → Result (List Task × Placing) CommandRefusal
     → Type 0
 Places preference known (Ok placed) =

@@ -10,7 +10,7 @@ use Rattle.teams.specs.ReadsText.{ReadsText}
 use Rattle.owners.specs.NamedLines.{named_lines}
 use Rattle.owners.specs.Owners.{AreOwners}
 use Rattle.owners.specs.declared.owner.Owner.{Owner}
-use Rattle.owners.specs.declared.words.Naming.TheVariants.{Second}
+use Rattle.owners.specs.declared.words.Naming.TheVariants.{Changes}
 use Rattle.assignment.specs.Placings.{IsPlacingOf}
 use Rattle.assignment.specs.declared.placing.Placing.{Placing}
 use Rattle.diff.specs.Lines.{change_lines}
@@ -70,7 +70,7 @@ both_lines U P V Q = placing_first V Q ++ codes "was " ++ placing_first U P
 abbrev pub compared_lines : List Owner → List Task → Compared → List ℕ
 compared_lines owners U c =
     both_lines U c.was c.set c.is
-    ++ named_lines Second (c.owners.items ++ owners) (change_lines c.weighs U c.was c.set c.is)
+    ++ named_lines Changes (c.owners.items ++ owners) (change_lines c.weighs U c.was c.set c.is)
 
 -- the answer on what the readers had is printed after what the writer held, and the status is that of the new set
 abbrev pub SaysCompared :

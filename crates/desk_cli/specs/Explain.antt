@@ -9,7 +9,7 @@ use Rattle.explain.specs.Lines.{explanation_lines}
 use Rattle.explain.specs.declared.explanation.Explanation.{Explanation}
 use Rattle.owners.specs.NamedLines.{named_lines}
 use Rattle.owners.specs.declared.owner.Owner.{Owner}
-use Rattle.owners.specs.declared.words.Naming.TheVariants.{Explained}
+use Rattle.owners.specs.declared.words.Naming.TheVariants.{Reasons}
 use Rattle.desk_cli.specs.Admit.{Places, placing_status}
 use Rattle.desk_cli.specs.Limits.{placing_first}
 use Rattle.desk_cli.specs.Printed.{Prints}
@@ -34,7 +34,7 @@ AnswersExplained preference known (Err r) = Places preference known (Err r)
 
 -- what explains a placing, each task with its team
 abbrev pub reasons_said : List Owner → List Task → Explanation → List ℕ
-reasons_said owners U e = named_lines Explained owners (explanation_lines U e)
+reasons_said owners U e = named_lines Reasons owners (explanation_lines U e)
 
 -- what is printed of an explained placing: its first line, and then that
 abbrev pub explained_output : ExplainedData → List ℕ

@@ -13,10 +13,7 @@ use Rattle.assignment.specs.declared.verdict.Verdict.{Verdict}
 use Rattle.assignment.specs.declared.verdict.Verdict.TheVariants.{Admitted, Infeasible}
 use Rattle.ceilings.specs.IsTableOf.{IsTableOf}
 use Rattle.limit_lines.specs.Lines.{AreTaskLines, IsLast, order_in}
-use Rattle.owners.specs.NamedLines.{named_lines}
-use Rattle.owners.specs.declared.owner.Owner.{Owner}
-use Rattle.owners.specs.declared.words.Naming.TheVariants.{First}
-use Rattle.desk_cli.specs.Admit.{AdmitsOwned, verdict_status}
+use Rattle.desk_cli.specs.Admit.{Admits, verdict_status}
 use Rattle.desk_cli.specs.Lines.{infeasible_line}
 use Rattle.desk_cli.specs.OrderParts.{placing_said}
 use Rattle.desk_cli.specs.Refusals.{refusal_line, status_of}
@@ -27,17 +24,11 @@ use Rattle.desk_cli.specs.declared.refusal.CommandRefusal.TheVariants as refusal
 use Rattle.desk_cli.specs.declared.status.Status.{Status}
 use Rattle.desk_cli.specs.declared.status.Status.TheVariants as status
 
--- the text is the lines of a task, each with its team
-abbrev pub AreNamedLines : List Owner → List Task → Option (List PlaceData) → ℕ → List ℕ → Type 0
-AreNamedLines owners U places task text =
-    (lines : List ℕ) × AreTaskLines U places task lines × (text ≡ named_lines First owners lines)
-
--- the text is those of the first tasks of a set, by rank
-abbrev pub AreLines : List Owner → List Task → Option (List PlaceData) → ℕ → List ℕ → Type 0
-AreLines owners U places zero text = text ≡ []
-AreLines owners U places (suc k) text =
-    (front : List ℕ) × (lines : List ℕ) × AreLines owners U places k front
-    × AreNamedLines owners U places k lines
+-- the text is the lines of the first tasks of a set, by rank
+abbrev pub AreLines : List Task → Option (List PlaceData) → ℕ → List ℕ → Type 0
+AreLines U places zero text = text ≡ []
+AreLines U places (suc k) text =
+    (front : List ℕ) × (lines : List ℕ) × AreLines U places k front × AreTaskLines U places k lines
     × (text ≡ front ++ lines)
 
 -- the line that no single change mends a set that no order passes, of which no task has a line
@@ -47,22 +38,20 @@ alone_line true None = codes "no single change\n"
 alone_line true (Some places) = []
 
 -- the lines of each task of the set, that one, and that of the factors
-abbrev pub ListsAll : List Owner → List Task → Option (List PlaceData) → List ℕ → Type 0
-ListsAll owners U places text =
-    (lines : List ℕ) × (last : List ℕ) × AreLines owners U places (length U) lines × IsLast U places last
+abbrev pub ListsAll : List Task → Option (List PlaceData) → List ℕ → Type 0
+ListsAll U places text =
+    (lines : List ℕ) × (last : List ℕ) × AreLines U places (length U) lines × IsLast U places last
     × (text ≡ lines ++ alone_line (length lines == 0) places ++ last)
 
 -- the lines of each of the first tasks
-abbrev pub ListsSome : List Owner → List Task → Option (List PlaceData) → List ℕ → Type 0
-ListsSome owners U places text =
-    (count : ℕ) × (count ≤ length U) × AreLines owners U places count text
+abbrev pub ListsSome : List Task → Option (List PlaceData) → List ℕ → Type 0
+ListsSome U places text = (count : ℕ) × (count ≤ length U) × AreLines U places count text
 
 -- the lines of a set, with the status that belongs to it; or some, and then that memory was wanting for the next
-abbrev pub Lists :
-    List Owner → List Task → Option (List PlaceData) → Status → List ℕ → Status → Type 0
-Lists owners U places done text s =
-    (ListsAll owners U places text × (s ≡ done))
-    ⊎ ((front : List ℕ) × ListsSome owners U places front
+abbrev pub Lists : List Task → Option (List PlaceData) → Status → List ℕ → Status → Type 0
+Lists U places done text s =
+    (ListsAll U places text × (s ≡ done))
+    ⊎ ((front : List ℕ) × ListsSome U places front
     × (text ≡ front ++ refusal_line refusal.OutOfMemory)
     × (s ≡ status.OutOfMemory))
 
@@ -86,12 +75,12 @@ first_line (Infeasible o) = infeasible_line o.set (tasks_of o.members)
 abbrev pub placing_first : List Task → Placing → List ℕ
 placing_first U placing = placing_said Count U placing
 
--- what an answer prints, and its status, where these have the set's tasks
-abbrev pub Tells : List Owner → Result Verdict CommandRefusal → List ℕ → Status → Type 0
-Tells owners (Ok v) text s =
+-- what an answer prints, and its status
+abbrev pub Tells : Result Verdict CommandRefusal → List ℕ → Status → Type 0
+Tells (Ok v) text s =
     (rest : List ℕ) × (text ≡ first_line v ++ rest)
-    × Lists owners (verdict_set v) (verdict_places v) (verdict_status v) rest s
-Tells owners (Err r) text s = (text ≡ refusal_line r) × (s ≡ status_of r)
+    × Lists (verdict_set v) (verdict_places v) (verdict_status v) rest s
+Tells (Err r) text s = (text ≡ refusal_line r) × (s ≡ status_of r)
 
 -- the answer is a verdict on the set, or want of memory
 abbrev pub TellsPlaced : List Task → Result Verdict CommandRefusal → Type 0
@@ -100,17 +89,16 @@ TellsPlaced U (Err refusal.OutOfMemory) = Unit {0}
 TellsPlaced U (Err _) = ⊥
 
 -- such an answer is printed after what the writer held, with its status
-abbrev pub SaysPlaced : List Owner → List Task → (before after : Option (List ℕ)) → Status → Type 0
-SaysPlaced owners U before after s =
+abbrev pub SaysPlaced : List Task → (before after : Option (List ℕ)) → Status → Type 0
+SaysPlaced U before after s =
     (answer : Result Verdict CommandRefusal) × (text : List ℕ) × TellsPlaced U answer
-    × Tells owners answer text s
+    × Tells answer text s
     × Appends before after text
 
 -- an answer on what the reader had is printed after what the writer held, with its status
 abbrev pub SaysLimits : Option Preference → Option (List ℕ) → (before after : Option (List ℕ)) → Status
     → Type 0
 SaysLimits preference known before after s =
-    (owners : List Owner) × (answer : Result Verdict CommandRefusal) × (text : List ℕ)
-    × AdmitsOwned preference known owners answer
-    × Tells owners answer text s
+    (answer : Result Verdict CommandRefusal) × (text : List ℕ) × Admits preference known answer
+    × Tells answer text s
     × Appends before after text

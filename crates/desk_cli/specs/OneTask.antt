@@ -9,13 +9,13 @@ use Rattle.ceiling_kernel.specs.Releases.{task_named}
 use Rattle.explain.specs.Explanations.{Explains}
 use Rattle.explain.specs.TaskLines.{task_lines}
 use Rattle.explain.specs.declared.explanation.Explanation.{Explanation}
-use Rattle.limit_lines.specs.Lines.{places_in}
+use Rattle.limit_lines.specs.Lines.{AreTaskLines, places_in}
 use Rattle.owners.specs.NamedLines.{named_lines}
 use Rattle.owners.specs.declared.owner.Owner.{Owner}
-use Rattle.owners.specs.declared.words.Naming.TheVariants.{Explained}
+use Rattle.owners.specs.declared.words.Naming.TheVariants as naming
 use Rattle.desk_cli.specs.Admit.{Places, placing_status}
 use Rattle.desk_cli.specs.Explain.{SaysExplained}
-use Rattle.desk_cli.specs.Limits.{AreNamedLines, SaysLimits, placing_first}
+use Rattle.desk_cli.specs.Limits.{SaysLimits, placing_first}
 use Rattle.desk_cli.specs.Printed.{Prints}
 use Rattle.desk_cli.specs.Sets.{HasOwned}
 use Rattle.desk_cli.specs.declared.one_task.TaskPart.{TaskPart}
@@ -26,11 +26,11 @@ use Rattle.desk_cli.specs.declared.status.Status.{Status}
 
 -- the lines of a task in an explanation, each task with its team
 abbrev pub task_reasons : List Owner → List Task → ℕ → Explanation → List ℕ
-task_reasons owners U task e = named_lines Explained owners (task_lines U task e)
+task_reasons owners U task e = named_lines naming.Reasons owners (task_lines U task e)
 
 -- a text is what is said of a task of a placed set: how far its numbers may go, or what explains its response
 abbrev pub AreLinesOf : TaskPart → List Owner → List Task → Placing → ℕ → List ℕ → Type 0
-AreLinesOf Limits owners U placing task text = AreNamedLines owners U (places_in placing) task text
+AreLinesOf Limits owners U placing task text = AreTaskLines U (places_in placing) task text
 AreLinesOf Reasons owners U placing task text =
     (explanation : Explanation) × Explains U placing explanation
     × (text ≡ task_reasons owners U task explanation)

@@ -139,6 +139,6 @@ pub(crate) fn compared_text(
     let first = both_text(alloc, &old, &new)?;
     let change = change_text(alloc, compared.weighs, &old, &new)?;
     let all = all_owners(alloc, &compared.owners, owners)?;
-    let named = named_text(alloc, Naming::Second, &all, change.as_bytes())?;
+    let named = named_text(alloc, Naming::Changes, &all, change.as_bytes())?;
     then(alloc, first.as_bytes(), &named)
 }

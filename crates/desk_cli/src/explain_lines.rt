@@ -29,7 +29,7 @@ fn why_text(
     let table = LockTable::new(alloc, set)?;
     let explanation = explain(alloc, set, &table, placing)?;
     let text = explanation_text(alloc, set, &explanation)?;
-    let named = named_text(alloc, Naming::Explained, owners, text.as_bytes())?;
+    let named = named_text(alloc, Naming::Reasons, owners, text.as_bytes())?;
     Ok(named)
 }
 

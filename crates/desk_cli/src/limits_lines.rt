@@ -4,8 +4,8 @@ ghost use Rattle.std.specs.Io.KnownBytes.{Appends};
 ghost use Rattle.task_sheet.specs.TaskSet.{IsTaskSet};
 ghost use Rattle.ceilings.specs.IsTableOf.{IsTableOf};
 ghost use Rattle.assignment.specs.Placings.{IsPlacingOf};
-ghost use Rattle.limit_lines.specs.Lines.{IsLast, order_in, places_in};
-ghost use Rattle.desk_cli.specs.Limits.{AreNamedLines, IsListing, ListsAll, ListsSome, SaysPlaced, alone_line, placing_first};
+ghost use Rattle.limit_lines.specs.Lines.{AreTaskLines, IsLast, order_in, places_in};
+ghost use Rattle.desk_cli.specs.Limits.{IsListing, ListsAll, ListsSome, SaysPlaced, alone_line, placing_first};
 ghost use Rattle.streams.specs.Sending.{Sends};
 ghost use Rattle.desk_cli.specs.Outcomes.{IsSaidOn};
 
@@ -17,7 +17,6 @@ use crate::status::Status;
 use assignment::{Placing, tasks_of_places};
 use ceilings::LockTable;
 use limit_lines::{last_text, task_text};
-use owners::{Naming, Owner, named_text};
 use std::alloc::{AllocError, Global};
 use std::io::Write;
 use streams::{Held, Watched};
@@ -27,8 +26,6 @@ use task_sheet::TaskSet;
 #[derive(Drop)]
 struct Listing<'a> {
     set: &'a TaskSet,
-    // Whose its tasks are.
-    owners: &'a [Owner],
     // Of the set's locks.
     table: LockTable,
     placing: &'a Placing,
@@ -57,27 +54,25 @@ pub(crate) fn order_of(alloc: Global, placing: &Placing) -> Result<Vec<usize>, A
     }
 }
 
-// The lines of the task at an index, each with its team.
-fn lines_of_task(alloc: Global, listing: &Listing<'_>, task: usize) -> Result<Vec<u8>, AllocError>
+// The lines of the task at an index.
+fn lines_of_task(alloc: Global, listing: &Listing<'_>, task: usize) -> Result<String, AllocError>
     requires listing { IsListing listing.now }
     requires task { task < length listing.now.set.now }
-    ensures { IfOk result (λ text. AreNamedLines listing.now.owners.now listing.now.set.now
-        (places_in listing.now.placing.now) task text.items) }
+    ensures { IfOk result (λ text. AreTaskLines listing.now.set.now
+        (places_in listing.now.placing.now) task (string_bytes text)) }
 {
-    let text = task_text(
+    task_text(
         alloc,
         listing.set,
         &listing.table,
         listing.placing,
         &listing.order,
         task,
-    )?;
-    let named = named_text(alloc, Naming::First, listing.owners, text.as_bytes())?;
-    Ok(named)
+    )
 }
 
 // Whether no task had a line, with one more text.
-fn is_still_silent(is_silent: bool, text: &[u8]) -> bool
+fn is_still_silent(is_silent: bool, text: &str) -> bool
     ensures { result ≡ (is_silent && (length text.now == 0)) }
 {
     is_silent && text.is_empty()
@@ -114,11 +109,11 @@ fn put_lines<W: Write + Drop>(
 ) -> Result<(), ListFault>
     requires { IsListing listing.now }
     ensures all { OnOk result ((text : List ℕ)
-        × ListsAll listing.now.owners.now listing.now.set.now (places_in listing.now.placing.now) text
+        × ListsAll listing.now.set.now (places_in listing.now.placing.now) text
         × Sends (W.contents output.old.inner) held.old (W.contents output.new.inner) held.new
         (string_bytes listing.now.first ++ text)) }
     ensures some { result ≡ Err ListFault.OutOfMemory
-        → (text : List ℕ) × ListsSome listing.now.owners.now listing.now.set.now (places_in listing.now.placing.now) text
+        → (text : List ℕ) × ListsSome listing.now.set.now (places_in listing.now.placing.now) text
         × Sends (W.contents output.old.inner) held.old (W.contents output.new.inner) held.new
         (string_bytes listing.now.first ++ text) }
     ensures ok { result ≢ Err ListFault.WriteFailed
@@ -133,8 +128,8 @@ fn put_lines<W: Write + Drop>(
         let Ok(text) = lines_of_task(alloc, listing, task) else {
             return Err(ListFault::OutOfMemory);
         };
-        is_silent = is_still_silent(is_silent, &text);
-        if held.put(&text, output).is_err() {
+        is_silent = is_still_silent(is_silent, text.as_str());
+        if held.put(text.as_bytes(), output).is_err() {
             return Err(ListFault::WriteFailed);
         }
     }
@@ -156,11 +151,11 @@ fn print_lines<W: Write + Drop>(
 ) -> Result<(), ListFault>
     requires { IsListing listing.now }
     ensures all { OnOk result ((text : List ℕ)
-        × ListsAll listing.now.owners.now listing.now.set.now (places_in listing.now.placing.now) text
+        × ListsAll listing.now.set.now (places_in listing.now.placing.now) text
         × Appends (W.contents output.old.inner) (W.contents output.new.inner)
         (string_bytes listing.now.first ++ text)) }
     ensures some { result ≡ Err ListFault.OutOfMemory
-        → (text : List ℕ) × ListsSome listing.now.owners.now listing.now.set.now (places_in listing.now.placing.now) text
+        → (text : List ℕ) × ListsSome listing.now.set.now (places_in listing.now.placing.now) text
         × Appends (W.contents output.old.inner) (W.contents output.new.inner)
         (string_bytes listing.now.first ++ text) }
     ensures ok { result ≢ Err ListFault.WriteFailed
@@ -181,13 +176,11 @@ fn print_lines<W: Write + Drop>(
 // What the lines of a placed set are made of.
 fn make_ready<'a>(
     alloc: Global,
-    owners: &'a [Owner],
     set: &'a TaskSet,
     placing: &'a Placing,
 ) -> Result<Listing<'a>, AllocError>
     requires { IsPlacingOf set.now placing.now }
     ensures set { IfOk result (λ listing. listing.set.now ≡ set.now) }
-    ensures owners { IfOk result (λ listing. listing.owners.now ≡ owners.now) }
     ensures table { IfOk result (λ listing. IsTableOf listing.set.now listing.table) }
     ensures placing { IfOk result (λ listing. listing.placing.now ≡ placing.now) }
     ensures order { IfOk result (λ listing. listing.order.items ≡ order_in placing.now) }
@@ -199,7 +192,6 @@ fn make_ready<'a>(
     let first = placing_text(alloc, OrderPart::Count, set, placing)?;
     Ok(Listing {
         set,
-        owners,
         table,
         placing,
         order,
@@ -210,16 +202,15 @@ fn make_ready<'a>(
 // Prints the lines of a placing, or that memory was wanting before the first.
 pub(crate) fn print_placing<W: Write + Drop>(
     alloc: Global,
-    owners: &[Owner],
     set: &TaskSet,
     placing: &Placing,
     output: &mut Watched<W>,
 ) -> Status
     requires kept { IsTaskSet set.now }
     requires placing { IsPlacingOf set.now placing.now }
-    ensures { IsSaidOn (SaysPlaced owners.now set.now) W.contents output.old output.new result }
+    ensures { IsSaidOn (SaysPlaced set.now) W.contents output.old output.new result }
 {
-    let Ok(listing) = make_ready(alloc, owners, set, placing) else {
+    let Ok(listing) = make_ready(alloc, set, placing) else {
         return refuse(CommandRefusal::OutOfMemory, output);
     };
     match print_lines(alloc, &listing, output) {

@@ -4,8 +4,8 @@ ghost use Rattle.task_sheet.specs.TaskSet.{IsTaskSet};
 ghost use Rattle.assignment.specs.Placings.{IsPlacingOf};
 ghost use Rattle.explain.specs.Explanations.{Explains};
 ghost use Rattle.explain.specs.declared.explanation.Explanation.{Explanation};
-ghost use Rattle.limit_lines.specs.Lines.{places_in};
-ghost use Rattle.desk_cli.specs.Limits.{AreNamedLines, placing_first};
+ghost use Rattle.limit_lines.specs.Lines.{AreTaskLines, places_in};
+ghost use Rattle.desk_cli.specs.Limits.{placing_first};
 ghost use Rattle.desk_cli.specs.OneTask.{AreLinesOf, OfPlaced, SaysLimitsOf, SaysReasonsOf, SaysTask, asked_task, no_such_task, task_reasons};
 ghost use Rattle.desk_cli.specs.Outcomes.{IsSaidOn};
 
@@ -58,21 +58,21 @@ fn no_such_task(word: &str) -> CommandRefusal
 // How far the numbers of a task may go.
 fn limits_text(
     alloc: Global,
-    owners: &[Owner],
     set: &TaskSet,
     placing: &Placing,
     task: usize,
 ) -> Result<Vec<u8>, AllocError>
     requires placing { IsPlacingOf set.now placing.now }
     requires task { task < length set.now }
-    ensures { IfOk result (λ text. AreNamedLines owners.now set.now (places_in placing.now)
-        task text.items) }
+    ensures { IfOk result (λ text. AreTaskLines set.now (places_in placing.now) task
+        text.items) }
 {
     let table = LockTable::new(alloc, set)?;
     let order = order_of(alloc, placing)?;
     let text = limit_lines::task_text(alloc, set, &table, placing, &order, task)?;
-    let named = named_text(alloc, Naming::First, owners, text.as_bytes())?;
-    Ok(named)
+    let mut lines = Vec::new(alloc);
+    lines.extend_from_slice(text.as_bytes())?;
+    Ok(lines)
 }
 
 // What explains the response of a task.
@@ -91,7 +91,7 @@ fn reasons_text(
     let table = LockTable::new(alloc, set)?;
     let explanation = explain(alloc, set, &table, placing)?;
     let text = explain::task_text(alloc, set, &explanation, task)?;
-    let named = named_text(alloc, Naming::Explained, owners, text.as_bytes())?;
+    let named = named_text(alloc, Naming::Reasons, owners, text.as_bytes())?;
     Ok(named)
 }
 
@@ -109,7 +109,7 @@ fn part_text(
     ensures { IfOk result (λ text. AreLinesOf part owners.now set.now placing.now task text.items) }
 {
     match part {
-        TaskPart::Limits => limits_text(alloc, owners, set, placing, task),
+        TaskPart::Limits => limits_text(alloc, set, placing, task),
         TaskPart::Reasons => reasons_text(alloc, owners, set, placing, task),
     }
 }
@@ -176,7 +176,7 @@ pub(crate) fn say_limits<W: Write + Drop>(
 {
     match word {
         Some(word) => say_task(alloc, TaskPart::Limits, word, owners, set, placing, output),
-        None => print_placing(alloc, owners, set, placing, output),
+        None => print_placing(alloc, set, placing, output),
     }
 }
 

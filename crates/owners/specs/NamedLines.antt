@@ -7,7 +7,7 @@ use Rattle.lines.specs.Words.{words}
 use Rattle.owners.specs.Owners.{team_of}
 use Rattle.owners.specs.declared.owner.Owner.{Owner}
 use Rattle.owners.specs.declared.words.Naming.{Naming}
-use Rattle.owners.specs.declared.words.Naming.TheVariants.{First, Second, Explained}
+use Rattle.owners.specs.declared.words.Naming.TheVariants.{Changes, Reasons}
 
 -- ---- which word of a line is a task's name
 abbrev pub is_word : List ℕ → Option (List ℕ) → Bool
@@ -45,11 +45,14 @@ time_place line =
     else if number_at line 1 && is_at line 2 (codes "of") then Some 0
     else None
 
+-- `KIND NAME level OLD NEW bound OLD NEW slack OLD NEW`, with no keys behind it: each word there is a key
+abbrev pub change_place : List (List ℕ) → Option ℕ
+change_place line = if is_at line 11 (codes "keys") then None else Some 1
+
 -- where a line has the name of a task; one of an explanation begins with a space exactly where it is a part of a time
 abbrev pub task_place : Naming → List (List ℕ) → Option ℕ
-task_place First line = Some 0
-task_place Second line = Some 1
-task_place Explained line = if is_at line 0 [] then part_place line else time_place line
+task_place Changes line = change_place line
+task_place Reasons line = if is_at line 0 [] then part_place line else time_place line
 
 abbrev pub word_of : List (List ℕ) → Option ℕ → Option (List ℕ)
 word_of line None = None

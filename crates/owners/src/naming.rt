@@ -49,7 +49,7 @@ fn push_line(
 {
     text.extend_from_slice(line)?;
     push_beside(text, naming, owners, line)?;
-    text.push(b'\n')
+    text.extend_from_slice(b"\n")
 }
 
 // The lines, each with the team of the task that it names.

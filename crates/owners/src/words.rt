@@ -1,19 +1,17 @@
 //! Which word of a line is the name of a task.
 ghost use Rattle.std.specs.Prelude.{◌≡◌, List, ℕ, None, Some, slice_get, MatchOption};
 ghost use Rattle.lines.specs.Words.{words};
-ghost use Rattle.owners.specs.NamedLines.{begins_number, is_at, number_at, part_place, task_place, task_word, time_place};
+ghost use Rattle.owners.specs.NamedLines.{begins_number, change_place, is_at, number_at, part_place, task_place, task_word, time_place};
 
 use lines::Words;
 
-/// Which word of each line is the name of a task.
+/// What lines say, and so which word of each is the name of a task.
 #[derive(Clone, Copy, Debug, PartialEq, Eq)]
 pub enum Naming {
-    /// The first word: the lines that `desk limits` prints of a task.
-    First,
-    /// The second: those of `desk diff`.
-    Second,
-    /// That of an explanation's line, where it has one.
-    Explained,
+    /// What a change does to each task.
+    Changes,
+    /// Why the time of each task is what it is.
+    Reasons,
 }
 
 // The word at a place of a line, from 0.
@@ -62,6 +60,17 @@ fn number_at(line: &[u8], place: usize) -> bool
     }
 }
 
+// Where the line of a change has its task, unless keys stand behind it.
+fn change_place(line: &[u8]) -> Option<usize>
+    ensures { result ≡ change_place (words line.now) }
+{
+    if is_at(line, 11, b"keys") {
+        None
+    } else {
+        Some(1)
+    }
+}
+
 // Where the line of a part of a time has its task, where it has one.
 fn part_place(line: &[u8]) -> Option<usize>
     ensures { result ≡ part_place (words line.now) }
@@ -93,9 +102,8 @@ fn task_place(naming: Naming, line: &[u8]) -> Option<usize>
     ensures { result ≡ task_place naming (words line.now) }
 {
     match naming {
-        Naming::First => Some(0),
-        Naming::Second => Some(1),
-        Naming::Explained => {
+        Naming::Changes => change_place(line),
+        Naming::Reasons => {
             if is_at(line, 0, b"") {
                 part_place(line)
             } else {

@@ -2,7 +2,6 @@ use Rattle.std.proofs.Common.{◌≡◌, ◌∙◌, ◌++◌, ℕ, List, Err, in
 use Rattle.std.specs.Prelude.{⊤, Result}
 use Rattle.std.specs.Io.KnownBytes.{Appends}
 use Rattle.task_sheet.specs.Sheet.{Task}
-use Rattle.owners.specs.declared.owner.Owner.{Owner}
 use Rattle.assignment.specs.declared.placing.Placing.{Placing}
 use Rattle.limit_lines.specs.Lines.{order_in, places_in}
 use Rattle.desk_cli.specs.Limits.{ListsAll, ListsSome}
@@ -34,22 +33,20 @@ pub returns-in-Ok-print_lines : goal.returns-in-Ok-print_lines
 returns-in-Ok-print_lines g c =
     let made = c.in-Ok.ensures in
     let said = c.in-Ok-print_lines.ensures.all in
-    let owned = subst (λ (owners : List Owner). ListsAll owners c.in-Ok.listing.set.now (places_in c.in-Ok.listing.placing.now) said.0) made.owners said.1 in
-    let lists = subst (λ (U : List Task). ListsAll c.args.owners.now U (places_in c.args.placing.now) said.0) made.set (subst (λ (p : Placing). ListsAll c.args.owners.now c.in-Ok.listing.set.now (places_in p) said.0) made.placing owned) in
+    let lists = subst (λ (U : List Task). ListsAll U (places_in c.args.placing.now) said.0) made.set (subst (λ (p : Placing). ListsAll c.in-Ok.listing.set.now (places_in p) said.0) made.placing said.1) in
     said_sound (c.in-Ok-print_lines.ensures.ok never_err) (λ is. placing_ends c.args.placing.now (sym c.placing_status.ensures ∙ is))
-    (placed_said c.args.owners.now c.args.set.now c.requires.kept c.args.placing.now c.requires.placing _ made.first _ _ _ said.0 (inl (lists, c.placing_status.ensures)) said.2)
+    (placed_said c.args.set.now c.requires.kept c.args.placing.now c.requires.placing _ made.first _ _ _ said.0 (inl (lists, c.placing_status.ensures)) said.2)
 
 pub returns-in-Err-OutOfMemory : goal.returns-in-Err-OutOfMemory
 returns-in-Err-OutOfMemory g c =
     let made = c.in-Ok.ensures in
     let printed = c.print_lines.ensures in
     let said = printed.some (c.in-Err-OutOfMemory.is ∙ ap (λ f. Err f) c.in-Err-OutOfMemory.field-0-is) in
-    let owned = subst (λ (owners : List Owner). ListsSome owners c.in-Ok.listing.set.now (places_in c.in-Ok.listing.placing.now) said.0) made.owners said.1 in
-    let lists = subst (λ (U : List Task). ListsSome c.args.owners.now U (places_in c.args.placing.now) said.0) made.set (subst (λ (p : Placing). ListsSome c.args.owners.now c.in-Ok.listing.set.now (places_in p) said.0) made.placing owned) in
+    let lists = subst (λ (U : List Task). ListsSome U (places_in c.args.placing.now) said.0) made.set (subst (λ (p : Placing). ListsSome c.in-Ok.listing.set.now (places_in p) said.0) made.placing said.1) in
     let before = g.W.Write.contents c.args.output.now.inner in
     let after = g.W.Write.contents c.refuse-in-Err-OutOfMemory.new.output.inner in
     let first : List ℕ = string_bytes c.in-Ok.listing.first in
     let none = refusal_line refusal.OutOfMemory in
     wanting_after (first ++ said.0) (printed.ok (apart _ _ c.in-Err-OutOfMemory.is c.in-Err-OutOfMemory.field-0-is)) said.2 c.refuse-in-Err-OutOfMemory.ensures (λ all is.
-    placed_said c.args.owners.now c.args.set.now c.requires.kept c.args.placing.now c.requires.placing _ made.first _ _ _ (said.0 ++ none) (inr (said.0, lists, refl, is))
+    placed_said c.args.set.now c.requires.kept c.args.placing.now c.requires.placing _ made.first _ _ _ (said.0 ++ none) (inr (said.0, lists, refl, is))
     (subst (λ (text : List ℕ). Appends before after text) (append_assoc first said.0 none) all))
