@@ -94,7 +94,7 @@ pub(crate) fn placing_text(
 }
 
 // A text, and then another one.
-pub(crate) fn then(alloc: Global, first: &[u8], second: &[u8]) -> Result<Vec<u8>, AllocError>
+pub(crate) fn joined(alloc: Global, first: &[u8], second: &[u8]) -> Result<Vec<u8>, AllocError>
     ensures { IfOk result (λ both. both.items ≡ first.now ++ second.now) }
 {
     let mut both = Vec::new(alloc);

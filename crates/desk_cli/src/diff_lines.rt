@@ -5,7 +5,7 @@ ghost use Rattle.assignment.specs.Placings.{IsPlacingOf};
 ghost use Rattle.desk_cli.specs.Diff.{ComparesText, IsNew, both_lines, compared_lines, does_weigh};
 ghost use Rattle.teams.specs.ReadsText.{ReadsText};
 
-use crate::answer::{OrderPart, placing_text, then};
+use crate::answer::{OrderPart, joined, placing_text};
 use crate::refusal::CommandRefusal;
 use assignment::{Placing, place_all};
 use ceilings::LockTable;
@@ -140,5 +140,6 @@ pub(crate) fn compared_text(
     let change = change_text(alloc, compared.weighs, &old, &new)?;
     let all = all_owners(alloc, &compared.owners, owners)?;
     let named = named_text(alloc, Naming::Changes, &all, change.as_bytes())?;
-    then(alloc, first.as_bytes(), &named)
+    let text = joined(alloc, first.as_bytes(), &named)?;
+    Ok(text)
 }

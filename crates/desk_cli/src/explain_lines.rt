@@ -6,7 +6,7 @@ ghost use Rattle.explain.specs.declared.explanation.Explanation.{Explanation};
 ghost use Rattle.desk_cli.specs.Explain.{reasons_said};
 ghost use Rattle.desk_cli.specs.Limits.{placing_first};
 
-use crate::answer::{OrderPart, placing_text, then};
+use crate::answer::{OrderPart, joined, placing_text};
 use assignment::Placing;
 use ceilings::LockTable;
 use explain::{explain, explanation_text};
@@ -48,5 +48,6 @@ pub(crate) fn explained_text(
 {
     let lines = why_text(alloc, owners, set, placing)?;
     let first = placing_text(alloc, OrderPart::Count, set, placing)?;
-    then(alloc, first.as_bytes(), &lines)
+    let text = joined(alloc, first.as_bytes(), &lines)?;
+    Ok(text)
 }

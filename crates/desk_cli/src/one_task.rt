@@ -10,7 +10,7 @@ ghost use Rattle.desk_cli.specs.OneTask.{AreLinesOf, OfPlaced, SaysLimitsOf, Say
 ghost use Rattle.desk_cli.specs.Outcomes.{IsSaidOn};
 
 use crate::admit::placing_status;
-use crate::answer::{OrderPart, placing_text, then};
+use crate::answer::{OrderPart, joined, placing_text};
 use crate::explain_lines::explained_text;
 use crate::limits_lines::{order_of, print_placing};
 use crate::output::{print_bytes, refuse};
@@ -130,7 +130,8 @@ fn task_text(
 {
     let lines = part_text(alloc, part, owners, set, placing, task)?;
     let first = placing_text(alloc, OrderPart::Count, set, placing)?;
-    then(alloc, first.as_bytes(), &lines)
+    let text = joined(alloc, first.as_bytes(), &lines)?;
+    Ok(text)
 }
 
 // Prints that of the task that a word names, or why there is none.
