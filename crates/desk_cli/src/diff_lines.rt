@@ -90,11 +90,7 @@ pub(crate) fn compare_text(
 }
 
 // What becomes of the new set, and what became of the old one.
-fn both_text(
-    alloc: Global,
-    old: &Side<'_>,
-    new: &Side<'_>,
-) -> Result<String, AllocError>
+fn both_text(alloc: Global, old: &Side<'_>, new: &Side<'_>) -> Result<String, AllocError>
     requires was { IsPlacingOf old.now.set.now old.now.placing.now }
     requires is { IsPlacingOf new.now.set.now new.now.placing.now }
     ensures { IfOk result (λ text. string_bytes text

@@ -203,7 +203,9 @@ pub fn carry_out_on_both<R: Read + Drop, S: Read + Drop, W: Write + Drop, P: Aud
     let preference = preference_of(options);
     match read_two(alloc, preference, set, other, people) {
         Ok((tasks, owners, text)) => {
-            say_both(alloc, command, options, &owners, &tasks, &text, output, people)
+            say_both(
+                alloc, command, options, &owners, &tasks, &text, output, people,
+            )
         }
         Err(refusal) => refuse(refusal, output),
     }

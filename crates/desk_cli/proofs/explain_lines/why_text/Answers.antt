@@ -5,7 +5,7 @@ use Rattle.desk_cli.proofs.explain_lines.why_text.Goals as goal
 
 pub returns : goal.returns
 returns c = (
-      c.in_ok-explanation.explanation,
-      c.in_ok-explanation.ensures,
-      c.in_ok-named.ensures ∙ ap (λ (t : List ℕ). named_lines Reasons c.args.owners.now t) (c.as_bytes.ensures.value ∙ c.in_ok-text.ensures),
-    )
+  c.in_ok-explanation.explanation,
+  c.in_ok-explanation.ensures,
+  c.in_ok-named.ensures ∙ ap (λ (t : List ℕ). named_lines Reasons c.args.owners.now t) (c.as_bytes.ensures.value ∙ c.in_ok-text.ensures),
+)
