@@ -138,8 +138,8 @@ pub(crate) fn read_owned<R: Read + Drop, P: Audience>(
 }
 
 // The set that the first reader has, by a preference, whose its tasks are, and what the second has; or why there are not
-// both, which the audience is told. Both are read before the set's bytes are, the first one first: where it is refused, nothing is read
-// of the second.
+// both, which the audience is told. Both are read before the set's bytes are, the first one first: where it is refused,
+// nothing is read of the second.
 pub(crate) fn read_two<R: Read + Drop, S: Read + Drop, P: Audience>(
     alloc: Global,
     preference: Option<Preference>,
