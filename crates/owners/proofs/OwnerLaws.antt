@@ -45,4 +45,4 @@ ends_at text rest after owners p all first none = (all.sets, rest, all.gathered,
 -- a document that is refused, and not for want of memory, is no set
 pub refused : (p : Part) (e : SetFault) → (e ≡ fault.OutOfMemory → ⊥) → ReadsSet p.text.now (Err e) → IsNoDocument p
 refused p fault.OutOfMemory never why = absurd (never refl)
-refused p e never why = (e, refl, why)
+refused p e never why = (e, (refl, why))
