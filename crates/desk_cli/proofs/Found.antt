@@ -13,7 +13,8 @@ use Rattle.desk_cli.specs.Printed.{IsPrinted}
 use Rattle.desk_cli.specs.Refusals.{refusal_line, status_of}
 use Rattle.desk_cli.specs.Saying.{SaysOfBoth}
 use Rattle.desk_cli.specs.Commands.{preference_of}
-use Rattle.desk_cli.specs.Sets.{HaveBoth, HaveOwned}
+use Rattle.desk_cli.specs.Owning.{HaveOwned}
+use Rattle.desk_cli.specs.Sets.{HaveBoth}
 use Rattle.desk_cli.specs.Simulate.{SaysSimulation}
 use Rattle.desk_cli.specs.declared.of_two.Found.{Found}
 use Rattle.desk_cli.specs.declared.of_two.Found.TheVariants.{Shown, Compared, Judged, Simulated, Reached, Drawn, Observed, Keeping}

@@ -1,6 +1,5 @@
 -- What `desk admit` answers and prints.
-use Rattle.std.specs.Prelude.{ℕ, List, Option, Result, Ok, Err, Vec}
-use Rattle.std.specs.declared.alloc.Global.{Global}
+use Rattle.std.specs.Prelude.{ℕ, List, Option, Result, Ok, Err}
 use Rattle.task_sheet.specs.Sheet.{Task}
 use Rattle.task_sheet.specs.declared.prefer.Preference.{Preference}
 use Rattle.task_sheet.specs.Verdicts.{IsVerdictOf}
@@ -12,8 +11,7 @@ use Rattle.assignment.specs.declared.verdict.Verdict.{Verdict}
 use Rattle.assignment.specs.declared.verdict.Verdict.TheVariants.{Admitted, Infeasible}
 use Rattle.desk_cli.specs.Lines.{verdict_lines}
 use Rattle.desk_cli.specs.Printed.{Prints}
-use Rattle.owners.specs.declared.owner.Owner.{Owner}
-use Rattle.desk_cli.specs.Sets.{HasNoSet, HasOwned, HasSet}
+use Rattle.desk_cli.specs.Sets.{HasNoSet, HasSet}
 use Rattle.desk_cli.specs.declared.refusal.CommandRefusal.{CommandRefusal}
 use Rattle.desk_cli.specs.declared.status.Status.{Status}
 use Rattle.desk_cli.specs.declared.status.Status.TheVariants as status
@@ -30,13 +28,6 @@ abbrev pub Places : Option Preference → Option (List ℕ) → Result (List Tas
 Places preference known (Ok placed) =
     HasSet preference known placed.0 × IsPlacingOf placed.0 placed.1
 Places preference known (Err r) = HasNoSet known r
-
--- the same, with whose the set's tasks are
-abbrev pub PlacesOwned : Option Preference → Option (List ℕ)
-    → Result (List Task × Vec Owner Global × Placing) CommandRefusal → Type 0
-PlacesOwned preference known (Ok placed) =
-    HasOwned preference known placed.0 placed.1.items × IsPlacingOf placed.0 placed.2
-PlacesOwned preference known (Err r) = HasNoSet known r
 
 -- the exit status of a verdict
 abbrev pub verdict_status : Verdict → Status

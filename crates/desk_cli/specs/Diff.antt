@@ -17,7 +17,8 @@ use Rattle.diff.specs.Lines.{change_lines}
 use Rattle.desk_cli.specs.Admit.{placing_status}
 use Rattle.desk_cli.specs.Limits.{placing_first}
 use Rattle.desk_cli.specs.Printed.{Prints}
-use Rattle.desk_cli.specs.Sets.{HaveOwned, OnBoth}
+use Rattle.desk_cli.specs.Owning.{HaveOwned}
+use Rattle.desk_cli.specs.Sets.{OnBoth}
 use Rattle.desk_cli.specs.declared.diff_lines.Compared.{Compared}
 use Rattle.desk_cli.specs.declared.refusal.CommandRefusal.{CommandRefusal}
 use Rattle.desk_cli.specs.declared.refusal.CommandRefusal.TheVariants as refusal

@@ -13,7 +13,7 @@ use Rattle.owners.specs.declared.words.Naming.TheVariants.{Reasons}
 use Rattle.desk_cli.specs.Admit.{Places, placing_status}
 use Rattle.desk_cli.specs.Limits.{placing_first}
 use Rattle.desk_cli.specs.Printed.{Prints}
-use Rattle.desk_cli.specs.Sets.{HasOwned}
+use Rattle.desk_cli.specs.Owning.{HasOwned}
 use Rattle.desk_cli.specs.declared.refusal.CommandRefusal.{CommandRefusal}
 use Rattle.desk_cli.specs.declared.status.Status.{Status}
 

@@ -17,7 +17,7 @@ use Rattle.desk_cli.specs.Admit.{Places, placing_status}
 use Rattle.desk_cli.specs.Explain.{SaysExplained}
 use Rattle.desk_cli.specs.Limits.{SaysLimits, placing_first}
 use Rattle.desk_cli.specs.Printed.{Prints}
-use Rattle.desk_cli.specs.Sets.{HasOwned}
+use Rattle.desk_cli.specs.Owning.{HasOwned}
 use Rattle.desk_cli.specs.declared.one_task.TaskPart.{TaskPart}
 use Rattle.desk_cli.specs.declared.one_task.TaskPart.TheVariants.{Limits, Reasons}
 use Rattle.desk_cli.specs.declared.refusal.CommandRefusal.{CommandRefusal}

@@ -8,7 +8,8 @@ use Rattle.command_line.specs.declared.calls.OfOne.TheVariants.{Certify, Play}
 use Rattle.command_line.specs.declared.calls.OfTwo.{OfTwo}
 use Rattle.desk_cli.specs.Commands.{OneSays, TwoSay, preference_of}
 use Rattle.desk_cli.specs.Play.{Scripts}
-use Rattle.desk_cli.specs.Sets.{HasNoSet, HasOwned, HaveOwned}
+use Rattle.desk_cli.specs.Sets.{HasNoSet}
+use Rattle.desk_cli.specs.Owning.{HasOwned, HaveOwned}
 use Rattle.desk_cli.specs.declared.refusal.CommandRefusal.{CommandRefusal}
 use Rattle.desk_cli.specs.declared.status.Status.{Status}
 

@@ -2,8 +2,6 @@
 use Rattle.std.specs.Prelude.{◌⊎◌, ℕ, List, Option, Result, Ok, Err}
 use Rattle.task_sheet.specs.Sheet.{Task}
 use Rattle.teams.specs.ReadsText.{ReadsText}
-use Rattle.owners.specs.Owners.{AreOwners}
-use Rattle.owners.specs.declared.owner.Owner.{Owner}
 use Rattle.preferences.specs.ReadsPreferred.{SaysPreferred}
 use Rattle.task_sheet.specs.declared.prefer.Preference.{Preference}
 use Rattle.streams.specs.Inputs.{IsReadFrom, IsTooLong}
@@ -15,16 +13,6 @@ use Rattle.desk_cli.specs.declared.refusal.CommandRefusal.TheVariants as refusal
 abbrev pub HasSet : Option Preference → Option (List ℕ) → List Task → Type 0
 HasSet preference known U =
     (bytes : List ℕ) × IsReadFrom known bytes × SaysPreferred preference bytes U
-
--- bytes say a set so, and whose its tasks are
-pub record SaysOwned (preference : Option Preference) (bytes : List ℕ) (U : List Task) (owners : List Owner) : Type 0 where
-  pub set : SaysPreferred preference bytes U
-  pub owners : AreOwners bytes owners
-
--- the bytes that a reader has say both
-abbrev pub HasOwned : Option Preference → Option (List ℕ) → List Task → List Owner → Type 0
-HasOwned preference known U owners =
-    (bytes : List ℕ) × IsReadFrom known bytes × SaysOwned preference bytes U owners
 
 -- why there is no set: the input was not read, or the first fault of its bytes. Want of memory may come at any time,
 -- and the function's own clause says where a failed read is answered.
@@ -40,10 +28,6 @@ HasNoSet known _ = ⊥
 -- one reader has a set, and the other a text
 abbrev pub HaveBoth : Option Preference → (set other : Option (List ℕ)) → List Task → List ℕ → Type 0
 HaveBoth preference set other U text = HasSet preference set U × IsReadFrom other text
-
--- the same, with whose the set's tasks are
-abbrev pub HaveOwned : Option Preference → (set other : Option (List ℕ)) → List Task → List Owner → List ℕ → Type 0
-HaveOwned preference set other U owners text = HasOwned preference set U owners × IsReadFrom other text
 
 -- why there are not both: one of the inputs was not read, or the first fault of the set's bytes, once both were read
 abbrev pub HaveNotBoth : (set other : Option (List ℕ)) → CommandRefusal → Type 0

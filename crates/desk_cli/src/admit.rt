@@ -1,6 +1,7 @@
 //! The verdict of a set, and what becomes of its tasks.
 ghost use Rattle.std.specs.Prelude.{◌≡◌};
-ghost use Rattle.desk_cli.specs.Admit.{Admits, PlacesOwned, placing_status, verdict_status};
+ghost use Rattle.desk_cli.specs.Admit.{Admits, placing_status, verdict_status};
+ghost use Rattle.desk_cli.specs.Owning.{PlacesOwned};
 ghost use Rattle.desk_cli.specs.Outcomes.{IsRead, failed_read};
 
 use crate::audience::Audience;

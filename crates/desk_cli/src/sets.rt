@@ -3,7 +3,8 @@ ghost use Rattle.std.specs.Prelude.{◌≡◌, Err, IfOk, MatchResult};
 ghost use Rattle.preferences.specs.ReadsPreferred.{SaysPreferred};
 ghost use Rattle.teams.specs.ReadsText.{ReadsText};
 ghost use Rattle.desk_cli.specs.Commands.{base_of, preference_of};
-ghost use Rattle.desk_cli.specs.Sets.{HasNoSet, HasOwned, HasSet, HaveNotBoth, HaveOwned, SaysOwned};
+ghost use Rattle.desk_cli.specs.Owning.{HasOwned, HaveOwned, SaysOwned};
+ghost use Rattle.desk_cli.specs.Sets.{HasNoSet, HasSet, HaveNotBoth};
 ghost use Rattle.desk_cli.specs.Outcomes.{AreRead, IsRead, failed_read};
 ghost use Rattle.streams.specs.Inputs.{IsReadFrom, IsTooLong};
 

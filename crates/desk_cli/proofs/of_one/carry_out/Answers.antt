@@ -4,7 +4,7 @@ use Rattle.command_line.specs.declared.calls.OfOne.TheVariants.{Admit, Certify, 
 use Rattle.owners.specs.declared.owner.Owner.{Owner}
 use Rattle.desk_cli.specs.Commands.{preference_of}
 use Rattle.desk_cli.specs.Saying.{IsOfPlacing}
-use Rattle.desk_cli.specs.Sets.{HasOwned}
+use Rattle.desk_cli.specs.Owning.{HasOwned}
 use Rattle.desk_cli.specs.declared.refusal.CommandRefusal.TheVariants as refusal
 use Rattle.desk_cli.proofs.CarriedOut.{carried_out, refused, said_as}
 use Rattle.desk_cli.proofs.Refused.{one_refused, placed_refused}

@@ -4,7 +4,8 @@ use Rattle.task_sheet.specs.declared.prefer.Preference.{Preference}
 use Rattle.owners.specs.declared.owner.Owner.{Owner}
 use Rattle.desk_cli.specs.Admit.{admit_lines}
 use Rattle.desk_cli.specs.Commands.{base_of, preference_of}
-use Rattle.desk_cli.specs.Sets.{HasOwned, HasSet}
+use Rattle.desk_cli.specs.Owning.{HasOwned}
+use Rattle.desk_cli.specs.Sets.{HasSet}
 use Rattle.desk_cli.specs.Settings.{settings_of}
 use Rattle.desk_cli.proofs.CarriedOut.{made_printed, said_as}
 use Rattle.desk_cli.proofs.Placed.{printed_says}

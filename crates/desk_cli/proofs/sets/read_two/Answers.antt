@@ -6,7 +6,8 @@ use Rattle.task_sheet.specs.declared.set.TaskSet.{TaskSet}
 use Rattle.owners.specs.declared.owner.Owner.{Owner}
 use Rattle.teams.specs.ReadsText.{ReadsText}
 use Rattle.teams.specs.declared.fault.TeamsFault.{TeamsFault}
-use Rattle.desk_cli.specs.Sets.{HaveNotBoth, SaysOwned}
+use Rattle.desk_cli.specs.Owning.{SaysOwned}
+use Rattle.desk_cli.specs.Sets.{HaveNotBoth}
 use Rattle.desk_cli.specs.declared.refusal.CommandRefusal.TheVariants as refusal
 use Rattle.desk_cli.proofs.sets.read_two.Goals as goal
 
