@@ -203,3 +203,62 @@ behind a line that counts its bytes alone, and the parts are the teams':
   $ printf '#%% 1\n' | desk admit -
   refused: BadHead 1
   [4]
+
+Where a set is documents of teams, `explain` and `diff` name the team of a task behind all other words of its line, on each
+line that speaks of one task, but where keys stand:
+
+  $ rm kept/node.toml
+  $ desk explain kept 2> notes
+  admitted 3
+  1 arm 8000 of 10000 team arm
+    cost 2000
+    above tilt 1 jobs 1000 team cam
+    above pan 1 jobs 5000 team cam
+  2 pan 6300 of 20000 team cam
+    cost 5000
+    blocked 300 by arm section 1 lock bus team arm
+    above tilt 1 jobs 1000 team cam
+  3 tilt 1000 of 30000 team cam
+    cost 1000
+  load 483334
+  $ desk explain --task pan kept 2> notes
+  admitted 3
+  2 pan 6300 of 20000 team cam
+    cost 5000
+    blocked 300 by arm section 1 lock bus team arm
+    above tilt 1 jobs 1000 team cam
+  $ mkdir moved
+  $ locked pan 20000 5000 bus 400 > moved/cam.toml
+  $ task spin 30000 500 > moved/base.toml
+  $ locked arm 10000 2000 bus 300 > moved/arm.toml
+  $ desk diff kept moved 2> notes
+  admitted 3
+  was admitted 3
+  removed tilt level 3 - bound 1000 - slack 29000 - team cam
+  added spin level - 3 bound - 500 slack - 29500 team base
+  faster arm level 1 1 bound 8000 7500 slack 2000 2500 team arm
+  faster pan level 2 2 bound 6300 5800 slack 13700 14200 team cam
+
+Of a least conflict the same, so that its teams know of each other; a task of one document has no team:
+
+  $ locked arm 10000 9000 bus 300 > moved/arm.toml
+  $ desk explain moved 2> notes | sed 1d
+  conflict arm pan
+  arm 14000 of 10000 team arm
+    cost 9000
+    above pan 1 jobs 5000 team cam
+  pan 23000 of 20000 team cam
+    cost 5000
+    above arm 2 jobs 18000 team arm
+  load 1166667
+  $ cat moved/arm.toml moved/cam.toml > alone.toml
+  $ desk diff kept alone.toml 2> notes | sed 1,2d
+  removed tilt level 3 - bound 1000 - slack 29000 - team cam
+  changed arm level 1 - bound 8000 - slack 2000 - keys cost
+  $ desk explain --task pan alone.toml 2> notes
+  infeasible arm pan
+  conflict arm pan
+  pan 23000 of 20000
+    cost 5000
+    above arm 2 jobs 18000
+  [3]

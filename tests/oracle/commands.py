@@ -87,7 +87,7 @@ def explain(tasks, task):
             if task not in (None, i):
                 continue
             time = analysis.response_of(tasks, i, above)
-            text.append(f"{level} {tasks[i].name} {time} of {tasks[i].deadline}\n")
+            text.append(f"{level} {tasks[i].name} {time} of {tasks[i].deadline}{tasks.beside(tasks[i].name)}\n")
             text += parts(tasks, i, [k for k in reversed(order) if k in above], time - tasks[i].jitter)
     else:
         conflict = analysis.least_conflict(tasks, analysis.greatest_obstruction(tasks, range(len(tasks))))
@@ -105,7 +105,7 @@ def needs(tasks, i, above):
     over, chain = analysis.reason_of(tasks, i, above)
     if over:
         return [f"{tasks[i].name} must be above {over}\n"]
-    first = f"{tasks[i].name} {chain[-1] + tasks[i].jitter} of {tasks[i].deadline}\n"
+    first = f"{tasks[i].name} {chain[-1] + tasks[i].jitter} of {tasks[i].deadline}{tasks.beside(tasks[i].name)}\n"
     return [first, *parts(tasks, i, sorted(above, reverse=True), chain[-2])]
 
 
@@ -116,10 +116,10 @@ def parts(tasks, i, above, window):
         said.append(f"jitter {tasks[i].jitter}")
     if blocked := analysis.blocking_of(tasks, i, set(above)):
         task, section, lock = analysis.first_blocker(tasks, i, set(above))
-        said.append(f"blocked {blocked} by {task} section {section} lock {lock}")
+        said.append(f"blocked {blocked} by {task} section {section} lock {lock}{tasks.beside(task)}")
     for k in above:
         jobs = analysis.releases_within(tasks[k], window)
-        said.append(f"above {tasks[k].name} {jobs} jobs {jobs * tasks[k].cost}")
+        said.append(f"above {tasks[k].name} {jobs} jobs {jobs * tasks[k].cost}{tasks.beside(tasks[k].name)}")
     return [f"  {line}\n" for line in said]
 
 

@@ -19,7 +19,16 @@ class Side:
 
 
 def lines_of(old, new, weighs):
-    """The lines behind the first two. A weight is a key where `weighs`."""
+    """The lines behind the first two, each that has no keys with the team of its task: the new set's, else the old one's."""
+    return [line if " keys " in line else line + team_of(line.split()[1], old, new) for line in changes(old, new, weighs)]
+
+
+def team_of(name, old, new):
+    return new.tasks.beside(name) or old.tasks.beside(name)
+
+
+def changes(old, new, weighs):
+    """A weight is a key where `weighs`."""
     lines = [line("removed", task.name, old, new) for task in old.tasks if task.name not in new.sheets]
     effects, moves = [], []
     for task in new.tasks:

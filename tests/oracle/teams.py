@@ -16,21 +16,25 @@ ENDING = ".toml"
 
 
 class Ranked(tuple):
-    """The tasks of a set by rank, and what its own text prefers, if it says so."""
+    """The tasks of a set by rank, what its own text prefers, if it says so, and the team of each name that has one."""
 
-    own = None
+    own, owners = None, {}
+
+    def beside(self, name):
+        """The words that name the team of a task, behind the words of a line."""
+        return f" team {self.owners[name]}" if name in self.owners else ""
 
 
 def read_set(data, preference=None):
     """The set that a text says, by what the call prefers, else the text, else by weights; or the first refusal."""
-    own, sheets = read_teams(data) if data.startswith(MARK) else read_document(data)
+    own, sheets, owners = read_teams(data) if data.startswith(MARK) else (*read_document(data), {})
     tasks = Ranked(by_limits(sheets) if (preference or own) == "deadline" else by_rank(sheets))
-    tasks.own = own
+    tasks.own, tasks.owners = own, owners
     return tasks
 
 
 def read_teams(data):
-    """What the documents prefer, if one says so, and the sheets of all, document by document."""
+    """What the documents prefer, if one says so, the sheets of all, document by document, and the team of each."""
     node, data = node_document(data)
     budgets = {} if node is None else read_budgets(node)
     teams, part = [], 0
@@ -56,7 +60,7 @@ def read_teams(data):
         raise Refused(4, "TooManyTasks")
     keep_budgets(budgets, teams)
     own = preferring[0][1] if preferring else None
-    return own, [sheet for _, _, sheets in teams for sheet in sheets]
+    return own, [sheet for _, _, sheets in teams for sheet in sheets], owner
 
 
 def node_document(data):

@@ -2,6 +2,7 @@
 use Rattle.std.proofs.Common.{◌≡◌, ℕ, true, false, List, Option, Ok, Err, inl, inr, subst}
 use Rattle.std.specs.Io.KnownBytes.{Appends}
 use Rattle.task_sheet.specs.Sheet.{Task}
+use Rattle.owners.specs.declared.owner.Owner.{Owner}
 use Rattle.command_line.specs.declared.calls.Options.{Options}
 use Rattle.command_line.specs.declared.calls.OfTwo.{OfTwo}
 use Rattle.command_line.specs.declared.calls.OfTwo.TheVariants as command
@@ -12,6 +13,7 @@ use Rattle.desk_cli.specs.Printed.{IsPrinted}
 use Rattle.desk_cli.specs.Refusals.{refusal_line, status_of}
 use Rattle.desk_cli.specs.Saying.{SaysOfBoth}
 use Rattle.desk_cli.specs.Commands.{preference_of}
+use Rattle.desk_cli.specs.Owning.{HaveOwned}
 use Rattle.desk_cli.specs.Sets.{HaveBoth}
 use Rattle.desk_cli.specs.Simulate.{SaysSimulation}
 use Rattle.desk_cli.specs.declared.of_two.Found.{Found}
@@ -31,34 +33,37 @@ never_unread command.Draw options U text never = never
 never_unread command.Observe options U text never = never
 never_unread command.Keep options U text never = never
 
-module _ (options : Options) (U : List Task) (text : List ℕ) (before after : Option (List ℕ)) (s : Status) where
+module _ (options : Options) (owners : List Owner) (U : List Task) (text : List ℕ) (before after : Option (List ℕ)) (s : Status) where
+  both : (set other : Option (List ℕ)) → HaveOwned (preference_of options) set other U owners text → HaveBoth (preference_of options) set other U text
+  both set other has = ((has.0.0, has.0.1, has.0.2.set), has.1)
+
   -- a refusal was printed
-  pub refused_in : (c : OfTwo) (r : CommandRefusal) → FindsIn c options U text (Err r) → Appends before after (refusal_line r) → s ≡ status_of r → SaysOfBoth c options U text before after s
-  refused_in command.Check r why wrote is = λ set other both. (Err r, inr (U, text, both, why), wrote, is)
-  refused_in command.Diff r why wrote is = λ set other both. (Err r, inr (U, text, both, why), wrote, is)
-  refused_in command.Judge r why wrote is = λ set other both. (Err r, inr (U, text, both, why), wrote, is)
+  pub refused_in : (c : OfTwo) (r : CommandRefusal) → FindsIn c options U text (Err r) → Appends before after (refusal_line r) → s ≡ status_of r → SaysOfBoth c options owners U text before after s
+  refused_in command.Check r why wrote is = λ set other has. (Err r, inr (U, text, both set other has, why), wrote, is)
+  refused_in command.Diff r why wrote is = λ set other has. (Err r, inr (U, text, both set other has, why), wrote, is)
+  refused_in command.Judge r why wrote is = λ set other has. (Err r, inr (U, text, both set other has, why), wrote, is)
   refused_in command.Simulate r why wrote is =
-      elim options.by_task as (λ b. (set other : Option (List ℕ)) → HaveBoth (preference_of options) set other U text → SaysSimulation b (preference_of options) set other before after s) [
-        | true ↦ λ set other both. (Err r, inr (U, text, both, why), wrote, is)
-        | false ↦ λ set other both. (Err r, inr (U, text, both, why), wrote, is)
+      elim options.by_task as (λ b. (set other : Option (List ℕ)) → HaveOwned (preference_of options) set other U owners text → SaysSimulation b (preference_of options) set other before after s) [
+        | true ↦ λ set other has. (Err r, inr (U, text, both set other has, why), wrote, is)
+        | false ↦ λ set other has. (Err r, inr (U, text, both set other has, why), wrote, is)
       ]
-  refused_in command.Draw r why wrote is = λ set other both. (Err r, inr (U, text, both, why), wrote, is)
-  refused_in command.Observe r why wrote is = λ set other both. (Err r, inr (U, text, both, why), wrote, is)
-  refused_in command.Keep r why wrote is = λ set other both. (Err r, inr (U, text, both, why), wrote, is)
+  refused_in command.Draw r why wrote is = λ set other has. (Err r, inr (U, text, both set other has, why), wrote, is)
+  refused_in command.Observe r why wrote is = λ set other has. (Err r, inr (U, text, both set other has, why), wrote, is)
+  refused_in command.Keep r why wrote is = λ set other has. (Err r, inr (U, text, both set other has, why), wrote, is)
 
   -- what was found was printed
-  said_in : (c : OfTwo) (found : Found) → FindsIn c options U text (Ok found) → Appends before after (found_said U found) → s ≡ found_status found → SaysOfBoth c options U text before after s
-  said_in command.Check (Shown kind) finds wrote is = λ set other both. (Ok kind, (U, text, both, finds), wrote, is)
-  said_in command.Diff (Compared c) finds wrote is = λ set other both. (Ok (U, c), (text, both, finds), wrote, is)
-  said_in command.Judge (Judged judged) finds wrote is = λ set other both. (Ok (U, judged), (text, both, finds), wrote, is)
-  said_in command.Simulate (Simulated answer) finds wrote is = λ set other both. rw finds.0 (Ok (U, answer), (text, both, finds.1), wrote, is)
-  said_in command.Simulate (Reached answer) finds wrote is = λ set other both. rw finds.0 (Ok (U, answer), (text, both, finds.1), wrote, is)
-  said_in command.Draw (Drawn answer) finds wrote is = λ set other both. (Ok (U, answer), (text, both, finds), wrote, is)
-  said_in command.Observe (Observed tolerance sight) finds wrote is = λ set other both. rw (← finds.0) (Ok (U, sight), (text, both, finds.1), wrote, is)
-  said_in command.Keep (Keeping keeping base) finds wrote is = λ set other both. (Ok (U, keeping), (text, both, finds.1), subst (λ (b : ℕ). Appends before after (keeping_lines U b keeping)) finds.0 wrote, is)
+  said_in : (c : OfTwo) (found : Found) → FindsIn c options U text (Ok found) → Appends before after (found_said owners U found) → s ≡ found_status found → SaysOfBoth c options owners U text before after s
+  said_in command.Check (Shown kind) finds wrote is = λ set other has. (Ok kind, (U, text, both set other has, finds), wrote, is)
+  said_in command.Diff (Compared c) finds wrote is = λ set other has. (Ok (record { set = U; owners = owners; compared = c }), (text, has, finds), wrote, is)
+  said_in command.Judge (Judged judged) finds wrote is = λ set other has. (Ok (U, judged), (text, both set other has, finds), wrote, is)
+  said_in command.Simulate (Simulated answer) finds wrote is = λ set other has. rw finds.0 (Ok (U, answer), (text, both set other has, finds.1), wrote, is)
+  said_in command.Simulate (Reached answer) finds wrote is = λ set other has. rw finds.0 (Ok (U, answer), (text, both set other has, finds.1), wrote, is)
+  said_in command.Draw (Drawn answer) finds wrote is = λ set other has. (Ok (U, answer), (text, both set other has, finds), wrote, is)
+  said_in command.Observe (Observed tolerance sight) finds wrote is = λ set other has. rw (← finds.0) (Ok (U, sight), (text, both set other has, finds.1), wrote, is)
+  said_in command.Keep (Keeping keeping base) finds wrote is = λ set other has. (Ok (U, keeping), (text, both set other has, finds.1), subst (λ (b : ℕ). Appends before after (keeping_lines U b keeping)) finds.0 wrote, is)
   said_in _ _ finds wrote is = absurd finds
 
   -- the same; or that memory was wanting for it, which is an answer of its own
-  pub printed_in : (c : OfTwo) (found : Found) → FindsIn c options U text (Ok found) → IsPrinted before after (found_said U found) (found_status found) s → SaysOfBoth c options U text before after s
+  pub printed_in : (c : OfTwo) (found : Found) → FindsIn c options U text (Ok found) → IsPrinted before after (found_said owners U found) (found_status found) s → SaysOfBoth c options owners U text before after s
   printed_in c found finds (inl wrote) = said_in c found finds wrote.0 wrote.1
-  printed_in c found finds (inr want) = λ set other both. two_refused before after s refusal.OutOfMemory want.0 want.1 c options set other tt
+  printed_in c found finds (inr want) = λ set other has. two_refused before after s refusal.OutOfMemory want.0 want.1 c options set other tt

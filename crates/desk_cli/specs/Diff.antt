@@ -7,12 +7,18 @@ use Rattle.preferences.specs.Preferences.{IsPreferred}
 use Rattle.preferences.specs.ReadsPreferred.{chosen}
 use Rattle.task_sheet.specs.Sheet.{Task}
 use Rattle.teams.specs.ReadsText.{ReadsText}
+use Rattle.owners.specs.NamedLines.{named_lines}
+use Rattle.owners.specs.Owners.{AreOwners}
+use Rattle.owners.specs.declared.owner.Owner.{Owner}
+use Rattle.owners.specs.declared.words.Naming.TheVariants.{Changes}
 use Rattle.assignment.specs.Placings.{IsPlacingOf}
+use Rattle.assignment.specs.declared.placing.Placing.{Placing}
 use Rattle.diff.specs.Lines.{change_lines}
 use Rattle.desk_cli.specs.Admit.{placing_status}
 use Rattle.desk_cli.specs.Limits.{placing_first}
 use Rattle.desk_cli.specs.Printed.{Prints}
-use Rattle.desk_cli.specs.Sets.{HaveBoth, OnBoth}
+use Rattle.desk_cli.specs.Owning.{HaveOwned}
+use Rattle.desk_cli.specs.Sets.{OnBoth}
 use Rattle.desk_cli.specs.declared.diff_lines.Compared.{Compared}
 use Rattle.desk_cli.specs.declared.refusal.CommandRefusal.{CommandRefusal}
 use Rattle.desk_cli.specs.declared.refusal.CommandRefusal.TheVariants as refusal
@@ -32,6 +38,7 @@ IsNew preference text V weighs =
 -- the text says the new set, and this becomes of both
 pub record IsComparison (preference : Option Preference) (U : List Task) (text : List ℕ) (c : Compared) : Type 0 where
   pub new : IsNew preference text c.set c.weighs
+  pub owners : AreOwners text c.owners.items
   pub was : IsPlacingOf U c.was
   pub is : IsPlacingOf c.set c.is
 
@@ -42,24 +49,34 @@ ComparesText preference U text (Err (refusal.New fault)) = ReadsText text (Err f
 ComparesText preference U text (Err refusal.OutOfMemory) = Unit {0}
 ComparesText preference U text _ = ⊥
 
--- the answer on what the readers have of the two, with the first
+-- a set, whose its tasks are, and what becomes of it and of the new one
+pub record ComparedData : Type 0 where
+  pub set : List Task
+  pub owners : List Owner
+  pub compared : Compared
+
+-- the answer on what the readers have of the two
 abbrev pub Compares : Option Preference → Option (List ℕ) → Option (List ℕ)
-    → Result (List Task × Compared) CommandRefusal → Type 0
-Compares preference set other (Ok both) =
-    (text : List ℕ) × HaveBoth preference set other both.0 text
-    × ComparesText preference both.0 text (Ok both.1)
+    → Result ComparedData CommandRefusal → Type 0
+Compares preference set other (Ok d) =
+    (text : List ℕ) × HaveOwned preference set other d.set d.owners text
+    × ComparesText preference d.set text (Ok d.compared)
 Compares preference set other (Err r) = OnBoth (ComparesText preference) preference set other (Err r)
 
--- what becomes of the new set, what became of the old one, and then the change
-abbrev pub compared_lines : List Task → Compared → List ℕ
-compared_lines U c =
-    placing_first c.set c.is ++ codes "was " ++ placing_first U c.was
-    ++ change_lines c.weighs U c.was c.set c.is
+-- what becomes of the new set, and what became of the old one
+abbrev pub both_lines : List Task → Placing → List Task → Placing → List ℕ
+both_lines U P V Q = placing_first V Q ++ codes "was " ++ placing_first U P
+
+-- these, and then the change, each task with its team: that of the new set, where it has the task, else that of the old one
+abbrev pub compared_lines : List Owner → List Task → Compared → List ℕ
+compared_lines owners U c =
+    both_lines U c.was c.set c.is
+    ++ named_lines Changes (c.owners.items ++ owners) (change_lines c.weighs U c.was c.set c.is)
 
 -- the answer on what the readers had is printed after what the writer held, and the status is that of the new set
 abbrev pub SaysCompared :
     Option Preference → (set other : Option (List ℕ)) → (before after : Option (List ℕ)) → Status
     → Type 0
 SaysCompared preference set other before after s =
-    Prints (Compares preference set other) (λ both. compared_lines both.0 both.1)
-    (λ both. placing_status both.1.is) before after s
+    Prints (Compares preference set other) (λ d. compared_lines d.owners d.set d.compared)
+    (λ d. placing_status d.compared.is) before after s

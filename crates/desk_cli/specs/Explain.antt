@@ -2,19 +2,25 @@
 use Rattle.std.specs.Prelude.{ℕ, List, ◌++◌, Option, Result, Ok, Err}
 use Rattle.task_sheet.specs.declared.prefer.Preference.{Preference}
 use Rattle.task_sheet.specs.Sheet.{Task}
+use Rattle.assignment.specs.Placings.{IsPlacingOf}
 use Rattle.assignment.specs.declared.placing.Placing.{Placing}
 use Rattle.explain.specs.Explanations.{Explains}
 use Rattle.explain.specs.Lines.{explanation_lines}
 use Rattle.explain.specs.declared.explanation.Explanation.{Explanation}
+use Rattle.owners.specs.NamedLines.{named_lines}
+use Rattle.owners.specs.declared.owner.Owner.{Owner}
+use Rattle.owners.specs.declared.words.Naming.TheVariants.{Reasons}
 use Rattle.desk_cli.specs.Admit.{Places, placing_status}
 use Rattle.desk_cli.specs.Limits.{placing_first}
 use Rattle.desk_cli.specs.Printed.{Prints}
+use Rattle.desk_cli.specs.Owning.{HasOwned}
 use Rattle.desk_cli.specs.declared.refusal.CommandRefusal.{CommandRefusal}
 use Rattle.desk_cli.specs.declared.status.Status.{Status}
 
--- a set, its placing, and what explains the placing
+-- a set, whose its tasks are, its placing, and what explains the placing
 pub record ExplainedData : Type 0 where
   pub set : List Task
+  pub owners : List Owner
   pub placing : Placing
   pub explanation : Explanation
 
@@ -22,12 +28,17 @@ pub record ExplainedData : Type 0 where
 abbrev pub AnswersExplained : Option Preference → Option (List ℕ) → Result ExplainedData CommandRefusal
     → Type 0
 AnswersExplained preference known (Ok e) =
-    Places preference known (Ok (e.set, e.placing)) × Explains e.set e.placing e.explanation
+    HasOwned preference known e.set e.owners × IsPlacingOf e.set e.placing
+    × Explains e.set e.placing e.explanation
 AnswersExplained preference known (Err r) = Places preference known (Err r)
 
--- what is printed of an explained placing: its first line, and then what explains it
+-- what explains a placing, each task with its team
+abbrev pub reasons_said : List Owner → List Task → Explanation → List ℕ
+reasons_said owners U e = named_lines Reasons owners (explanation_lines U e)
+
+-- what is printed of an explained placing: its first line, and then that
 abbrev pub explained_output : ExplainedData → List ℕ
-explained_output e = placing_first e.set e.placing ++ explanation_lines e.set e.explanation
+explained_output e = placing_first e.set e.placing ++ reasons_said e.owners e.set e.explanation
 
 -- the answer on what the reader had is printed after what the writer held, and the status is the answer's
 abbrev pub SaysExplained : Option Preference → Option (List ℕ) → (before after : Option (List ℕ)) → Status

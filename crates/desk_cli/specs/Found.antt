@@ -4,6 +4,7 @@ use Rattle.task_sheet.specs.Sheet.{Task}
 use Rattle.task_sheet.specs.declared.set.TheConstants.{TASK_LIMIT}
 use Rattle.command_line.specs.declared.calls.Options.{Options}
 use Rattle.assignment.specs.Placings.{IsPlacingOf}
+use Rattle.owners.specs.declared.owner.Owner.{Owner}
 use Rattle.command_line.specs.declared.calls.OfTwo.{OfTwo}
 use Rattle.command_line.specs.declared.calls.OfTwo.TheVariants as command
 use Rattle.judge.specs.Lines.{judged_lines}
@@ -56,16 +57,16 @@ IsFoundOf U (Drawn answer) = IsInOrder U answer
 IsFoundOf U (Keeping keeping base) = IsKeptIn U keeping
 IsFoundOf U _ = Unit {0}
 
--- what is printed of what was found of a set
-abbrev pub found_said : List Task → Found → List ℕ
-found_said U (Shown kind) = checked_line kind
-found_said U (Compared c) = compared_lines U c
-found_said U (Judged node) = judged_lines U node.judged.items node.numbers.items
-found_said U (Simulated answer) = simulation_said U answer
-found_said U (Reached answer) = reached_said U answer
-found_said U (Drawn answer) = drawing_said U answer
-found_said U (Observed tolerance sight) = sight_said tolerance U sight
-found_said U (Keeping keeping base) = keeping_lines U base keeping
+-- what is printed of what was found of a set whose tasks these have
+abbrev pub found_said : List Owner → List Task → Found → List ℕ
+found_said owners U (Shown kind) = checked_line kind
+found_said owners U (Compared c) = compared_lines owners U c
+found_said owners U (Judged node) = judged_lines U node.judged.items node.numbers.items
+found_said owners U (Simulated answer) = simulation_said U answer
+found_said owners U (Reached answer) = reached_said U answer
+found_said owners U (Drawn answer) = drawing_said U answer
+found_said owners U (Observed tolerance sight) = sight_said tolerance U sight
+found_said owners U (Keeping keeping base) = keeping_lines U base keeping
 
 -- the exit status of what was found
 abbrev pub found_status : Found → Status
@@ -79,6 +80,6 @@ found_status (Observed tolerance sight) = sight_status tolerance sight
 found_status (Keeping keeping base) = keeping_status keeping
 
 -- that is printed after what the writer held, with its status; or that there was no memory for it
-abbrev pub PrintsFound : List Task → Found → (before after : Option (List ℕ)) → Status → Type 0
-PrintsFound U found before after s =
-    IsPrinted before after (found_said U found) (found_status found) s
+abbrev pub PrintsFound : List Owner → List Task → Found → (before after : Option (List ℕ)) → Status → Type 0
+PrintsFound owners U found before after s =
+    IsPrinted before after (found_said owners U found) (found_status found) s

@@ -24,6 +24,7 @@ pub mod Rush
 pub mod Script
 pub mod Saying
 pub mod Sets
+pub mod Owning
 pub mod Settings
 pub mod Simulate
 pub mod Statuses

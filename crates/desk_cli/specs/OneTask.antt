@@ -3,6 +3,7 @@ use Rattle.std.specs.Prelude.{◌≡◌, ℕ, List, [], ◌++◌, Option, Some, 
 use Rattle.task_sheet.specs.declared.prefer.Preference.{Preference}
 use Rattle.task_sheet.specs.Sheet.{Task}
 use Rattle.lines.specs.Words.{name_in}
+use Rattle.assignment.specs.Placings.{IsPlacingOf}
 use Rattle.assignment.specs.declared.placing.Placing.{Placing}
 use Rattle.ceiling_kernel.specs.Releases.{task_named}
 use Rattle.explain.specs.Explanations.{Explains}
@@ -10,11 +11,14 @@ use Rattle.explain.specs.TaskLines.{task_lines}
 use Rattle.explain.specs.declared.explanation.Explanation.{Explanation}
 use Rattle.limit_lines.specs.Lines.{AreTaskLines, places_in}
 use Rattle.worst_lines.specs.Lines.{AreWorstLines}
+use Rattle.owners.specs.NamedLines.{named_lines}
+use Rattle.owners.specs.declared.owner.Owner.{Owner}
+use Rattle.owners.specs.declared.words.Naming.TheVariants as naming
 use Rattle.desk_cli.specs.Admit.{Places, placing_status}
 use Rattle.desk_cli.specs.Explain.{SaysExplained}
 use Rattle.desk_cli.specs.Limits.{SaysLimits, placing_first}
 use Rattle.desk_cli.specs.Printed.{Prints}
-use Rattle.desk_cli.specs.Sets.{HasSet}
+use Rattle.desk_cli.specs.Owning.{HasOwned}
 use Rattle.desk_cli.specs.Worst.{SaysWorst}
 use Rattle.desk_cli.specs.declared.one_task.TaskPart.{TaskPart}
 use Rattle.desk_cli.specs.declared.one_task.TaskPart.TheVariants.{Limits, Reasons, Worst}
@@ -22,14 +26,18 @@ use Rattle.desk_cli.specs.declared.refusal.CommandRefusal.{CommandRefusal}
 use Rattle.desk_cli.specs.declared.refusal.CommandRefusal.TheVariants as refusal
 use Rattle.desk_cli.specs.declared.status.Status.{Status}
 
+-- the lines of a task in an explanation, each task with its team
+abbrev pub task_reasons : List Owner → List Task → ℕ → Explanation → List ℕ
+task_reasons owners U task e = named_lines naming.Reasons owners (task_lines U task e)
+
 -- a text is what is said of a task of a placed set: how far its numbers may go, what explains its response, or its worst
 -- case
-abbrev pub AreLinesOf : TaskPart → List Task → Placing → ℕ → List ℕ → Type 0
-AreLinesOf Limits U placing task text = AreTaskLines U (places_in placing) task text
-AreLinesOf Reasons U placing task text =
+abbrev pub AreLinesOf : TaskPart → List Owner → List Task → Placing → ℕ → List ℕ → Type 0
+AreLinesOf Limits owners U placing task text = AreTaskLines U (places_in placing) task text
+AreLinesOf Reasons owners U placing task text =
     (explanation : Explanation) × Explains U placing explanation
-    × (text ≡ task_lines U task explanation)
-AreLinesOf Worst U placing task text = AreWorstLines U placing (Some task) text
+    × (text ≡ task_reasons owners U task explanation)
+AreLinesOf Worst owners U placing task text = AreWorstLines U placing (Some task) text
 
 -- the task of a set that has the name that a word is
 abbrev pub named_task : List Task → Option (List ℕ) → Option ℕ
@@ -44,9 +52,10 @@ asked_task U word = named_task U (name_in word)
 abbrev pub no_such_task : List ℕ → CommandRefusal
 no_such_task word = refusal.NoSuchTask (name_in word)
 
--- a set and its placing, and what is said of a task
+-- a set, whose its tasks are, its placing, and what is said of a task
 pub record OfTaskData : Type 0 where
   pub set : List Task
+  pub owners : List Owner
   pub placing : Placing
   pub lines : List ℕ
 
@@ -54,9 +63,9 @@ pub record OfTaskData : Type 0 where
 abbrev pub AnswersOfTask : TaskPart → List ℕ → Option Preference → Option (List ℕ)
     → Result OfTaskData CommandRefusal → Type 0
 AnswersOfTask part word preference known (Ok d) =
-    Places preference known (Ok (d.set, d.placing))
+    HasOwned preference known d.set d.owners × IsPlacingOf d.set d.placing
     × ((task : ℕ) × (asked_task d.set word ≡ Some task)
-    × AreLinesOf part d.set d.placing task d.lines)
+    × AreLinesOf part d.owners d.set d.placing task d.lines)
 AnswersOfTask part word preference known (Err (refusal.NoSuchTask name)) =
     (U : List Task) × (placing : Placing) × Places preference known (Ok (U, placing))
     × (asked_task U word ≡ None) × (name ≡ name_in word)
@@ -99,10 +108,10 @@ SaysWorstOf None preference known before after s = SaysWorst preference known be
 SaysWorstOf (Some word) preference known before after s =
     SaysTask Worst word preference known before after s
 
--- this is said of each reader that has a set
+-- this is said of each reader that has a set, whose tasks these have
 abbrev pub OfPlaced :
     (Option Preference → Option (List ℕ) → (before after : Option (List ℕ)) → Status → Type 0)
-    → List Task → (before after : Option (List ℕ)) → Status → Type 0
-OfPlaced says U before after s =
-    (preference : Option Preference) → (known : Option (List ℕ)) → HasSet preference known U
+    → List Owner → List Task → (before after : Option (List ℕ)) → Status → Type 0
+OfPlaced says owners U before after s =
+    (preference : Option Preference) → (known : Option (List ℕ)) → HasOwned preference known U owners
     → says preference known before after s

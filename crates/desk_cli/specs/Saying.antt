@@ -2,12 +2,14 @@
 use Rattle.std.specs.Prelude.{ℕ, List, Option, Err}
 use Rattle.command_line.specs.declared.calls.Options.{Options}
 use Rattle.task_sheet.specs.Sheet.{Task}
+use Rattle.owners.specs.declared.owner.Owner.{Owner}
 use Rattle.command_line.specs.declared.calls.OfOne.{OfOne}
 use Rattle.command_line.specs.declared.calls.OfOne.TheVariants.{Certify, Play}
 use Rattle.command_line.specs.declared.calls.OfTwo.{OfTwo}
 use Rattle.desk_cli.specs.Commands.{OneSays, TwoSay, preference_of}
 use Rattle.desk_cli.specs.Play.{Scripts}
-use Rattle.desk_cli.specs.Sets.{HasNoSet, HasSet, HaveBoth}
+use Rattle.desk_cli.specs.Sets.{HasNoSet}
+use Rattle.desk_cli.specs.Owning.{HasOwned, HaveOwned}
 use Rattle.desk_cli.specs.declared.refusal.CommandRefusal.{CommandRefusal}
 use Rattle.desk_cli.specs.declared.status.Status.{Status}
 
@@ -22,16 +24,17 @@ IsOfPlacing Certify = ⊥
 IsOfPlacing Play = ⊥
 IsOfPlacing _ = Unit {0}
 
--- what a command says of each reader that has this set, by what the words choose
-abbrev pub SaysOfSet : OfOne → Options → List Task → (before after : Option (List ℕ)) → Status → Type 0
-SaysOfSet command options U before after s =
-    (known : Option (List ℕ)) → HasSet (preference_of options) known U
+-- what a command says of each reader that has this set, whose tasks these have, by what the words choose
+abbrev pub SaysOfSet :
+    OfOne → Options → List Owner → List Task → (before after : Option (List ℕ)) → Status → Type 0
+SaysOfSet command options owners U before after s =
+    (known : Option (List ℕ)) → HasOwned (preference_of options) known U owners
     → OneSays command options known before after s
 
 -- what a command says of each two readers that have this set and this text, by what the words choose
-abbrev pub SaysOfBoth : OfTwo → Options → List Task → List ℕ → (before after : Option (List ℕ)) → Status
-    → Type 0
-SaysOfBoth command options U text before after s =
+abbrev pub SaysOfBoth :
+    OfTwo → Options → List Owner → List Task → List ℕ → (before after : Option (List ℕ)) → Status → Type 0
+SaysOfBoth command options owners U text before after s =
     (set other : Option (List ℕ))
-    → HaveBoth (preference_of options) set other U text
+    → HaveOwned (preference_of options) set other U owners text
     → TwoSay command options set other before after s

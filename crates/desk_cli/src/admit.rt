@@ -1,14 +1,16 @@
 //! The verdict of a set, and what becomes of its tasks.
 ghost use Rattle.std.specs.Prelude.{◌≡◌};
-ghost use Rattle.desk_cli.specs.Admit.{Admits, Places, placing_status, verdict_status};
+ghost use Rattle.desk_cli.specs.Admit.{Admits, placing_status, verdict_status};
+ghost use Rattle.desk_cli.specs.Owning.{PlacesOwned};
 ghost use Rattle.desk_cli.specs.Outcomes.{IsRead, failed_read};
 
 use crate::audience::Audience;
 use crate::refusal::CommandRefusal;
-use crate::sets::read_one;
+use crate::sets::{read_one, read_owned};
 use crate::status::Status;
 use assignment::{Placing, Verdict, assign, place_all};
 use ceilings::LockTable;
+use owners::Owner;
 use preferences::Preference;
 use std::alloc::{AllocError, Global};
 use std::io::Read;
@@ -33,22 +35,23 @@ pub(crate) fn decide<R: Read + Drop, P: Audience>(
     Ok(verdict)
 }
 
-// The set that the reader has, and what becomes of its tasks, with nothing that shows it; or why there is none.
+// The set that the reader has, whose its tasks are, and what becomes of them, with nothing that shows it; or why there is
+// none.
 pub(crate) fn place<R: Read + Drop, P: Audience>(
     alloc: Global,
     preference: Option<Preference>,
     set: &mut Watched<R>,
     people: &mut P,
-) -> Result<(TaskSet, Placing), CommandRefusal>
-    ensures answer { Places preference (R.remaining set.old.inner) result }
+) -> Result<(TaskSet, Vec<Owner>, Placing), CommandRefusal>
+    ensures answer { PlacesOwned preference (R.remaining set.old.inner) result }
     ensures read { IsRead failed_read set.old set.new result }
 {
-    let tasks = read_one(alloc, preference, set, people)?;
+    let (tasks, owners) = read_owned(alloc, preference, set, people)?;
     let table = LockTable::new(alloc, &tasks)?;
     let placing = place_all(alloc, &tasks, &table)?;
     people.read(&tasks);
     people.placed(&tasks, &placing);
-    Ok((tasks, placing))
+    Ok((tasks, owners, placing))
 }
 
 pub(crate) fn status_of(verdict: &Verdict) -> Status

@@ -93,6 +93,16 @@ pub(crate) fn placing_text(
     }
 }
 
+// A text, and then another one.
+pub(crate) fn joined(alloc: Global, first: &[u8], second: &[u8]) -> Result<Vec<u8>, AllocError>
+    ensures { IfOk result (λ both. both.items ≡ first.now ++ second.now) }
+{
+    let mut both = Vec::new(alloc);
+    both.extend_from_slice(first)?;
+    both.extend_from_slice(second)?;
+    Ok(both)
+}
+
 // Prints the line of an obstruction, or that memory was wanting for it.
 pub(crate) fn print_stuck<W: Write + Drop>(
     alloc: Global,

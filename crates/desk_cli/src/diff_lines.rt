@@ -2,14 +2,15 @@
 ghost use Rattle.std.specs.Prelude.{◌≡◌, ◌++◌, Err, IfOk, MatchResult, string_bytes};
 ghost use Rattle.task_sheet.specs.TaskSet.{IsTaskSet};
 ghost use Rattle.assignment.specs.Placings.{IsPlacingOf};
-ghost use Rattle.desk_cli.specs.Diff.{ComparesText, IsNew, compared_lines, does_weigh};
+ghost use Rattle.desk_cli.specs.Diff.{ComparesText, IsNew, both_lines, compared_lines, does_weigh};
 ghost use Rattle.teams.specs.ReadsText.{ReadsText};
 
-use crate::answer::{OrderPart, placing_text};
+use crate::answer::{OrderPart, joined, placing_text};
 use crate::refusal::CommandRefusal;
 use assignment::{Placing, place_all};
 use ceilings::LockTable;
 use diff::{Side, change_text};
+use owners::{Naming, Owner, named_text, read_owners};
 use preferences::{Preference, read_preferred};
 use std::alloc::{AllocError, Global};
 use task_sheet::TaskSet;
@@ -22,6 +23,8 @@ pub struct Compared {
     pub was: Placing,
     /// The new set.
     pub set: TaskSet,
+    /// Whose its tasks are.
+    pub owners: Vec<Owner>,
     /// What becomes of it.
     pub is: Placing,
     /// Whether weights are the sheets' own.
@@ -74,25 +77,52 @@ pub(crate) fn compare_text(
         Ok(new) => new,
         Err(fault) => return Err(CommandRefusal::New(fault)),
     };
+    let owners = read_owners(alloc, text)?;
     let was = place_set(alloc, tasks)?;
     let is = place_set(alloc, &set)?;
     Ok(Compared {
         was,
         set,
+        owners,
         is,
         weighs,
     })
 }
 
-// What becomes of the new set, what became of the old one, and then the change.
+// What becomes of the new set, and what became of the old one.
+fn both_text(alloc: Global, old: &Side<'_>, new: &Side<'_>) -> Result<String, AllocError>
+    requires was { IsPlacingOf old.now.set.now old.now.placing.now }
+    requires is { IsPlacingOf new.now.set.now new.now.placing.now }
+    ensures { IfOk result (λ text. string_bytes text
+        ≡ both_lines old.now.set.now old.now.placing.now new.now.set.now new.now.placing.now) }
+{
+    let mut text = placing_text(alloc, OrderPart::Count, new.set, new.placing)?;
+    text.push_str("was ")?;
+    let was = placing_text(alloc, OrderPart::Count, old.set, old.placing)?;
+    text.push_str(was.as_str())?;
+    Ok(text)
+}
+
+// Whose the tasks of the new set are, and then whose those of the old one.
+fn all_owners(alloc: Global, new: &[Owner], old: &[Owner]) -> Result<Vec<Owner>, AllocError>
+    ensures { IfOk result (λ all. all.items ≡ new.now ++ old.now) }
+{
+    let mut all = Vec::new(alloc);
+    all.extend_from_slice(new)?;
+    all.extend_from_slice(old)?;
+    Ok(all)
+}
+
+// What becomes of the new set, what became of the old one, and then the change, each task with its team.
 pub(crate) fn compared_text(
     alloc: Global,
+    owners: &[Owner],
     tasks: &TaskSet,
     compared: &Compared,
-) -> Result<String, AllocError>
+) -> Result<Vec<u8>, AllocError>
     requires was { IsPlacingOf tasks.now compared.now.was }
     requires is { IsPlacingOf compared.now.set compared.now.is }
-    ensures { IfOk result (λ text. string_bytes text ≡ compared_lines tasks.now compared.now) }
+    ensures { IfOk result (λ text. text.items ≡ compared_lines owners.now tasks.now compared.now) }
 {
     let old = Side {
         set: tasks,
@@ -102,11 +132,10 @@ pub(crate) fn compared_text(
         set: &compared.set,
         placing: &compared.is,
     };
-    let mut text = placing_text(alloc, OrderPart::Count, new.set, new.placing)?;
-    text.push_str("was ")?;
-    let was = placing_text(alloc, OrderPart::Count, old.set, old.placing)?;
-    text.push_str(was.as_str())?;
+    let first = both_text(alloc, &old, &new)?;
     let change = change_text(alloc, compared.weighs, &old, &new)?;
-    text.push_str(change.as_str())?;
+    let all = all_owners(alloc, &compared.owners, owners)?;
+    let named = named_text(alloc, Naming::Changes, &all, change.as_bytes())?;
+    let text = joined(alloc, first.as_bytes(), &named)?;
     Ok(text)
 }

@@ -16,6 +16,7 @@ use crate::sets::{base_of, preference_of};
 use crate::status::Status;
 use assignment::Placing;
 use command_line::{OfOne, Options};
+use owners::Owner;
 use std::alloc::Global;
 use std::io::{Read, Write};
 use streams::Watched;
@@ -26,6 +27,7 @@ fn say_placing<W: Write + Drop>(
     alloc: Global,
     command: OfOne,
     options: Options<'_>,
+    owners: &[Owner],
     set: &TaskSet,
     placing: &Placing,
     output: &mut Watched<W>,
@@ -33,7 +35,8 @@ fn say_placing<W: Write + Drop>(
     requires command { IsOfPlacing command }
     requires kept { IsTaskSet set.now }
     requires placing { IsPlacingOf set.now placing.now }
-    ensures { IsSaidOn (SaysOfSet command options.entry set.now) W.contents output.old output.new result }
+    ensures { IsSaidOn (SaysOfSet command options.entry owners.now set.now)
+        W.contents output.old output.new result }
 {
     let status = placing_status(placing);
     match command {
@@ -41,7 +44,7 @@ fn say_placing<W: Write + Drop>(
             let text = placing_text(alloc, OrderPart::Levels, set, placing);
             print_made(text, status, output)
         }
-        OfOne::Limits => say_limits(alloc, options.task, set, placing, output),
+        OfOne::Limits => say_limits(alloc, options.task, owners, set, placing, output),
         OfOne::Settings => {
             let part = OrderPart::Settings {
                 base: base_of(options),
@@ -49,8 +52,8 @@ fn say_placing<W: Write + Drop>(
             let text = placing_text(alloc, part, set, placing);
             print_made(text, status, output)
         }
-        OfOne::Explain => say_reasons(alloc, options.task, set, placing, output),
-        OfOne::Worst => say_worst(alloc, options.task, set, placing, output),
+        OfOne::Explain => say_reasons(alloc, options.task, owners, set, placing, output),
+        OfOne::Worst => say_worst(alloc, options.task, owners, set, placing, output),
         OfOne::Certify => unreachable!(),
         OfOne::Play => unreachable!(),
     }
@@ -80,7 +83,9 @@ pub fn carry_out<R: Read + Drop, W: Write + Drop, P: Audience>(
             Err(refusal) => refuse(refusal, output),
         },
         _ => match place(alloc, preference, input, people) {
-            Ok((tasks, placing)) => say_placing(alloc, command, options, &tasks, &placing, output),
+            Ok((tasks, owners, placing)) => {
+                say_placing(alloc, command, options, &owners, &tasks, &placing, output)
+            }
             Err(refusal) => refuse(refusal, output),
         },
     }

@@ -14,7 +14,7 @@ use crate::draw::draw_run;
 use crate::judge_lines::{judge_text, judged_status};
 use crate::keep_lines::{keep_text, keeping_status, keeping_text};
 use crate::observe_lines::{observed_status, sight_of, tolerance_of};
-use crate::output::{print, print_made, refuse};
+use crate::output::{print, print_bytes, print_made, refuse};
 use crate::refusal::CommandRefusal;
 use crate::sets::{base_of, preference_of, read_two, tell};
 use crate::simulate::{Simulated, reached_text, simulate_text};
@@ -26,6 +26,7 @@ use judge::{JudgedNode, judged_text};
 use kept_order::Keeping;
 use observed::Sight;
 use observed_lines::observed_text;
+use owners::Owner;
 use std::alloc::Global;
 use std::io::{Read, Write};
 use streams::Watched;
@@ -92,20 +93,21 @@ fn find(
     }
 }
 
-// Prints what was found of a set, or that there was no memory for it.
+// Prints what was found of a set whose tasks these have, or that there was no memory for it.
 fn print_found<W: Write + Drop>(
     alloc: Global,
+    owners: &[Owner],
     tasks: &TaskSet,
     found: &Found,
     output: &mut Watched<W>,
 ) -> Status
     requires { IsFoundOf tasks.now found.now }
-    ensures { IsSaidOn (PrintsFound tasks.now found.now) W.contents output.old output.new result }
+    ensures { IsSaidOn (PrintsFound owners.now tasks.now found.now) W.contents output.old output.new result }
 {
     match found {
         Found::Shown(checked) => print(line_of(*checked), Status::Done, output),
-        Found::Compared(compared) => print_made(
-            compared_text(alloc, tasks, compared),
+        Found::Compared(compared) => print_bytes(
+            compared_text(alloc, owners, tasks, compared),
             placing_status(&compared.is),
             output,
         ),
@@ -166,19 +168,20 @@ fn say_both<W: Write + Drop, P: Audience>(
     alloc: Global,
     command: OfTwo,
     options: Options<'_>,
+    owners: &[Owner],
     tasks: &TaskSet,
     text: &[u8],
     output: &mut Watched<W>,
     people: &mut P,
 ) -> Status
-    ensures { IsSaidOn (SaysOfBoth command options.entry tasks.now text.now)
+    ensures { IsSaidOn (SaysOfBoth command options.entry owners.now tasks.now text.now)
         W.contents output.old output.new result }
 {
     let answer = find(alloc, command, options, tasks, text);
     tell(&answer, tasks, Which::Second, text, people);
     tell_parted(&answer, tasks, people);
     match answer {
-        Ok(found) => print_found(alloc, tasks, &found, output),
+        Ok(found) => print_found(alloc, owners, tasks, &found, output),
         Err(refusal) => refuse(refusal, output),
     }
 }
@@ -199,7 +202,11 @@ pub fn carry_out_on_both<R: Read + Drop, S: Read + Drop, W: Write + Drop, P: Aud
 {
     let preference = preference_of(options);
     match read_two(alloc, preference, set, other, people) {
-        Ok((tasks, text)) => say_both(alloc, command, options, &tasks, &text, output, people),
+        Ok((tasks, owners, text)) => {
+            say_both(
+                alloc, command, options, &owners, &tasks, &text, output, people,
+            )
+        }
         Err(refusal) => refuse(refusal, output),
     }
 }

@@ -1,25 +1,26 @@
 //! What is said of one task of a set, where the words ask about it.
-ghost use Rattle.std.specs.Prelude.{◌≡◌, ◌++◌, ◌<◌, length, IfOk, IfSome, option_map, string_bytes};
+ghost use Rattle.std.specs.Prelude.{◌≡◌, ◌++◌, ◌<◌, length, IfOk, IfSome, option_map, Some};
 ghost use Rattle.task_sheet.specs.TaskSet.{IsTaskSet};
 ghost use Rattle.assignment.specs.Placings.{IsPlacingOf};
 ghost use Rattle.explain.specs.Explanations.{Explains};
-ghost use Rattle.explain.specs.TaskLines.{task_lines};
 ghost use Rattle.explain.specs.declared.explanation.Explanation.{Explanation};
 ghost use Rattle.limit_lines.specs.Lines.{AreTaskLines, places_in};
-ghost use Rattle.desk_cli.specs.OneTask.{AreLinesOf, OfPlaced, SaysLimitsOf, SaysReasonsOf, SaysTask, SaysWorstOf, asked_task, first_said, no_such_task};
+ghost use Rattle.worst_lines.specs.Lines.{AreWorstLines};
+ghost use Rattle.desk_cli.specs.OneTask.{AreLinesOf, OfPlaced, SaysLimitsOf, SaysReasonsOf, SaysTask, SaysWorstOf, asked_task, first_said, no_such_task, task_reasons};
 ghost use Rattle.desk_cli.specs.Outcomes.{IsSaidOn};
 
 use crate::admit::placing_status;
-use crate::answer::{OrderPart, placing_text};
+use crate::answer::{OrderPart, joined, placing_text};
 use crate::explain_lines::explained_text;
 use crate::limits_lines::{order_of, print_placing};
-use crate::output::{print_made, refuse};
+use crate::output::{print_bytes, print_made, refuse};
 use crate::refusal::CommandRefusal;
 use crate::status::Status;
 use assignment::Placing;
 use ceilings::LockTable;
 use explain::explain;
 use lines::name_of;
+use owners::{Naming, Owner, named_text};
 use std::alloc::{AllocError, Global};
 use std::io::Write;
 use streams::Watched;
@@ -63,51 +64,74 @@ fn limits_text(
     set: &TaskSet,
     placing: &Placing,
     task: usize,
-) -> Result<String, AllocError>
+) -> Result<Vec<u8>, AllocError>
     requires placing { IsPlacingOf set.now placing.now }
     requires task { task < length set.now }
     ensures { IfOk result (λ text. AreTaskLines set.now (places_in placing.now) task
-        (string_bytes text)) }
+        text.items) }
 {
     let table = LockTable::new(alloc, set)?;
     let order = order_of(alloc, placing)?;
-    limit_lines::task_text(alloc, set, &table, placing, &order, task)
+    let text = limit_lines::task_text(alloc, set, &table, placing, &order, task)?;
+    let mut lines = Vec::new(alloc);
+    lines.extend_from_slice(text.as_bytes())?;
+    Ok(lines)
 }
 
 // What explains the response of a task.
 fn reasons_text(
     alloc: Global,
+    owners: &[Owner],
     set: &TaskSet,
     placing: &Placing,
     task: usize,
-) -> Result<String, AllocError>
+) -> Result<Vec<u8>, AllocError>
     requires { IsPlacingOf set.now placing.now }
     ensures { IfOk result (λ text. (explanation : Explanation)
         × Explains set.now placing.now explanation
-        × (string_bytes text ≡ task_lines set.now task explanation)) }
+        × (text.items ≡ task_reasons owners.now set.now task explanation)) }
 {
     let table = LockTable::new(alloc, set)?;
     let explanation = explain(alloc, set, &table, placing)?;
     let text = explain::task_text(alloc, set, &explanation, task)?;
-    Ok(text)
+    let named = named_text(alloc, Naming::Reasons, owners, text.as_bytes())?;
+    Ok(named)
+}
+
+// The worst case of a task.
+fn case_text(
+    alloc: Global,
+    set: &TaskSet,
+    placing: &Placing,
+    task: usize,
+) -> Result<Vec<u8>, AllocError>
+    requires placing { IsPlacingOf set.now placing.now }
+    requires task { task < length set.now }
+    ensures { IfOk result (λ text. AreWorstLines set.now placing.now (Some task) text.items) }
+{
+    let text = worst_text(alloc, set, placing, Some(task))?;
+    let mut lines = Vec::new(alloc);
+    lines.extend_from_slice(text.as_bytes())?;
+    Ok(lines)
 }
 
 // What is said of a task.
 fn part_text(
     alloc: Global,
     part: TaskPart,
+    owners: &[Owner],
     set: &TaskSet,
     placing: &Placing,
     task: usize,
-) -> Result<String, AllocError>
+) -> Result<Vec<u8>, AllocError>
     requires placing { IsPlacingOf set.now placing.now }
     requires task { task < length set.now }
-    ensures { IfOk result (λ text. AreLinesOf part set.now placing.now task (string_bytes text)) }
+    ensures { IfOk result (λ text. AreLinesOf part owners.now set.now placing.now task text.items) }
 {
     match part {
         TaskPart::Limits => limits_text(alloc, set, placing, task),
-        TaskPart::Reasons => reasons_text(alloc, set, placing, task),
-        TaskPart::Worst => worst_text(alloc, set, placing, Some(task)),
+        TaskPart::Reasons => reasons_text(alloc, owners, set, placing, task),
+        TaskPart::Worst => case_text(alloc, set, placing, task),
     }
 }
 
@@ -133,18 +157,19 @@ fn first_text(
 fn task_text(
     alloc: Global,
     part: TaskPart,
+    owners: &[Owner],
     set: &TaskSet,
     placing: &Placing,
     task: usize,
-) -> Result<String, AllocError>
+) -> Result<Vec<u8>, AllocError>
     requires placing { IsPlacingOf set.now placing.now }
     requires task { task < length set.now }
-    ensures { IfOk result (λ text. (lines : _) × AreLinesOf part set.now placing.now task lines
-        × (string_bytes text ≡ first_said part set.now placing.now ++ lines)) }
+    ensures { IfOk result (λ text. (lines : _) × AreLinesOf part owners.now set.now placing.now task lines
+        × (text.items ≡ first_said part set.now placing.now ++ lines)) }
 {
-    let lines = part_text(alloc, part, set, placing, task)?;
-    let mut text = first_text(alloc, part, set, placing)?;
-    text.push_str(lines.as_str())?;
+    let lines = part_text(alloc, part, owners, set, placing, task)?;
+    let first = first_text(alloc, part, set, placing)?;
+    let text = joined(alloc, first.as_bytes(), &lines)?;
     Ok(text)
 }
 
@@ -153,18 +178,23 @@ fn say_task<W: Write + Drop>(
     alloc: Global,
     part: TaskPart,
     word: &str,
+    owners: &[Owner],
     set: &TaskSet,
     placing: &Placing,
     output: &mut Watched<W>,
 ) -> Status
     requires { IsPlacingOf set.now placing.now }
-    ensures { IsSaidOn (OfPlaced (SaysTask part word.now) set.now)
+    ensures { IsSaidOn (OfPlaced (SaysTask part word.now) owners.now set.now)
         W.contents output.old output.new result }
 {
     match find_task(set, word) {
         Some(task) => {
             let status = placing_status(placing);
-            print_made(task_text(alloc, part, set, placing, task), status, output)
+            print_bytes(
+                task_text(alloc, part, owners, set, placing, task),
+                status,
+                output,
+            )
         }
         None => refuse(no_such_task(word), output),
     }
@@ -174,17 +204,18 @@ fn say_task<W: Write + Drop>(
 pub(crate) fn say_limits<W: Write + Drop>(
     alloc: Global,
     word: Option<&str>,
+    owners: &[Owner],
     set: &TaskSet,
     placing: &Placing,
     output: &mut Watched<W>,
 ) -> Status
     requires kept { IsTaskSet set.now }
     requires placing { IsPlacingOf set.now placing.now }
-    ensures { IsSaidOn (OfPlaced (SaysLimitsOf (option_map (λ w. w.now) word.entry)) set.now)
-        W.contents output.old output.new result }
+    ensures { IsSaidOn (OfPlaced (SaysLimitsOf (option_map (λ w. w.now) word.entry))
+        owners.now set.now) W.contents output.old output.new result }
 {
     match word {
-        Some(word) => say_task(alloc, TaskPart::Limits, word, set, placing, output),
+        Some(word) => say_task(alloc, TaskPart::Limits, word, owners, set, placing, output),
         None => print_placing(alloc, set, placing, output),
     }
 }
@@ -193,19 +224,20 @@ pub(crate) fn say_limits<W: Write + Drop>(
 pub(crate) fn say_reasons<W: Write + Drop>(
     alloc: Global,
     word: Option<&str>,
+    owners: &[Owner],
     set: &TaskSet,
     placing: &Placing,
     output: &mut Watched<W>,
 ) -> Status
     requires { IsPlacingOf set.now placing.now }
-    ensures { IsSaidOn (OfPlaced (SaysReasonsOf (option_map (λ w. w.now) word.entry)) set.now)
-        W.contents output.old output.new result }
+    ensures { IsSaidOn (OfPlaced (SaysReasonsOf (option_map (λ w. w.now) word.entry))
+        owners.now set.now) W.contents output.old output.new result }
 {
     match word {
-        Some(word) => say_task(alloc, TaskPart::Reasons, word, set, placing, output),
+        Some(word) => say_task(alloc, TaskPart::Reasons, word, owners, set, placing, output),
         None => {
             let status = placing_status(placing);
-            print_made(explained_text(alloc, set, placing), status, output)
+            print_bytes(explained_text(alloc, owners, set, placing), status, output)
         }
     }
 }
@@ -214,16 +246,17 @@ pub(crate) fn say_reasons<W: Write + Drop>(
 pub(crate) fn say_worst<W: Write + Drop>(
     alloc: Global,
     word: Option<&str>,
+    owners: &[Owner],
     set: &TaskSet,
     placing: &Placing,
     output: &mut Watched<W>,
 ) -> Status
     requires { IsPlacingOf set.now placing.now }
-    ensures { IsSaidOn (OfPlaced (SaysWorstOf (option_map (λ w. w.now) word.entry)) set.now)
-        W.contents output.old output.new result }
+    ensures { IsSaidOn (OfPlaced (SaysWorstOf (option_map (λ w. w.now) word.entry))
+        owners.now set.now) W.contents output.old output.new result }
 {
     match word {
-        Some(word) => say_task(alloc, TaskPart::Worst, word, set, placing, output),
+        Some(word) => say_task(alloc, TaskPart::Worst, word, owners, set, placing, output),
         None => {
             let status = placing_status(placing);
             print_made(worst_text(alloc, set, placing, None), status, output)

@@ -54,6 +54,25 @@ pub(crate) fn print_made<W: Write + Drop>(
     }
 }
 
+// Prints bytes that were made, and gives the status that belongs to them; or that there was no memory for them.
+pub(crate) fn print_bytes<W: Write + Drop>(
+    text: Result<Vec<u8>, AllocError>,
+    status: Status,
+    output: &mut Watched<W>,
+) -> Status
+    requires { status ≢ Status.InputOrOutputFailed }
+    ensures { IsSaidOn (λ before after s. MatchResult text
+        (λ made. Appends before after made.items × (s ≡ status))
+        (λ _. Appends before after (refusal_line CommandRefusal.OutOfMemory)
+        × (s ≡ Status.OutOfMemory)))
+        W.contents output.old output.new result }
+{
+    match text {
+        Ok(text) => print(&text, status, output),
+        Err(_) => refuse(CommandRefusal::OutOfMemory, output),
+    }
+}
+
 // Prints the text of `clap`'s error.
 fn show<W: Write + Drop>(error: &Error, status: Status, writer: &mut Watched<W>) -> Status
     ensures status { writer.new.has_failed ≡ false → result ≡ status }

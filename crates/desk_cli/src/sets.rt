@@ -3,13 +3,15 @@ ghost use Rattle.std.specs.Prelude.{◌≡◌, Err, IfOk, MatchResult};
 ghost use Rattle.preferences.specs.ReadsPreferred.{SaysPreferred};
 ghost use Rattle.teams.specs.ReadsText.{ReadsText};
 ghost use Rattle.desk_cli.specs.Commands.{base_of, preference_of};
-ghost use Rattle.desk_cli.specs.Sets.{HasNoSet, HasSet, HaveBoth, HaveNotBoth};
+ghost use Rattle.desk_cli.specs.Owning.{HasOwned, HaveOwned, SaysOwned};
+ghost use Rattle.desk_cli.specs.Sets.{HasNoSet, HasSet, HaveNotBoth};
 ghost use Rattle.desk_cli.specs.Outcomes.{AreRead, IsRead, failed_read};
 ghost use Rattle.streams.specs.Inputs.{IsReadFrom, IsTooLong};
 
 use crate::audience::{Audience, Which};
 use crate::refusal::CommandRefusal;
 use command_line::{MOST_PRIORITY, Options, Preferred};
+use owners::{Owner, read_owners};
 use preferences::{Preference, read_preferred};
 use std::alloc::Global;
 use std::io::Read;
@@ -77,6 +79,27 @@ fn set_told<P: Audience>(
     }
 }
 
+// The same, with whose its tasks are.
+fn owned_told<P: Audience>(
+    alloc: Global,
+    preference: Option<Preference>,
+    bytes: &[u8],
+    people: &mut P,
+) -> Result<(TaskSet, Vec<Owner>), TeamsFault>
+    ensures { MatchResult result
+        (λ owned. SaysOwned preference bytes.now owned.0 owned.1.items)
+        (λ fault. ReadsText bytes.now (Err fault)) }
+{
+    let tasks = match set_told(alloc, preference, bytes, people) {
+        Ok(tasks) => tasks,
+        Err(fault) => return Err(fault),
+    };
+    match read_owners(alloc, bytes) {
+        Ok(owners) => Ok((tasks, owners)),
+        Err(_) => Err(TeamsFault::OutOfMemory),
+    }
+}
+
 // The set that the reader has, by a preference; or why there is none, which the audience is told.
 pub(crate) fn read_one<R: Read + Drop, P: Audience>(
     alloc: Global,
@@ -96,27 +119,46 @@ pub(crate) fn read_one<R: Read + Drop, P: Audience>(
     }
 }
 
-// The set that the first reader has, by a preference, and what the second has; or why there are not both, which the
-// audience is told. Both are read before the set's bytes are, the first one first: where it is refused, nothing is read
-// of the second.
+// The same, with whose its tasks are.
+pub(crate) fn read_owned<R: Read + Drop, P: Audience>(
+    alloc: Global,
+    preference: Option<Preference>,
+    set: &mut Watched<R>,
+    people: &mut P,
+) -> Result<(TaskSet, Vec<Owner>), CommandRefusal>
+    ensures answer { MatchResult result
+        (λ owned. HasOwned preference (R.remaining set.old.inner) owned.0 owned.1.items)
+        (λ r. HasNoSet (R.remaining set.old.inner) r) }
+    ensures read { IsRead failed_read set.old set.new result }
+{
+    let bytes = read_told(alloc, Which::First, set, people).map_err(CommandRefusal::Input)?;
+    match owned_told(alloc, preference, &bytes, people) {
+        Ok(owned) => Ok(owned),
+        Err(fault) => Err(CommandRefusal::Set(fault)),
+    }
+}
+
+// The set that the first reader has, by a preference, whose its tasks are, and what the second has; or why there are not
+// both, which the audience is told. Both are read before the set's bytes are, the first one first: where it is refused,
+// nothing is read of the second.
 pub(crate) fn read_two<R: Read + Drop, S: Read + Drop, P: Audience>(
     alloc: Global,
     preference: Option<Preference>,
     set: &mut Watched<R>,
     other: &mut Watched<S>,
     people: &mut P,
-) -> Result<(TaskSet, Vec<u8>), CommandRefusal>
+) -> Result<(TaskSet, Vec<Owner>, Vec<u8>), CommandRefusal>
     ensures answer { MatchResult result
-        (λ both. HaveBoth preference (R.remaining set.old.inner)
-        (S.remaining other.old.inner) both.0 both.1.items)
+        (λ both. HaveOwned preference (R.remaining set.old.inner)
+        (S.remaining other.old.inner) both.0 both.1.items both.2.items)
         (λ r. HaveNotBoth (R.remaining set.old.inner) (S.remaining other.old.inner) r) }
     ensures read { AreRead failed_read R.remaining set.old set.new other.old other.new
         result }
 {
     let bytes = read_told(alloc, Which::First, set, people).map_err(CommandRefusal::Input)?;
     let text = read_told(alloc, Which::Second, other, people).map_err(CommandRefusal::Input)?;
-    match set_told(alloc, preference, &bytes, people) {
-        Ok(tasks) => Ok((tasks, text)),
+    match owned_told(alloc, preference, &bytes, people) {
+        Ok((tasks, owners)) => Ok((tasks, owners, text)),
         Err(fault) => Err(CommandRefusal::Set(fault)),
     }
 }

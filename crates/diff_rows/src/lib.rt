@@ -4,4 +4,6 @@
 #[cfg(test)]
 mod changes;
 #[cfg(test)]
+mod named_lines;
+#[cfg(test)]
 mod teams_texts;

@@ -1,7 +1,10 @@
-use Rattle.std.proofs.Common.{◌≡◌, Ok, Err, inl, inr, refl}
+use Rattle.std.proofs.Common.{◌≡◌, List, Ok, Err, inl, inr, refl, sym, subst}
 use Rattle.command_line.specs.declared.calls.OfOne.{OfOne}
 use Rattle.command_line.specs.declared.calls.OfOne.TheVariants.{Admit, Certify, Limits, Settings, Explain, Worst, Play}
+use Rattle.owners.specs.declared.owner.Owner.{Owner}
+use Rattle.desk_cli.specs.Commands.{preference_of}
 use Rattle.desk_cli.specs.Saying.{IsOfPlacing}
+use Rattle.desk_cli.specs.Owning.{HasOwned}
 use Rattle.desk_cli.specs.declared.refusal.CommandRefusal.TheVariants as refusal
 use Rattle.desk_cli.proofs.CarriedOut.{carried_out, refused, said_as}
 use Rattle.desk_cli.proofs.Refused.{one_refused, placed_refused}
@@ -45,7 +48,8 @@ returns-in-Err-lines_of g c =
 pub returns-in-Ok-place : goal.returns-in-Ok-place
 returns-in-Ok-place g c =
     let placed = rw c.preference_of-preference.ensures at c.in-Ok-place.ensures.answer in
-    carried_out c.in-Ok-place.ensures.read (said_as c.say_placing.ensures (λ told. told _ placed.0))
+    let has = subst (λ (owners : List Owner). HasOwned (preference_of c.args.options) (g.R.Read.remaining c.args.input.now.inner) c.in-Ok-place.tasks owners) (sym c.deref.ensures.value) placed.0 in
+    carried_out c.in-Ok-place.ensures.read (said_as c.say_placing.ensures (λ told. told _ has))
 
 pub returns-in-Err-place : goal.returns-in-Err-place
 returns-in-Err-place g c =

@@ -1,21 +1,30 @@
-use Rattle.std.proofs.Common.{◌∙◌, ℕ, ap, sym, string_bytes}
+use Rattle.std.proofs.Common.{◌∙◌, ℕ, List, Option, ap, sym, string_bytes}
+use Rattle.task_sheet.specs.Sheet.{Task}
+use Rattle.task_sheet.specs.declared.prefer.Preference.{Preference}
+use Rattle.owners.specs.declared.owner.Owner.{Owner}
 use Rattle.desk_cli.specs.Admit.{admit_lines}
 use Rattle.desk_cli.specs.Commands.{base_of, preference_of}
+use Rattle.desk_cli.specs.Owning.{HasOwned}
+use Rattle.desk_cli.specs.Sets.{HasSet}
 use Rattle.desk_cli.specs.Settings.{settings_of}
 use Rattle.desk_cli.proofs.CarriedOut.{made_printed, said_as}
 use Rattle.desk_cli.proofs.Placed.{printed_says}
 use Rattle.desk_cli.proofs.of_one.say_placing.Goals as goal
 
+-- a reader has the set, whosever its tasks are
+has_set : {preference : Option Preference} {known : Option (List ℕ)} {U : List Task} {owners : List Owner} → HasOwned preference known U owners → HasSet preference known U
+has_set has = (has.0, has.1, has.2.set)
+
 -- what is printed is what the set's verdict says; want of memory for the lines is an answer of its own
 pub returns-in-Admit : goal.returns-in-Admit
 returns-in-Admit g c =
     rw c.in-Admit.is (said_as (made_printed c.placing_text-text.result (λ t. string_bytes t) _ _ c.placing_text-text.ensures c.print_made.ensures) (λ told. λ known has.
-    printed_says admit_lines (preference_of c.args.options) known _ _ c.args.set.now c.args.placing.now _ _ _ c.requires.kept (has, c.requires.placing) (λ v says. says.lines) c.placing_status-status.ensures told))
+    printed_says admit_lines (preference_of c.args.options) known _ _ c.args.set.now c.args.placing.now _ _ _ c.requires.kept (has_set has, c.requires.placing) (λ v says. says.lines) c.placing_status-status.ensures told))
 
 pub returns-in-Settings : goal.returns-in-Settings
 returns-in-Settings g c =
     rw c.in-Settings.is (said_as (made_printed c.placing_text-text-in-Settings.result (λ t. string_bytes t) _ _ c.placing_text-text-in-Settings.ensures c.print_made-in-Settings.ensures) (λ told. λ known has.
-    printed_says (settings_of (base_of c.args.options)) (preference_of c.args.options) known _ _ c.args.set.now c.args.placing.now _ _ _ c.requires.kept (has, c.requires.placing)
+    printed_says (settings_of (base_of c.args.options)) (preference_of c.args.options) known _ _ c.args.set.now c.args.placing.now _ _ _ c.requires.kept (has_set has, c.requires.placing)
     (λ v says. ap (λ (base : ℕ). settings_of base v) (sym c.base_of.ensures) ∙ says.settings c.base_of.result) c.placing_status-status.ensures told))
 
 pub returns-in-Explain : goal.returns-in-Explain

@@ -1,4 +1,4 @@
-use Rattle.std.proofs.Common.{◌∙◌, ℕ, List, Ok, Err, ap, refl, sym, subst, string_bytes}
+use Rattle.std.proofs.Common.{◌∙◌, ℕ, List, Ok, Err, ap, refl, sym, subst}
 use Rattle.std.specs.Io.KnownBytes.{Appends}
 use Rattle.desk_cli.specs.OneTask.{no_such_task}
 use Rattle.desk_cli.specs.Refusals.{refusal_line, status_of}
@@ -11,12 +11,12 @@ use Rattle.desk_cli.proofs.one_task.say_task.Goals as goal
 pub returns-in-Some : goal.returns-in-Some
 returns-in-Some g c =
     let before = g.W.Write.contents c.args.output.now.inner in
-    let after = g.W.Write.contents c.print_made.new.output.inner in
+    let after = g.W.Write.contents c.print_bytes.new.output.inner in
     let named = sym c.find_task.ensures.found ∙ c.in-Some.is in
-    made_said c.task_text.result (λ t. string_bytes t) _ c.task_text.ensures c.print_made.ensures
+    made_said c.task_text.result (λ t. t.items) _ c.task_text.ensures c.print_bytes.ensures
     (λ text found wrote is. λ preference known has. (
-      Ok (record { set = c.args.set.now; placing = c.args.placing.now; lines = found.0 }),
-      ((has, c.requires), (c.in-Some.task, named, found.1)),
+      Ok (record { set = c.args.set.now; owners = c.args.owners.now; placing = c.args.placing.now; lines = found.0 }),
+      (has, c.requires, (c.in-Some.task, named, found.1)),
       subst (λ (t : List ℕ). Appends before after t) found.2 wrote,
       is ∙ c.placing_status-status.ensures,
     ))
@@ -26,4 +26,4 @@ pub returns-in-None : goal.returns-in-None
 returns-in-None g c =
     let none = sym c.find_task.ensures.found ∙ c.in-None.is in
     shown c.refuse.ensures (ap refusal_line c.no_such_task.ensures) (ap status_of c.no_such_task.ensures) (λ is. cc)
-    (λ wrote is. λ preference known has. (Err (no_such_task c.args.word.now), (c.args.set.now, c.args.placing.now, (has, c.requires), none, refl), wrote, is))
+    (λ wrote is. λ preference known has. (Err (no_such_task c.args.word.now), (c.args.set.now, c.args.placing.now, ((has.0, has.1, has.2.set), c.requires), none, refl), wrote, is))

@@ -12,7 +12,7 @@ returns-in-None g c =
     rw c.in-None.is (made_said c.worst_text.result (λ t. string_bytes t) _ c.worst_text.ensures c.print_made.ensures
     (λ text lines wrote is. λ preference known has. (
       Ok (record { set = c.args.set.now; placing = c.args.placing.now; lines = string_bytes text }),
-      ((has, c.requires), lines),
+      (((has.0, has.1, has.2.set), c.requires), lines),
       wrote,
       is ∙ c.placing_status-status.ensures,
     ))
