@@ -54,7 +54,7 @@ export async function tracing() {
   await browser.click('#trace-place button');
   equal(await browser.evaluate(`(it => it.value.slice(it.selectionStart, it.selectionEnd))(
     document.getElementById('trace'))`), '200 400 hi', 'its line is shown');
-  seen = await put({ set: example('robot') });
+  seen = await put({ set: example('robot'), trace });
   expect(/^No order passes/.test(seen.shown.observed), seen.shown.observed);
   const long = Array.from({ length: 3000 }, (_, i) => `${2 * i} ${2 * i + 1} irq\n`).join('');
   seen = await observes(set, long, 'a long trace');
