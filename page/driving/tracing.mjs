@@ -31,6 +31,8 @@ export async function tracing() {
     { slices: 5, broken: 1, crosses: 1, beside: (await drawn()).beside, names: 'hi,mid,lo' }),
   'the picture');
   expect((await drawn()).beside >= 4, 'and the run beside it');
+  equal(seen.shown.beside, 'The desk\'s run of the same arrivals, each job for its whole cost:',
+    'what it is');
   equal(await browser.evaluate(`document.querySelectorAll('#seen .is-bad').length`), 1, 'in red');
   // What the desk itself runs breaks nothing.
   await put({ set: example('robot-mended'), trace: '' });

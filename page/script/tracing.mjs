@@ -29,7 +29,7 @@ function show_trace(seen, text) {
   at('seen').replaceChildren(...seen ? seen_rows(seen) : []);
   parts.traced.clear();
   parts.arrivals.clear();
-  write(at('not-traced'), '');
+  for (const it of ['not-traced', 'beside']) write(at(it), '');
   wanted_run = null;
   if (!seen || seen.refused) return;
   const trace = read_trace(text), count = trace.slices.length;
@@ -44,6 +44,10 @@ function show_trace(seen, text) {
 // Arrivals that the desk refuses (too soon, say) have no run.
 export function heard_of_arrivals(answer, asked) {
   if (asked.text !== wanted_run) return;
-  if (answer.status === 0) parts.arrivals.show(answer.text, true);
-  else write(at('not-traced'), `No run beside it. ${sentence_of(answer, 'releases')}`);
+  if (answer.status !== 0) {
+    write(at('not-traced'), `No run beside it. ${sentence_of(answer, 'releases')}`);
+    return;
+  }
+  write(at('beside'), 'The desk\'s run of the same arrivals, each job for its whole cost:');
+  parts.arrivals.show(answer.text, true);
 }
