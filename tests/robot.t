@@ -58,4 +58,4 @@ Priorities that a node has:
   $ sed '/^mutex/d; s/balance 7/balance 10/' settings > today
   $ desk judge examples/robot-mended.toml today | grep misses
   misses motor
-  8 motor misses 1000
+  8 motor misses 1000 at 9

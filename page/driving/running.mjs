@@ -30,6 +30,8 @@ export async function the_run() {
   expect(Math.abs(wider - 1.25 ** 6) < .4, `time widens: ${wider}`);
   expect(large.names.length === 9 && large.names.every(([, at]) => at >= 0 && at < 30),
     `names stay at the edge: ${JSON.stringify(large.names)}`);
+  equal(large.names.map(it => it[0]).join(' '),
+    'motor imu balance planner lidar camera upload battery diagnostics', 'names alone');
   expect(Math.abs(large.legend - fit.legend) < 2,
     `the legend stays: ${fit.legend}, ${large.legend}`);
   await browser.pull('#picture', .3, .6);

@@ -31,6 +31,8 @@ export async function tracing() {
     { slices: 5, broken: 1, crosses: 1, beside: (await drawn()).beside, names: 'hi,mid,lo' }),
   'the picture');
   expect((await drawn()).beside >= 4, 'and the run beside it');
+  equal(seen.shown.beside, 'The desk\'s run of the same arrivals, each job for its whole cost:',
+    'what it is');
   equal(await browser.evaluate(`document.querySelectorAll('#seen .is-bad').length`), 1, 'in red');
   // What the desk itself runs breaks nothing.
   await put({ set: example('robot-mended'), trace: '' });
@@ -54,7 +56,7 @@ export async function tracing() {
   await browser.click('#trace-place button');
   equal(await browser.evaluate(`(it => it.value.slice(it.selectionStart, it.selectionEnd))(
     document.getElementById('trace'))`), '200 400 hi', 'its line is shown');
-  seen = await put({ set: example('robot') });
+  seen = await put({ set: example('robot'), trace });
   expect(/^No order passes/.test(seen.shown.observed), seen.shown.observed);
   const long = Array.from({ length: 3000 }, (_, i) => `${2 * i} ${2 * i + 1} irq\n`).join('');
   seen = await observes(set, long, 'a long trace');

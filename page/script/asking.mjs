@@ -6,8 +6,8 @@ import { safely, trouble } from './trouble.mjs';
 const SOURCE = URL.createObjectURL(
   new Blob([at('worker').textContent], { type: 'text/javascript' }));
 const bytes_of = text => new TextEncoder().encode(text);
-// The lanes: the set, how far its numbers go, the node's settings, its trace, the script of teams,
-// the baseline, and what has changed since.
+// The lanes: the set, how far its numbers go, the node's settings, its trace, the run of the
+// trace's arrivals, the script of teams, the baseline, and what has changed since.
 export const lanes = {};
 let on_late = () => {};
 // `heard` has who hears each lane; `late` is called where an answer is late, `fell` where one fell.
@@ -68,7 +68,7 @@ export function ask_trace() {
 // The run that the desk has of the arrivals of a trace.
 export function ask_arrivals(releases) {
   const set = bytes_of(state.text);
-  lanes.trace.ask({ kind: 'arrivals', set, releases: bytes_of(releases) });
+  lanes.arrivals.ask({ kind: 'arrivals', set, releases: bytes_of(releases), text: releases });
 }
 export function ask_script() {
   const text = at('script').value;

@@ -19,7 +19,7 @@ import { slice_told } from './slices.mjs';
 import { cut, followed, parts, past, state } from './state.mjs';
 import { Table } from './table.mjs';
 import { show_teams } from './teams.mjs';
-import { heard_of_trace } from './tracing.mjs';
+import { heard_of_arrivals, heard_of_trace } from './tracing.mjs';
 import { notice, safely, trouble } from './trouble.mjs';
 import { show_view, walk_tabs } from './views.mjs';
 import {
@@ -57,7 +57,8 @@ function heard_of_script({ name, text, status, told }, { text: script }) {
 }
 open_lanes({
   set: heard_of_set, growth: heard_of_set, node: heard_of_node, trace: heard_of_trace,
-  script: heard_of_script, baseline: heard_of_baseline, changes: heard_of_changes,
+  arrivals: heard_of_arrivals, script: heard_of_script, baseline: heard_of_baseline,
+  changes: heard_of_changes,
 }, { late: show_late, fell: show_fallen });
 
 // ---- what is pressed and typed

@@ -1,7 +1,7 @@
 // What the page shows of a node's trace: what it breaks, the trace as a picture, and beside it the
 // run that the desk has of the same arrivals.
 import { read_observe, sentence_of } from './answers.mjs';
-import { ask_arrivals, lanes } from './asking.mjs';
+import { ask_arrivals } from './asking.mjs';
 import { at, write } from './dom.mjs';
 import { lead, line_named } from './leading.mjs';
 import {
@@ -11,8 +11,9 @@ import { parts, state } from './state.mjs';
 
 // A longer trace isn't drawn: the browser would be busy with nothing else.
 const MOST_DRAWN = 2000;
+// The list of the arrivals whose run is to stand beside the trace, if any.
+let wanted_run = null;
 export function heard_of_trace(answer, asked) {
-  if (answer?.name === 'draw') return show_arrivals(answer);
   if (answer) {
     const { text, status, told } = answer;
     state.answers.observe = { text, status, told };
@@ -28,16 +29,25 @@ function show_trace(seen, text) {
   at('seen').replaceChildren(...seen ? seen_rows(seen) : []);
   parts.traced.clear();
   parts.arrivals.clear();
-  write(at('not-traced'), '');
+  for (const it of ['not-traced', 'beside']) write(at(it), '');
+  wanted_run = null;
   if (!seen || seen.refused) return;
   const trace = read_trace(text), count = trace.slices.length;
-  if (count > MOST_DRAWN) return write(at('not-traced'), `No picture: the trace has ${count} slices.`);
+  if (count > MOST_DRAWN) {
+    write(at('not-traced'), `No picture: the trace has ${count} slices.`);
+    return;
+  }
   parts.traced.show(picture_of(trace, seen), true);
-  ask_arrivals(releases_of(trace, seen.rows));
+  wanted_run = releases_of(trace, seen.rows);
+  ask_arrivals(wanted_run);
 }
 // Arrivals that the desk refuses (too soon, say) have no run.
-function show_arrivals(answer) {
-  if (lanes.trace.waiting) return;
-  if (answer.status === 0) parts.arrivals.show(answer.text, true);
-  else write(at('not-traced'), `No run beside it. ${sentence_of(answer, 'releases')}`);
+export function heard_of_arrivals(answer, asked) {
+  if (asked.text !== wanted_run) return;
+  if (answer.status !== 0) {
+    write(at('not-traced'), `No run beside it. ${sentence_of(answer, 'releases')}`);
+    return;
+  }
+  write(at('beside'), 'The desk\'s run of the same arrivals, each job for its whole cost:');
+  parts.arrivals.show(answer.text, true);
 }
