@@ -14,11 +14,11 @@ each number that mends it alone; he takes the one that is his:
   $ PUSHER=bob git -C bob push -q origin HEAD:main 2>&1 | sed -n 's/ *$//; /refused:/d; s/^remote: //p'
   infeasible arm
   was admitted 1
-  added pan level - - bound - - slack - -
+  added pan level - - bound - - slack - - team cam
   conflict arm
-  arm 5500 of 5000
+  arm 5500 of 5000 team arm
     cost 1500
-    blocked 4000 by pan section 1 lock bus
+    blocked 4000 by pan section 1 lock bus team cam
   one of these changes mends it, all else as it is (the number, its value, the nearest that does):
   arm cost 1500 - 1000
   arm deadline 5000 - 5500
@@ -28,5 +28,5 @@ each number that mends it alone; he takes the one that is his:
   $ PUSHER=bob git -C bob push -q origin HEAD:main 2>&1 | sed -n 's/ *$//; s/^remote: //p'
   admitted 2
   was admitted 1
-  added pan level - 1 bound - 9000 slack - 11000
-  slower arm level 1 2 bound 1500 5000 slack 3500 0
+  added pan level - 1 bound - 9000 slack - 11000 team cam
+  slower arm level 1 2 bound 1500 5000 slack 3500 0 team arm

@@ -76,7 +76,7 @@ const ANSWERS: [(Call, &[u8], u8); 15] = [
     (Call::Explain(b""), b"admitted 0\nload 0\n", 0),
     (
         Call::Judge(SET, b"thread x 7\n"),
-        b"meets 1\n1 x 1000 of 1000\n",
+        b"meets 1\n1 x 1000 of 1000 at 7\n",
         0,
     ),
     (Call::Diff(SET, SET), b"admitted 1\nwas admitted 1\n", 0),
