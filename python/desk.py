@@ -145,7 +145,8 @@ class Checked(_Answer):
 
 @dataclass(frozen=True)
 class Part:
-    """A part of a time: `kind` is cost, jitter, blocked (by `task`) or above (`jobs` of `task`)."""
+    """A part of a time: `kind` is cost, jitter, blocked (by `task`) or above (`jobs` of `task`). `team`
+    is whose that task is, where the set is documents of teams."""
 
     kind: str
     time: int
@@ -153,12 +154,14 @@ class Part:
     section: int | None = None
     lock: str | None = None
     jobs: int | None = None
+    team: str | None = None
 
 
 @dataclass(frozen=True)
 class Response:
     """A time of a task and its parts. `time` is None where the task must be above another, or where
-    `judge` finds that it misses its deadline; `number` is that of its thread, of `judge`."""
+    `judge` finds that it misses its deadline; `number` is that of its thread, of `judge`; `team` whose
+    it is, of `explain`, where the set is documents of teams."""
 
     task: str
     time: int | None = None
@@ -167,6 +170,7 @@ class Response:
     level: int | None = None
     must_be_above: str | None = None
     number: int | None = None
+    team: str | None = None
 
 
 @dataclass(frozen=True)
@@ -252,6 +256,7 @@ class Change:
     bound: tuple[int | None, int | None]
     slack: tuple[int | None, int | None]
     keys: tuple[str, ...] = ()
+    team: str | None = None
 
 
 @dataclass(frozen=True)
@@ -541,11 +546,16 @@ def check(tasks: Sheets, certificate: Text | Certificate) -> Checked:
     return Checked(said == "best\n", text=said)
 
 
+def _team(words: Sequence[str]) -> str | None:
+    return words[-1] if words[-2] == "team" else None
+
+
 def _part(words: Sequence[str]) -> Part:
     if words[0] == "blocked":
-        return Part("blocked", int(words[1]), words[3], int(words[5]), words[7])
+        time, task, section, lock = int(words[1]), words[3], int(words[5]), words[7]
+        return Part("blocked", time, task, section, lock, team=_team(words))
     if words[0] == "above":
-        return Part("above", int(words[4]), words[1], jobs=int(words[2]))
+        return Part("above", int(words[4]), words[1], jobs=int(words[2]), team=_team(words))
     return Part(words[0], int(words[1]))
 
 
@@ -560,9 +570,10 @@ def _responses(lines: Iterable[str]) -> tuple[Response, ...]:
     for words, parts in found:
         level = int(words.pop(0)) if words[0].isdigit() else None
         if words[1] == "must":
-            out.append(Response(words[0], level=level, must_be_above=words[4]))
+            out.append(Response(words[0], level=level, must_be_above=words[4], team=_team(words)))
         else:
-            out.append(Response(words[0], int(words[1]), int(words[3]), tuple(parts), level))
+            time, deadline = int(words[1]), int(words[3])
+            out.append(Response(words[0], time, deadline, tuple(parts), level, team=_team(words)))
     return tuple(out)
 
 
@@ -654,7 +665,9 @@ def diff(tasks: Sheets, new: Sheets) -> Compared:
         if len(words) < 11 or words[2] != "level":
             break
         level, bound, slack = ((_time(words[k]), _time(words[k + 1])) for k in (3, 6, 9))
-        changes.append(Change(words[0], words[1], level, bound, slack, tuple(words[12:])))
+        keys = tuple(words[12:]) if words[11:12] == ["keys"] else ()
+        team = None if keys else _team(words)
+        changes.append(Change(words[0], words[1], level, bound, slack, keys, team))
     return Compared(status == 0, was.startswith("was admitted"), tuple(changes), text=said)
 
 

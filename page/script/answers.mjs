@@ -107,7 +107,8 @@ export function read_judge({ text, status, told }) {
 // `diff`: each task of which there is something to say, with its level, its bound and what that
 // leaves of the deadline, before and after; and the keys that differ.
 function read_change(line) {
-  const [kind, name, , ...words] = line.split(' '), keys = words.slice(9);
+  const [kind, name, , ...words] = line.split(' ');
+  const keys = words[8] === 'keys' ? words.slice(9) : [];
   const two = from => words.slice(from, from + 2).map(number);
   return { kind, name, level: two(0), bound: two(3), left: two(6), keys };
 }
