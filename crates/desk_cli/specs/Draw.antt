@@ -1,5 +1,5 @@
 -- What `desk draw` prints: the answer of `desk simulate`, as a picture.
-use Rattle.std.specs.Prelude.{ℕ, List, [], ◌∷◌, ◌++◌, length, Option}
+use Rattle.std.specs.Prelude.{ℕ, List, [], ◌∷◌, ◌++◌, length, Option, Some}
 use Rattle.task_sheet.specs.declared.prefer.Preference.{Preference}
 use Rattle.task_sheet.specs.Sheet.{Task, task_at}
 use Rattle.task_sheet.specs.Indexes.{indexes_of, listed_below}
@@ -15,7 +15,7 @@ use Rattle.desk_cli.specs.declared.status.Status.{Status}
 
 -- the row of a level: its task, and the task's response as the bound
 abbrev pub drawn_row : List Task → PlaceData → TaskRow
-drawn_row U place = record { sheet = task_at U place.task; bound = place.response }
+drawn_row U place = record { sheet = task_at U place.task; bound = Some place.response }
 
 -- the rows of an order, the highest level first
 abbrev pub rows_of : List Task → List PlaceData → List TaskRow

@@ -26,7 +26,7 @@ fn row_of(alloc: Global, sheets: &[Sheet], place: Place) -> Result<TaskRow, Allo
     let sheet = sheets[place.task].copy(alloc)?;
     Ok(TaskRow {
         sheet,
-        bound: place.response,
+        bound: Some(place.response),
     })
 }
 

@@ -1,5 +1,5 @@
 -- The document: what stands still, the jobs, the slices by time, and the marks of the releases.
-use Rattle.std.specs.Prelude.{ℕ, ◌+◌, ◌-◌, ◌*◌, ◌/◌, Option, Some, None, List, [], ◌∷◌, ◌++◌, length, slice_get, slice_index_or, codes}
+use Rattle.std.specs.Prelude.{ℕ, ◌+◌, ◌*◌, ◌/◌, ◌==◌, if◌then◌else◌, Option, Some, None, List, [], ◌∷◌, ◌++◌, length, slice_get, slice_index_or, codes}
 use Rattle.std.specs.Fmt.{decimal}
 use Rattle.std.specs.List.{concat}
 use Rattle.ceiling_kernel.specs.declared.trace.Release.{Release}
@@ -11,22 +11,31 @@ use Rattle.ceiling_kernel.specs.Runs.{no_record}
 use Rattle.picture.specs.declared.rows.TaskRow.{TaskRow}
 use Rattle.picture.specs.declared.marks.Mark.{Mark}
 use Rattle.picture.specs.declared.marks.Mark.TheVariants.{Arrival, Ready, Bound, Deadline}
-use Rattle.picture.specs.declared.ground.TheConstants.{STYLE}
-use Rattle.picture.specs.Frame.{Frame, frame_of, step_of, top_of}
+use Rattle.picture.specs.declared.style.TheConstants.{STYLE}
+use Rattle.picture.specs.declared.legend.TheConstants.{LEGEND}
+use Rattle.picture.specs.Frame.{Frame, frame_of, frame_end, step_of, top_of}
 use Rattle.picture.specs.Rows.{each, row_at, on_row}
 use Rattle.picture.specs.Sections.{slice_at, executed_in}
-use Rattle.picture.specs.Elements.{tick_text, line_text, name_text, again_text, job_text, slice_text, mark_text, mark_head}
+use Rattle.picture.specs.Millis.{millis_text}
+use Rattle.picture.specs.Misses.{all_missed, badge_text, miss_text}
+use Rattle.picture.specs.Margin.{margin_text}
+use Rattle.picture.specs.Lane.{lane_head, lane_line, lane_text}
+use Rattle.picture.specs.Elements.{tick_text, line_text, job_text, slice_text, mark_text, mark_head}
 
 -- the job at a place, from 0
 abbrev pub record_at : List JobRecord → ℕ → JobRecord
 record_at jobs i = slice_index_or jobs i no_record
 
+-- how wide the picture is
+abbrev pub width_of : Frame → ℕ
+width_of f = frame_end f + 200
+
 -- the measures
 abbrev pub measures_text : Frame → (high : ℕ) → List ℕ
 measures_text f high =
-    concat (codes "xmlns:xlink=\"http://www.w3.org/1999/xlink\" version=\"1.1\" width=\""
-    ∷ decimal ((f.span + 500) / 10) ∷ codes "\" height=\"" ∷ decimal (high / 10)
-    ∷ codes "\" viewBox=\"0 0 " ∷ decimal (f.span + 500) ∷ codes " " ∷ decimal high ∷ codes "\">\n"
+    concat (codes "version=\"1.1\" width=\"" ∷ decimal (width_of f / 10) ∷ codes "\" height=\""
+    ∷ decimal (high / 10)
+    ∷ codes "\" viewBox=\"0 0 " ∷ decimal (width_of f) ∷ codes " " ∷ decimal high ∷ codes "\">\n"
     ∷ [])
 
 -- the title
@@ -40,7 +49,7 @@ title_text rows jobs until =
 abbrev pub document_head : Frame → (rows jobs until : ℕ) → List ℕ
 document_head f rows jobs until =
     codes "<?xml version=\"1.0\" encoding=\"UTF-8\"?>\n<svg xmlns=\"http://www.w3.org/2000/svg\" "
-    ++ measures_text f (top_of rows + 60) ++ title_text rows jobs until
+    ++ measures_text f (top_of rows + 120) ++ title_text rows jobs until
 
 -- the scale
 abbrev pub ticks_text : Frame → (bottom step : ℕ) → List ℕ
@@ -50,28 +59,47 @@ ticks_text f bottom step = each (f.until / step + 1) (λ i. tick_text f bottom s
 abbrev pub lines_text : Frame → List TaskRow → List ℕ
 lines_text f rows = each (length rows) (line_text f)
 
--- the names of the rows
-abbrev pub own_names : List TaskRow → List JobRecord → List ℕ
-own_names rows jobs = each (length rows) (λ k. name_text jobs k (row_at rows k))
+-- the margin
+abbrev pub margins_text : Frame → List TaskRow → List JobRecord → List ℕ
+margins_text f rows jobs = each (length rows) (λ k. margin_text f jobs k (row_at rows k))
 
--- the same as a group, so that they can stand again
-abbrev pub names_group : List TaskRow → List JobRecord → List ℕ
-names_group rows jobs = codes "<g id=\"n\">\n" ++ own_names rows jobs ++ codes "</g>\n"
+-- the same as a group, with that of the lane of the processor
+abbrev pub margin_group : Frame → List TaskRow → List JobRecord → List Slice → List ℕ
+margin_group f rows jobs slices =
+    codes "<g id=\"n\">\n" ++ lane_head f slices ++ margins_text f rows jobs ++ codes "</g>\n"
 
--- the names again, wherever there is room for the longest
-abbrev pub names_again : Frame → List ℕ
-names_again f = each ((f.span - 2000) / 3000) again_text
+-- the scale, the lines of the lane and of the rows, and the margin
+abbrev pub rows_text : Frame → List TaskRow → List JobRecord → List Slice → List ℕ
+rows_text f rows jobs slices =
+    ticks_text f (top_of (length rows)) (step_of f) ++ lane_line f ++ lines_text f rows
+    ++ margin_group f rows jobs slices
 
--- the scale, the lines and the names of the rows, and the names again
-abbrev pub rows_text : Frame → List TaskRow → List JobRecord → List ℕ
-rows_text f rows jobs =
-    ticks_text f (top_of (length rows)) (step_of f) ++ lines_text f rows ++ names_group rows jobs
-    ++ names_again f
+-- whether a deadline is missed
+abbrev pub verdict_text : (missed : ℕ) → List ℕ
+verdict_text missed =
+    if missed == 0 then codes "<text class=\"t\" x=\"100\" y=\"200\">no deadline missed</text>\n"
+    else badge_text 190 150
+    ++ concat (codes "<text class=\"t q\" x=\"320\" y=\"200\">deadlines missed: " ∷ decimal missed
+    ∷ codes "</text>\n" ∷ [])
+
+-- what is drawn
+abbrev pub what_text : Frame → (rows jobs : ℕ) → List ℕ
+what_text f rows jobs =
+    concat (codes "<text x=\"100\" y=\"390\">tasks: " ∷ decimal rows ∷ codes ", jobs: " ∷ decimal jobs
+    ∷ codes ", until " ∷ millis_text f.until
+    ∷ codes " ms</text>\n" ∷ [])
+
+-- how the elements look, whether a deadline is missed, what is drawn, and what the signs mean
+abbrev pub top_text : Frame → List TaskRow → List JobRecord → List ℕ
+top_text f rows jobs =
+    STYLE.now ++ verdict_text (all_missed f rows jobs) ++ what_text f (length rows) (length jobs)
+    ++ LEGEND.now
 
 -- what stands still
-abbrev pub ground_text : Frame → List TaskRow → List JobRecord → (until : ℕ) → List ℕ
-ground_text f rows jobs until =
-    document_head f (length rows) (length jobs) until ++ STYLE.now ++ rows_text f rows jobs
+abbrev pub ground_text : Frame → List TaskRow → List JobRecord → List Slice → (until : ℕ) → List ℕ
+ground_text f rows jobs slices until =
+    document_head f (length rows) (length jobs) until ++ top_text f rows jobs
+    ++ rows_text f rows jobs slices
 
 -- each job
 abbrev pub jobs_text : Frame → List TaskRow → List JobRecord → List ℕ
@@ -82,6 +110,16 @@ jobs_text f rows jobs =
 abbrev pub of_job : (JobRecord → List ℕ) → Option JobRecord → List ℕ
 of_job text None = []
 of_job text (Some job) = text job
+
+-- a slice in the lane of the processor, of a job
+abbrev pub lane_by : Frame → List TaskRow → List JobRecord → Slice → List ℕ
+lane_by f rows jobs s =
+    of_job (λ job. on_row rows job.name (lane_text f s)) (slice_get jobs s.job)
+
+-- each slice there, by time
+abbrev pub lanes_text : Frame → List TaskRow → List JobRecord → List Slice → List ℕ
+lanes_text f rows jobs slices =
+    each (length slices) (λ n. lane_by f rows jobs (slice_at slices n))
 
 -- a slice in the row of its job's task, of a job that has executed e ticks before it
 abbrev pub slice_by : Frame → List TaskRow → List JobRecord → (e : ℕ) → Slice → List ℕ
@@ -96,6 +134,11 @@ slice_in f rows jobs slices n =
 -- each slice, by time
 abbrev pub slices_text : Frame → List TaskRow → List JobRecord → List Slice → List ℕ
 slices_text f rows jobs slices = each (length slices) (slice_in f rows jobs slices)
+
+-- each job that misses its deadline
+abbrev pub misses_text : Frame → List TaskRow → List JobRecord → List ℕ
+misses_text f rows jobs =
+    each (length jobs) (λ i. on_row rows (record_at jobs i).name (miss_text f (record_at jobs i)))
 
 -- a mark of a kind for each release
 abbrev pub each_mark : Frame → List TaskRow → Mark → List Release → List ℕ
@@ -112,11 +155,12 @@ all_marks f rows rs =
     marks_text f rows Ready rs ++ marks_text f rows Arrival rs ++ marks_text f rows Bound rs
     ++ marks_text f rows Deadline rs
 
--- the document in a frame: what stands still, the jobs, the slices over them, and the marks
+-- the document in a frame: what stands still, the lane, the jobs, the marks, the slices over them, and what is missed
 abbrev pub framed : Frame → List TaskRow → ℕ → List Release → List JobRecord → List Slice → List ℕ
 framed f rows until rs jobs slices =
-    ground_text f rows jobs until ++ jobs_text f rows jobs
-    ++ slices_text f rows jobs slices ++ all_marks f rows rs ++ codes "</svg>\n"
+    ground_text f rows jobs slices until ++ lanes_text f rows jobs slices ++ jobs_text f rows jobs
+    ++ all_marks f rows rs ++ slices_text f rows jobs slices ++ misses_text f rows jobs
+    ++ codes "</svg>\n"
 
 -- THE DOCUMENT: the picture of a trace below a time
 abbrev pub document : List TaskRow → ℕ → List Release → Trace → List ℕ

@@ -2,6 +2,11 @@ pub mod Puts
 pub mod Frame
 pub mod Rows
 pub mod Sections
+pub mod Millis
+pub mod Boxes
+pub mod Misses
+pub mod Margin
+pub mod Lane
 pub mod Elements
 pub mod Document
 pub mod Laws

@@ -7,7 +7,7 @@ ghost use Rattle.picture.specs.Document.{slice_by, slices_text};
 
 use crate::boxes::bar_of;
 use crate::chart::{Chart, Lane};
-use crate::frame::x_of;
+use crate::frame::{tone_of, x_of};
 use crate::page::Page;
 use crate::rows::find_row;
 use crate::ticks::executed_after;
@@ -37,12 +37,13 @@ impl<W: Write + Drop> Page<'_, W> {
         let start = x_of(lane.frame, slice.start);
         let stop = x_of(lane.frame, slice.stop);
         let bar = bar_of(start, stop, lane.k);
+        let tone = tone_of(lane.k);
         let name = lane.row.sheet.name();
         let start = slice.start;
         let stop = slice.stop;
         write!(
             self.out,
-            "<path class=\"e\" d=\"{bar}\"><title>{name} {start} to {stop} us</title></path>\n"
+            "<path class=\"e f{tone}\" d=\"{bar}\"><title>{name} {start} to {stop} us</title></path>\n"
         )
     }
 

@@ -43,9 +43,11 @@ fn put_document<W: Write + Drop>(
         chart.now.jobs.now chart.now.slices.now) }
 {
     page.put_ground(chart)?;
+    page.put_lanes(chart)?;
     page.put_jobs(chart)?;
-    page.put_slices(chart, executed)?;
     page.put_all_marks(chart)?;
+    page.put_slices(chart, executed)?;
+    page.put_misses(chart)?;
     page.out.put(b"</svg>\n")
 }
 

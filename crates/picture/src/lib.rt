@@ -8,11 +8,17 @@ mod document;
 mod frame;
 mod ground;
 mod jobs;
+mod lane;
 pub mod laws;
+mod legend;
+mod margin;
 mod marks;
+mod millis;
+mod misses;
 mod page;
 mod parts;
 mod rows;
+mod style;
 mod ticks;
 
 pub use document::{DrawFault, draw};

@@ -55,7 +55,7 @@ impl<W: Write + Drop> Page<'_, W> {
         ensures { Puts W.contents self.old self.new result (label_head x right k) }
     {
         let middle = (x + right) / 2;
-        let y = top_of(k) + 433;
+        let y = top_of(k) + 293;
         write!(self.out, "<text class=\"k\" x=\"{middle}\" y=\"{y}\">")
     }
 

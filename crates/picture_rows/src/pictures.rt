@@ -115,7 +115,7 @@ fn rows_of(alloc: Global, set: &TaskSet, bounds: &[(usize, u64)]) -> Result<Vec<
         let sheet = set.get(*index).ok_or("no task")?;
         rows.push(TaskRow {
             sheet: again!(sheet.copy(alloc))?,
-            bound: *bound,
+            bound: Some(*bound),
         })?;
     }
     Ok(rows)

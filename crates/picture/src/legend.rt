@@ -1,0 +1,5 @@
+//! What the signs mean.
+
+// The signs, in two lines.
+pub(crate) const LEGEND: &str =
+    "<path class=\"f0\" d=\"M100 540h260v180h-260z\"/><text x=\"420\" y=\"668\">executes</text>\n<path class=\"f0\" d=\"M1100 540h260v180h-260z\"/><path class=\"h\" d=\"M1180 540h100v180h-100z\"/><text x=\"1420\" y=\"668\">holds a lock</text>\n<path class=\"a\" d=\"M2260 570l60 60-60 60m60-120l60 60-60 60\"/><text x=\"2460\" y=\"668\">goes on</text>\n<path class=\"w\" d=\"M100 790h260v180h-260z\"/><path class=\"b\" d=\"M360 780h-35m35 0v200h-35\"/><text x=\"420\" y=\"918\">arrival to bound</text>\n<path class=\"a\" d=\"M1560 940v-110m-35 50l35-50 35 50\"/><text x=\"1650\" y=\"918\">arrival</text>\n<path class=\"r\" d=\"M2260 880h200\"/><text x=\"2520\" y=\"918\">not ready yet</text>\n<path class=\"d\" d=\"M3460 820v110m0 0l-35-50h70z\"/><text x=\"3550\" y=\"918\">deadline</text>\n<path class=\"x\" d=\"M4330 880h1\"/><path class=\"y\" d=\"M4330 880m-38-38l76 76m0-76l-76 76\"/><text x=\"4450\" y=\"918\">missed</text>\n";
