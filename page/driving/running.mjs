@@ -9,8 +9,8 @@ const run_state = () => browser.run(() => {
   return {
     width: box(all.querySelector('svg')).width, height: box(all.querySelector('svg')).height,
     left: host.scrollLeft, wide: host.clientWidth,
-    names: [...all.querySelectorAll('.names span')]
-      .map(it => [it.textContent, box(it).left - edge.left]),
+    names: [...all.querySelectorAll('#n .n')]
+      .map(it => [it.lastChild.data, box(it).left - edge.left]),
     letter: box(letter).height, slice: box(slice).width,
     legend: box(all.querySelector('svg > g')).left - edge.left,
   };
@@ -28,13 +28,13 @@ export async function the_run() {
     `letters and rows stay: ${fit.letter}, ${large.letter}`);
   const wider = large.slice / fit.slice;
   expect(Math.abs(wider - 1.25 ** 6) < .4, `time widens: ${wider}`);
-  expect(large.names.length === 9 && large.names.every(([, at]) => at >= 0 && at < 30),
+  expect(large.names.length === 10 && large.names.every(([, at]) => at >= 0 && at < 60),
     `names stay at the edge: ${JSON.stringify(large.names)}`);
   expect(Math.abs(large.legend - fit.legend) < 2,
     `the legend stays: ${fit.legend}, ${large.legend}`);
   await browser.pull('#picture', .3, .6);
   expect((await run_state()).left < large.left, 'pulled');
-  expect((await run_state()).names.every(([, at]) => at >= 0 && at < 30), 'names stay, pulled');
+  expect((await run_state()).names.every(([, at]) => at >= 0 && at < 60), 'names stay, pulled');
   large = await run_state();
   await browser.run(() => document.getElementById('picture').focus());
   await browser.press('+');

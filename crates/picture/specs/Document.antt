@@ -83,22 +83,22 @@ verdict_text missed =
     ∷ codes "</text>\n" ∷ [])
 
 -- what is drawn
-abbrev pub what_text : Frame → (rows jobs : ℕ) → List ℕ
-what_text f rows jobs =
+abbrev pub what_text : (rows jobs until : ℕ) → List ℕ
+what_text rows jobs until =
     concat (codes "<text x=\"100\" y=\"390\">tasks: " ∷ decimal rows ∷ codes ", jobs: " ∷ decimal jobs
-    ∷ codes ", until " ∷ millis_text f.until
+    ∷ codes ", until " ∷ millis_text until
     ∷ codes " ms</text>\n" ∷ [])
 
 -- how the elements look, whether a deadline is missed, what is drawn, and what the signs mean
-abbrev pub top_text : Frame → List TaskRow → List JobRecord → List ℕ
-top_text f rows jobs =
-    STYLE.now ++ verdict_text (all_missed f rows jobs) ++ what_text f (length rows) (length jobs)
+abbrev pub top_text : Frame → List TaskRow → List JobRecord → (until : ℕ) → List ℕ
+top_text f rows jobs until =
+    STYLE.now ++ verdict_text (all_missed f rows jobs) ++ what_text (length rows) (length jobs) until
     ++ LEGEND.now
 
 -- what stands still
 abbrev pub ground_text : Frame → List TaskRow → List JobRecord → List Slice → (until : ℕ) → List ℕ
 ground_text f rows jobs slices until =
-    document_head f (length rows) (length jobs) until ++ top_text f rows jobs
+    document_head f (length rows) (length jobs) until ++ top_text f rows jobs until
     ++ rows_text f rows jobs slices
 
 -- each job

@@ -157,12 +157,10 @@ impl<W: Write + Drop> Page<'_, W> {
     }
 
     // What is drawn.
-    fn put_what(&mut self, frame: Frame, rows: usize, jobs: usize) -> Result<(), WriteFailed>
-        ensures { Puts W.contents self.old self.new result (what_text frame rows jobs) }
+    fn put_what(&mut self, rows: usize, jobs: usize, micros: u64) -> Result<(), WriteFailed>
+        ensures { Puts W.contents self.old self.new result (what_text rows jobs micros) }
     {
-        let until = Millis {
-            micros: frame.until,
-        };
+        let until = Millis { micros };
         write!(
             self.out,
             "<text x=\"100\" y=\"390\">tasks: {rows}, jobs: {jobs}, until {until} ms</text>\n"
@@ -172,11 +170,11 @@ impl<W: Write + Drop> Page<'_, W> {
     // How the elements look, whether a deadline is missed, what is drawn, and what the signs mean.
     fn put_top(&mut self, chart: &Chart<'_>) -> Result<(), WriteFailed>
         ensures { Puts W.contents self.old self.new result
-            (top_text chart.now.frame chart.now.rows.now chart.now.jobs.now) }
+            (top_text chart.now.frame chart.now.rows.now chart.now.jobs.now chart.now.until) }
     {
         self.put_style()?;
         self.put_verdict(all_missed(chart.frame, chart.rows, chart.jobs))?;
-        self.put_what(chart.frame, chart.rows.len(), chart.jobs.len())?;
+        self.put_what(chart.rows.len(), chart.jobs.len(), chart.until)?;
         self.put_legend()
     }
 
