@@ -1,3 +1,4 @@
 pub mod Puts
 pub mod Counts
 pub mod Darker
+pub mod Widths

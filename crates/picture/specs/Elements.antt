@@ -170,7 +170,7 @@ later_text f r len y shape =
 -- a bracket at a bound, where there is one
 abbrev pub bound_text : Frame → Release → (y : ℕ) → Option ℕ → List ℕ
 bound_text f r y None = []
-bound_text f r y (Some bound) = later_text f r bound y (codes "h-35m35 0v200h-35\n")
+bound_text f r y (Some bound) = later_text f r bound y (codes "h-35m35 0v40m0 120v40h-35\n")
 
 -- a mark of a release in row k: an arrow up, a line, a bracket at the bound, an arrow down
 abbrev pub mark_text : Frame → Mark → Release → ℕ → TaskRow → List ℕ

@@ -85,7 +85,7 @@ impl<W: Write + Drop> Page<'_, W> {
     {
         match bound {
             None => Ok(()),
-            Some(len) => self.put_later(frame, release, len, y, "h-35m35 0v200h-35\n"),
+            Some(len) => self.put_later(frame, release, len, y, "h-35m35 0v40m0 120v40h-35\n"),
         }
     }
 

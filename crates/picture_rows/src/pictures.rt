@@ -35,7 +35,7 @@ const LEGEND: &str =
     "<path class=\"f0\" d=\"M100 540h260v180h-260z\"/><text x=\"420\" y=\"668\">executes</text>
 <path class=\"f0\" d=\"M1100 540h260v180h-260z\"/><path class=\"h\" d=\"M1180 540h100v180h-100z\"/><text x=\"1420\" y=\"668\">holds a lock</text>
 <path class=\"a\" d=\"M2260 570l60 60-60 60m60-120l60 60-60 60\"/><text x=\"2460\" y=\"668\">goes on</text>
-<path class=\"w\" d=\"M100 790h260v180h-260z\"/><path class=\"b\" d=\"M360 780h-35m35 0v200h-35\"/><text x=\"420\" y=\"918\">arrival to bound</text>
+<path class=\"w\" d=\"M100 790h260v180h-260z\"/><path class=\"b\" d=\"M360 780h-35m35 0v40m0 120v40h-35\"/><text x=\"420\" y=\"918\">arrival to bound</text>
 <path class=\"a\" d=\"M1560 940v-110m-35 50l35-50 35 50\"/><text x=\"1650\" y=\"918\">arrival</text>
 <path class=\"r\" d=\"M2260 880h200\"/><text x=\"2520\" y=\"918\">not ready yet</text>
 <path class=\"d\" d=\"M3460 820v110m0 0l-35-50h70z\"/><text x=\"3550\" y=\"918\">deadline</text>
@@ -97,7 +97,7 @@ M2246 2140v-100m-35 50l35-50 35 50
 M7969 2140v-100m-35 50l35-50 35 50
 \"/>
 <path class=\"b\" d=\"
-M5393 1845h-35m35 0v200h-35
+M5393 1845h-35m35 0v40m0 120v40h-35
 \"/>
 <path class=\"d\" d=\"
 M7396 1750v100m0 0l-35-50h70z
