@@ -1,17 +1,23 @@
 -- Where a deadline is missed, and how wide a picture is.
-use Rattle.std.proofs.Common.{◌≡◌, ℕ, ◌+◌, ◌-◌, ◌*◌, ◌/◌, ◌≤◌, List, length, arith, min, max}
-use Rattle.std.specs.Prelude.{nat_lt}
+use Rattle.std.proofs.Common.{◌≡◌, ℕ, ◌+◌, ◌*◌, ◌/◌, ◌<◌, ◌≤◌, List, length, arith, min, max}
+use Rattle.std.specs.Prelude.{nat_lt, nat_le, ◌-◌}
 use Rattle.ceiling_kernel.specs.declared.accept.TheConstants.{HORIZON}
 use Rattle.picture.specs.declared.frame.TheConstants.{LONGEST_PERIOD}
 use Rattle.picture.specs.declared.rows.TaskRow.{TaskRow}
 use Rattle.picture.specs.Frame.{least_period, longest_name, left_of}
-use Rattle.picture.specs.Laws.{IsLateBehindDeadline, HasWidth}
+use Rattle.picture.specs.Laws.{AreMissesShown, HasWidth}
 
-later : (end arrival deadline : ℕ) → nat_lt deadline (end - arrival) ≡ nat_lt (arrival + deadline) end
-later end arrival deadline = grind arith
+done_later : (finish arrival deadline : ℕ) → nat_lt deadline (finish - arrival) ≡ nat_lt (arrival + deadline) finish
+done_later finish arrival deadline = grind arith
 
-pub late_law : IsLateBehindDeadline
-late_law f row job = later _ job.release row.sheet.deadline
+still_open : (end arrival deadline : ℕ) → 0 < deadline → nat_le deadline (end - arrival) ≡ nat_le (arrival + deadline) end
+still_open end arrival deadline some = grind (arith, some)
+
+pub misses_law : AreMissesShown
+misses_law f row job some = (
+  λ finish is. rw is (done_later finish job.release row.sheet.deadline),
+  λ is. rw is (still_open f.until job.release row.sheet.deadline some),
+)
 
 wide : (left span : ℕ) → left ≤ 2500
     → (9600 ≤ left + max (min span (15800 - left)) (9400 - left) + 200) × (left + max (min span (15800 - left)) (9400 - left) + 200 ≤ 16000)

@@ -16,7 +16,7 @@ use Rattle.picture.specs.declared.legend.TheConstants.{LEGEND}
 use Rattle.picture.specs.Frame.{Frame, frame_of, frame_end, step_of, top_of}
 use Rattle.picture.specs.Rows.{each, row_at, on_row}
 use Rattle.picture.specs.Sections.{slice_at, executed_in}
-use Rattle.picture.specs.Millis.{millis_text}
+use Rattle.picture.specs.Numbers.{millis_text}
 use Rattle.picture.specs.Misses.{all_missed, badge_text, miss_text}
 use Rattle.picture.specs.Margin.{margin_text}
 use Rattle.picture.specs.Lane.{lane_head, lane_line, lane_text}

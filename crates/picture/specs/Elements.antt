@@ -13,6 +13,7 @@ use Rattle.picture.specs.declared.marks.Mark.TheVariants.{Arrival, Ready, Bound,
 use Rattle.picture.specs.Frame.{Frame, x_of, frame_end, top_of, tone_of, unit_of, unit_name}
 use Rattle.picture.specs.Rows.{each}
 use Rattle.picture.specs.Boxes.{span_text}
+use Rattle.picture.specs.Numbers.{known_text}
 use Rattle.picture.specs.Sections.{dark_from, dark_to, nth_section, fits}
 
 -- ---- ground
@@ -55,16 +56,11 @@ done_words job (Some finish) =
     ∷ codes ", " ∷ [])
 done_words job None = codes "not done, "
 
--- how long after its arrival it is done at the latest, where that is known
-abbrev pub bound_words : Option ℕ → List ℕ
-bound_words (Some bound) = concat (codes "bound " ∷ decimal bound ∷ codes ", " ∷ [])
-bound_words None = []
-
--- that, and how long after its arrival it has to be
+-- how long after its arrival it is done at the latest, where that is known, and has to be
 abbrev pub limit_words : TaskRow → List ℕ
 limit_words row =
-    bound_words row.bound
-    ++ concat (codes "deadline " ∷ decimal row.sheet.deadline ∷ codes " us</title></path>\n" ∷ [])
+    concat (codes "bound " ∷ known_text row.bound ∷ codes ", deadline " ∷ decimal row.sheet.deadline
+    ∷ codes " us</title></path>\n" ∷ [])
 
 -- a sign at the end where a job goes on
 abbrev pub on_text : Frame → ℕ → Option ℕ → List ℕ

@@ -2,7 +2,7 @@ pub mod Puts
 pub mod Frame
 pub mod Rows
 pub mod Sections
-pub mod Millis
+pub mod Numbers
 pub mod Boxes
 pub mod Misses
 pub mod Margin

@@ -8,7 +8,7 @@ use Rattle.run_lines.specs.Reached.{done_of, response_of}
 use Rattle.ceiling_kernel.specs.declared.trace.JobRecord.{JobRecord}
 use Rattle.picture.specs.declared.rows.TaskRow.{TaskRow}
 use Rattle.picture.specs.Frame.{Frame, top_of, level_of, tone_of}
-use Rattle.picture.specs.Millis.{millis_text}
+use Rattle.picture.specs.Numbers.{millis_text, known_text}
 use Rattle.picture.specs.Misses.{missed_in}
 
 -- a row's level, and the tone of its task
@@ -20,12 +20,6 @@ level_text f k =
     ∷ decimal (top_of k + 130)
     ∷ codes "\" width=\"100\" height=\"100\" rx=\"20\"/>\n" ∷ [])
 
--- how long after its arrival a job is done at the latest, or has to be
-abbrev pub outcome_end : TaskRow → Option ℕ → List ℕ
-outcome_end row (Some bound) = concat (codes ", bound: " ∷ decimal bound ∷ codes " us</title>" ∷ [])
-outcome_end row None =
-    concat (codes ", deadline: " ∷ decimal row.sheet.deadline ∷ codes " us</title>" ∷ [])
-
 -- what the jobs of a row's task came to: how many are done, the greatest response among them, and the row's bound
 abbrev pub outcome_text : TaskRow → List JobRecord → List ℕ
 outcome_text row jobs =
@@ -33,7 +27,7 @@ outcome_text row jobs =
     ∷ codes ", greatest response: " ∷ [])
     ++ greatest_words (length (done_of row.sheet.name jobs))
     (greatest_of response_of (done_of row.sheet.name jobs))
-    ++ outcome_end row row.bound
+    ++ concat (codes ", bound: " ∷ known_text row.bound ∷ codes " us</title>" ∷ [])
 
 -- a name is red where a deadline is missed
 abbrev pub name_class : (missed : ℕ) → List ℕ

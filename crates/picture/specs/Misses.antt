@@ -1,5 +1,5 @@
 -- Which jobs miss their deadlines, and how they are drawn.
-use Rattle.std.specs.Prelude.{ℕ, ◌+◌, ◌-◌, max, Bool, false, ◌&&◌, nat_lt, if◌then◌else◌, Option, Some, None, List, [], ◌∷◌, ◌++◌, length, codes}
+use Rattle.std.specs.Prelude.{ℕ, ◌+◌, ◌-◌, max, Bool, false, ◌&&◌, nat_le, nat_lt, if◌then◌else◌, Option, Some, None, List, [], ◌∷◌, ◌++◌, length, codes}
 use Rattle.std.specs.Option.{unwrap_or}
 use Rattle.std.specs.Fmt.{decimal}
 use Rattle.std.specs.List.{concat, filter}
@@ -9,14 +9,20 @@ use Rattle.picture.specs.declared.rows.TaskRow.{TaskRow}
 use Rattle.picture.specs.Frame.{Frame, x_of, top_of}
 use Rattle.picture.specs.Rows.{row_at, row_named}
 use Rattle.picture.specs.Boxes.{box_path}
+use Rattle.picture.specs.Elements.{arrival_words, done_words}
+
+-- a job that has to be done so long after its arrival is done later, or isn't done by an end that isn't earlier
+abbrev pub is_behind : (arrival deadline end : ℕ) → Option ℕ → Bool
+is_behind arrival deadline end (Some finish) = nat_lt deadline (finish - arrival)
+is_behind arrival deadline end None = nat_le deadline (end - arrival)
+
+-- a job of a row's task misses its deadline
+abbrev pub is_late : Frame → TaskRow → JobRecord → Bool
+is_late f row job = is_behind job.release row.sheet.deadline f.until job.finish
 
 -- when a job is done, or the end of the run
 abbrev pub ended : Frame → JobRecord → ℕ
 ended f job = unwrap_or job.finish f.until
-
--- a job of a row's task is done, or isn't by the end, more than a deadline after its arrival
-abbrev pub is_late : Frame → TaskRow → JobRecord → Bool
-is_late f row job = nat_lt row.sheet.deadline (ended f job - job.release)
 
 -- it is one of the row's task
 abbrev pub misses_in : Frame → TaskRow → JobRecord → Bool
@@ -53,18 +59,21 @@ hatch_path f k row job =
     (max (x_of f (ended f job)) (x_of f (job.release + row.sheet.deadline) + 20))
     (top_of k + 145) 220
 
--- that, and what is told of it
+-- that, up to what is told of it
 abbrev pub hatch_text : Frame → (k : ℕ) → TaskRow → JobRecord → List ℕ
 hatch_text f k row job =
-    concat (codes "<path class=\"z\" d=\"" ∷ hatch_path f k row job ∷ codes "\"><title>" ∷ job.name
-    ∷ codes ": arrival " ∷ decimal job.release ∷ codes ", deadline "
-    ∷ decimal row.sheet.deadline
-    ∷ codes " us missed</title></path>\n" ∷ [])
+    concat (codes "<path class=\"z\" d=\"" ∷ hatch_path f k row job ∷ codes "\"><title>" ∷ [])
+
+-- the deadline, behind when the job arrives and is done
+abbrev pub due_words : TaskRow → List ℕ
+due_words row =
+    concat (codes "deadline " ∷ decimal row.sheet.deadline ∷ codes " us missed</title></path>\n" ∷ [])
 
 -- with a badge at the deadline
 abbrev pub missed_text : Frame → (k : ℕ) → TaskRow → JobRecord → List ℕ
 missed_text f k row job =
-    hatch_text f k row job ++ badge_text (x_of f (job.release + row.sheet.deadline)) (top_of k + 85)
+    hatch_text f k row job ++ arrival_words job ++ done_words job job.finish ++ due_words row
+    ++ badge_text (x_of f (job.release + row.sheet.deadline)) (top_of k + 85)
 
 -- of a job that misses its deadline
 abbrev pub miss_text : Frame → JobRecord → ℕ → TaskRow → List ℕ

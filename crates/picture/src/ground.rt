@@ -10,8 +10,8 @@ ghost use Rattle.picture.specs.Document.{measures_text, title_text, document_hea
 use crate::chart::{Chart, Lane};
 use crate::frame::{Frame, end_of, step_of, top_of, unit_name, unit_of, x_of};
 use crate::legend::LEGEND;
-use crate::millis::Millis;
 use crate::misses::all_missed;
+use crate::numbers::Millis;
 use crate::page::Page;
 use crate::style::STYLE;
 use std::io::Write;

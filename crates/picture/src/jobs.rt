@@ -2,12 +2,13 @@
 ghost use Rattle.std.specs.Prelude.{◌≡◌, ◌+◌};
 ghost use Rattle.picture.specs.Puts.{Puts};
 ghost use Rattle.picture.specs.Rows.{on_row};
-ghost use Rattle.picture.specs.Elements.{limit_of, job_box, arrival_words, done_words, bound_words, limit_words, on_text, job_words, job_text};
+ghost use Rattle.picture.specs.Elements.{limit_of, job_box, arrival_words, done_words, limit_words, on_text, job_words, job_text};
 ghost use Rattle.picture.specs.Document.{jobs_text};
 
 use crate::boxes::bar_of;
 use crate::chart::{Chart, Lane};
 use crate::frame::{end_of, top_of, x_after, x_of};
+use crate::numbers::Known;
 use crate::page::Page;
 use crate::rows::{TaskRow, find_row};
 use ceiling_kernel::JobRecord;
@@ -34,7 +35,7 @@ impl<W: Write + Drop> Page<'_, W> {
     }
 
     // Whose job it is, and when it arrives.
-    fn put_arrival_words(&mut self, job: &JobRecord) -> Result<(), WriteFailed>
+    pub(crate) fn put_arrival_words(&mut self, job: &JobRecord) -> Result<(), WriteFailed>
         ensures { Puts W.contents self.old self.new result (arrival_words job.now) }
     {
         let name = job.name;
@@ -43,7 +44,7 @@ impl<W: Write + Drop> Page<'_, W> {
     }
 
     // When it is done, and how long after its arrival, if it is.
-    fn put_finish_words(&mut self, job: &JobRecord) -> Result<(), WriteFailed>
+    pub(crate) fn put_finish_words(&mut self, job: &JobRecord) -> Result<(), WriteFailed>
         ensures { Puts W.contents self.old self.new result (done_words job.now job.now.finish) }
     {
         match job.finish {
@@ -55,23 +56,16 @@ impl<W: Write + Drop> Page<'_, W> {
         }
     }
 
-    // How long after its arrival a job is done at the latest, where that is known.
-    fn put_bound_words(&mut self, row: &TaskRow) -> Result<(), WriteFailed>
-        ensures { Puts W.contents self.old self.new result (bound_words row.now.bound) }
-    {
-        match row.bound {
-            Some(bound) => write!(self.out, "bound {bound}, "),
-            None => Ok(()),
-        }
-    }
-
-    // That, and how long after its arrival it has to be.
+    // How long after its arrival a job is done at the latest, where that is known, and has to be.
     fn put_limit_words(&mut self, row: &TaskRow) -> Result<(), WriteFailed>
         ensures { Puts W.contents self.old self.new result (limit_words row.now) }
     {
-        self.put_bound_words(row)?;
+        let bound = Known { bound: row.bound };
         let deadline = row.sheet.deadline();
-        write!(self.out, "deadline {deadline} us</title></path>\n")
+        write!(
+            self.out,
+            "bound {bound}, deadline {deadline} us</title></path>\n"
+        )
     }
 
     // A sign at the end where a job goes on.

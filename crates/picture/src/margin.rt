@@ -3,13 +3,13 @@ ghost use Rattle.std.specs.Prelude.{◌≡◌, ◌≤◌};
 ghost use Rattle.task_sheet.specs.declared.set.TheConstants.{TASK_LIMIT};
 ghost use Rattle.picture.specs.Puts.{Puts};
 ghost use Rattle.run_lines.specs.Lines.{greatest_words};
-ghost use Rattle.picture.specs.Margin.{level_text, outcome_end, outcome_text, name_class, name_text, limits_text, missed_words, second_line, margin_text};
+ghost use Rattle.picture.specs.Margin.{level_text, outcome_text, name_class, name_text, limits_text, missed_words, second_line, margin_text};
 ghost use Rattle.picture.specs.Document.{margins_text, margin_group};
 
 use crate::chart::{Chart, Lane};
 use crate::frame::{level_of, tone_of, top_of};
-use crate::millis::Millis;
 use crate::misses::missed_in;
+use crate::numbers::{Known, Millis};
 use crate::page::Page;
 use crate::rows::TaskRow;
 use ceiling_kernel::JobRecord;
@@ -52,20 +52,6 @@ impl<W: Write + Drop> Page<'_, W> {
         write!(self.out, "{greatest}")
     }
 
-    // How long after its arrival a job is done at the latest, or has to be.
-    fn put_outcome_end(&mut self, row: &TaskRow) -> Result<(), WriteFailed>
-        ensures { Puts W.contents self.old self.new result
-            (outcome_end row.now row.now.bound) }
-    {
-        match row.bound {
-            Some(bound) => write!(self.out, ", bound: {bound} us</title>"),
-            None => {
-                let deadline = row.sheet.deadline();
-                write!(self.out, ", deadline: {deadline} us</title>")
-            }
-        }
-    }
-
     // What the jobs of a row's task came to.
     fn put_outcome(&mut self, row: &TaskRow, jobs: &[JobRecord]) -> Result<(), WriteFailed>
         ensures { Puts W.contents self.old self.new result (outcome_text row.now jobs.now) }
@@ -74,7 +60,8 @@ impl<W: Write + Drop> Page<'_, W> {
         let done = outcome.done;
         write!(self.out, "<title>done: {done}, greatest response: ")?;
         self.put_greatest(outcome)?;
-        self.put_outcome_end(row)
+        let bound = Known { bound: row.bound };
+        write!(self.out, ", bound: {bound} us</title>")
     }
 
     // The name of a row.

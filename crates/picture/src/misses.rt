@@ -5,7 +5,7 @@ ghost use Rattle.task_sheet.specs.declared.set.TheConstants.{TASK_LIMIT};
 ghost use Rattle.picture.specs.Puts.{Puts};
 ghost use Rattle.picture.specs.Rows.{on_row};
 ghost use Rattle.picture.specs.Frame.{x_of, top_of};
-ghost use Rattle.picture.specs.Misses.{ended, is_late, misses_in, missed_in, misses, all_missed, badge_text, hatch_text, missed_text, miss_text};
+ghost use Rattle.picture.specs.Misses.{is_late, ended, misses_in, missed_in, misses, all_missed, badge_text, hatch_text, due_words, missed_text, miss_text};
 ghost use Rattle.picture.specs.Document.{misses_text};
 
 use crate::boxes::Bar;
@@ -17,18 +17,22 @@ use ceiling_kernel::JobRecord;
 use std::io::Write;
 use streams::WriteFailed;
 
+// Whether a job of a row's task misses its deadline.
+fn is_late(frame: Frame, row: &TaskRow, job: &JobRecord) -> bool
+    ensures { result ≡ is_late frame row.now job.now }
+{
+    let deadline = row.sheet.deadline();
+    match job.finish {
+        Some(finish) => finish.saturating_sub(job.release) > deadline,
+        None => frame.until.saturating_sub(job.release) >= deadline,
+    }
+}
+
 // When a job is done, or the end of the run.
 fn ended(frame: Frame, job: &JobRecord) -> u64
     ensures { result ≡ ended frame job.now }
 {
     job.finish.unwrap_or(frame.until)
-}
-
-// Whether a job of a row's task misses its deadline.
-fn is_late(frame: Frame, row: &TaskRow, job: &JobRecord) -> bool
-    ensures { result ≡ is_late frame row.now job.now }
-{
-    ended(frame, job).saturating_sub(job.release) > row.sheet.deadline()
 }
 
 // Whether it is one of a row's task, too.
@@ -90,28 +94,33 @@ impl<W: Write + Drop> Page<'_, W> {
         ensures { Puts W.contents self.old self.new result
             (hatch_text lane.now.frame lane.now.k lane.now.row.now job.now) }
     {
-        let name = job.name;
-        let release = job.release;
-        let deadline = lane.row.sheet.deadline();
-        let x = x_after(lane.frame, release, deadline);
+        let x = x_after(lane.frame, job.release, lane.row.sheet.deadline());
         let hatch = Bar {
             x,
             right: x_of(lane.frame, ended(lane.frame, job)).max(x + 20),
             y: top_of(lane.k) + 145,
             high: 220,
         };
-        write!(
-            self.out,
-            "<path class=\"z\" d=\"{hatch}\"><title>{name}: arrival {release}, deadline {deadline} us missed</title></path>\n"
-        )
+        write!(self.out, "<path class=\"z\" d=\"{hatch}\"><title>")
     }
 
-    // That, with a badge at the deadline.
+    // The deadline, behind when the job arrives and is done.
+    fn put_due_words(&mut self, row: &TaskRow) -> Result<(), WriteFailed>
+        ensures { Puts W.contents self.old self.new result (due_words row.now) }
+    {
+        let deadline = row.sheet.deadline();
+        write!(self.out, "deadline {deadline} us missed</title></path>\n")
+    }
+
+    // That, with what is told of it, and a badge at the deadline.
     fn put_missed(&mut self, lane: &Lane<'_>, job: &JobRecord) -> Result<(), WriteFailed>
         ensures { Puts W.contents self.old self.new result
             (missed_text lane.now.frame lane.now.k lane.now.row.now job.now) }
     {
         self.put_hatch(lane, job)?;
+        self.put_arrival_words(job)?;
+        self.put_finish_words(job)?;
+        self.put_due_words(lane.row)?;
         let x = x_after(lane.frame, job.release, lane.row.sheet.deadline());
         self.put_badge(x, top_of(lane.k) + 85)
     }

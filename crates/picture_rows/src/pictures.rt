@@ -137,10 +137,10 @@ const LATE: Parts = Parts {
 <g id=\"n\">
 <text class=\"n\" x=\"500\" y=\"1460\">processor</text><text x=\"500\" y=\"1580\">busy 92.0 %</text>
 <text class=\"v\" x=\"300\" y=\"1920\">2</text><rect class=\"f0\" x=\"350\" y=\"1820\" width=\"100\" height=\"100\" rx=\"20\"/>
-<text class=\"n\" x=\"500\" y=\"1920\"><title>done: 1, greatest response: 600, deadline: 2000 us</title>b</text>
+<text class=\"n\" x=\"500\" y=\"1920\"><title>done: 1, greatest response: 600, bound: - us</title>b</text>
 <text x=\"500\" y=\"2045\">deadline 2 ms</text>
 <text class=\"v\" x=\"300\" y=\"2400\">1</text><rect class=\"f1\" x=\"350\" y=\"2300\" width=\"100\" height=\"100\" rx=\"20\"/>
-<text class=\"n q\" x=\"500\" y=\"2400\"><title>done: 1, greatest response: 900, deadline: 500 us</title>a</text>
+<text class=\"n q\" x=\"500\" y=\"2400\"><title>done: 1, greatest response: 900, bound: - us</title>a</text>
 <text class=\"q\" x=\"500\" y=\"2525\">deadlines missed: 1</text>
 </g>
 <path class=\"f0 o\" d=\"M1960 1350H5531v220H1960z\"><title>b executes 0 to 600 us</title></path>
@@ -149,9 +149,9 @@ const LATE: Parts = Parts {
 <text class=\"u\" x=\"6423\" y=\"1498\">a</text>
 <path class=\"f1 o\" d=\"M7912 1350H9400v220H7912z\"><title>a executes 1000 to 1250 us</title></path>
 <text class=\"u\" x=\"8656\" y=\"1498\">a</text>
-<path class=\"w\" d=\"M1960 2335H4936v180H1960z\"><title>a: arrival 0, done 900, response 900, deadline 500 us</title></path>
-<path class=\"w\" d=\"M1960 1855H9400v180H1960z\"><title>b: arrival 0, done 600, response 600, deadline 2000 us</title></path>
-<path class=\"w\" d=\"M7912 2335H9400v180H7912z\"><title>a: arrival 1000, not done, deadline 500 us</title></path>
+<path class=\"w\" d=\"M1960 2335H4936v180H1960z\"><title>a: arrival 0, done 900, response 900, bound -, deadline 500 us</title></path>
+<path class=\"w\" d=\"M1960 1855H9400v180H1960z\"><title>b: arrival 0, done 600, response 600, bound -, deadline 2000 us</title></path>
+<path class=\"w\" d=\"M7912 2335H9400v180H7912z\"><title>a: arrival 1000, not done, bound -, deadline 500 us</title></path>
 <path class=\"a\" d=\"M9400 2365m20 0l60 60-60 60m60-120l60 60-60 60\"/>
 <path class=\"r\" d=\"
 \"/>
@@ -168,7 +168,7 @@ M4936 2230v100m0 0l-35-50h70z
 <path class=\"e f0\" d=\"M1960 1855H5531v180H1960z\"><title>b 0 to 600 us</title></path>
 <path class=\"e f1\" d=\"M5531 2335H7316v180H5531z\"><title>a 600 to 900 us</title></path>
 <path class=\"e f1\" d=\"M7912 2335H9400v180H7912z\"><title>a 1000 to 1250 us</title></path>
-<path class=\"z\" d=\"M4936 2315H7316v220H4936z\"><title>a: arrival 0, deadline 500 us missed</title></path>
+<path class=\"z\" d=\"M4936 2315H7316v220H4936z\"><title>a: arrival 0, done 900, response 900, deadline 500 us missed</title></path>
 <path class=\"x\" d=\"M4936 2255h1\"/><path class=\"y\" d=\"M4936 2255m-38-38l76 76m0-76l-76 76\"/>
 </svg>
 ",

@@ -1,5 +1,4 @@
-use Rattle.streams.proofs.Puts.{puts_both}
 use Rattle.picture.proofs.page.Page.put_limit_words.Goals as goal
 
 pub returns : goal.returns
-returns g c = puts_both c.in_ok-put_bound_words.ensures (rw (← c.deadline-deadline.ensures) c.write.ensures.put)
+returns g c = rw (← c.deadline-deadline.ensures) c.write.ensures.put

@@ -1,5 +1,5 @@
--- Microseconds as milliseconds, with no more digits than they need.
-use Rattle.std.specs.Prelude.{ℕ, ◌/◌, ◌%◌, ◌==◌, if◌then◌else◌, List, [], ◌∷◌, ◌++◌, codes}
+-- Numbers: milliseconds with no more digits than they need, and bounds that may not be known.
+use Rattle.std.specs.Prelude.{ℕ, ◌/◌, ◌%◌, ◌==◌, if◌then◌else◌, Option, Some, None, List, [], ◌∷◌, ◌++◌, codes}
 use Rattle.std.specs.Fmt.{decimal}
 use Rattle.std.specs.List.{concat}
 
@@ -14,3 +14,8 @@ rest_text n =
 -- so many microseconds, in milliseconds
 abbrev pub millis_text : ℕ → List ℕ
 millis_text n = decimal (n / 1000) ++ rest_text (n % 1000)
+
+-- a bound, or `-` where none is known
+abbrev pub known_text : Option ℕ → List ℕ
+known_text (Some bound) = decimal bound
+known_text None = codes "-"

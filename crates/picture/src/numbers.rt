@@ -1,6 +1,6 @@
-//! Microseconds as milliseconds.
+//! Numbers as text.
 ghost use Rattle.std.specs.Prelude.{Some};
-ghost use Rattle.picture.specs.Millis.{rest_text, millis_text};
+ghost use Rattle.picture.specs.Numbers.{rest_text, millis_text, known_text};
 
 use std::fmt;
 
@@ -42,5 +42,22 @@ impl fmt::Display for Millis {
             micros: self.micros % 1_000,
         };
         write!(f, "{whole}{rest}")
+    }
+}
+
+// A bound, or `-` where none is known.
+#[derive(Clone, Copy, Debug)]
+pub(crate) struct Known {
+    pub(crate) bound: Option<u64>,
+}
+
+impl fmt::Display for Known {
+    ghost output = { λ k. Some (known_text k.bound) };
+
+    fn fmt<W: fmt::Write>(&self, f: &mut fmt::Formatter<W>) -> fmt::Result {
+        match self.bound {
+            Some(bound) => write!(f, "{bound}"),
+            None => write!(f, "-"),
+        }
     }
 }
