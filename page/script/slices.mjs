@@ -2,7 +2,7 @@
 import { element, grouped, us } from './dom.mjs';
 import { name_of, sections_in } from './toml.mjs';
 
-const JOB = /^(\S+): arrival (\d+), (?:done (\d+)|not done)/;
+const JOB = /^(\S+): arrival (\d+), (?:done (\d+), response \d+|not done), bound /;
 const SLICE = /^(\S+) (?:holds (.+) )?(\d+) to (\d+) us$/;
 
 const read_job = ([, name, arrival, done]) =>
