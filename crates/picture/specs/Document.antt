@@ -74,13 +74,18 @@ rows_text f rows jobs slices =
     ticks_text f (top_of (length rows)) (step_of f) ++ lane_line f ++ lines_text f rows
     ++ margin_group f rows jobs slices
 
+-- how many deadlines are missed
+abbrev pub missed_verdict : (missed : ℕ) → List ℕ
+missed_verdict missed =
+    badge_text 190 150
+    ++ concat (codes "<text class=\"t q\" x=\"320\" y=\"200\">deadlines missed: " ∷ decimal missed
+    ∷ codes "</text>\n" ∷ [])
+
 -- whether a deadline is missed
 abbrev pub verdict_text : (missed : ℕ) → List ℕ
 verdict_text missed =
     if missed == 0 then codes "<text class=\"t\" x=\"100\" y=\"200\">no deadline missed</text>\n"
-    else badge_text 190 150
-    ++ concat (codes "<text class=\"t q\" x=\"320\" y=\"200\">deadlines missed: " ∷ decimal missed
-    ∷ codes "</text>\n" ∷ [])
+    else missed_verdict missed
 
 -- what is drawn
 abbrev pub what_text : (rows jobs until : ℕ) → List ℕ

@@ -117,6 +117,13 @@ pub(crate) fn x_after(frame: Frame, time: u64, len: u64) -> u64
     x_of(frame, time + len.min(rest))
 }
 
+// Where the beginning lies.
+pub(crate) fn start_of(frame: Frame) -> u64
+    ensures { result ≡ frame.left }
+{
+    frame.left
+}
+
 // Where the end lies.
 pub(crate) fn end_of(frame: Frame) -> u64
     ensures value { result ≡ frame_end frame }

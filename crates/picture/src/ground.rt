@@ -5,10 +5,10 @@ ghost use Rattle.picture.specs.Puts.{Puts};
 ghost use Rattle.picture.specs.Elements.{tick_text, line_text};
 ghost use Rattle.picture.specs.declared.style.TheConstants.{STYLE};
 ghost use Rattle.picture.specs.declared.legend.TheConstants.{LEGEND};
-ghost use Rattle.picture.specs.Document.{measures_text, title_text, document_head, ticks_text, lines_text, verdict_text, what_text, top_text, rows_text, ground_text};
+ghost use Rattle.picture.specs.Document.{measures_text, title_text, document_head, ticks_text, lines_text, missed_verdict, verdict_text, what_text, top_text, rows_text, ground_text};
 
 use crate::chart::{Chart, Lane};
-use crate::frame::{Frame, end_of, step_of, top_of, unit_name, unit_of, x_of};
+use crate::frame::{Frame, end_of, start_of, step_of, top_of, unit_name, unit_of, x_of};
 use crate::legend::LEGEND;
 use crate::misses::all_missed;
 use crate::numbers::Millis;
@@ -94,7 +94,7 @@ impl<W: Write + Drop> Page<'_, W> {
     {
         let top = top_of(lane.k);
         let y = top + 345;
-        let left = lane.frame.left;
+        let left = start_of(lane.frame);
         let end = end_of(lane.frame);
         write!(
             self.out,
@@ -140,20 +140,26 @@ impl<W: Write + Drop> Page<'_, W> {
         self.out.put(LEGEND.as_bytes())
     }
 
-    // Whether a deadline is missed.
-    fn put_verdict(&mut self, missed: usize) -> Result<(), WriteFailed>
-        ensures { Puts W.contents self.old self.new result (verdict_text missed) }
+    // How many deadlines are missed.
+    fn put_missed_verdict(&mut self, missed: usize) -> Result<(), WriteFailed>
+        ensures { Puts W.contents self.old self.new result (missed_verdict missed) }
     {
-        if missed == 0 {
-            return self.out.put(
-                b"<text class=\"t\" x=\"100\" y=\"200\">no deadline missed</text>\n",
-            );
-        }
         self.put_badge(190, 150)?;
         write!(
             self.out,
             "<text class=\"t q\" x=\"320\" y=\"200\">deadlines missed: {missed}</text>\n"
         )
+    }
+
+    // Whether a deadline is missed.
+    fn put_verdict(&mut self, missed: usize) -> Result<(), WriteFailed>
+        ensures { Puts W.contents self.old self.new result (verdict_text missed) }
+    {
+        if missed == 0 {
+            self.out.put(b"<text class=\"t\" x=\"100\" y=\"200\">no deadline missed</text>\n")
+        } else {
+            self.put_missed_verdict(missed)
+        }
     }
 
     // What is drawn.

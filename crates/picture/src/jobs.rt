@@ -95,6 +95,16 @@ impl<W: Write + Drop> Page<'_, W> {
         self.put_limit_words(row)
     }
 
+    // A job in a row.
+    fn put_job_in(&mut self, lane: &Lane<'_>, job: &JobRecord) -> Result<(), WriteFailed>
+        ensures { Puts W.contents self.old self.new result
+            (job_text lane.now.frame job.now lane.now.k lane.now.row.now) }
+    {
+        self.put_box(lane, job)?;
+        self.put_job_words(lane.row, job)?;
+        self.put_on(lane, job)
+    }
+
     // A job in the row of its task.
     fn put_job(&mut self, chart: &Chart<'_>, job: &JobRecord) -> Result<(), WriteFailed>
         ensures { Puts W.contents self.old self.new result
@@ -102,12 +112,7 @@ impl<W: Write + Drop> Page<'_, W> {
     {
         match find_row(chart.rows, job.name) {
             None => Ok(()),
-            Some(k) => {
-                let lane = chart.lane(k);
-                self.put_box(&lane, job)?;
-                self.put_job_words(lane.row, job)?;
-                self.put_on(&lane, job)
-            }
+            Some(k) => self.put_job_in(&chart.lane(k), job),
         }
     }
 

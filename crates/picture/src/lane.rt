@@ -8,7 +8,7 @@ ghost use Rattle.picture.specs.Document.{lane_by, lanes_text};
 
 use crate::boxes::Bar;
 use crate::chart::{Chart, Lane};
-use crate::frame::{Frame, end_of, level_of, tone_of, x_of};
+use crate::frame::{Frame, end_of, level_of, start_of, tone_of, x_of};
 use crate::page::Page;
 use crate::rows::{TaskRow, find_row};
 use crate::ticks::executed_after;
@@ -82,7 +82,7 @@ impl<W: Write + Drop> Page<'_, W> {
     pub(crate) fn put_lane_line(&mut self, frame: Frame) -> Result<(), WriteFailed>
         ensures { Puts W.contents self.old self.new result (lane_line frame) }
     {
-        let left = frame.left;
+        let left = start_of(frame);
         let end = end_of(frame);
         write!(self.out, "<path class=\"l\" d=\"M{left} 1570H{end}\"/>\n")
     }
