@@ -88,9 +88,8 @@ impl<W: Write + Drop> Page<'_, W> {
             (limits_text lane.now.k lane.now.row.now lane.now.row.now.bound) }
     {
         let y = top_of(lane.k) + 355;
-        let deadline = Millis {
-            micros: lane.row.sheet.deadline(),
-        };
+        let limit = lane.row.sheet.deadline();
+        let deadline = Millis { micros: limit };
         match lane.row.bound {
             Some(micros) => {
                 let bound = Millis { micros };
