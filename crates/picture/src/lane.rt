@@ -3,6 +3,7 @@ ghost use Rattle.std.specs.Prelude.{◌≡◌, ◌+◌, ◌*◌, ◌≤◌, nat_
 ghost use Rattle.std.specs.Fmt.{decimal};
 ghost use Rattle.picture.specs.declared.frame.TheConstants.{RIGHTMOST};
 ghost use Rattle.picture.specs.Puts.{Puts};
+ghost use Rattle.picture.specs.Rows.{on_row};
 ghost use Rattle.picture.specs.Lane.{busy_from, busy_of, lane_head, lane_line, lane_right, edge_class, lane_bar, lane_word, level_room, lane_label, lane_text};
 ghost use Rattle.picture.specs.Document.{lane_by, lanes_text};
 
@@ -12,7 +13,7 @@ use crate::frame::{Frame, end_of, level_of, start_of, tone_of, x_of};
 use crate::page::Page;
 use crate::rows::{TaskRow, find_row};
 use crate::ticks::executed_after;
-use ceiling_kernel::Slice;
+use ceiling_kernel::{JobRecord, Slice};
 use std::io::Write;
 use streams::WriteFailed;
 
@@ -170,17 +171,30 @@ impl<W: Write + Drop> Page<'_, W> {
         self.put_lane_label(x, right, level_of(lane.frame, lane.k), lane.row)
     }
 
-    // A slice of a job.
+    // A slice of a job, in the tone of the row of its task.
+    fn put_lane_job(
+        &mut self,
+        chart: &Chart<'_>,
+        slice: Slice,
+        job: &JobRecord,
+    ) -> Result<(), WriteFailed>
+        ensures { Puts W.contents self.old self.new result
+            (on_row chart.now.rows.now job.now.name (lane_text chart.now.frame slice)) }
+    {
+        match find_row(chart.rows, job.name) {
+            None => Ok(()),
+            Some(k) => self.put_lane_slice(slice, &chart.lane(k)),
+        }
+    }
+
+    // A slice of a job, if there is one.
     fn put_lane_by(&mut self, chart: &Chart<'_>, slice: Slice) -> Result<(), WriteFailed>
         ensures { Puts W.contents self.old self.new result
             (lane_by chart.now.frame chart.now.rows.now chart.now.jobs.now slice) }
     {
         match chart.jobs.get(slice.job) {
             None => Ok(()),
-            Some(job) => match find_row(chart.rows, job.name) {
-                None => Ok(()),
-                Some(k) => self.put_lane_slice(slice, &chart.lane(k)),
-            },
+            Some(job) => self.put_lane_job(chart, slice, job),
         }
     }
 
