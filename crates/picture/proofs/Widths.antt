@@ -1,9 +1,8 @@
 -- Where a deadline is missed, and how wide a picture is.
-use Rattle.std.proofs.Common.{◌≡◌, ℕ, ◌+◌, ◌*◌, ◌/◌, ◌<◌, ◌≤◌, List, length, arith, min, max}
+use Rattle.std.proofs.Common.{◌≡◌, ℕ, ◌+◌, ◌*◌, ◌/◌, ◌<◌, ◌≤◌, arith, min, max}
 use Rattle.std.specs.Prelude.{nat_lt, nat_le, ◌-◌}
 use Rattle.ceiling_kernel.specs.declared.accept.TheConstants.{HORIZON}
 use Rattle.picture.specs.declared.frame.TheConstants.{LONGEST_PERIOD}
-use Rattle.picture.specs.declared.rows.TaskRow.{TaskRow}
 use Rattle.picture.specs.Frame.{least_period, longest_name, left_of}
 use Rattle.picture.specs.Laws.{AreMissesShown, HasWidth}
 
