@@ -2,3 +2,4 @@ pub mod Puts
 pub mod Counts
 pub mod Darker
 pub mod Widths
+pub mod LockLaws

@@ -19,6 +19,7 @@ use Rattle.picture.specs.Sections.{slice_at, executed_in}
 use Rattle.picture.specs.Numbers.{millis_text}
 use Rattle.picture.specs.Misses.{all_missed, badge_text, miss_text}
 use Rattle.picture.specs.Margin.{margin_text}
+use Rattle.picture.specs.Locks.{locks_of, locks_high, locks_group}
 use Rattle.picture.specs.Lane.{lane_head, lane_line, lane_text}
 use Rattle.picture.specs.Elements.{tick_text, line_text, job_text, slice_text, mark_text, mark_head}
 
@@ -46,10 +47,10 @@ title_text rows jobs until =
     ∷ codes " us</title>\n" ∷ [])
 
 -- the first lines
-abbrev pub document_head : Frame → (rows jobs until : ℕ) → List ℕ
-document_head f rows jobs until =
+abbrev pub document_head : Frame → (locks rows jobs until : ℕ) → List ℕ
+document_head f locks rows jobs until =
     codes "<?xml version=\"1.0\" encoding=\"UTF-8\"?>\n<svg xmlns=\"http://www.w3.org/2000/svg\" "
-    ++ measures_text f (top_of rows + 120) ++ title_text rows jobs until
+    ++ measures_text f (top_of rows + 120 + locks_high f locks) ++ title_text rows jobs until
 
 -- the scale
 abbrev pub ticks_text : Frame → (bottom step : ℕ) → List ℕ
@@ -68,11 +69,11 @@ abbrev pub margin_group : Frame → List TaskRow → List JobRecord → List Sli
 margin_group f rows jobs slices =
     codes "<g id=\"n\">\n" ++ lane_head f slices ++ margins_text f rows jobs ++ codes "</g>\n"
 
--- the scale, the lines of the lane and of the rows, and the margin
-abbrev pub rows_text : Frame → List TaskRow → List JobRecord → List Slice → List ℕ
-rows_text f rows jobs slices =
+-- the scale, the lines of the lane and of the rows, the margin, and the locks
+abbrev pub rows_text : Frame → List (List ℕ) → List TaskRow → List JobRecord → List Slice → List ℕ
+rows_text f locks rows jobs slices =
     ticks_text f (top_of (length rows)) (step_of f) ++ lane_line f ++ lines_text f rows
-    ++ margin_group f rows jobs slices
+    ++ margin_group f rows jobs slices ++ locks_group f rows locks
 
 -- how many deadlines are missed
 abbrev pub missed_verdict : (missed : ℕ) → List ℕ
@@ -101,10 +102,10 @@ top_text f rows jobs until =
     ++ LEGEND.now
 
 -- what stands still
-abbrev pub ground_text : Frame → List TaskRow → List JobRecord → List Slice → (until : ℕ) → List ℕ
-ground_text f rows jobs slices until =
-    document_head f (length rows) (length jobs) until ++ top_text f rows jobs until
-    ++ rows_text f rows jobs slices
+abbrev pub ground_text : Frame → List (List ℕ) → List TaskRow → List JobRecord → List Slice → (until : ℕ) → List ℕ
+ground_text f locks rows jobs slices until =
+    document_head f (length locks) (length rows) (length jobs) until ++ top_text f rows jobs until
+    ++ rows_text f locks rows jobs slices
 
 -- each job
 abbrev pub jobs_text : Frame → List TaskRow → List JobRecord → List ℕ
@@ -127,18 +128,18 @@ lanes_text f rows jobs slices =
     each (length slices) (λ n. lane_by f rows jobs (slice_at slices n))
 
 -- a slice in the row of its job's task, of a job that has executed e ticks before it
-abbrev pub slice_by : Frame → List TaskRow → List JobRecord → (e : ℕ) → Slice → List ℕ
-slice_by f rows jobs e s =
-    of_job (λ job. on_row rows job.name (slice_text f e s)) (slice_get jobs s.job)
+abbrev pub slice_by : Frame → List (List ℕ) → List TaskRow → List JobRecord → (e : ℕ) → Slice → List ℕ
+slice_by f locks rows jobs e s =
+    of_job (λ job. on_row rows job.name (slice_text f locks e s)) (slice_get jobs s.job)
 
 -- slice n
-abbrev pub slice_in : Frame → List TaskRow → List JobRecord → List Slice → ℕ → List ℕ
-slice_in f rows jobs slices n =
-    slice_by f rows jobs (executed_in slices n (slice_at slices n).job) (slice_at slices n)
+abbrev pub slice_in : Frame → List (List ℕ) → List TaskRow → List JobRecord → List Slice → ℕ → List ℕ
+slice_in f locks rows jobs slices n =
+    slice_by f locks rows jobs (executed_in slices n (slice_at slices n).job) (slice_at slices n)
 
 -- each slice, by time
-abbrev pub slices_text : Frame → List TaskRow → List JobRecord → List Slice → List ℕ
-slices_text f rows jobs slices = each (length slices) (slice_in f rows jobs slices)
+abbrev pub slices_text : Frame → List (List ℕ) → List TaskRow → List JobRecord → List Slice → List ℕ
+slices_text f locks rows jobs slices = each (length slices) (slice_in f locks rows jobs slices)
 
 -- each job that misses its deadline
 abbrev pub misses_text : Frame → List TaskRow → List JobRecord → List ℕ
@@ -161,13 +162,13 @@ all_marks f rows rs =
     ++ marks_text f rows Deadline rs
 
 -- the document in a frame: what stands still, the lane, the jobs, the marks, the slices over them, and what is missed
-abbrev pub framed : Frame → List TaskRow → ℕ → List Release → List JobRecord → List Slice → List ℕ
-framed f rows until rs jobs slices =
-    ground_text f rows jobs slices until ++ lanes_text f rows jobs slices ++ jobs_text f rows jobs
-    ++ all_marks f rows rs ++ slices_text f rows jobs slices ++ misses_text f rows jobs
+abbrev pub framed : Frame → List (List ℕ) → List TaskRow → ℕ → List Release → List JobRecord → List Slice → List ℕ
+framed f locks rows until rs jobs slices =
+    ground_text f locks rows jobs slices until ++ lanes_text f rows jobs slices ++ jobs_text f rows jobs
+    ++ all_marks f rows rs ++ slices_text f locks rows jobs slices ++ misses_text f rows jobs
     ++ codes "</svg>\n"
 
 -- THE DOCUMENT: the picture of a trace below a time
 abbrev pub document : List TaskRow → ℕ → List Release → Trace → List ℕ
 document rows until rs trace =
-    framed (frame_of rows until) rows until rs trace.jobs.items trace.slices.items
+    framed (frame_of rows until) (locks_of rows) rows until rs trace.jobs.items trace.slices.items

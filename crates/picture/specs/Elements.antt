@@ -10,10 +10,11 @@ use Rattle.ceiling_kernel.specs.declared.trace.Slice.{Slice}
 use Rattle.picture.specs.declared.rows.TaskRow.{TaskRow}
 use Rattle.picture.specs.declared.marks.Mark.{Mark}
 use Rattle.picture.specs.declared.marks.Mark.TheVariants.{Arrival, Ready, Bound, Deadline}
-use Rattle.picture.specs.Frame.{Frame, x_of, frame_end, top_of, tone_of, unit_of, unit_name}
+use Rattle.picture.specs.Frame.{Frame, x_of, frame_end, right_of, top_of, tone_of, unit_of, unit_name}
 use Rattle.picture.specs.Rows.{each}
 use Rattle.picture.specs.Boxes.{span_text}
 use Rattle.picture.specs.Numbers.{known_text}
+use Rattle.picture.specs.Locks.{stripes_text}
 use Rattle.picture.specs.Sections.{dark_from, dark_to, nth_section, fits}
 
 -- ---- ground
@@ -119,26 +120,27 @@ part_end start stop =
     ∷ [])
 
 -- a part of a slice in which its job holds locks
-abbrev pub part_text : Frame → ℕ → TaskRow → List (List ℕ) → (start stop : ℕ) → List ℕ
-part_text f k row locks start stop =
+abbrev pub part_text : Frame → List (List ℕ) → ℕ → TaskRow → List (List ℕ) → (start stop : ℕ) → List ℕ
+part_text f all k row locks start stop =
     part_head f k row start stop ++ names_text locks ++ part_end start stop
+    ++ stripes_text all (x_of f start) (right_of f start stop) k locks
     ++ label_text (x_of f start) (x_of f stop) k locks
 
 -- the darker part of a slice for a section, if there is one
-abbrev pub dark_text : Frame → (e : ℕ) → Slice → ℕ → TaskRow → CriticalSection → List ℕ
-dark_text f e s k row x =
+abbrev pub dark_text : Frame → List (List ℕ) → (e : ℕ) → Slice → ℕ → TaskRow → CriticalSection → List ℕ
+dark_text f all e s k row x =
     if nat_lt (dark_from x e) (dark_to x e s)
-    then part_text f k row x.locks (s.start + dark_from x e) (s.start + dark_to x e s)
+    then part_text f all k row x.locks (s.start + dark_from x e) (s.start + dark_to x e s)
     else []
 
 -- the darker parts of a slice for some sections
-abbrev pub darks_text : Frame → (e : ℕ) → Slice → ℕ → TaskRow → List CriticalSection → List ℕ
-darks_text f e s k row sections =
-    each (length sections) (λ i. dark_text f e s k row (nth_section sections i))
+abbrev pub darks_text : Frame → List (List ℕ) → (e : ℕ) → Slice → ℕ → TaskRow → List CriticalSection → List ℕ
+darks_text f all e s k row sections =
+    each (length sections) (λ i. dark_text f all e s k row (nth_section sections i))
 
 -- a slice and its darker parts, of a job that has executed e ticks before it
-abbrev pub slice_text : Frame → (e : ℕ) → Slice → ℕ → TaskRow → List ℕ
-slice_text f e s k row = bar_text f s k row ++ darks_text f e s k row row.sheet.sections
+abbrev pub slice_text : Frame → List (List ℕ) → (e : ℕ) → Slice → ℕ → TaskRow → List ℕ
+slice_text f all e s k row = bar_text f s k row ++ darks_text f all e s k row row.sheet.sections
 
 -- ---- marks
 -- an arrow up at an arrival

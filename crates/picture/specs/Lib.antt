@@ -4,6 +4,7 @@ pub mod Rows
 pub mod Sections
 pub mod Numbers
 pub mod Boxes
+pub mod Locks
 pub mod Misses
 pub mod Margin
 pub mod Lane

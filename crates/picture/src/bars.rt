@@ -50,7 +50,7 @@ impl<W: Write + Drop> Page<'_, W> {
     // A slice and its darker parts.
     fn put_whole(&mut self, executed: u64, slice: Slice, lane: &Lane<'_>) -> Result<(), WriteFailed>
         ensures { Puts W.contents self.old self.new result
-            (slice_text lane.now.frame executed slice lane.now.k lane.now.row.now) }
+            (slice_text lane.now.frame lane.now.locks.now executed slice lane.now.k lane.now.row.now) }
     {
         self.put_bar(slice, lane)?;
         for section in lane.row.sheet.sections() {
@@ -67,7 +67,7 @@ impl<W: Write + Drop> Page<'_, W> {
         slice: Slice,
     ) -> Result<(), WriteFailed>
         ensures put { Puts W.contents self.old self.new result
-            (slice_by chart.now.frame chart.now.rows.now chart.now.jobs.now
+            (slice_by chart.now.frame chart.now.locks.now chart.now.rows.now chart.now.jobs.now
             (slice_index executed.old slice.job) slice) }
         ensures counted { executed.new ≡ counted executed.old slice }
     {
@@ -89,7 +89,7 @@ impl<W: Write + Drop> Page<'_, W> {
     ) -> Result<(), WriteFailed>
         requires { AreUncounted executed.old (length chart.now.jobs.now) }
         ensures { Puts W.contents self.old self.new result
-            (slices_text chart.now.frame chart.now.rows.now chart.now.jobs.now
+            (slices_text chart.now.frame chart.now.locks.now chart.now.rows.now chart.now.jobs.now
             chart.now.slices.now) }
     {
         for slice in chart.slices {

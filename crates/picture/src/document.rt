@@ -8,6 +8,7 @@ ghost use Rattle.picture.specs.Document.{framed, document};
 
 use crate::chart::Chart;
 use crate::frame::frame_of;
+use crate::locks::locks_of;
 use crate::page::Page;
 use crate::rows::TaskRow;
 use ceiling_kernel::{Release, Trace};
@@ -39,7 +40,7 @@ fn put_document<W: Write + Drop>(
 ) -> Result<(), WriteFailed>
     requires { AreUncounted executed.old (length chart.now.jobs.now) }
     ensures { Puts W.contents page.old page.new result
-        (framed chart.now.frame chart.now.rows.now chart.now.until chart.now.releases.now
+        (framed chart.now.frame chart.now.locks.now chart.now.rows.now chart.now.until chart.now.releases.now
         chart.now.jobs.now chart.now.slices.now) }
 {
     page.put_ground(chart)?;
@@ -59,7 +60,7 @@ fn put_all<W: Write + Drop>(
 ) -> Result<(), WriteFailed>
     requires { AreUncounted executed.old (length chart.now.jobs.now) }
     ensures sent { OnOk result (Appends (W.contents output.old.inner) (W.contents output.new.inner)
-        (framed chart.now.frame chart.now.rows.now chart.now.until chart.now.releases.now
+        (framed chart.now.frame chart.now.locks.now chart.now.rows.now chart.now.until chart.now.releases.now
         chart.now.jobs.now chart.now.slices.now)) }
     ensures ok { OnOk result (output.new.has_failed ≡ output.old.has_failed) }
     ensures failed { OnErr result (output.new.has_failed ≡ true) }
@@ -72,8 +73,8 @@ fn put_all<W: Write + Drop>(
 }
 
 /// Writes the picture of a run of these rows, the highest level first, whose trace ends at `until`, in microseconds:
-/// an SVG 1.1 document. It is held back and sent, 16,384 bytes at a time; memory is taken for one count of each job, before
-/// anything is written.
+/// an SVG 1.1 document. It is held back and sent, 16,384 bytes at a time; memory is taken for one count of each job and one
+/// name of each lock, before anything is written.
 pub fn draw<W: Write + Drop>(
     alloc: Global,
     rows: &[TaskRow],
@@ -89,6 +90,7 @@ pub fn draw<W: Write + Drop>(
     ensures failed { result ≡ Err DrawFault.WriteFailed → output.new.has_failed ≡ true }
     ensures memory { result ≡ Err DrawFault.OutOfMemory → output.new ≡ output.old }
 {
+    let locks = locks_of(alloc, rows).map_err(|_| DrawFault::OutOfMemory)?;
     let mut executed = no_ticks(alloc, trace.jobs.len()).map_err(|_| DrawFault::OutOfMemory)?;
     let chart = Chart {
         frame: frame_of(rows, until),
@@ -97,6 +99,7 @@ pub fn draw<W: Write + Drop>(
         releases,
         jobs: &trace.jobs,
         slices: &trace.slices,
+        locks: &locks,
     };
     match put_all(&chart, &mut executed, output) {
         Ok(()) => Ok(()),

@@ -10,6 +10,7 @@ ghost use Rattle.picture.specs.Document.{measures_text, title_text, document_hea
 use crate::chart::{Chart, Lane};
 use crate::frame::{Frame, end_of, start_of, step_of, top_of, unit_name, unit_of, x_of};
 use crate::legend::LEGEND;
+use crate::locks::locks_high;
 use crate::misses::all_missed;
 use crate::numbers::Millis;
 use crate::page::Page;
@@ -44,14 +45,15 @@ impl<W: Write + Drop> Page<'_, W> {
     // The first lines.
     fn put_head(&mut self, chart: &Chart<'_>) -> Result<(), WriteFailed>
         ensures { Puts W.contents self.old self.new result
-            (document_head chart.now.frame (length chart.now.rows.now) (length chart.now.jobs.now)
+            (document_head chart.now.frame (length chart.now.locks.now) (length chart.now.rows.now) (length chart.now.jobs.now)
             chart.now.until) }
     {
         self.out.put(
             b"<?xml version=\"1.0\" encoding=\"UTF-8\"?>\n<svg xmlns=\"http://www.w3.org/2000/svg\" ",
         )?;
         let rows = chart.rows.len();
-        self.put_measures(chart.frame, top_of(rows) + 120)?;
+        let high = top_of(rows) + 120 + locks_high(chart.frame, chart.locks.len());
+        self.put_measures(chart.frame, high)?;
         self.put_title(rows, chart.jobs.len(), chart.until)
     }
 
@@ -113,17 +115,18 @@ impl<W: Write + Drop> Page<'_, W> {
         Ok(())
     }
 
-    // The scale, the lines of the lane and of the rows, and the margin.
+    // The scale, the lines of the lane and of the rows, the margin, and the locks.
     fn put_rows(&mut self, chart: &Chart<'_>) -> Result<(), WriteFailed>
         ensures { Puts W.contents self.old self.new result
-            (rows_text chart.now.frame chart.now.rows.now chart.now.jobs.now
+            (rows_text chart.now.frame chart.now.locks.now chart.now.rows.now chart.now.jobs.now
             chart.now.slices.now) }
     {
         let frame = chart.frame;
         self.put_ticks(frame, top_of(chart.rows.len()), step_of(frame))?;
         self.put_lane_line(frame)?;
         self.put_lines(chart)?;
-        self.put_group(chart)
+        self.put_group(chart)?;
+        self.put_locks_group(chart)
     }
 
     // How the elements look.
@@ -187,7 +190,7 @@ impl<W: Write + Drop> Page<'_, W> {
     // What stands still.
     pub(crate) fn put_ground(&mut self, chart: &Chart<'_>) -> Result<(), WriteFailed>
         ensures { Puts W.contents self.old self.new result
-            (ground_text chart.now.frame chart.now.rows.now chart.now.jobs.now
+            (ground_text chart.now.frame chart.now.locks.now chart.now.rows.now chart.now.jobs.now
             chart.now.slices.now chart.now.until) }
     {
         self.put_head(chart)?;

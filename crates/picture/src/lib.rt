@@ -11,6 +11,7 @@ mod jobs;
 mod lane;
 pub mod laws;
 mod legend;
+mod locks;
 mod margin;
 mod marks;
 mod misses;

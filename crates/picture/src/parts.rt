@@ -109,13 +109,17 @@ impl<W: Write + Drop> Page<'_, W> {
         stop: u64,
     ) -> Result<(), WriteFailed>
         ensures { Puts W.contents self.old self.new result
-            (part_text lane.now.frame lane.now.k lane.now.row.now section.now.locks start stop) }
+            (part_text lane.now.frame lane.now.locks.now lane.now.k lane.now.row.now
+            section.now.locks start stop) }
     {
         self.put_part_head(lane, start, stop)?;
         self.put_locks(section)?;
         self.put_part_end(start, stop)?;
         let x = x_of(lane.frame, start);
-        self.put_label(x, x_of(lane.frame, stop), lane.k, section)
+        let end = x_of(lane.frame, stop);
+        let right = bar_of(x, end, lane.k).right;
+        self.put_stripes(lane.locks, x, right, lane.k, &section.locks)?;
+        self.put_label(x, end, lane.k, section)
     }
 
     // The darker part of a slice for a section, if there is one.
@@ -127,7 +131,8 @@ impl<W: Write + Drop> Page<'_, W> {
         section: &Section,
     ) -> Result<(), WriteFailed>
         ensures { Puts W.contents self.old self.new result
-            (dark_text lane.now.frame executed slice lane.now.k lane.now.row.now section.now) }
+            (dark_text lane.now.frame lane.now.locks.now executed slice lane.now.k lane.now.row.now
+            section.now) }
     {
         let from = dark_from(section, executed);
         let to = dark_to(section, executed, slice);
