@@ -25,8 +25,8 @@ task = [
 
 // How a picture looks.
 const STYLE: &str =
-    "<style type=\"text/css\">text{font:105px sans-serif;fill:#4a4a4a}.t{font:bold 150px sans-serif;fill:#111}.n{font:bold 130px monospace;fill:#111}.v{font-size:110px;text-anchor:end}.s{text-anchor:middle}.u{font:110px monospace;fill:#111;text-anchor:middle;pointer-events:none}.k{font:110px monospace;fill:#fff;text-anchor:middle;pointer-events:none}.p{fill:#fff}.g{stroke:#e3e3e3;stroke-width:8;fill:none}.l{stroke:#9a9a9a;stroke-width:8;fill:none}.w{fill:#eef1f5}.a{stroke:#333;stroke-width:12;fill:none}.r{stroke:#777;stroke-width:12;fill:none;stroke-dasharray:30 20}.d{stroke:#111;stroke-width:12;fill:#111}.b{stroke:#a34700;stroke-width:14;fill:none}.o{stroke:#fff;stroke-width:6}.h{fill:#173766}.x{stroke:#c40000;stroke-width:160;stroke-linecap:round}.y{stroke:#fff;stroke-width:26;fill:none}.z{fill:url(#m);stroke:#c40000;stroke-width:14}.i{stroke:#c40000;stroke-width:22;fill:none}.q{fill:#c40000;font-weight:bold}.f0{fill:#7fb2e5}.f1{fill:#f3dd7c}.f2{fill:#e98b6b}.f3{fill:#a5e0f2}.f4{fill:#57b894}.f5{fill:#f7b3c4}.f6{fill:#b3b04a}.f7{fill:#c9c2ea}.f8{fill:#b98fd0}.f9{fill:#d3dd8c}@media(prefers-color-scheme:dark){text{fill:#b9bec6}.t,.n{fill:#f2f4f7}.u{fill:#fff}.k{fill:#101418}.p{fill:#14181d}.g{stroke:#2c333c}.l{stroke:#6d7682}.w{fill:#20272f}.a{stroke:#d5dae0}.r{stroke:#98a1ac}.d{stroke:#f2f4f7;fill:#f2f4f7}.b{stroke:#ffb066}.o{stroke:#14181d}.h{fill:#dbe9ff}.x{stroke:#ff5c5c}.y{stroke:#14181d}.z{stroke:#ff5c5c}.i{stroke:#ff5c5c}.q{fill:#ff7b7b}.f0{fill:#3b6ea3}.f1{fill:#8f7a1e}.f2{fill:#a3512f}.f3{fill:#2f7f98}.f4{fill:#2a7a5a}.f5{fill:#a3546c}.f6{fill:#6f6d1d}.f7{fill:#6f63a8}.f8{fill:#7b4f94}.f9{fill:#6d7a2c}}</style>
-<defs><pattern id=\"m\" width=\"70\" height=\"70\" patternUnits=\"userSpaceOnUse\"><path class=\"i\" d=\"M-15 15L15-15M0 70L70 0M55 85L85 55\"/></pattern></defs>
+    "<style type=\"text/css\">text{font:105px sans-serif;fill:#4a4a4a}.t{font:bold 150px sans-serif;fill:#111}.n{font:bold 130px monospace;fill:#111}.v{font-size:110px;text-anchor:end}.s{text-anchor:middle}.u{font:110px monospace;fill:#111;text-anchor:middle;pointer-events:none}.k{font:110px monospace;fill:#fff;text-anchor:middle;pointer-events:none}.p{fill:#fff}.g{stroke:#e3e3e3;stroke-width:8;fill:none}.l{stroke:#9a9a9a;stroke-width:8;fill:none}.w{fill:#eef1f5}.a{stroke:#333;stroke-width:12;fill:none}.r{stroke:#777;stroke-width:12;fill:none;stroke-dasharray:30 20}.d{stroke:#111;stroke-width:12;fill:#111}.b{stroke:#a34700;stroke-width:14;fill:none}.o{stroke:#fff;stroke-width:6}.h{fill:#173766}.x{stroke:#c40000;stroke-width:160;stroke-linecap:round}.y{stroke:#fff;stroke-width:26;fill:none}.z{fill:url(#m);stroke:#c40000;stroke-width:14}.i{stroke:#c40000;stroke-width:22;fill:none}.q{fill:#c40000;font-weight:bold}.f0{fill:#7fb2e5}.f1{fill:#f3dd7c}.f2{fill:#e98b6b}.f3{fill:#a5e0f2}.f4{fill:#57b894}.f5{fill:#f7b3c4}.f6{fill:#b3b04a}.f7{fill:#c9c2ea}.f8{fill:#b98fd0}.f9{fill:#d3dd8c}.c0{fill:#173766}.c1{fill:#8a2d05}.c2{fill:#00564b}.c3{fill:#651a66}.c4{fill:#4f4200}.c5{fill:#363636}.k0{fill:#173766}.k1{fill:url(#p1)}.k2{fill:url(#p2)}.k3{fill:url(#p3)}.k4{fill:url(#p4)}.k5{fill:url(#p5)}.k0,.k1,.k2,.k3,.k4,.k5{pointer-events:none}.c{font:110px monospace}.j{stroke:#fff;stroke-opacity:.55;stroke-width:14;fill:none}@media(prefers-color-scheme:dark){text{fill:#b9bec6}.t,.n{fill:#f2f4f7}.u{fill:#fff}.k{fill:#101418}.p{fill:#14181d}.g{stroke:#2c333c}.l{stroke:#6d7682}.w{fill:#20272f}.a{stroke:#d5dae0}.r{stroke:#98a1ac}.d{stroke:#f2f4f7;fill:#f2f4f7}.b{stroke:#ffb066}.o{stroke:#14181d}.h{fill:#dbe9ff}.x{stroke:#ff5c5c}.y{stroke:#14181d}.z{stroke:#ff5c5c}.i{stroke:#ff5c5c}.q{fill:#ff7b7b}.f0{fill:#3b6ea3}.f1{fill:#8f7a1e}.f2{fill:#a3512f}.f3{fill:#2f7f98}.f4{fill:#2a7a5a}.f5{fill:#a3546c}.f6{fill:#6f6d1d}.f7{fill:#6f63a8}.f8{fill:#7b4f94}.f9{fill:#6d7a2c}.c0{fill:#dbe9ff}.c1{fill:#ffc9a8}.c2{fill:#a8f0e2}.c3{fill:#f2c4f5}.c4{fill:#efe3a0}.c5{fill:#e6e6e6}.k0{fill:#dbe9ff}.j{stroke:#14181d}}</style>
+<defs><pattern id=\"p1\" width=\"60\" height=\"60\" patternUnits=\"userSpaceOnUse\"><rect class=\"c1\" width=\"60\" height=\"60\"/><path class=\"j\" d=\"M-15 15L15-15M0 60L60 0M45 75L75 45\"/></pattern><pattern id=\"p2\" width=\"60\" height=\"60\" patternUnits=\"userSpaceOnUse\"><rect class=\"c2\" width=\"60\" height=\"60\"/><path class=\"j\" d=\"M25 0V60M55 0V60\"/></pattern><pattern id=\"p3\" width=\"60\" height=\"60\" patternUnits=\"userSpaceOnUse\"><rect class=\"c3\" width=\"60\" height=\"60\"/><path class=\"j\" d=\"M-15 45L15 75M0 0L60 60M45-15L75 15\"/></pattern><pattern id=\"p4\" width=\"60\" height=\"60\" patternUnits=\"userSpaceOnUse\"><rect class=\"c4\" width=\"60\" height=\"60\"/><path class=\"j\" d=\"M0 30H60\"/></pattern><pattern id=\"p5\" width=\"60\" height=\"60\" patternUnits=\"userSpaceOnUse\"><rect class=\"c5\" width=\"60\" height=\"60\"/><path class=\"j\" d=\"M30 0V60M0 30H60\"/></pattern><pattern id=\"m\" width=\"70\" height=\"70\" patternUnits=\"userSpaceOnUse\"><path class=\"i\" d=\"M-15 15L15-15M0 70L70 0M55 85L85 55\"/></pattern></defs>
 <rect class=\"p\" width=\"100%\" height=\"100%\"/>
 ";
 
@@ -52,7 +52,7 @@ struct Parts {
 
 // The lock of b delays a, whose second job isn't done at the end.
 const PICTURE: Parts = Parts {
-    height: 2770,
+    height: 3120,
     title: "tasks: 2, jobs: 3, until 1300 us",
     above: "<text class=\"t\" x=\"100\" y=\"200\">no deadline missed</text>
 <text x=\"100\" y=\"390\">tasks: 2, jobs: 3, until 1.3 ms</text>
@@ -75,6 +75,10 @@ const PICTURE: Parts = Parts {
 <text class=\"v\" x=\"300\" y=\"2400\">1</text><rect class=\"f1\" x=\"350\" y=\"2300\" width=\"100\" height=\"100\" rx=\"20\"/>
 <text class=\"n\" x=\"500\" y=\"2400\"><title>done: 1, greatest response: 900, bound: 1600 us</title>b</text>
 <text x=\"500\" y=\"2525\">bound 1.6 of 2 ms</text>
+</g>
+<g id=\"k\">
+<text x=\"100\" y=\"2898\">locks:</text>
+<path class=\"k0\" d=\"M900 2770H1100v180H900z\"/><text class=\"c\" x=\"1150\" y=\"2898\">m</text>
 </g>
 <path class=\"f1 o\" d=\"M1960 1350H3104v220H1960z\"><title>b executes 0 to 200 us</title></path>
 <text class=\"u\" x=\"2532\" y=\"1498\">b</text>
@@ -104,13 +108,16 @@ M7396 1750v100m0 0l-35-50h70z
 \"/>
 <path class=\"e f1\" d=\"M1960 2335H3104v180H1960z\"><title>b 0 to 200 us</title></path>
 <path class=\"h\" d=\"M1960 2335H3104v180H1960z\"><title>b holds m 0 to 200 us</title></path>
+<path class=\"k0\" d=\"M1960 2335H3104v180H1960z\"/>
 <text class=\"k\" x=\"2532\" y=\"2463\"> m</text>
 <path class=\"e f0\" d=\"M3104 1855H4821v180H3104z\"><title>a 200 to 500 us</title></path>
 <path class=\"h\" d=\"M3676 1855H4249v180H3676z\"><title>a holds m 300 to 400 us</title></path>
+<path class=\"k0\" d=\"M3676 1855H4249v180H3676z\"/>
 <text class=\"k\" x=\"3962\" y=\"1983\"> m</text>
 <path class=\"e f1\" d=\"M4821 2335H7110v180H4821z\"><title>b 500 to 900 us</title></path>
 <path class=\"e f0\" d=\"M7969 1855H9400v180H7969z\"><title>a 1050 to 1300 us</title></path>
 <path class=\"h\" d=\"M8541 1855H9113v180H8541z\"><title>a holds m 1150 to 1250 us</title></path>
+<path class=\"k0\" d=\"M8541 1855H9113v180H8541z\"/>
 <text class=\"k\" x=\"8827\" y=\"1983\"> m</text>
 </svg>
 ",
@@ -142,6 +149,8 @@ const LATE: Parts = Parts {
 <text class=\"v\" x=\"300\" y=\"2400\">1</text><rect class=\"f1\" x=\"350\" y=\"2300\" width=\"100\" height=\"100\" rx=\"20\"/>
 <text class=\"n q\" x=\"500\" y=\"2400\"><title>done: 1, greatest response: 900, bound: - us</title>a</text>
 <text class=\"q\" x=\"500\" y=\"2525\">deadlines missed: 1</text>
+</g>
+<g id=\"k\">
 </g>
 <path class=\"f0 o\" d=\"M1960 1350H5531v220H1960z\"><title>b executes 0 to 600 us</title></path>
 <text class=\"u\" x=\"3745\" y=\"1498\">b</text>
@@ -186,6 +195,8 @@ const EMPTY_PICTURE: Parts = Parts {
 <path class=\"l\" d=\"M1960 1570H9400\"/>
 <g id=\"n\">
 <text class=\"n\" x=\"500\" y=\"1460\">processor</text><text x=\"500\" y=\"1580\">busy 0.0 %</text>
+</g>
+<g id=\"k\">
 </g>
 <path class=\"r\" d=\"
 \"/>
