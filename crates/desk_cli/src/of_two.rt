@@ -10,14 +10,14 @@ use crate::answer::print_stuck;
 use crate::audience::{Audience, Which};
 use crate::check::{check_text, line_of};
 use crate::diff_lines::{Compared, compare_text, compared_text};
-use crate::draw::draw_run;
+use crate::draw::{draw_best, draw_ordered};
 use crate::judge_lines::{judge_text, judged_status};
 use crate::keep_lines::{keep_text, keeping_status, keeping_text};
 use crate::observe_lines::{observed_status, sight_of, tolerance_of};
 use crate::output::{print, print_made, refuse};
 use crate::refusal::CommandRefusal;
 use crate::sets::{base_of, preference_of, read_two, tell};
-use crate::simulate::{Simulated, reached_text, simulate_text};
+use crate::simulate::{Simulated, ordered_text, reached_text, simulate_text};
 use crate::status::Status;
 use crate::trace::trace_text;
 use cert_checker::Checked;
@@ -120,7 +120,14 @@ fn print_found<W: Write + Drop>(
         Found::Reached(Simulated::Ran(run)) => {
             print_made(reached_text(alloc, tasks, run), Status::Done, output)
         }
-        Found::Drawn(Simulated::Ran(run)) => draw_run(alloc, tasks, run, output),
+        Found::Drawn(Simulated::Ran(run)) => draw_best(alloc, tasks, run, output),
+        Found::Simulated(Simulated::Ordered(run)) => {
+            print_made(trace_text(alloc, &run.trace), Status::Done, output)
+        }
+        Found::Reached(Simulated::Ordered(run)) => {
+            print_made(ordered_text(alloc, tasks, run), Status::Done, output)
+        }
+        Found::Drawn(Simulated::Ordered(run)) => draw_ordered(alloc, tasks, run, output),
         Found::Simulated(Simulated::Infeasible(members)) => {
             print_stuck(alloc, tasks, *members, output)
         }

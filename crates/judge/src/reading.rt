@@ -1,12 +1,13 @@
 //! Reading settings.
-ghost use Rattle.std.specs.Prelude.{◌≡◌, MatchResult};
+ghost use Rattle.std.specs.Prelude.{◌≡◌, Ok, MatchResult};
 ghost use Rattle.ceilings.specs.IsTableOf.{IsTableOf};
-ghost use Rattle.judge.specs.Faults.{IsSettingsFault, settings_fault, settings_fault_by};
+ghost use Rattle.judge.specs.Faults.{IsSettingsFault, rows_fault, settings_fault, settings_fault_by};
+ghost use Rattle.judge.specs.Front.{IsOrderOfRows};
 ghost use Rattle.judge.specs.Node.{IsNodeOrder, IsNodeOrderBy};
 
 use crate::fault::SettingsFault;
 use crate::order::order_by;
-use crate::rows::{by_height, read_rows, sort_rows};
+use crate::rows::{SettingRow, by_height, read_rows, sort_rows};
 use crate::settings_fault::setting_fault;
 use ceilings::LockTable;
 use std::alloc::Global;
@@ -42,7 +43,24 @@ pub fn read_settings_by(
         (λ fault. IsSettingsFault fault (settings_fault_by lower_is_higher set.now text.now)) }
 {
     let rows = read_rows(alloc, text)?;
-    let sorted = sort_rows(alloc, &rows)?;
+    order_of_rows(alloc, set, table, lower_is_higher, &rows)
+}
+
+/// The order that rows of settings give, as indexes, the lowest first; a smaller number may be the higher one. Refused in
+/// the order of `SettingsFault`, but for `BadLine`. The table is that of the set.
+pub fn order_of_rows(
+    alloc: Global,
+    set: &TaskSet,
+    table: &LockTable,
+    lower_is_higher: bool,
+    rows: &[SettingRow],
+) -> Result<Vec<usize>, SettingsFault>
+    requires { IsTableOf set.now table.now }
+    ensures { MatchResult result
+        (λ order. IsOrderOfRows lower_is_higher set.now rows.now order.items)
+        (λ fault. IsSettingsFault fault (rows_fault lower_is_higher set.now (Ok rows.now))) }
+{
+    let sorted = sort_rows(alloc, rows)?;
     let settings = by_height(alloc, lower_is_higher, sorted)?;
     if let Some(fault) = setting_fault(set, table, &settings) {
         return Err(fault);

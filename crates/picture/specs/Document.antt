@@ -1,5 +1,6 @@
--- The document: what stands still, the jobs, the slices by time, and the marks of the releases.
-use Rattle.std.specs.Prelude.{ℕ, ◌+◌, ◌-◌, ◌*◌, ◌/◌, Option, Some, None, List, [], ◌∷◌, ◌++◌, length, slice_get, slice_index_or, codes}
+-- The document: what stands still, the jobs, the slices by time, the marks of the releases, and the deadlines that were
+-- missed.
+use Rattle.std.specs.Prelude.{ℕ, ◌+◌, ◌-◌, ◌*◌, ◌/◌, Option, Some, None, List, [], ◌∷◌, ◌++◌, length, slice_get, slice_index_or, codes, ◌==◌, if◌then◌else◌}
 use Rattle.std.specs.Fmt.{decimal}
 use Rattle.std.specs.List.{concat}
 use Rattle.ceiling_kernel.specs.declared.trace.Release.{Release}
@@ -16,6 +17,7 @@ use Rattle.picture.specs.Frame.{Frame, frame_of, step_of, top_of}
 use Rattle.picture.specs.Rows.{each, row_at, on_row}
 use Rattle.picture.specs.Sections.{slice_at, executed_in}
 use Rattle.picture.specs.Elements.{tick_text, line_text, name_text, again_text, job_text, slice_text, mark_text, mark_head}
+use Rattle.picture.specs.Misses.{miss_if, missed_of, misses_head}
 
 -- the job at a place, from 0
 abbrev pub record_at : List JobRecord → ℕ → JobRecord
@@ -112,11 +114,26 @@ all_marks f rows rs =
     marks_text f rows Ready rs ++ marks_text f rows Arrival rs ++ marks_text f rows Bound rs
     ++ marks_text f rows Deadline rs
 
--- the document in a frame: what stands still, the jobs, the slices over them, and the marks
+-- each job that misses its deadline
+abbrev pub each_miss : Frame → List TaskRow → (until : ℕ) → List JobRecord → List ℕ
+each_miss f rows until jobs =
+    each (length jobs) (λ i. on_row rows (record_at jobs i).name (miss_if f until (record_at jobs i)))
+
+-- so many deadlines that were missed, if there are some
+abbrev pub misses_by : (count : ℕ) → Frame → List TaskRow → (until : ℕ) → List JobRecord → List ℕ
+misses_by count f rows until jobs =
+    if count == 0 then [] else misses_head count ++ each_miss f rows until jobs
+
+-- the deadlines that were missed
+abbrev pub misses_text : Frame → List TaskRow → (until : ℕ) → List JobRecord → List ℕ
+misses_text f rows until jobs = misses_by (length (missed_of rows until jobs)) f rows until jobs
+
+-- the document in a frame: what stands still, the jobs, the slices over them, the marks, and the deadlines that were missed
 abbrev pub framed : Frame → List TaskRow → ℕ → List Release → List JobRecord → List Slice → List ℕ
 framed f rows until rs jobs slices =
     ground_text f rows jobs until ++ jobs_text f rows jobs
-    ++ slices_text f rows jobs slices ++ all_marks f rows rs ++ codes "</svg>\n"
+    ++ slices_text f rows jobs slices ++ all_marks f rows rs
+    ++ misses_text f rows until jobs ++ codes "</svg>\n"
 
 -- THE DOCUMENT: the picture of a trace below a time
 abbrev pub document : List TaskRow → ℕ → List Release → Trace → List ℕ

@@ -2,9 +2,10 @@
 use Rattle.std.specs.Prelude.{ℕ, ◌+◌, ◌-◌, ◌*◌, ◌/◌, nat_le, nat_lt, if◌then◌else◌, Option, Some, None, List, [], ◌∷◌, ◌++◌, length, slice_index_or, codes}
 use Rattle.std.specs.Fmt.{decimal}
 use Rattle.std.specs.List.{concat}
+use Rattle.std.specs.Option.{unwrap_or}
 use Rattle.task_sheet.specs.Sheet.{CriticalSection}
 use Rattle.task_sheet.specs.Demand.{greatest_of}
-use Rattle.run_lines.specs.Lines.{greatest_words}
+use Rattle.run_lines.specs.Lines.{bound_words, greatest_words}
 use Rattle.run_lines.specs.Reached.{done_of, response_of}
 use Rattle.ceiling_kernel.specs.declared.trace.Release.{Release}
 use Rattle.ceiling_kernel.specs.declared.trace.JobRecord.{JobRecord}
@@ -38,7 +39,7 @@ outcome_text row jobs =
     ∷ codes ", greatest response: " ∷ [])
     ++ greatest_words (length (done_of row.sheet.name jobs))
     (greatest_of response_of (done_of row.sheet.name jobs))
-    ++ concat (codes ", bound: " ∷ decimal row.bound ∷ codes " us</title>" ∷ [])
+    ++ codes ", bound: " ++ bound_words row.bound ++ codes " us</title>"
 
 -- the name of a row, with that as its title
 abbrev pub name_text : List JobRecord → ℕ → TaskRow → List ℕ
@@ -63,10 +64,14 @@ bar_path x right y =
 abbrev pub span_text : Frame → (k start stop : ℕ) → List ℕ
 span_text f k start stop = bar_path (x_of f start) (right_of f start stop) (top_of k + 305)
 
--- the box of a job from its arrival, up to its bound if it is done, else open at the end
+-- how far the box of a job goes that is done: up to its bound, or its deadline where it has none
+abbrev pub reach_of : TaskRow → ℕ
+reach_of row = unwrap_or row.bound row.sheet.deadline
+
+-- the box of a job from its arrival, so far if it is done, else open at the end
 abbrev pub job_box : Frame → ℕ → TaskRow → JobRecord → Option ℕ → List ℕ
 job_box f k row job (Some finish) =
-    concat (codes "<path class=\"w\" d=\"" ∷ span_text f k job.release (job.release + row.bound)
+    concat (codes "<path class=\"w\" d=\"" ∷ span_text f k job.release (job.release + reach_of row)
     ∷ codes "\"><title>" ∷ [])
 job_box f k row job None =
     concat (codes "<path class=\"w\" d=\"M" ∷ decimal (x_of f job.release) ∷ codes " "
@@ -88,8 +93,8 @@ done_words job None = codes "not done, "
 -- how long after its arrival it is done at the latest, and has to be
 abbrev pub limit_words : TaskRow → List ℕ
 limit_words row =
-    concat (codes "bound " ∷ decimal row.bound ∷ codes ", deadline " ∷ decimal row.sheet.deadline
-    ∷ codes " us</title></path>\n" ∷ [])
+    codes "bound " ++ bound_words row.bound
+    ++ concat (codes ", deadline " ∷ decimal row.sheet.deadline ∷ codes " us</title></path>\n" ∷ [])
 
 -- what is told of a job
 abbrev pub job_words : TaskRow → JobRecord → List ℕ
@@ -182,12 +187,16 @@ later_text f r len y shape =
     then concat (codes "M" ∷ decimal (x_of f (r.time + len)) ∷ codes " " ∷ decimal y ∷ shape ∷ [])
     else []
 
+-- a tick at the bound, if there is one
+abbrev pub bound_text : Frame → Release → (y : ℕ) → Option ℕ → List ℕ
+bound_text f r y (Some bound) = later_text f r bound y (codes "v-195h-60v15h40v180z\n")
+bound_text f r y None = []
+
 -- a mark of a release in row k: an arrow up, a stroke, a tick at the bound, an arrow down
 abbrev pub mark_text : Frame → Mark → Release → ℕ → TaskRow → List ℕ
 mark_text f Arrival r k row = arrival_text f r (top_of k + 510)
 mark_text f Ready r k row = ready_text f r (top_of k + 610)
-mark_text f Bound r k row =
-    later_text f r row.bound (top_of k + 485) (codes "v-195h-60v15h40v180z\n")
+mark_text f Bound r k row = bound_text f r (top_of k + 485) row.bound
 mark_text f Deadline r k row =
     later_text f r row.sheet.deadline (top_of k + 280) (codes "v-100m0 100l-35-50h70z\n")
 

@@ -46,6 +46,7 @@ fn put_document<W: Write + Drop>(
     page.put_jobs(chart)?;
     page.put_slices(chart, executed)?;
     page.put_all_marks(chart)?;
+    page.put_misses(chart)?;
     page.out.put(b"</svg>\n")
 }
 

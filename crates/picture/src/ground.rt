@@ -3,7 +3,7 @@ ghost use Rattle.std.specs.Prelude.{◌≤◌, ◌<◌, length};
 ghost use Rattle.picture.specs.declared.frame.TheConstants.{WIDEST_STEP};
 ghost use Rattle.picture.specs.Puts.{Puts};
 ghost use Rattle.picture.specs.Elements.{tick_text, line_text, outcome_text, name_text, again_text};
-ghost use Rattle.run_lines.specs.Lines.{greatest_words};
+ghost use Rattle.run_lines.specs.Lines.{bound_words, greatest_words};
 ghost use Rattle.picture.specs.declared.ground.TheConstants.{AGAIN_LIMIT, STYLE};
 ghost use Rattle.picture.specs.Document.{measures_text, title_text, document_head, ticks_text, lines_text, own_names, names_group, names_again, rows_text, ground_text};
 
@@ -126,16 +126,27 @@ impl<W: Write + Drop> Page<'_, W> {
         write!(self.out, "{greatest}")
     }
 
+    // The bound of a task, or `-` where it has none.
+    pub(crate) fn put_bound(&mut self, bound: Option<u64>) -> Result<(), WriteFailed>
+        ensures { Puts W.contents self.old self.new result (bound_words bound) }
+    {
+        match bound {
+            Some(bound) => write!(self.out, "{bound}"),
+            None => self.out.put(b"-"),
+        }
+    }
+
     // What the jobs of a row's task came to.
     fn put_outcome(&mut self, row: &TaskRow, jobs: &[JobRecord]) -> Result<(), WriteFailed>
         ensures { Puts W.contents self.old self.new result (outcome_text row.now jobs.now) }
     {
         let outcome = outcome_of(jobs, row.sheet.name());
         let done = outcome.done;
-        let bound = row.bound;
         write!(self.out, "<title>done: {done}, greatest response: ")?;
         self.put_greatest(outcome)?;
-        write!(self.out, ", bound: {bound} us</title>")
+        self.out.put(b", bound: ")?;
+        self.put_bound(row.bound)?;
+        self.out.put(b" us</title>")
     }
 
     // The name of a row.

@@ -1,8 +1,8 @@
 //! Jobs, from their arrivals up to their bounds.
-ghost use Rattle.std.specs.Prelude.{◌+◌};
+ghost use Rattle.std.specs.Prelude.{◌≡◌, ◌+◌};
 ghost use Rattle.picture.specs.Puts.{Puts};
 ghost use Rattle.picture.specs.Rows.{on_row};
-ghost use Rattle.picture.specs.Elements.{job_box, arrival_words, done_words, limit_words, job_words, job_text};
+ghost use Rattle.picture.specs.Elements.{job_box, arrival_words, done_words, limit_words, job_words, job_text, reach_of};
 ghost use Rattle.picture.specs.Document.{jobs_text};
 
 use crate::boxes::bar_of;
@@ -14,6 +14,13 @@ use ceiling_kernel::JobRecord;
 use std::io::Write;
 use streams::WriteFailed;
 
+// How far the box of a job goes that is done.
+fn reach_of(row: &TaskRow) -> u64
+    ensures { result ≡ reach_of row.now }
+{
+    row.bound.unwrap_or(row.sheet.deadline())
+}
+
 impl<W: Write + Drop> Page<'_, W> {
     // The box of a job.
     fn put_box(&mut self, lane: &Lane<'_>, job: &JobRecord) -> Result<(), WriteFailed>
@@ -23,7 +30,7 @@ impl<W: Write + Drop> Page<'_, W> {
         let x = x_of(lane.frame, job.release);
         match job.finish {
             Some(_) => {
-                let right = x_after(lane.frame, job.release, lane.row.bound);
+                let right = x_after(lane.frame, job.release, reach_of(lane.row));
                 let bar = bar_of(x, right, lane.k);
                 write!(self.out, "<path class=\"w\" d=\"{bar}\"><title>")
             }
@@ -39,7 +46,7 @@ impl<W: Write + Drop> Page<'_, W> {
     }
 
     // Whose job it is, and when it arrives.
-    fn put_arrival_words(&mut self, job: &JobRecord) -> Result<(), WriteFailed>
+    pub(crate) fn put_arrival_words(&mut self, job: &JobRecord) -> Result<(), WriteFailed>
         ensures { Puts W.contents self.old self.new result (arrival_words job.now) }
     {
         let name = job.name;
@@ -48,7 +55,7 @@ impl<W: Write + Drop> Page<'_, W> {
     }
 
     // When it is done, and how long after its arrival, if it is.
-    fn put_finish_words(&mut self, job: &JobRecord) -> Result<(), WriteFailed>
+    pub(crate) fn put_finish_words(&mut self, job: &JobRecord) -> Result<(), WriteFailed>
         ensures { Puts W.contents self.old self.new result (done_words job.now job.now.finish) }
     {
         match job.finish {
@@ -64,12 +71,10 @@ impl<W: Write + Drop> Page<'_, W> {
     fn put_limit_words(&mut self, row: &TaskRow) -> Result<(), WriteFailed>
         ensures { Puts W.contents self.old self.new result (limit_words row.now) }
     {
-        let bound = row.bound;
+        self.out.put(b"bound ")?;
+        self.put_bound(row.bound)?;
         let deadline = row.sheet.deadline();
-        write!(
-            self.out,
-            "bound {bound}, deadline {deadline} us</title></path>\n"
-        )
+        write!(self.out, ", deadline {deadline} us</title></path>\n")
     }
 
     // What is told of a job.

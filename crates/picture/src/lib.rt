@@ -10,6 +10,7 @@ mod ground;
 mod jobs;
 pub mod laws;
 mod marks;
+mod misses;
 mod page;
 mod parts;
 mod rows;

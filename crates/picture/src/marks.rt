@@ -2,7 +2,7 @@
 ghost use Rattle.std.specs.Prelude.{◌≡◌, ◌+◌, nat_le};
 ghost use Rattle.picture.specs.Puts.{Puts};
 ghost use Rattle.picture.specs.Rows.{on_row};
-ghost use Rattle.picture.specs.Elements.{arrival_text, ready_text, later_text, mark_text, mark_head};
+ghost use Rattle.picture.specs.Elements.{arrival_text, bound_text, ready_text, later_text, mark_text, mark_head};
 ghost use Rattle.picture.specs.Document.{marks_text, all_marks};
 
 use crate::chart::{Chart, Lane};
@@ -73,6 +73,22 @@ impl<W: Write + Drop> Page<'_, W> {
         write!(self.out, "M{x} {y}{shape}")
     }
 
+    // A tick at the arrival and the bound, if there is one.
+    fn put_bound_mark(
+        &mut self,
+        frame: Frame,
+        release: Release,
+        bound: Option<u64>,
+        y: u64,
+    ) -> Result<(), WriteFailed>
+        ensures { Puts W.contents self.old self.new result (bound_text frame release y bound) }
+    {
+        match bound {
+            Some(bound) => self.put_later(frame, release, bound, y, "v-195h-60v15h40v180z\n"),
+            None => Ok(()),
+        }
+    }
+
     // The mark of a release in a row.
     fn put_mark_in(
         &mut self,
@@ -89,10 +105,7 @@ impl<W: Write + Drop> Page<'_, W> {
         match mark {
             Mark::Arrival => self.put_arrival(frame, release, top + 510),
             Mark::Ready => self.put_ready(frame, release, top + 610),
-            Mark::Bound => {
-                let shape = "v-195h-60v15h40v180z\n";
-                self.put_later(frame, release, row.bound, top + 485, shape)
-            }
+            Mark::Bound => self.put_bound_mark(frame, release, row.bound, top + 485),
             Mark::Deadline => {
                 let shape = "v-100m0 100l-35-50h70z\n";
                 let len = row.sheet.deadline();

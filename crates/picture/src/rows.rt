@@ -4,11 +4,11 @@ ghost use Rattle.picture.specs.Rows.{row_named};
 
 use task_sheet::{Name, Sheet};
 
-/// A row: a task, and how long after its arrival each of its jobs is done, in microseconds.
+/// A row: a task, and how long after its arrival each of its jobs is done, where that is known; in microseconds.
 #[derive(Drop)]
 pub struct TaskRow {
     pub sheet: Sheet,
-    pub bound: u64,
+    pub bound: Option<u64>,
 }
 
 // The place of the row of the task with a name.

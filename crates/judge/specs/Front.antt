@@ -1,0 +1,28 @@
+-- Settings in front of another text.
+use Rattle.std.specs.Prelude.{◌≡◌, ℕ, Bool, false, ◌||◌, List, [], ◌∷◌, None, Ok, bytes_eq, codes, if◌then◌else◌}
+use Rattle.task_sheet.specs.Sheet.{Task}
+use Rattle.lines.specs.Words.{words}
+use Rattle.judge.specs.Faults.{rows_fault}
+use Rattle.judge.specs.Node.{IsOrderBy}
+use Rattle.judge.specs.Rows.{heights, threads_of}
+use Rattle.judge.specs.declared.rows.SettingRow.{SettingRow}
+
+-- the first of these words says that a line sets a thread or a mutex
+abbrev pub is_setting : List (List ℕ) → Bool
+is_setting [] = false
+is_setting (word ∷ rest) = bytes_eq word (codes "thread") || bytes_eq word (codes "mutex")
+
+-- of numbered lines, those in front of the first that sets none
+abbrev pub front_of : List (ℕ × List ℕ) → List (ℕ × List ℕ)
+front_of [] = []
+front_of (l ∷ ls) = if is_setting (words l.1) then l ∷ front_of ls else []
+
+-- that line and those behind it
+abbrev pub behind_front : List (ℕ × List ℕ) → List (ℕ × List ℕ)
+behind_front [] = []
+behind_front (l ∷ ls) = if is_setting (words l.1) then behind_front ls else l ∷ ls
+
+-- rows, whose numbers count so, are settings of a set, and this is the order that they give, the lowest first
+pub record IsOrderOfRows (lower : Bool) (U : List Task) (rows : List SettingRow) (order : List ℕ) : Type 0 where
+  pub sound : rows_fault lower U (Ok rows) ≡ None
+  pub by_numbers : IsOrderBy U (heights lower (threads_of rows)) order
