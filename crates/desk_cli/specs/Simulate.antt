@@ -12,7 +12,7 @@ use Rattle.ceiling_kernel.specs.Runs.{IsNoOverrun, MeetsTighterBounds, Runs}
 use Rattle.ceiling_kernel.specs.declared.trace.Release.{Release}
 use Rattle.ceiling_kernel.specs.declared.trace.RunFault.{RunFault}
 use Rattle.ceiling_kernel.specs.declared.trace.Trace.{Trace}
-use Rattle.judge.specs.Faults.{IsSettingsFault, rows_fault}
+use Rattle.judge.specs.Faults.{IsRowsFault, IsSettingsFault, rows_fault}
 use Rattle.judge.specs.Front.{IsOrderOfRows}
 use Rattle.judge.specs.Judgements.{AllJudged, order_judged}
 use Rattle.judge.specs.declared.judging.JudgedTask.{JudgedTask}
@@ -63,11 +63,10 @@ abbrev pub IsListedOrder : List Task → Result (List SettingRow) ℕ → List �
 IsListedOrder U (Ok (row ∷ rows)) order = IsOrderOfRows false U (row ∷ rows) order
 IsListedOrder U _ order = ⊥
 
--- the first reason why what settings say gives none; none where there are none
+-- the first reason why they give none; none where there are none
 abbrev pub order_fault : List Task → Result (List SettingRow) ℕ → Option SettingsFault
-order_fault U (Ok []) = None
 order_fault U (Ok (row ∷ rows)) = rows_fault false U (Ok (row ∷ rows))
-order_fault U (Err line) = rows_fault false U (Err line)
+order_fault U _ = None
 
 -- the bound of a task in an order: its response, where it meets its deadline
 abbrev pub bound_judged : Judgement → Option ℕ
@@ -104,18 +103,13 @@ IsSimulated U settings list (Ordered run) =
     × IsOrderedRun U run.judged.items run.releases.items run.until run.trace
 
 -- the answer on a set and a list in an order of the set
-abbrev pub SimulatesIn : List Task → List ℕ → Result (ℕ × List Release) ℕ
-    → Result Simulated CommandRefusal → Type 0
-SimulatesIn U order list (Ok (Ordered run)) =
+abbrev pub SimulatesIn : List Task → List ℕ → ℕ → List Release → Result Simulated CommandRefusal → Type 0
+SimulatesIn U order until rs (Ok (Ordered run)) =
     (order_judged run.judged.items ≡ order) × AllJudged U run.judged.items
-    × (list ≡ Ok (run.until, run.releases.items))
+    × (run.until ≡ until) × (run.releases.items ≡ rs)
     × IsOrderedRun U run.judged.items run.releases.items run.until run.trace
-SimulatesIn U order list (Err (refusal.Text fault)) = IsTextFault fault list
-SimulatesIn U order list (Err (refusal.Run fault)) =
-    (until : ℕ) × (rs : List Release) × (list ≡ Ok (until, rs))
-    × RunsOrder U order rs until (Err (refusal.Run fault))
-SimulatesIn U order list (Err refusal.OutOfMemory) = Unit {0}
-SimulatesIn U order list _ = ⊥
+SimulatesIn U order until rs (Ok _) = ⊥
+SimulatesIn U order until rs (Err r) = RunsOrder U order rs until (Err r)
 
 -- why a list isn't run in a set's best order, in which no job overruns the one before it
 abbrev pub IsStopped : List Task → Result (List SettingRow) ℕ → Result (ℕ × List Release) ℕ
@@ -133,13 +127,16 @@ IsStoppedInOrder U settings list fault =
     (order : List ℕ) × (until : ℕ) × (rs : List Release) × IsListedOrder U settings order
     × (list ≡ Ok (until, rs)) × RunsOrder U order rs until (Err (refusal.Run fault))
 
--- the answer on a set, on settings and on a list
+-- the answer on a set, on settings and on a list: the lines of both come first, and then the order
 abbrev pub SimulatesRead : List Task → Result (List SettingRow) ℕ → Result (ℕ × List Release) ℕ
     → Result Simulated CommandRefusal → Type 0
 SimulatesRead U settings list (Ok answer) = IsSimulated U settings list answer
 SimulatesRead U settings list (Err (refusal.Settings fault)) =
-    IsSettingsFault fault (order_fault U settings)
-SimulatesRead U settings list (Err (refusal.Text fault)) = IsTextFault fault list
+    IsRowsFault fault settings
+    ⊎ ((until : ℕ) × (rs : List Release) × (list ≡ Ok (until, rs))
+    × IsSettingsFault fault (order_fault U settings))
+SimulatesRead U settings list (Err (refusal.Text fault)) =
+    (rows : List SettingRow) × (settings ≡ Ok rows) × IsTextFault fault list
 SimulatesRead U settings list (Err (refusal.Run fault)) =
     IsStopped U settings list fault ⊎ IsStoppedInOrder U settings list fault
 SimulatesRead U settings list (Err refusal.OutOfMemory) = Unit {0}

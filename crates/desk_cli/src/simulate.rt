@@ -95,16 +95,13 @@ fn run_best(
 fn simulate_best(
     alloc: Global,
     tasks: &TaskSet,
-    at: TextPlace<'_>,
+    until: u64,
+    releases: Vec<Release>,
 ) -> Result<Simulated, CommandRefusal>
-    ensures { SimulatesRead tasks.now (Ok []) (list_at at.entry.line at.entry.rest.now) result }
+    ensures { SimulatesRead tasks.now (Ok []) (Ok (until, releases.items)) result }
 {
     // The set is valid: the proof has it from its sheets.
     let _ = tasks.sheets();
-    let (until, releases) = match read_releases(alloc, at) {
-        Ok(list) => list,
-        Err(fault) => return Err(CommandRefusal::Text(fault)),
-    };
     let table = LockTable::new(alloc, tasks)?;
     match place_all(alloc, tasks, &table)? {
         Placing::Stuck(members) => Ok(Simulated::Infeasible(members)),
@@ -126,18 +123,15 @@ fn simulate_in(
     tasks: &TaskSet,
     table: &LockTable,
     order: &[usize],
-    at: TextPlace<'_>,
+    until: u64,
+    releases: Vec<Release>,
 ) -> Result<Simulated, CommandRefusal>
     requires table { IsTableOf tasks.now table.now }
     requires order { IsOrder tasks.now order.now }
-    ensures { SimulatesIn tasks.now order.now (list_at at.entry.line at.entry.rest.now) result }
+    ensures { SimulatesIn tasks.now order.now until releases.items result }
 {
     // The set is valid: the proof has it from its sheets.
     let _ = tasks.sheets();
-    let (until, releases) = match read_releases(alloc, at) {
-        Ok(list) => list,
-        Err(fault) => return Err(CommandRefusal::Text(fault)),
-    };
     let judged = judge_order(alloc, tasks, table, order)?;
     let trace = run_order(alloc, tasks, order, until, &releases)?;
     Ok(Simulated::Ordered(OrderedRun {
@@ -153,22 +147,39 @@ fn simulate_order(
     alloc: Global,
     tasks: &TaskSet,
     rows: &[SettingRow],
-    at: TextPlace<'_>,
+    until: u64,
+    releases: Vec<Release>,
 ) -> Result<Simulated, CommandRefusal>
     requires { 0 < length rows.now }
-    ensures { SimulatesRead tasks.now (Ok rows.now) (list_at at.entry.line at.entry.rest.now)
-        result }
+    ensures { SimulatesRead tasks.now (Ok rows.now) (Ok (until, releases.items)) result }
 {
     let table = LockTable::new(alloc, tasks)?;
     let order = match order_of_rows(alloc, tasks, &table, false, rows) {
         Ok(order) => order,
         Err(fault) => return Err(CommandRefusal::Settings(fault)),
     };
-    simulate_in(alloc, tasks, &table, &order, at)
+    simulate_in(alloc, tasks, &table, &order, until, releases)
 }
 
-// What a set and a release list come to behind its settings, of which there may be none.
-fn simulate_behind(
+// What a set and a release list come to behind settings, of which there may be none.
+fn simulate_rows(
+    alloc: Global,
+    tasks: &TaskSet,
+    rows: &[SettingRow],
+    until: u64,
+    releases: Vec<Release>,
+) -> Result<Simulated, CommandRefusal>
+    ensures { SimulatesRead tasks.now (Ok rows.now) (Ok (until, releases.items)) result }
+{
+    if rows.is_empty() {
+        simulate_best(alloc, tasks, until, releases)
+    } else {
+        simulate_order(alloc, tasks, rows, until, releases)
+    }
+}
+
+// What a set and a release list come to whose settings were read.
+fn simulate_front(
     alloc: Global,
     tasks: &TaskSet,
     front: &Front<'_>,
@@ -176,10 +187,9 @@ fn simulate_behind(
     ensures { SimulatesRead tasks.now (Ok front.now.rows.items)
         (list_at front.now.behind.line front.now.behind.rest.now) result }
 {
-    if front.rows.is_empty() {
-        simulate_best(alloc, tasks, front.behind)
-    } else {
-        simulate_order(alloc, tasks, &front.rows, front.behind)
+    match read_releases(alloc, front.behind) {
+        Ok((until, releases)) => simulate_rows(alloc, tasks, &front.rows, until, releases),
+        Err(fault) => Err(CommandRefusal::Text(fault)),
     }
 }
 
@@ -192,7 +202,7 @@ pub(crate) fn simulate_text(
     ensures { SimulatesText tasks.now text.now result }
 {
     match read_front(alloc, TextPlace::start(text)) {
-        Ok(front) => simulate_behind(alloc, tasks, &front),
+        Ok(front) => simulate_front(alloc, tasks, &front),
         Err(fault) => Err(CommandRefusal::Settings(fault)),
     }
 }
