@@ -189,13 +189,26 @@ def judge(tasks, rows, lower_is_higher=False):
     return settings.judge(tasks, settings.node_order(tasks, rows))
 
 
+def simulate(tasks, said, by_task=False):
+    rows, until, releases = said
+    if rows:
+        return simulate_in(tasks, settings.node_order(tasks, rows), until, releases, by_task), 0
+    return simulate_best(tasks, until, releases, by_task)
+
+
 @with_order
-def simulate(tasks, order, said, by_task=False):
-    kernel.check_releases(tasks, *said)
-    slices, jobs = kernel.run(tasks, order, analysis.ceilings(tasks, order), *said)
+def simulate_best(tasks, order, until, releases, by_task):
+    return simulate_in(tasks, order, until, releases, by_task)
+
+
+def simulate_in(tasks, order, until, releases, by_task):
+    """What is printed of a run in an order, passing or not."""
+    kernel.check_releases(tasks, until, releases)
+    slices, jobs = kernel.run(tasks, order, analysis.ceilings(tasks, order), until, releases)
+    kernel.check_overruns(jobs)
     if not by_task:
         return kernel.simulated(slices, jobs)
-    return "".join(kernel.came_to(tasks[i], bound, jobs) for i, bound in bounds_of(tasks, order).items())
+    return "".join(kernel.came_to(tasks[i], bound, jobs) for i, bound in settings.bounds_in(tasks, order).items())
 
 
 def releases(tasks, until, seed=None):
