@@ -141,6 +141,24 @@ Two small documents, whole, as a program apart from this one makes them:
   "/>
   </svg>
 
+A list's own order, in which hi has no bound and misses its deadline: a red box behind the deadline, a disc with a cross on it,
+and how many they are. Where none is missed, nothing is said of that:
+
+  $ printf 'thread lo 1\nthread hi 2\nuntil 12000\n0 lo\n1001 hi\n' | desk draw examples/blocked-out.toml - > missed.svg
+  $ grep -o '<title>hi: arrival .*</title>' missed.svg
+  <title>hi: arrival 1001, done 5500, response 4499, bound -, deadline 4400 us</title>
+  <title>hi: arrival 1001, done 5500, response 4499, deadline 4400 us missed</title>
+  $ grep -o '<title>done: 1, .*' missed.svg
+  <title>done: 1, greatest response: 4499, bound: - us</title>hi</text>
+  <title>done: 1, greatest response: 12000, bound: 12000 us</title>lo</text>
+  $ grep -o 'deadlines missed: .*' missed.svg
+  deadlines missed: 1</text>
+  $ grep -c '<circle class="x"' missed.svg
+  2
+  $ grep -c missed run.svg
+  0
+  [1]
+
 What it draws stands alone:
 
   $ head -n 1 run.svg

@@ -29,6 +29,13 @@ const LEGEND: &str =
 <path class=\"b\" d=\"M2230 960v-195h-60v15h40v180z\"/><text x=\"2440\" y=\"920\">bound on the response</text>
 ";
 
+// What one tells of deadlines that were missed.
+const MISSED: &str =
+    "<style type=\"text/css\">.m{fill:#c40000;fill-opacity:.25;stroke:#c40000;stroke-width:24}.x{fill:#c40000;stroke:#fff;stroke-width:20}.y{font-size:130px;font-weight:bold;fill:#c40000}</style>
+<path class=\"m\" d=\"M4300 90h280v220h-280z\"/>
+<circle class=\"x\" cx=\"4300\" cy=\"130\" r=\"80\"/><path class=\"x\" d=\"M4300 130m-40-40l80 80m0-80l-80 80\"/>
+<text class=\"y\" x=\"4680\" y=\"230\">deadlines missed: ";
+
 // What differs from picture to picture: the height, the title, and what stands below the legend.
 struct Parts {
     height: u64,
@@ -86,6 +93,71 @@ M7102 1620v-100m0 100l-35-50h70z
 ",
 };
 
+// Two tasks, and an order in which the first misses its deadlines.
+const MISSING_SET: &str = "
+task = [
+    { name = 'a', period = 1000, deadline = 500, cost = 300 },
+    { name = 'b', period = 1000, deadline = 1000, cost = 300 },
+]
+";
+
+// The first job of a is done behind its deadline, the second isn't done at it. a has no bound.
+const MISSING_PICTURE: Parts = Parts {
+    height: 266,
+    title: "tasks: 2, jobs: 4, until 1500 us",
+    below: "<path class=\"g\" d=\"M160 1300V2600\"/><text class=\"s\" x=\"160\" y=\"1260\">0 us</text>
+<path class=\"g\" d=\"M1426 1300V2600\"/><text class=\"s\" x=\"1426\" y=\"1260\">200 us</text>
+<path class=\"g\" d=\"M2693 1300V2600\"/><text class=\"s\" x=\"2693\" y=\"1260\">400 us</text>
+<path class=\"g\" d=\"M3960 1300V2600\"/><text class=\"s\" x=\"3960\" y=\"1260\">600 us</text>
+<path class=\"g\" d=\"M5226 1300V2600\"/><text class=\"s\" x=\"5226\" y=\"1260\">800 us</text>
+<path class=\"g\" d=\"M6493 1300V2600\"/><text class=\"s\" x=\"6493\" y=\"1260\">1000 us</text>
+<path class=\"g\" d=\"M7760 1300V2600\"/><text class=\"s\" x=\"7760\" y=\"1260\">1200 us</text>
+<path class=\"g\" d=\"M9026 1300V2600\"/><text class=\"s\" x=\"9026\" y=\"1260\">1400 us</text>
+<path class=\"l\" d=\"M160 1830H9660\"/>
+<path class=\"l\" d=\"M160 2460H9660\"/>
+<g id=\"n\">
+<text class=\"n\" x=\"160\" y=\"1480\"><title>done: 2, greatest response: 300, bound: 300 us</title>b</text>
+<text class=\"n\" x=\"160\" y=\"2110\"><title>done: 1, greatest response: 600, bound: - us</title>a</text>
+</g>
+<use xlink:href=\"#n\" x=\"3000\"/>
+<use xlink:href=\"#n\" x=\"6000\"/>
+<path class=\"w\" d=\"M160 1645H2060v180H160z\"><title>b: arrival 0, done 300, response 300, bound 300, deadline 1000 us</title></path>
+<path class=\"w\" d=\"M160 2275H3326v180H160z\"><title>a: arrival 0, done 600, response 600, bound -, deadline 500 us</title></path>
+<path class=\"w\" d=\"M6493 1645H8393v180H6493z\"><title>b: arrival 1000, done 1300, response 300, bound 300, deadline 1000 us</title></path>
+<path class=\"w\" d=\"M6493 2275H9660l60 30-60 30 60 30-60 30 60 30-60 30H6493z\"><title>a: arrival 1000, not done, bound -, deadline 500 us</title></path>
+<path class=\"e\" d=\"M160 1645H2060v180H160z\"><title>b 0 to 300 us</title></path>
+<path class=\"e\" d=\"M2060 2275H3960v180H2060z\"><title>a 300 to 600 us</title></path>
+<path class=\"e\" d=\"M6493 1645H8393v180H6493z\"><title>b 1000 to 1300 us</title></path>
+<path class=\"e\" d=\"M8393 2275H9660v180H8393z\"><title>a 1300 to 1500 us</title></path>
+<path class=\"r\" d=\"
+\"/>
+<path class=\"a\" d=\"
+M160 1850v100m-35-50l35-50 35 50
+M160 2480v100m-35-50l35-50 35 50
+M6493 1850v100m-35-50l35-50 35 50
+M6493 2480v100m-35-50l35-50 35 50
+\"/>
+<path class=\"b\" d=\"
+M2060 1825v-195h-60v15h40v180z
+M8393 1825v-195h-60v15h40v180z
+\"/>
+<path class=\"d\" d=\"
+M6493 1620v-100m0 100l-35-50h70z
+M3326 2250v-100m0 100l-35-50h70z
+M9660 2250v-100m0 100l-35-50h70z
+\"/>
+",
+};
+
+// What stands behind that.
+const MISSES: &str = "2</text>
+<path class=\"m\" d=\"M3326 2255H3960v220H3326z\"><title>a: arrival 0, done 600, response 600, deadline 500 us missed</title></path>
+<circle class=\"x\" cx=\"3326\" cy=\"2200\" r=\"80\"/><path class=\"x\" d=\"M3326 2200m-40-40l80 80m0-80l-80 80\"/>
+<path class=\"m\" d=\"M9660 2255H9680v220H9660z\"><title>a: arrival 1000, not done, deadline 500 us missed</title></path>
+<circle class=\"x\" cx=\"9660\" cy=\"2200\" r=\"80\"/><path class=\"x\" d=\"M9660 2200m-40-40l80 80m0-80l-80 80\"/>
+</svg>
+";
+
 // No task, and no time.
 const EMPTY_PICTURE: Parts = Parts {
     height: 140,
@@ -108,8 +180,12 @@ const EMPTY_PICTURE: Parts = Parts {
 ",
 };
 
-// The rows of a set, where each task has the bound beside its index.
-fn rows_of(alloc: Global, set: &TaskSet, bounds: &[(usize, u64)]) -> Result<Vec<TaskRow>, Fail> {
+// The rows of a set, where each task has the bound beside its index, if there is one.
+fn rows_of(
+    alloc: Global,
+    set: &TaskSet,
+    bounds: &[(usize, Option<u64>)],
+) -> Result<Vec<TaskRow>, Fail> {
     let mut rows = Vec::new(alloc);
     for (index, bound) in bounds {
         let sheet = set.get(*index).ok_or("no task")?;
@@ -170,7 +246,7 @@ fn picture_of(
 fn drawn(
     alloc: Global,
     set: &TaskSet,
-    bounds: &[(usize, u64)],
+    bounds: &[(usize, Option<u64>)],
     order: &[usize],
     until: u64,
     releases: &[Release],
@@ -200,15 +276,36 @@ fn whole(alloc: Global, parts: &Parts) -> Result<String, Fail> {
     Ok(text)
 }
 
+// The picture with the deadlines that were missed.
+fn missing(alloc: Global) -> Result<String, Fail> {
+    let mut text = whole(alloc, &MISSING_PICTURE)?;
+    text.push_str(MISSED)?;
+    text.push_str(MISSES)?;
+    Ok(text)
+}
+
 #[test]
 fn late_and_not_done(rt: HostRuntime) -> Result<(), Fail> {
     let alloc = rt.alloc();
     let set = set_of(alloc, SET)?;
     let (first, second) = (released(0, "b", 0)?, released(50, "a", 50)?);
     let releases = [first, second, released(1050, "a", 0)?];
-    let bounds = [(0, 550), (1, 1600)];
+    let bounds = [(0, Some(550)), (1, Some(1600))];
     let text = drawn(alloc, &set, &bounds, &[1, 0], 1300, &releases)?;
     assert_eq!(rt; text.as_str(), whole(alloc, &PICTURE)?.as_str());
+    Ok(())
+}
+
+#[test]
+fn missed_deadlines(rt: HostRuntime) -> Result<(), Fail> {
+    let alloc = rt.alloc();
+    let set = set_of(alloc, MISSING_SET)?;
+    let (first, second) = (released(0, "b", 0)?, released(0, "a", 0)?);
+    let releases = [first, second, released(1000, "b", 0)?, released(1000, "a", 0)?];
+    let bounds = [(1, Some(300)), (0, None)];
+    let text = drawn(alloc, &set, &bounds, &[0, 1], 1500, &releases)?;
+    let wanted = missing(alloc)?;
+    assert_eq!(rt; text.as_str(), wanted.as_str());
     Ok(())
 }
 
