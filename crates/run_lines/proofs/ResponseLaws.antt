@@ -1,5 +1,5 @@
 -- The responses of an order bound the jobs of each run in it.
-use Rattle.std.proofs.Common.{◌≡◌, ◌∙◌, All, ℕ, zero, suc, ◌+◌, ◌<◌, ◌≤◌, inl, inr, true, false, List, [], ◌∷◌, length, Option, Some, None, Ok, is_some, unwrap_or, nat_lt, refl, sym, ap, subst, arith, slice_index_or, eqb}
+use Rattle.std.proofs.Common.{◌≡◌, ◌∙◌, All, ℕ, suc, ◌+◌, ◌<◌, ◌≤◌, inl, inr, true, false, List, [], ◌∷◌, length, Option, Some, None, Ok, is_some, unwrap_or, nat_lt, refl, sym, ap, subst, arith, slice_index_or, eqb}
 use Rattle.std.proofs.lemmas.Bool.{and_parts, cases_Bool, cases_lt, eq-eqb, eqb-true, lt-ltb, true≢false}
 use Rattle.std.proofs.lemmas.Slice.Eq.{bytes_eq-Decides}
 use Rattle.task_sheet.specs.Sheet.{Task, task_at, same_bytes}
@@ -12,7 +12,7 @@ use Rattle.task_sheet.proofs.TaskLaws.{place_of_name}
 use Rattle.lines.specs.Naming.{name_at}
 use Rattle.assignment.specs.Places.{PlaceData}
 use Rattle.assignment.specs.Placings.{IsBestPlacing, tasks_of_places}
-use Rattle.explain.specs.Accounts.{AreInTime, IsInTime}
+use Rattle.explain.specs.Accounts.{AreInTime}
 use Rattle.explain.proofs.AccountLaws.{best-in_time}
 use Rattle.ceiling_kernel.specs.Tick.{Job, Node, node_in}
 use Rattle.ceiling_kernel.specs.Trace.{finish_before}

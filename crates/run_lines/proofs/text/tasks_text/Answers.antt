@@ -1,6 +1,6 @@
-use Rattle.std.proofs.Common.{◌≡◌, ◌∙◌, ◌+◌, ◌++◌, ◌<◌, ℕ, List, ◌∷◌, None, length, get_or, drop, slice_index_or, string_bytes, append_assoc, sym, ap, arith}
+use Rattle.std.proofs.Common.{◌≡◌, ◌∙◌, ◌+◌, ◌++◌, ◌<◌, ℕ, List, None, length, get_or, drop, slice_index_or, string_bytes, append_assoc, sym, ap, arith}
 use Rattle.std.proofs.lemmas.List.{drop_more, get_or-map, get_or_default, length-map}
-use Rattle.task_sheet.specs.Sheet.{Task, no_task, task_at}
+use Rattle.task_sheet.specs.Sheet.{Task, no_task}
 use Rattle.task_sheet.specs.Orders.{IsOrder}
 use Rattle.lines.specs.Naming.{name_at}
 use Rattle.ceiling_kernel.specs.declared.trace.JobRecord.{JobRecord}
