@@ -35,7 +35,11 @@ fn row_of(alloc: Global, sheets: &[Sheet], bound: TaskBound) -> Result<TaskRow, 
 }
 
 // The rows of bounds, the last one first.
-fn rows_of(alloc: Global, sheets: &[Sheet], bounds: &[TaskBound]) -> Result<Vec<TaskRow>, AllocError>
+fn rows_of(
+    alloc: Global,
+    sheets: &[Sheet],
+    bounds: &[TaskBound],
+) -> Result<Vec<TaskRow>, AllocError>
     requires { All (λ task. task < length sheets.now) (tasks_of_bounds bounds.now) }
     ensures { IfOk result (λ rows. rows.items ≡ rows_of sheets.now bounds.now) }
 {

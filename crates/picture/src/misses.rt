@@ -84,10 +84,7 @@ impl<W: Write + Drop> Page<'_, W> {
         ensures { Puts W.contents self.old self.new result (due_words row.now) }
     {
         let deadline = row.sheet.deadline();
-        write!(
-            self.out,
-            "deadline {deadline} us missed</title></path>\n"
-        )
+        write!(self.out, "deadline {deadline} us missed</title></path>\n")
     }
 
     // A disc with a cross on the deadline.

@@ -301,7 +301,12 @@ fn missed_deadlines(rt: HostRuntime) -> Result<(), Fail> {
     let alloc = rt.alloc();
     let set = set_of(alloc, MISSING_SET)?;
     let (first, second) = (released(0, "b", 0)?, released(0, "a", 0)?);
-    let releases = [first, second, released(1000, "b", 0)?, released(1000, "a", 0)?];
+    let releases = [
+        first,
+        second,
+        released(1000, "b", 0)?,
+        released(1000, "a", 0)?,
+    ];
     let bounds = [(1, Some(300)), (0, None)];
     let text = drawn(alloc, &set, &bounds, &[0, 1], 1500, &releases)?;
     let wanted = missing(alloc)?;
