@@ -150,7 +150,7 @@ and how many they are. Where none is missed, nothing is said of that:
   <title>hi: arrival 1001, done 5500, response 4499, deadline 4400 us missed</title>
   $ grep -o '<title>done: 1, .*' missed.svg
   <title>done: 1, greatest response: 4499, bound: - us</title>hi</text>
-  <title>done: 1, greatest response: 12000, bound: 12000 us</title>lo</text>
+  <title>done: 1, greatest response: 12000, bound: 14000 us</title>lo</text>
   $ grep -o 'deadlines missed: .*' missed.svg
   deadlines missed: 1</text>
   $ grep -c '<circle class="x"' missed.svg

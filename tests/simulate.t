@@ -268,7 +268,7 @@ deadline of 4400, and has no bound:
   $ run examples/blocked-out.toml 'thread lo 1\n# hi above\n\nthread hi 9\nuntil 12000\n0 lo\n1001 hi\n' | tail -n 1
   job hi 1001 5500
   $ printf 'thread lo 1\nthread hi 2\nuntil 12000\n0 lo\n1001 hi\n' | desk simulate examples/blocked-out.toml - --tasks
-  task lo 1 12000 12000
+  task lo 1 12000 14000
   task hi 1 4499 -
 
 Of a set that is admitted the best order may be given, or another one: lo above the others:
