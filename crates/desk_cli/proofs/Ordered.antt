@@ -1,4 +1,5 @@
 -- Runs in an order that a release list gives.
+use Rattle.std.specs.Prelude.{IfOk}
 use Rattle.std.proofs.Common.{◌≡◌, ◌∙◌, ◌+◌, ◌<◌, ℕ, false, List, [], ◌∷◌, length, Result, Ok, Err, inl, inr, All, refl, sym, ap, ap₂, subst, arith}
 use Rattle.task_sheet.specs.Sheet.{Task}
 use Rattle.task_sheet.specs.TaskSet.{IsTaskSet}
@@ -20,7 +21,7 @@ use Rattle.judge.specs.declared.judging.Judgement.TheVariants.{Meets, Misses, Be
 use Rattle.judge.specs.declared.rows.SettingRow.{SettingRow}
 use Rattle.run_lines.specs.TaskBounds.{AreBounds, IsBoundBelow, tasks_of_bounds}
 use Rattle.run_lines.proofs.ResponseLaws.{all_kept}
-use Rattle.desk_cli.specs.Simulate.{IsListedOrder, IsOrderedRun, RunsOrder, SimulatesIn, SimulatesRead, bound_judged, bounds_judged, order_fault}
+use Rattle.desk_cli.specs.Simulate.{IsInOrder, IsListedOrder, IsOrderedRun, IsSimulated, RunsOrder, SimulatesIn, SimulatesRead, bound_judged, bounds_judged, order_fault}
 use Rattle.desk_cli.specs.declared.refusal.CommandRefusal.{CommandRefusal}
 use Rattle.desk_cli.specs.declared.refusal.CommandRefusal.TheVariants as refusal
 use Rattle.desk_cli.specs.declared.simulate.Simulated.{Simulated}
@@ -87,3 +88,15 @@ in_order U order (row ∷ rows) until rs (Ok (Ran run)) some gives said = absurd
 in_order U order (row ∷ rows) until rs (Err (refusal.Run fault)) some gives said = inr (order, until, rs, gives, refl, said)
 in_order U order (row ∷ rows) until rs (Err refusal.OutOfMemory) some gives said = tt
 in_order U order (row ∷ rows) until rs (Err _) some gives said = absurd said
+
+-- what comes of a set is a run in an order of it
+in_order_of : (U : List Task) (settings : Result (List SettingRow) ℕ) (list : Result (ℕ × List Release) ℕ) (answer : Simulated) → IsSimulated U settings list answer → IsInOrder U answer
+in_order_of U settings list (Ran run) said = said.1.best.passing.each_once
+in_order_of U settings list (Infeasible left) said = tt
+in_order_of U (Ok []) list (Ordered run) said = absurd said.0
+in_order_of U (Ok (row ∷ rows)) list (Ordered run) said = said.0.by_numbers.each_once
+in_order_of U (Err line) list (Ordered run) said = absurd said.0
+
+pub in_order_ok : (U : List Task) (settings : Result (List SettingRow) ℕ) (list : Result (ℕ × List Release) ℕ) (answer : Result Simulated CommandRefusal) → SimulatesRead U settings list answer → IfOk answer (λ found. IsInOrder U found)
+in_order_ok U settings list (Ok found) said = in_order_of U settings list found said
+in_order_ok U settings list (Err r) said = tt

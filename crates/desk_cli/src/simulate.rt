@@ -7,7 +7,7 @@ ghost use Rattle.judge.specs.Judgements.{order_judged};
 ghost use Rattle.run_lines.specs.Lines.{task_lines};
 ghost use Rattle.run_lines.specs.TaskBounds.{bounds_of, tasks_of_bounds};
 ghost use Rattle.desk_cli.specs.ReleasesText.{list_at};
-ghost use Rattle.desk_cli.specs.Simulate.{RunsOrder, SimulatesIn, SimulatesRead, SimulatesText, bound_judged, bounds_judged};
+ghost use Rattle.desk_cli.specs.Simulate.{IsInOrder, RunsOrder, SimulatesIn, SimulatesRead, SimulatesText, bound_judged, bounds_judged};
 
 use crate::refusal::CommandRefusal;
 use crate::release_text::read_releases;
@@ -199,7 +199,8 @@ pub(crate) fn simulate_text(
     tasks: &TaskSet,
     text: &[u8],
 ) -> Result<Simulated, CommandRefusal>
-    ensures { SimulatesText tasks.now text.now result }
+    ensures answer { SimulatesText tasks.now text.now result }
+    ensures order { IfOk result (IsInOrder tasks.now) }
 {
     match read_front(alloc, TextPlace::start(text)) {
         Ok(front) => simulate_front(alloc, tasks, &front),

@@ -6,14 +6,15 @@ use Rattle.judge.specs.Rows.{rows_from}
 use Rattle.judge.specs.Faults.{IsRowsFault}
 use Rattle.desk_cli.specs.ReleasesText.{list_at, list_from, list_in, settings_in}
 use Rattle.desk_cli.specs.Simulate.{SimulatesRead}
+use Rattle.desk_cli.proofs.Ordered.{in_order_ok}
 use Rattle.desk_cli.proofs.simulate.simulate_text.Goals as goal
 
 -- the lines that a reader has at the head of a text
 head_lines : (line : ℕ) (rest text : List ℕ) → rest ≡ text → line ≡ 1 → kept_from line (lines_of rest) ≡ kept_from 1 (lines_of text)
 head_lines line rest text whole first = ap₂ (λ (n : ℕ) (t : List ℕ). kept_from n (lines_of t)) first whole
 
-pub returns-in-Ok : goal.returns-in-Ok
-returns-in-Ok c =
+pub returns-in-Ok-clause-answer : goal.returns-in-Ok-clause-answer
+returns-in-Ok-clause-answer c =
     let U = c.args.tasks.now in
     let text = c.args.text.now in
     let front = c.in-Ok.front in
@@ -26,7 +27,12 @@ returns-in-Ok c =
     let list : list_at front.behind.line front.behind.rest.now ≡ list_in text = ap₂ (λ (past : ℕ) (ls : List (ℕ × List ℕ)). list_from past ls) ends behind in
     rw settings (subst (λ (l : Result (ℕ × List Release) ℕ). SimulatesRead U (Ok front.rows.items) l c.simulate_front.result) list c.simulate_front.ensures)
 
-pub returns-in-Err : goal.returns-in-Err
-returns-in-Err c =
+pub returns-in-Ok-clause-order : goal.returns-in-Ok-clause-order
+returns-in-Ok-clause-order c =
+    let front = c.in-Ok.front in
+    in_order_ok c.args.tasks.now (Ok front.rows.items) (list_at front.behind.line front.behind.rest.now) c.simulate_front.result c.simulate_front.ensures
+
+pub returns-in-Err-clause-answer : goal.returns-in-Err-clause-answer
+returns-in-Err-clause-answer c =
     let kept = head_lines c.start.result.line c.start.result.rest.now c.args.text.now c.start.ensures.whole c.start.ensures.first in
     inl (subst (λ ls. IsRowsFault c.in-Err.fault (rows_from (front_of ls))) kept c.in-Err.ensures)
