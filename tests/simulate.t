@@ -263,8 +263,9 @@ deadline of 4400, and has no bound:
   5500 12000 lo
   job lo 0 12000
   job hi 1001 5500
-  $ run examples/blocked-out.toml 'thread hi 9\nuntil 12000\n0 lo\n' > printed || echo $?
-  4
+  $ run examples/blocked-out.toml 'thread hi 9\nuntil 12000\n0 lo\n'
+  refused: MissingTask lo
+  [4]
   $ run examples/blocked-out.toml 'thread lo 1\n# hi above\n\nthread hi 9\nuntil 12000\n0 lo\n1001 hi\n' | tail -n 1
   job hi 1001 5500
   $ printf 'thread lo 1\nthread hi 2\nuntil 12000\n0 lo\n1001 hi\n' | desk simulate examples/blocked-out.toml - --tasks
