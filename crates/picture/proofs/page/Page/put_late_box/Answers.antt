@@ -1,4 +1,4 @@
 use Rattle.picture.proofs.page.Page.put_late_box.Goals as goal
 
 pub returns : goal.returns
-returns g c = rw (← c.deadline.ensures) (rw (← c.x_after-x.ensures.value) (rw (← c.top_of.ensures.value) c.write.ensures.put))
+returns g c = rw (← c.deadline.ensures) (rw (← c.x_after-x.ensures.value) (rw (← c.x_of.ensures.value) (rw (← c.top_of.ensures.value) c.write.ensures.put)))

@@ -8,4 +8,4 @@ returns-in-Bound g c = rw c.in-Bound.is (rw (← c.top_of-top.ensures.value) c.p
 
 pub returns-in-Deadline : goal.returns-in-Deadline
 returns-in-Deadline g c =
-    rw c.in-Deadline.is (rw (← c.top_of-top.ensures.value) (rw (← c.deadline-len.ensures) c.put_later-in-Deadline.ensures))
+    rw c.in-Deadline.is (rw (← c.top_of-top.ensures.value) (rw (← c.deadline-len.ensures) c.put_later.ensures))

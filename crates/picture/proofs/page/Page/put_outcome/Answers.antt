@@ -9,5 +9,4 @@ returns g c =
     let jobs = c.args.jobs.now in
     let done : c.outcome_of-outcome.result.done ≡ length (done_of c.args.row.now.sheet.name jobs) = c.outcome_of-outcome.ensures.done ∙ ap (λ n. length (done_of n jobs)) c.name.ensures.same in
     let greatest : c.outcome_of-outcome.result.greatest ≡ greatest_of response_of (done_of c.args.row.now.sheet.name jobs) = c.outcome_of-outcome.ensures.greatest ∙ ap (λ n. greatest_of response_of (done_of n jobs)) c.name.ensures.same in
-    let head = rw (← done) (rw (← greatest) (puts_both c.in_ok-write.ensures.put c.in_ok-put_greatest.ensures)) in
-    puts_both (puts_both (puts_both head c.in_ok-put.ensures) c.in_ok-put_bound.ensures) c.put-2.ensures
+    rw (← done) (rw (← greatest) (puts_both (puts_both (puts_both (puts_both c.in_ok-write.ensures.put c.in_ok-put_greatest.ensures) c.in_ok-put.ensures) c.in_ok-put_bound.ensures) c.put-2.ensures))
