@@ -9,7 +9,7 @@ use Rattle.task_sheet.specs.Sheet.{Task, IsValidSheet, AllTasks, no_task, task_a
 use Rattle.task_sheet.specs.TaskSet.{rank_cmp, same_name, AreDistinct, IsTaskSet, IsByRank}
 use Rattle.task_sheet.specs.SheetsFault.{sheets_fault}
 use Rattle.task_sheet.proofs.SetLaws.{by_rank_one, no_fault}
-use Rattle.task_sheet.proofs.TaskLaws.{IsTask-from_valid, valid_at}
+use Rattle.task_sheet.proofs.TaskLaws.{IsTask-from_valid, task_read, valid_at}
 use Rattle.headroom.proofs.CostLaws.{placed-other, placed-same}
 
 -- the task has the name and the weight of the other one
@@ -38,7 +38,7 @@ ranked-placed [] i x same h = tt
 ranked-placed (y ∷ ys) zero x same h = (all-turned (λ z. rank_cmp y z ≡ Less) (λ z. rank_cmp x z ≡ Less) (λ z. rank-before x y z same) ys h.0, h.1)
 ranked-placed (y ∷ ys) (suc i) x same h = (all-placed (λ z. rank_cmp y z ≡ Less) x ys i (rank-after x (task_at ys i) y same) h.0, ranked-placed ys i x same h.1)
 
-pub IsByRank-placed : (U : List Task) (i : ℕ) (x : Task) (V : List Task) → IsNamesake x (task_at U i) → IsTaskSet U → IsByRank (slice_set U i x) V → V ≡ slice_set U i x
+IsByRank-placed : (U : List Task) (i : ℕ) (x : Task) (V : List Task) → IsNamesake x (task_at U i) → IsTaskSet U → IsByRank (slice_set U i x) V → V ≡ slice_set U i x
 IsByRank-placed U i x V same valid by_rank =
     let sheets = slice_set U i x in
     let own : IsByRank sheets sheets = record { permutation = IsPermutation-refl sheets; ranked = ranked-placed U i x same valid.ranked } in
@@ -55,9 +55,26 @@ distinct-placed [] i x same h = tt
 distinct-placed (y ∷ ys) zero x same h = (all-turned (λ z. same_name y z ≡ false) (λ z. same_name x z ≡ false) (λ z. named-before x y z same) ys h.0, h.1)
 distinct-placed (y ∷ ys) (suc i) x same h = (all-placed (λ z. same_name y z ≡ false) x ys i (named-after x (task_at ys i) y same) h.0, distinct-placed ys i x same h.1)
 
-pub no_fault-placed : (U : List Task) (i : ℕ) (x : Task) → IsNamesake x (task_at U i) → IsTaskSet U → sheets_fault (slice_set U i x) ≡ None
+no_fault-placed : (U : List Task) (i : ℕ) (x : Task) → IsNamesake x (task_at U i) → IsTaskSet U → sheets_fault (slice_set U i x) ≡ None
 no_fault-placed U i x same valid =
     no_fault (slice_set U i x) (distinct-placed U i x same valid.distinct) (omega (arith, valid.few, length-set U i x))
+
+-- ---- sheets that are those of a set, with one that was read and made another
+module _ (U sheets read : List Task) (i : ℕ) (made old : Task) (other : Task → Task) (set : IsTaskSet U) (inside : i < length U)
+    (copied : sheets ≡ U) (same : read ≡ U) (is : old ≡ get_or read i old) (written : made ≡ other old) (namesake : IsNamesake (other (task_at U i)) (task_at U i)) where
+  sheets-are : slice_set sheets i made ≡ slice_set U i (other (task_at U i))
+  sheets-are =
+      ap (λ (xs : List Task). slice_set xs i made) copied
+      ∙ ap (λ (t : Task). slice_set U i t) (written ∙ ap other (task_read U read i old same inside is))
+
+  -- by rank they stand as they are
+  pub placed-is : (V : List Task) → IsByRank (slice_set sheets i made) V → V ≡ slice_set U i (other (task_at U i))
+  placed-is V by_rank =
+      IsByRank-placed U i (other (task_at U i)) V namesake set (subst (λ (xs : List Task). IsByRank xs V) sheets-are by_rank)
+
+  -- they are a set: the names are the same, and as many
+  pub placed-fine : sheets_fault (slice_set sheets i made) ≡ None
+  placed-fine = ap sheets_fault sheets-are ∙ no_fault-placed U i (other (task_at U i)) namesake set
 
 -- each task of it is valid where the other one is
 pub AllTasks-placed : (U : List Task) (i : ℕ) (x : Task) → IsTaskSet U → i < length U → IsValidSheet x → AllTasks (slice_set U i x)
