@@ -18,23 +18,13 @@ const PLAIN: Options<'static> = Options {
 // Where deadlines are preferred.
 const BY_DEADLINE: Options<'static> = Options {
     prefer: Some(Preferred::Deadline),
-    task: None,
-    base: None,
-    lower_is_higher: false,
-    seed: None,
-    by_task: false,
-    tolerance: None,
+    ..PLAIN
 };
 
 // Where weights are.
 const BY_WEIGHT: Options<'static> = Options {
     prefer: Some(Preferred::Weight),
-    task: None,
-    base: None,
-    lower_is_higher: false,
-    seed: None,
-    by_task: false,
-    tolerance: None,
+    ..PLAIN
 };
 
 // Words, and the call that they name.
