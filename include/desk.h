@@ -73,9 +73,11 @@ size_t desk_diff(const uint8_t *set, size_t set_length, const uint8_t *changed, 
 size_t desk_releases(const uint8_t *set, size_t set_length, uint64_t until, uint8_t *room, size_t room_length,
                      uint8_t *status);
 
-/* The release list of a task's worst case: of the task of least slack in the best order, or of a refused set of the highest
- * task that does not meet its deadline in an order that decides. */
-size_t desk_worst(const uint8_t *set, size_t set_length, uint8_t *room, size_t room_length, uint8_t *status);
+/* The release list of the worst case of the task whose name this is. With NULL and 0 that of the task of
+ * least slack in the best order, or of a refused set of the highest task that does not meet its deadline in an order that
+ * decides. */
+size_t desk_worst(const uint8_t *set, size_t set_length, const uint8_t *task, size_t task_length, uint8_t *room,
+                  size_t room_length, uint8_t *status);
 
 /* What a simulated kernel does with a release list at the levels of the best order. */
 size_t desk_simulate(const uint8_t *set, size_t set_length, const uint8_t *releases, size_t releases_length,

@@ -19,6 +19,7 @@ import { keys, looks, names } from './driving/looking.mjs';
 import { slices, the_run } from './driving/running.mjs';
 import { tracing } from './driving/tracing.mjs';
 import { skipping, troubles } from './driving/troubles.mjs';
+import { worst_cases } from './driving/worst.mjs';
 
 const [count = '100', seed = String(Date.now() % 1000000)] = process.argv.slice(2);
 const { PAGE, SCENES } = process.env;
@@ -37,7 +38,7 @@ try {
   const in_chromium = is_firefox ? [] : [names, skipping];
   const scenes = [the_table, moving, preference, sorting, sections, other_forms, grips,
     all_execution, conflicts, mending, baseline, kept_baselines, judging, teams, files, the_run,
-    slices, tracing, keys, looks, delays, ...in_chromium];
+    slices, worst_cases, tracing, keys, looks, delays, ...in_chromium];
   for (const scene of scenes.filter(it => !SCENES || SCENES.split(',').includes(it.name))) {
     const before = tally.failed;
     try {

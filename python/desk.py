@@ -159,9 +159,9 @@ class Part:
 
 @dataclass(frozen=True)
 class Response:
-    """A time of a task and its parts. `time` is None where the task must be above another, or where
-    `judge` finds that it misses its deadline; `number` is that of its thread, of `judge`; `team` whose
-    it is, of `explain`, where the set is documents of teams."""
+    """A time of a task and its parts. `time` is None where the task must be above another, or where it
+    misses its deadline in an order; `number` is that of its thread, of `judge`; `team` whose it is, of
+    `explain`, where the set is documents of teams."""
 
     task: str
     time: int | None = None
@@ -183,12 +183,14 @@ class Explained(_Answer):
 
 @dataclass(frozen=True)
 class Conflict(_No):
-    """Tasks none of which can be the lowest of them, and what each needs there."""
+    """Tasks none of which can be the lowest of them, and what each needs there; and what becomes of
+    each task in an `order` that passes where any does, the lowest level first."""
 
     obstruction: tuple[str, ...]
     tasks: tuple[str, ...]
     needs: tuple[Response, ...]
     load: int
+    order: tuple[Response, ...]
 
 
 @dataclass(frozen=True)
@@ -428,7 +430,7 @@ def toml(tasks: Iterable[Task], prefer: str | None = None) -> str:
 # The commands of include/desk.h, each at its number less 1, and those that take a second input.
 _COMMANDS = ("admit", "certify", "check", "limits", "settings", "explain")
 _COMMANDS += ("judge", "diff", "releases", "simulate", "draw", "play", "observe", "worst")
-_SECOND = ("check", "judge", "diff", "simulate", "draw", "observe")
+_SECOND = ("check", "judge", "diff", "simulate", "draw", "observe", "worst")
 
 
 def _library() -> ctypes.CDLL:
@@ -577,6 +579,16 @@ def _responses(lines: Iterable[str]) -> tuple[Response, ...]:
     return tuple(out)
 
 
+def _in_order(words: Sequence[str]) -> Response:
+    """What becomes of a task in an order; the number of its thread, or its team, stands behind."""
+    k, name, what, *more = words
+    level, team, number = int(k), _team(words), int(more[-1]) if more[-2:-1] == ["at"] else None
+    if what == "below":
+        return Response(name, level=level, must_be_above=more[0], number=number)
+    time, deadline = (None, more[0]) if what == "misses" else (int(what), more[1])
+    return Response(name, time, int(deadline), level=level, number=number, team=team)
+
+
 def explain(tasks: Sheets) -> Explained | Conflict:
     """What each bound is made of, or a conflict and what its tasks need.
 
@@ -585,12 +597,15 @@ def explain(tasks: Sheets) -> Explained | Conflict:
     (800000, [('cost', None, 6000), ('above', 'b', 2000)])
     """
     status, said = _ask("explain", tasks)
-    first, *lines, last = said.splitlines()
-    load = int(last.split()[1])
+    first, *lines = said.splitlines()
+    end = next(k for k, it in enumerate(lines) if it.startswith("load ") and len(it.split()) == 2)
+    load = int(lines[end].split()[1])
     if not status:
-        return Explained(_responses(lines), load, text=said)
-    conflict = tuple(lines[0].split()[1:])
-    return Conflict(tuple(first.split()[1:]), conflict, _responses(lines[1:]), load, text=said)
+        return Explained(_responses(lines[:end]), load, text=said)
+    tasks_left, *needs = lines[:end]
+    order = tuple(_in_order(it.split()) for it in lines[end + 1 :])
+    conflict = tuple(tasks_left.split()[1:])
+    return Conflict(tuple(first.split()[1:]), conflict, _responses(needs), load, order, text=said)
 
 
 def limits(tasks: Sheets) -> Limits:
@@ -639,16 +654,9 @@ def judge(tasks: Sheets, settings: Text | Settings) -> Judged:
     """
     said = _ask("judge", tasks, settings)[1]
     first, *lines = said.splitlines()
-    levels = []
-    for k, name, what, *more, _, at in (it.split() for it in lines):
-        level, number = int(k), int(at)
-        if what == "below":
-            levels.append(Response(name, level=level, must_be_above=more[0], number=number))
-        else:
-            time = None if what == "misses" else int(what)
-            levels.append(Response(name, time, int(more[-1]), level=level, number=number))
+    levels = tuple(_in_order(it.split()) for it in lines)
     misses = tuple(first.split()[1:]) if first.startswith("misses") else ()
-    return Judged(misses, tuple(levels), text=said)
+    return Judged(misses, levels, text=said)
 
 
 def diff(tasks: Sheets, new: Sheets) -> Compared:
@@ -694,15 +702,17 @@ def _set_to(lines: Iterable[str]) -> Settings:
     return Settings(found["thread"], found["mutex"], text="".join(it + "\n" for it in lines))
 
 
-def worst(tasks: Sheets) -> Worst:
-    """The worst case of the task of least slack; of a refused set that of the highest task that
-    doesn't meet its deadline in an order that decides.
+def worst(tasks: Sheets, task: str = "") -> Worst:
+    """The worst case of this task, or of the one of least slack; of a refused set that of the highest
+    task that doesn't meet its deadline, in an order that decides.
 
     >>> found = worst([Task("a", 10_000, 10_000, 6000), Task("b", 5000, 5000, 1000)])
     >>> found.task, found.response, found.limit, found.releases.jobs[0]
     ('a', 8000, 8000, Release(arrival=0, task='a', late=0, runs=None))
+    >>> worst([Task("a", 10_000, 10_000, 6000), Task("b", 5000, 5000, 1000)], "b").response
+    1000
     """
-    status, said = _ask("worst", tasks)
+    status, said = _ask("worst", tasks, task.encode())
     lines = said.splitlines()
     words = lines.pop(0).split()[1:] if lines[0].startswith("#") else [None, None]
     name, kind, *more = words

@@ -1,5 +1,5 @@
 `desk explain SET` prints what each bound of the best order is made of; or a minimal conflict, with what each of its tasks
-needs. Every part stands once, and they add up.
+needs, and what becomes of each task in an order that passes where any does. Every part stands once, and they add up.
 
   $ desk explain examples/shared-lock.toml
   admitted 3
@@ -22,6 +22,8 @@ needs. Every part stands once, and they add up.
     cost 2000
     blocked 2500 by lo section 1 lock m
   load 400000
+  1 lo 14000 of 50000
+  2 hi misses 4400
   [3]
 
 No task, and a set that is refused:
@@ -42,6 +44,9 @@ One of two tasks that must stand above each other can't be left out; a third is 
   a must be above b
   b must be above a
   load 30000
+  1 c 300 of 10000
+  2 a below b
+  3 b 100 of 10000
   [3]
 
 The jitter of a task is a part of its own response; that of a task above brings a job more:

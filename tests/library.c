@@ -1,4 +1,4 @@
-/* Calls the static library as include/desk.h says: `library COMMAND FILE [FILE|UNTIL]` prints the answer, what is told of it
+/* Calls the static library as include/desk.h says: `library COMMAND FILE [FILE|UNTIL|TASK]` prints the answer, what is told of it
  * to standard error, and ends with its status. Each of the two is asked for with no room, with one byte too few, and with
  * bytes to spare, by four threads at once; the program aborts where these answers or their surroundings are not as the
  * header says.
@@ -91,7 +91,7 @@ static size_t ask(const struct question *it, uint8_t *room, size_t length, uint8
     if (!strcmp(command, "limits")) return desk_limits(a.at, a.length, room, length, status);
     if (!strcmp(command, "settings")) return desk_settings(a.at, a.length, room, length, status);
     if (!strcmp(command, "explain")) return desk_explain(a.at, a.length, room, length, status);
-    if (!strcmp(command, "worst")) return desk_worst(a.at, a.length, room, length, status);
+    if (!strcmp(command, "worst")) return desk_worst(a.at, a.length, b.at, b.length, room, length, status);
     if (!strcmp(command, "play")) return desk_play(a.at, a.length, room, length, status);
     if (!strcmp(command, "releases")) return desk_releases(a.at, a.length, it->until, room, length, status);
     if (!strcmp(command, "check")) return desk_check(a.at, a.length, b.at, b.length, room, length, status);
@@ -160,10 +160,12 @@ static void hold_unknown(uint8_t number)
 
 int main(int count, char **words)
 {
-    hold(count == 3 || count == 4, "usage: library COMMAND FILE [FILE|UNTIL]");
+    hold(count == 3 || count == 4, "usage: library COMMAND FILE [FILE|UNTIL|TASK]");
     struct question question = {words[1], read_file(words[2]), {NULL, 0}, 0, 0};
     if (!strcmp(words[1], "releases")) {
         question.until = strtoull(words[3], NULL, 10);
+    } else if (count == 4 && !strcmp(words[1], "worst")) {
+        question.second = (struct bytes){(uint8_t *)strdup(words[3]), strlen(words[3])};
     } else if (count == 4) {
         question.second = read_file(words[3]);
     }

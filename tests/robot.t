@@ -10,6 +10,15 @@ From a no to the node: nine tasks of a robot that share three mutexes. What stan
     cost 150
     blocked 900 by battery section 1 lock bus
   load 883516
+  1 upload 147350 of 500000
+  2 diagnostics 84750 of 200000
+  3 battery 43400 of 100000
+  4 planner 32750 of 40000
+  5 camera 16800 of 33000
+  6 lidar 7900 of 25000
+  7 balance 2750 of 4000
+  8 imu 1550 of 2500
+  9 motor misses 1000
   [3]
   $ desk limits examples/robot.toml
   infeasible motor

@@ -250,3 +250,68 @@ The set's, then the list's text, then that no order passes, then each refusal of
   $ { cat past.releases; echo 10000000 x; } | desk simulate 1-in-1000.toml -
   refused: PastHorizon
   [4]
+
+An order in front of the list
+-----------------------------
+
+Settings in front of `until` give the order, which need not pass; of a set that no order passes, too. hi is done past its
+deadline of 4400, and has no bound:
+
+  $ run examples/blocked-out.toml 'thread lo 1\nthread hi 2\nmutex m 2\nuntil 12000\n0 lo\n1001 hi\n'
+  0 3500 lo
+  3500 5500 hi
+  5500 12000 lo
+  job lo 0 12000
+  job hi 1001 5500
+  $ run examples/blocked-out.toml 'thread hi 9\nuntil 12000\n0 lo\n'
+  refused: MissingTask lo
+  [4]
+  $ run examples/blocked-out.toml 'thread lo 1\n# hi above\n\nthread hi 9\nuntil 12000\n0 lo\n1001 hi\n' | tail -n 1
+  job hi 1001 5500
+  $ printf 'thread lo 1\nthread hi 2\nuntil 12000\n0 lo\n1001 hi\n' | desk simulate examples/blocked-out.toml - --tasks
+  task lo 1 12000 14000
+  task hi 1 4499 -
+
+Of a set that is admitted the best order may be given, or another one: lo above the others:
+
+  $ desk settings examples/shared-lock.toml > best
+  $ cat best examples/shared-lock.releases | desk simulate examples/shared-lock.toml - > given
+  $ desk simulate examples/shared-lock.toml examples/shared-lock.releases | cmp - given
+  $ cat best examples/shared-lock.releases | desk simulate examples/shared-lock.toml - --tasks > given
+  $ desk simulate examples/shared-lock.toml examples/shared-lock.releases --tasks | cmp - given
+  $ run examples/shared-lock.toml 'thread hi 1\nthread mid 2\nthread lo 3\nuntil 30000\n0 lo\n100 hi\n'
+  0 20000 lo
+  20000 21000 hi
+  job lo 0 20000
+  job hi 100 21000
+
+A job may overrun the one before it:
+
+  $ run examples/shared-lock.toml 'thread hi 1\nthread mid 2\nthread lo 3\nuntil 30000\n0 lo\n100 hi\n10100 hi\n'
+  refused: Overrun hi 10100
+  [4]
+
+Settings and their faults are those of `judge`, lines counted in the whole. Faulty lines come first, then the settings, then
+the refusals of the releases:
+
+  $ run examples/blocked-out.toml 'thread lo 1\nthread hi 1\nuntil 9\n'
+  refused: SameNumber 2
+  [4]
+  $ run examples/blocked-out.toml '# one\nthread lo 1\nthread hi 2\nmutex m 1\nuntil 9\n9 z\n'
+  refused: WrongCeiling m
+  [4]
+  $ run examples/blocked-out.toml 'thread z 1\nuntil 9\n9\n'
+  refused: BadLine 3
+  [4]
+  $ run examples/blocked-out.toml 'thread lo\nuntil 9\n9\n'
+  refused: BadLine 1
+  [4]
+  $ run examples/blocked-out.toml 'thread lo 1\nthread hi 2\n'
+  refused: BadLine 3
+  [4]
+  $ run examples/blocked-out.toml 'thread lo 1\nthread hi 2\nuntil 9\n9 z\n'
+  refused: UnknownTask 1
+  [4]
+  $ run examples/blocked-out.toml 'threads lo 1\nuntil 9\n'
+  refused: BadLine 1
+  [4]

@@ -239,7 +239,7 @@ line that speaks of one task, but where keys stand:
   faster arm level 1 1 bound 8000 7500 slack 2000 2500 team arm
   faster pan level 2 2 bound 6300 5800 slack 13700 14200 team cam
 
-Of a least conflict the same, so that its teams know of each other; a task of one document has no team:
+Of a minimal conflict the same, so that its teams know of each other; a task of one document has no team:
 
   $ locked arm 10000 9000 bus 300 > moved/arm.toml
   $ desk explain moved 2> notes | sed 1d
@@ -251,6 +251,9 @@ Of a least conflict the same, so that its teams know of each other; a task of on
     cost 5000
     above arm 2 jobs 18000 team arm
   load 1166667
+  1 spin misses 30000 team base
+  2 pan misses 20000 team cam
+  3 arm 9400 of 10000 team arm
   $ cat moved/arm.toml moved/cam.toml > alone.toml
   $ desk diff kept alone.toml 2> notes | sed 1,2d
   removed tilt level 3 - bound 1000 - slack 29000 - team cam

@@ -51,8 +51,8 @@ Help names each command, and of a command its inputs, an example and its statuse
   2
   $ desk releases --help | grep -c '<SET> <UNTIL>$'
   1
-  $ desk worst --help | grep -c -e '<SET>$' -e '^ *--task <NAME>  *[A-Z]'
-  2
+  $ desk worst --help | grep -c -e '<SET>$' -e '^ *--task <NAME>  *[A-Z]' -e '^ *--at <SETTINGS>  *[A-Z]'
+  3
   $ desk rush --help | grep -c '<SCRIPT> <WORKERS>$'
   1
   $ for command in admit explain limits settings judge diff certify check releases worst simulate draw observe script play rush; do desk $command --help | grep -q "^Example: .*desk $command " || echo $command; desk $command --help | grep -q '^Status: 0 ' || echo $command; done

@@ -177,11 +177,7 @@ Two that must stand above each other, of which each passes; the one of least ran
   # a must-outrank b
   [3]
   $ desk worst each.toml --task b
-  # b 1 of 1
-  thread a 1
-  thread b 2
-  until 9000
-  0 b
+  # b must-outrank a
   [3]
 
 Of two with equal limits the one of least rank is lower:
@@ -272,3 +268,51 @@ No task, and refusals:
   [7]
   $ desk worst 2> /dev/null
   [2]
+
+With `--at` the same in an order that settings give, which then stand in front of the list, numbered from 1. In the order of
+above each deadline is met, and c has no slack; with c on top a is the highest that misses its deadline, in 3000 + 5000:
+
+  $ desk settings examples/three-tasks.toml | desk worst examples/three-tasks.toml --at -
+  # c 20000 of 20000
+  thread c 1
+  thread a 2
+  thread b 3
+  until 20000
+  0 c
+  0 a
+  0 b
+  7000 a
+  12000 b
+  14000 a
+  $ printf 'thread b 10\nthread a 20\nthread c 30\n' > down
+  $ desk worst examples/three-tasks.toml --at down
+  # a misses 7000
+  thread b 1
+  thread a 2
+  thread c 3
+  until 7000
+  0 a
+  0 c
+  [3]
+  $ desk worst examples/three-tasks.toml --at down | desk simulate examples/three-tasks.toml -
+  0 5000 c
+  5000 7000 a
+  job a 0 -
+  job c 0 5000
+  $ desk worst examples/three-tasks.toml --at down --task c
+  # c 5000 of 5000
+  thread b 1
+  thread a 2
+  thread c 3
+  until 20000
+  0 c
+  [3]
+
+Settings are refused as by `judge`, before the name of a task:
+
+  $ echo 'thread c 1' | desk worst --at=- examples/three-tasks.toml --task d
+  refused: MissingTask a
+  [4]
+  $ desk worst --at=down examples/three-tasks.toml --task d
+  refused: NoSuchTask d
+  [4]

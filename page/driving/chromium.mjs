@@ -21,7 +21,7 @@ export class Chromium extends Hand {
     it.listen();
     const { targetId } = await it.send('Target.createTarget', { url: 'about:blank' });
     it.session = (await it.send('Target.attachToTarget', { targetId, flatten: true })).sessionId;
-    for (const domain of ['Runtime', 'Page', 'DOM', 'Accessibility'])
+    for (const domain of ['Runtime', 'Page', 'DOM'])
       await it.send(`${domain}.enable`);
     await it.send('Browser.setDownloadBehavior', { behavior: 'allow', downloadPath: it.room });
     return it;

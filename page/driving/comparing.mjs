@@ -6,8 +6,8 @@ const PARTS = { cost: it => `own cost: ${it[1]} µs`, jitter: it => `jitter: ${i
   above: it => `${it[1]} above: ${it[2]} job${it[2] === '1' ? '' : 's'}, ${it[4]} µs` };
 // Each bar has the account's numbers, a part for each part of it, and their widths.
 function compare_bars(what, explain, { bars }) {
-  const blocks = explain.text.trimEnd().split(/\n(?! )/).slice(1)
-    .filter(it => !/^(load|conflict) /.test(it));
+  const [accounted] = explain.text.split(/\nload \d+\n/);
+  const blocks = accounted.split(/\n(?! )/).slice(1).filter(it => !it.startsWith('conflict '));
   const drawn = bars.filter(it => it.is_drawn);
   const timed = blocks.filter(it => / \d+ of \d+(\n|$)/.test(it));
   equal(drawn.length, timed.length, `${what}: bars`);
@@ -28,13 +28,22 @@ function compare_bars(what, explain, { bars }) {
       Math.abs(bar.end - 100 * deadline / scale) < .01,
       `${what}: ${name} is ${bar.width} wide, ends at ${bar.end}`);
     const ends = bar.places.map(([left, width]) => left + width);
-    expect(bar.places.every(([left], at) => Math.abs(left - (ends[at - 1] ?? 0)) < .01),
+    expect(bar.places.every(([left], at) => Math.abs(left - (ends[at - 1] ?? 0)) < .02) &&
+      Math.abs(ends.at(-1) - 100 * time / scale) < .2,
       `${what}: the parts of ${name} don't touch: ${bar.places}`);
     equal(bar.is_bad, explain.status === 3, `${what}: red of ${name}`);
   }
   if (explain.status === 0)
     equal(bars.map(it => it.name).join(), blocks.map(it => it.split(' ')[1]).reverse().join(),
       `${what}: order of the bars`);
+}
+// What becomes of each task in the order behind the conflict.
+const FATES = { misses: it => `misses ${it[3]} µs`, below: it => `stands below ${it[3]}` };
+function compare_order(what, explain, conflict) {
+  const [, order] = explain.text.split(/\nload \d+\n/);
+  const told = order.trimEnd().split('\n').map(it => it.split(' ')).map(it =>
+    `${it[1]}, level ${it[0]}: ${FATES[it[2]]?.(it) ?? `${it[2]} of ${it[4]} µs`}`);
+  expect(digits(conflict).endsWith(told.reverse().join('')), `${what}: ${conflict}`);
 }
 // Each change that mends a refused set has its button.
 function compare_mends(what, limits, mends) {
@@ -74,6 +83,7 @@ export function compare_set(what, set, seen) {
     wanted.simulate = native('simulate', [set, wanted.releases.text]);
     wanted.draw = native('draw', [set, wanted.releases.text]);
   }
+  if (wanted.admit.status === 3) wanted.worst = native('worst', [set]);
   for (const [name, it] of Object.entries(wanted))
     same(`${what}: ${name}`, answers[name], it, it.text.length < 200000 ? shown[`printed-${name}`] :
       undefined);
@@ -100,14 +110,44 @@ export function compare_set(what, set, seen) {
         `${what}: how far the cost of ${name} may go`);
     }
   if (wanted.admit.status === 3) compare_mends(what, wanted.limits.text, seen.mends);
+  if (wanted.explain.status === 3) compare_order(what, wanted.explain, seen.conflict);
   if (wanted.admit.status === 3)
     expect(seen.conflict && seen.verdict ===
       `No order passes: ${wanted.admit.text.trim().split(' ').slice(1).join(', ')}`,
       `${what}: ${seen.verdict}`);
   compare_told(what, wanted.admit, seen);
-  if (wanted.admit.status !== 0) return equal(slices.length, 0, `${what}: a picture of no run`);
-  const run = [...wanted.simulate.text.matchAll(/^(\d+) (\d+) (\S+)$/gm)]
+  const list = (wanted.releases ?? wanted.worst)?.text;
+  if (wanted.worst) compare_worst(what, wanted.worst, shown.worst);
+  if (!/^until /m.test(list ?? '')) return equal(slices.length, 0, `${what}: a picture of no run`);
+  compare_run(what, set, list, slices);
+}
+// The slices of a picture are those of the run.
+export function compare_run(what, set, list, slices) {
+  const simulated = native('simulate', [set, list]);
+  equal(simulated.status, 0, `${what}: simulate`);
+  const run = [...simulated.text.matchAll(/^(\d+) (\d+) (\S+)$/gm)]
     .map(it => `${it[3]} ${it[1]} to ${it[2]} us`);
-  expect(wanted.draw.text.length > 250000 || slices.sort().join() === run.sort().join(),
+  const is_long = native('draw', [set, list]).text.length > 250000;
+  expect(is_long || [...slices].sort().join() === run.sort().join(),
     `${what}: ${slices.length} slices of ${run.length}`);
+}
+// What the page says of a worst case, by the first line that the program prints of it.
+const WORST = [
+  [/^# (\S+) (\d+) of (\d+)$/, it =>
+    `In its worst case ${it[1]} takes ${it[2]} µs, of its bound ${it[3]} µs.`],
+  [/^# (\S+) misses (\d+)$/, it =>
+    `${it[1]} misses its deadline of ${it[2]} µs in this order.`],
+  [/^# (\S+) must-outrank (\S+)$/, it => `${it[1]} .* must stand above ${it[2]}`],
+  [/^# (\S+) below (\S+)$/, it => `^${it[2]}, above ${it[1]} `],
+  [/^# (\S+) below-a-miss$/, it => `^${it[1]} meets .* a job above it misses `],
+  [/^# (\S+) too-many-releases$/, it => ` ${it[1]} has more than 10000 jobs`],
+  [/^# (\S+) ends-inside-a-section$/, it => `^${it[1]} doesn't pass, .* inside a section`],
+  [/^# (\S+) within-a-tick$/, it => `^${it[1]} doesn't pass, .* the first µs `],
+];
+export function compare_worst(what, { text }, shown) {
+  const line = text.split('\n')[0], said = digits(shown);
+  const [pattern, means] = WORST.find(it => it[0].test(line)) ?? [];
+  if (!pattern) return equal(said, '', `${what}: nothing is said`);
+  const wanted = means(line.match(pattern));
+  expect(said === wanted || new RegExp(wanted).test(said), `${what}: ${said}, and not ${wanted}`);
 }

@@ -4,15 +4,24 @@
 import { writeFileSync } from 'fs';
 import { soon } from './hand.mjs';
 import { longest_chains, many_notes, many_sections, ordinary } from './heavy.mjs';
-import { browser, cell, equal, expect } from './page.mjs';
+import { browser, cell, equal, expect, is_firefox } from './page.mjs';
 
 // Milliseconds; and how often an edit is tried, since other programs hold up the page, too.
 const AIM = 50, MOST = 200, ROUNDS = 6;
 
-// A timer of the page notes the longest time that passes between two of its turns.
+// A timer of the page notes the longest time that passes between two of its turns. (Chromium lets
+// timers wait after a key until what it changed is on the screen; it also says which tasks took
+// more than 50 ms.)
 const watch = () => browser.run(() => {
   clearInterval(window.watched?.timer);
-  const it = window.watched = { longest: 0, last: performance.now() };
+  window.watched?.tasks?.disconnect();
+  const it = window.watched = { longest: 0, last: performance.now(), task: 0 };
+  if (PerformanceObserver.supportedEntryTypes.includes('longtask')) {
+    it.tasks = new PerformanceObserver(list => {
+      it.task = Math.max(it.task, ...list.getEntries().map(one => one.duration));
+    });
+    it.tasks.observe({ type: 'longtask' });
+  }
   it.timer = setInterval(() => {
     const now = performance.now();
     it.longest = Math.max(it.longest, now - it.last);
@@ -20,13 +29,13 @@ const watch = () => browser.run(() => {
   }, 4);
 });
 const longest_wait = () => browser.run(() => {
-  const { longest, last, timer } = window.watched;
+  const { longest, last, timer, task } = window.watched;
   clearInterval(timer);
-  return Math.max(longest, performance.now() - last);
+  return { wait: Math.max(longest, performance.now() - last), task };
 });
-const slow = new Map();
+const slow = new Map(), tasks = new Map();
 async function held_up(what, act) {
-  let least = Infinity;
+  let least = Infinity, least_task = Infinity;
   for (let round = 0; round < ROUNDS && least > AIM; round++) {
     await browser.settled();
     await watch();
@@ -34,9 +43,12 @@ async function held_up(what, act) {
     await browser.settled();
     // (what follows once the edits have stopped)
     await soon(600);
-    least = Math.min(least, await longest_wait());
+    const { wait, task } = await longest_wait();
+    least = Math.min(least, wait);
+    least_task = Math.min(least_task, task);
   }
   slow.set(what, Math.round(least));
+  tasks.set(what, Math.round(least_task));
   expect(least <= MOST, `${what} holds the page up ${Math.round(least)} ms`);
 }
 async function typed(...keys) {
@@ -75,18 +87,21 @@ async function edits(name, set) {
 }
 export async function delays() {
   slow.clear();
+  tasks.clear();
   for (const [name, set] of [['long chains', longest_chains()], ['sections', many_sections()],
     ['notes', many_notes()]])
     await edits(name, set);
   console.log(`held up, ms: ${[...slow].map(it => it.join(' ')).join(', ')}`);
   console.log(`held up longer than ${AIM} ms: ${[...slow].filter(it => it[1] > AIM).length}`);
+  const long = [...tasks].filter(it => it[1] > AIM).map(it => it.join(' '));
+  if (!is_firefox) console.log(`tasks of more than ${AIM} ms: ${long.join(', ') || 'none'}`);
   // What the measure says of a page that is held up.
   await watch();
   await browser.run(() => {
     setTimeout(() => { for (const from = performance.now(); performance.now() - from < 80;); }, 20);
   });
   await soon(300);
-  const wait = await longest_wait();
+  const { wait } = await longest_wait();
   expect(wait >= 80 && wait < 3000, `a page that is held up 80 ms: ${wait}`);
   equal(await browser.evaluate('document.getElementById("trouble").textContent'), '', 'trouble');
 }

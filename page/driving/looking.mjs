@@ -29,7 +29,10 @@ export async function keys() {
 export async function names() {
   await browser.open(PAGE_URL);
   await put({ set: example('robot-mended') });
+  await browser.send('Accessibility.enable');
   const { nodes } = await browser.send('Accessibility.getFullAXTree');
+  // (it costs each later scene time)
+  await browser.send('Accessibility.disable');
   const found = nodes.filter(
     it => !it.ignored &&
     ['button', 'textbox', 'slider', 'combobox', 'link', 'spinbutton', 'image', 'columnheader',

@@ -37,8 +37,10 @@ function looked() {
     delta: it.querySelector('.delta').textContent, is_bad: it.classList.contains('is-bad'),
     is_drawn: !it.querySelector('.track').hidden,
     parts: [...it.querySelectorAll('.track > .part')].map(part => part.dataset.tip),
-    places: [...it.querySelectorAll('.track > .part')]
-      .map(part => [parseFloat(part.style.left), parseFloat(part.style.width)]),
+    places: [...it.querySelectorAll('.track > .part')].map(part => {
+      const [box, all] = [part, part.parentElement].map(it => it.getBoundingClientRect());
+      return [box.left - all.left, box.width].map(it => 100 * it / all.width);
+    }),
     reach: ['.reach:not(.any)', '.reach.any'].map(mark => it.querySelector(mark))
       .map(mark => mark.hidden ? null : parseFloat(mark.style.width)),
     width: [...it.querySelectorAll('.track > .part')]

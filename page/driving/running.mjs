@@ -7,12 +7,13 @@ const run_state = () => browser.run(() => {
   const box = it => it.getBoundingClientRect(), edge = box(host);
   const letter = all.querySelector('text.s'), slice = all.querySelectorAll('.e')[1];
   return {
-    width: box(all.querySelector('svg')).width, height: box(all.querySelector('svg')).height,
+    width: box(all.querySelector('.run')).width, height: box(all.querySelector('.run')).height,
     left: host.scrollLeft, wide: host.clientWidth,
-    names: [...all.querySelectorAll('.names span')]
-      .map(it => [it.textContent, box(it).left - edge.left]),
+    names: [...all.querySelectorAll('#n .n')]
+      .map(it => [it.lastChild.data, box(it).left - edge.left]),
     letter: box(letter).height, slice: box(slice).width,
-    legend: box(all.querySelector('svg > g')).left - edge.left,
+    legend: box(all.querySelector('svg > g:not([id])')).left - edge.left,
+    hidden: [...all.querySelectorAll('.s')].filter(it => !it.checkVisibility()).length,
   };
 });
 export async function the_run() {
@@ -28,15 +29,15 @@ export async function the_run() {
     `letters and rows stay: ${fit.letter}, ${large.letter}`);
   const wider = large.slice / fit.slice;
   expect(Math.abs(wider - 1.25 ** 6) < .4, `time widens: ${wider}`);
-  expect(large.names.length === 9 && large.names.every(([, at]) => at >= 0 && at < 30),
+  expect(large.names.length === 10 && large.names.every(([, at]) => at >= 0 && at < 60),
     `names stay at the edge: ${JSON.stringify(large.names)}`);
   equal(large.names.map(it => it[0]).join(' '),
-    'motor imu balance planner lidar camera upload battery diagnostics', 'names alone');
+    'processor motor imu balance planner lidar camera upload battery diagnostics', 'names alone');
   expect(Math.abs(large.legend - fit.legend) < 2,
     `the legend stays: ${fit.legend}, ${large.legend}`);
   await browser.pull('#picture', .3, .6);
   expect((await run_state()).left < large.left, 'pulled');
-  expect((await run_state()).names.every(([, at]) => at >= 0 && at < 30), 'names stay, pulled');
+  expect((await run_state()).names.every(([, at]) => at >= 0 && at < 60), 'names stay, pulled');
   large = await run_state();
   await browser.run(() => document.getElementById('picture').focus());
   await browser.press('+');
@@ -90,6 +91,12 @@ export async function slices() {
   equal(await click_on('mid 21000 to 23000 us'),
     'mid, job 2, arrived at 20000 µs, done at 23000 µs: executes from 21000 to 23000 µs.',
     'a slice without a lock');
+  equal(await click_on('mid executes 21000 to 23000 us'),
+    'mid, job 2, arrived at 20000 µs, done at 23000 µs: executes from 21000 to 23000 µs.',
+    'the same in the lane of the processor');
+  equal(await click_on('hi: arrival 10000, done 11000, response 1000, bound 5000, ' +
+    'deadline 10000 us'), 'hi, job 2, arrived at 10000 µs, done at 11000 µs: from its arrival ' +
+    'to its bound.', 'a job');
   // A task with two sections of one lock, of which the second is cut off from the first.
   const { set, answers } = await put({ set: example('robot-mended'), until: '20000' });
   equal(answers.simulate.text, native('simulate', [set, answers.releases.text]).text, 'simulate');

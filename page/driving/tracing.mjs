@@ -1,18 +1,46 @@
 // Scenes of a node's trace: what it breaks, the trace as a picture, and the run beside it.
 import { readFileSync } from 'fs';
 import { same, sentence } from './comparing.mjs';
+import { soon } from './hand.mjs';
 import { EXAMPLES, browser, digits, equal, example, expect, native, put } from './page.mjs';
 
 const drawn = () => browser.run(() => {
   const count = (id, kind) => {
     const host = document.getElementById(id);
-    return host.hidden ? null : host.shadowRoot.querySelectorAll(kind).length;
+    return host.hidden ? null : host.shadowRoot.querySelectorAll(`.run > ${kind}`).length;
   };
   return { slices: count('traced', '.e'), broken: count('traced', '.z'),
     crosses: count('traced', '.x'), beside: count('arrivals', '.e'),
-    names: [...document.getElementById('traced').shadowRoot.querySelectorAll('.names span')]
+    names: [...document.getElementById('traced').shadowRoot.querySelectorAll('#n .n')]
       .map(it => it.textContent).join() };
 });
+// Both pictures, and how what they have in common looks.
+const both = () => browser.run(() => ['traced', 'arrivals'].map(id => {
+  const host = document.getElementById(id), all = host.shadowRoot;
+  const looks = ['.p', '.g', '.l', '.w', '.a', '.b', '.x', '.y', '.n', '.v', '.s', '.t', '.f0',
+    '.f1', '.f2'].map(it => {
+    const { fill, stroke, strokeWidth, fontSize } = getComputedStyle(all.querySelector(it));
+    // (the title of what is broken is red)
+    return it === '.t' ? fontSize : [fill, stroke, strokeWidth, fontSize].join(' ');
+  });
+  return { left: host.scrollLeft, looks: looks.join('|'),
+    wide: all.querySelector('.run').getBoundingClientRect().width };
+}));
+async function moved_together() {
+  let [trace, run] = await both();
+  equal(trace.looks, run.looks, 'the trace looks as the run');
+  expect(Math.abs(trace.wide - run.wide) < 2, `as wide: ${trace.wide}, ${run.wide}`);
+  const before = trace.wide;
+  await browser.run(() => document.getElementById('traced').focus());
+  for (let i = 0; i < 3; i++) await browser.press('+');
+  [trace, run] = await both();
+  expect(trace.wide > 1.3 * before && Math.abs(trace.wide - run.wide) < 2,
+    `zoomed together: ${before}, ${trace.wide}, ${run.wide}`);
+  await browser.run(() => { document.getElementById('arrivals').scrollLeft = 90; });
+  await soon(200);
+  [trace, run] = await both();
+  equal(`${trace.left} ${run.left}`, '90 90', 'scrolled together');
+}
 const observes = async (set, trace, what) => {
   const seen = await put({ set, trace });
   same(what, seen.answers.observe, native('observe', [set, trace]));
@@ -28,9 +56,11 @@ export async function tracing() {
     'hi, arrived at 200 µs: takes 6900 µs, and its bound is 5000 µs|hi, arrived at 200 µs: ' +
     'waits 5900 µs for tasks below it, lo first; its blocking is 4000 µs', 'which');
   equal(JSON.stringify(await drawn()), JSON.stringify(
-    { slices: 5, broken: 1, crosses: 1, beside: (await drawn()).beside, names: 'hi,mid,lo' }),
+    { slices: 5, broken: 1, crosses: 1, beside: (await drawn()).beside,
+      names: 'processor,hi,mid,lo' }),
   'the picture');
   expect((await drawn()).beside >= 4, 'and the run beside it');
+  await moved_together();
   equal(seen.shown.beside, 'The desk\'s run of the same arrivals, each job for its whole cost:',
     'what it is');
   equal(await browser.evaluate(`document.querySelectorAll('#seen .is-bad').length`), 1, 'in red');
@@ -45,7 +75,7 @@ export async function tracing() {
   equal((await rows_of('broken')).length, 0, 'nothing is broken');
   // A thread that the set doesn't have gets a row of its own; arrivals too soon have no run.
   await observes(set, '0 400 hi\n400 430 irq\n430 1030 hi\njob hi 0 1030\n', 'a foreign thread');
-  equal((await drawn()).names, 'hi,mid,lo,irq', 'its row');
+  equal((await drawn()).names, 'processor,hi,mid,lo,irq', 'its row');
   seen = await observes(
     set, 'job hi 0 1000\n0 1000 hi\njob hi 9999 10999\n9999 10999 hi\n', 'an arrival too soon');
   expect(/^No run beside it\. Refused: /.test(seen.shown['not-traced']), seen.shown['not-traced']);

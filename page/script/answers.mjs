@@ -42,16 +42,17 @@ function read_part(line) {
 }
 
 // `explain`: the account of each task from the lowest level up, or of each of the minimal conflict;
-// and the load.
+// the load; and behind it, of a conflict, what becomes of each task in an order that decides.
 export function read_explain({ text, status }) {
   if (status !== 0 && status !== 3) return null;
-  const found = { accounts: [], conflict: null, load: null };
+  const found = { accounts: [], conflict: null, load: null, order: [] };
   for (const line of lines_of(text).slice(1)) {
     const words = line.split(' ');
     if (line.startsWith('  ')) found.accounts.at(-1)?.parts.push(read_part(line));
     else if (status === 3 && words[0] === 'conflict' && !found.conflict)
       found.conflict = words.slice(1);
     else if (words[0] === 'load' && words.length === 2) found.load = Number(words[1]);
+    else if (found.load !== null) found.order.push(read_fate(line));
     else if (words[1] === 'must')
       found.accounts.push({ name: words[0], over: words[4], parts: [] });
     else {
@@ -150,4 +151,16 @@ export function read_observe({ text, status, told }) {
     return { refused: 'No order passes, so a node has nothing to keep to.', rows: [], breaks: [] };
   return { refused: null, rows: lines.filter(it => it[0] === 'task').map(read_seen),
     breaks: lines.filter(it => it[0] !== 'task').map(read_break) };
+}
+
+// `worst`: whose worst case it is, and what the job comes to, or why no list shows it.
+export function read_worst({ text, status }) {
+  if (status !== 0 && status !== 3) return null;
+  const lines = lines_of(text), has_list = lines.some(it => it.startsWith('until '));
+  const [, name = null, ...words] = lines.find(it => it.startsWith('# '))?.split(' ') ?? [];
+  const found = { name, has_list }, [first, second, third] = words;
+  if (second === 'of')
+    return { ...found, fate: 'bound', response: Number(first), bound: Number(third) };
+  if (first === 'misses') return { ...found, fate: first, deadline: Number(second) };
+  return { ...found, fate: first ?? null, other: second ?? null };
 }

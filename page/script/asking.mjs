@@ -6,8 +6,9 @@ import { safely, trouble } from './trouble.mjs';
 const SOURCE = URL.createObjectURL(
   new Blob([at('worker').textContent], { type: 'text/javascript' }));
 const bytes_of = text => new TextEncoder().encode(text);
-// The lanes: the set, how far its numbers go, the node's settings, its trace, the run of the
-// trace's arrivals, the script of teams, the baseline, and what has changed since.
+// The lanes: the set, how far its numbers go, the worst case of a task, the node's settings, its
+// trace, the run of the trace's arrivals, the script of teams, the baseline, and what has changed
+// since.
 export const lanes = {};
 let on_late = () => {};
 // `heard` has who hears each lane; `late` is called where an answer is late, `fell` where one fell.
@@ -23,7 +24,7 @@ export function open_lanes(heard, { late, fell }) {
 }
 let busy_since = 0, busy_timer = 0;
 function moved() {
-  const is_busy = lanes.set.is_busy || lanes.growth.is_busy;
+  const is_busy = lanes.set.is_busy || lanes.growth.is_busy || lanes.worst.is_busy;
   if (is_busy && !busy_since) {
     busy_since = Date.now();
     busy_timer = setInterval(safely(show_busy), 250);
@@ -38,7 +39,8 @@ function show_busy() {
   const since = busy_since ? Date.now() - busy_since : 0;
   at('busy').hidden = since < 500;
   if (since < 500) return;
-  const of_what = lanes.set.is_busy ? '' : ' on the limits';
+  const of_what = lanes.set.is_busy ? '' :
+    lanes.growth.is_busy ? ' on the limits' : ' on the worst case';
   write(at('busy-text'), `working${of_what}, ${Math.floor(since / 1000)} s`);
   on_late();
 }
@@ -50,9 +52,15 @@ export function ask() {
   state.is_waiting = state.is_growing = true;
   lanes.set.ask({ kind: 'set', set, until });
   lanes.growth.ask({ kind: 'limits', set });
+  if (state.run_of !== null) ask_worst();
   ask_node();
   ask_trace();
   ask_changes();
+}
+// The worst case of the task that is chosen, or of the one that the verdict is about.
+export function ask_worst() {
+  const { text, run_of: of } = state;
+  lanes.worst.ask({ kind: 'worst', set: bytes_of(text), task: bytes_of(of ?? ''), text, of });
 }
 // Of a node that says nothing there is nothing to ask.
 export function ask_node() {

@@ -48,9 +48,10 @@ const PULL =
 
 export class Bars {
   // `grow` sets a task's cost, `point` shows a section in the table, `tip` says what a pointer is
-  // on.
-  constructor(host, { grow, point, tip }) {
-    Object.assign(this, { host, grow, point, tip, rows: new Map(), pulled: null, given: null });
+  // on, `run` shows a task's worst case.
+  constructor(host, { grow, point, tip, run }) {
+    Object.assign(this, { host, grow, point, tip, run });
+    Object.assign(this, { rows: new Map(), pulled: null, pulls: 0, given: null });
     for (const it of ['pointerover', 'pointerdown'])
       host.addEventListener(it, event => this.hover(event));
     host.addEventListener('pointerleave', () => this.tip(null));
@@ -111,6 +112,7 @@ export class Bars {
       who: element('button.who', { type: 'button', 'aria-expanded': 'false' }),
       delta: element('span.delta'), room: element('span.room'), told: element('span.told'),
       track: element('div.track', { role: 'img' }), sum: element('div.sum', { hidden: true }),
+      pieces: [], open: () => [],
       grip: element(
         'input', { type: 'range', min: 0, step: 1, 'aria-label': `cost of ${name}`, title: PULL }),
       reach: element('i.reach'), any: element('i.reach.any'),
@@ -124,10 +126,14 @@ export class Bars {
     row.who.onclick = () => {
       row.sum.hidden = !row.sum.hidden;
       row.who.setAttribute('aria-expanded', !row.sum.hidden);
+      this.draw_sum(row);
     };
     row.grip.oninput = () => this.pull(row, name, Number(row.grip.value));
     row.grip.onkeydown = event => this.step(row, name, event);
-    row.grip.onpointerdown = () => { this.pulled = row; };
+    row.grip.onpointerdown = () => {
+      this.pulled = row;
+      this.pulls++;
+    };
     for (const it of ['pointerup', 'pointercancel', 'lostpointercapture'])
       row.grip.addEventListener(it, () => this.let_go(row));
     row.grip.onchange = () => this.let_go(row);
@@ -181,42 +187,53 @@ export class Bars {
     this.draw_track(row, name, account, deadline, before, scale);
     this.draw_growth(row, growth, can_edit, !!account);
     this.draw_delta(row, account, before, is_refused);
-    row.sum.replaceChildren(this.sum(name, account, deadline), ...this.reaches(name, limits));
+    row.open = () => [this.sum(name, account, deadline), ...this.reaches(name, limits),
+      element('button.small', { type: 'button', onclick: () => this.run(name) },
+        'Show its worst case')];
+    this.draw_sum(row);
+  }
+  // (only of a row that is open)
+  draw_sum(row) {
+    row.sum.replaceChildren(...row.sum.hidden ? [] : row.open());
+  }
+  // A part in a row's track, behind the one before it: what is there already is changed.
+  piece(row, place, { kind, width, text, tip, of }) {
+    const it = row.pieces[place] ??= element('i'), known = [kind, width, text, tip, of].join();
+    if (it.known === known) return it;
+    Object.assign(it, { known, className: `part ${kind}` });
+    it.style.width = `${width}%`;
+    if (it.textContent !== text) it.textContent = text;
+    Object.assign(it.dataset, { tip, of });
+    return coloured(it, of);
   }
 
   draw_track(row, name, account, deadline, before, scale) {
     row.track.hidden = !account || account.time === undefined;
     if (row.track.hidden) return;
-    const wide = (this.width - 12) / scale, pieces = [];
-    let from = 0;
-    for (const part of account.parts) {
-      const text = label_of(part);
+    const wide = (this.width - 12) / scale, at = time => 100 * time / scale;
+    const pieces = account.parts.map((part, place) => {
+      const told = label_of(part), of = part.by ?? name;
       const tip = `${part_told(part)} (${percent(part.time, deadline)} of the deadline)`;
-      const fits = text.length * LETTER < part.time * wide - 4 ? text : '';
-      const of = part.by ?? name;
-      const piece =
-        coloured(element(`i.part.${part.kind}`, { 'data-tip': tip, 'data-of': of }, fits), of);
-      piece.style.left = `${100 * from / scale}%`;
-      piece.style.width = `${100 * part.time / scale}%`;
-      from += part.time;
-      pieces.push(piece);
-    }
+      const text = told.length * LETTER < part.time * wide - 4 ? told : '';
+      return this.piece(row, place, { kind: part.kind, width: at(part.time), text, tip, of });
+    });
     if (account.time > deadline) {
-      const past = element('i.past');
-      past.style.left = `${100 * deadline / scale}%`;
-      past.style.width = `${100 * (account.time - deadline) / scale}%`;
-      past.style.opacity = .55;
-      pieces.push(past);
+      row.past ??= element('i.past');
+      Object.assign(row.past.style,
+        { left: `${at(deadline)}%`, width: `${at(account.time - deadline)}%`, opacity: .55 });
+      pieces.push(row.past);
     }
-    const end = element('i.end');
-    end.style.left = `${100 * deadline / scale}%`;
-    pieces.push(end);
+    row.end ??= element('i.end');
+    row.end.style.left = `${at(deadline)}%`;
+    pieces.push(row.end);
     if (before?.time !== undefined && before.time !== account.time) {
-      const ghost = element('i.before');
-      ghost.style.width = `${Math.min(100, 100 * before.time / scale)}%`;
-      pieces.push(ghost);
+      row.ghost ??= element('i.before');
+      row.ghost.style.width = `${Math.min(100, at(before.time))}%`;
+      pieces.push(row.ghost);
     }
-    row.track.replaceChildren(...pieces);
+    const drawn = row.track.children;
+    if (drawn.length !== pieces.length || pieces.some((it, place) => it !== drawn[place]))
+      row.track.replaceChildren(...pieces);
     const told = account.parts.map(part_told).join('; ');
     const label = `${name}: ${account.time} of ${deadline} microseconds: ${told}`;
     if (row.track.getAttribute('aria-label') !== label) row.track.setAttribute('aria-label', label);

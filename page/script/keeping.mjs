@@ -15,7 +15,20 @@ function keep_in(name, key, value) {
     // Nothing is kept.
   }
 }
-export const keep_set = ({ text, file }) => keep_in('sessionStorage', 'set', { text, file });
+// A set is kept once the edits have stopped, or the page goes.
+const PAUSE = 300;
+let set_timer = 0, unkept = null;
+function keep_set_now() {
+  clearTimeout(set_timer);
+  if (unkept) keep_in('sessionStorage', 'set', unkept);
+  unkept = null;
+}
+export function keep_set({ text, file }) {
+  clearTimeout(set_timer);
+  unkept = { text, file };
+  set_timer = setTimeout(keep_set_now, PAUSE);
+}
+addEventListener('pagehide', keep_set_now);
 export const kept_set = () => kept_in('sessionStorage', 'set');
 export const keep_baseline = it =>
   keep_in('localStorage', 'baseline', it && { text: it.text, name: it.name });

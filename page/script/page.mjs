@@ -10,6 +10,7 @@ import { kept_baseline, kept_set } from './keeping.mjs';
 import { compiled } from './lanes.mjs';
 import { Picture } from './picture.mjs';
 import { heat, tip } from './pointer.mjs';
+import { choose_run, heard_of_worst } from './run.mjs';
 import { Scale, execution_of, scaled } from './scale.mjs';
 import {
   NO_ANSWER, draw_bars, heard_of_node, heard_of_set, show_document, show_facts, show_fallen,
@@ -30,20 +31,25 @@ import {
 
 const point = (name, section) => parts.table.point(name, section);
 parts.table = new Table(at('table'), edit, key => { at('sorted').value = key; }, notice);
-parts.bars = new Bars(at('bars'), { grow: safely(grow), point, tip: safely(tip) });
+parts.bars = new Bars(at('bars'), { grow: safely(grow), point, tip: safely(tip),
+  run: safely(name => {
+    choose_run(name);
+    at('run-of').focus();
+  }) });
 parts.scale = new Scale(at('scale'), {
   execution: () => execution_of(state.document),
   apply: (base, permille) => edit(scaled(state.document, base, permille), 'scale'),
 });
 parts.picture = new Picture(at('picture'), {
-  zoomed: zoom => write(at('zoom'), `${Math.round(100 * zoom)} %`),
+  moved: ({ zoom }) => write(at('zoom'), `${Math.round(100 * zoom)} %`),
   pointed: text => write(at('pointed'), text),
   chosen: title => at('slice').replaceChildren(...title === null ? [] :
     slice_told(title, parts.picture.titles(), state.document, point)),
 });
-// The pictures of a trace and of the run beside it scroll, and say what is under the pointer.
-for (const it of ['traced', 'arrivals'])
-  parts[it] = new Picture(at(it), { zoomed: () => {}, chosen: () => {},
+// The pictures of a trace and of the run beside it scroll together, and say what is under the
+// pointer.
+for (const [it, other] of [['traced', 'arrivals'], ['arrivals', 'traced']])
+  parts[it] = new Picture(at(it), { moved: place => parts[other]?.follow(place), chosen: () => {},
     pointed: text => write(at('trace-pointed'), text) });
 parts.mend = safely(mend);
 parts.redraw = safely(() => {
@@ -56,9 +62,9 @@ function heard_of_script({ name, text, status, told }, { text: script }) {
   show_teams(script, { text, status, told });
 }
 open_lanes({
-  set: heard_of_set, growth: heard_of_set, node: heard_of_node, trace: heard_of_trace,
-  arrivals: heard_of_arrivals, script: heard_of_script, baseline: heard_of_baseline,
-  changes: heard_of_changes,
+  set: heard_of_set, growth: heard_of_set, worst: heard_of_worst, node: heard_of_node,
+  trace: heard_of_trace, arrivals: heard_of_arrivals, script: heard_of_script,
+  baseline: heard_of_baseline, changes: heard_of_changes,
 }, { late: show_late, fell: show_fallen });
 
 // ---- what is pressed and typed
@@ -95,6 +101,7 @@ on('set', 'input', () => {
 });
 for (const it of ['focus', 'pointerenter']) on('set', it, fill_area);
 on('until', 'input', ask);
+on('run-of', 'change', () => choose_run(at('run-of').value || null));
 on('judged', 'input', ask_node);
 on('trace', 'input', ask_trace);
 on('script', 'input', ask_script);
@@ -140,6 +147,7 @@ on('restore', 'click', () => change(state.baseline.text));
 on('stop', 'click', () => {
   lanes.set.stop();
   lanes.growth.stop();
+  lanes.worst.stop();
   if (state.is_waiting) show_verdict(NO_ANSWER);
   notice('Stopped. Change the text to ask again.');
 });
@@ -211,5 +219,6 @@ start().catch(error => {
   trouble(`The module failed: ${error?.message ?? error}. ${needs}`);
 });
 // For tests.
-const is_drawing = () => parts.table.turns.is_busy || parts.bars.turns.is_busy;
+const DRAWING = ['table', 'bars', 'picture', 'traced', 'arrivals'];
+const is_drawing = () => DRAWING.some(it => parts[it].turns.is_busy);
 globalThis.desk = { state, is_drawing, lanes: Object.values(lanes) };

@@ -9,11 +9,14 @@ import { fates, judgement } from './judging.mjs';
 import { lanes } from './asking.mjs';
 import { lead, line_named } from './leading.mjs';
 import { cell_refused, span_refused } from './refusals.mjs';
-import { is_drawable } from './picture.mjs';
+import { show_lines, show_printed, unprint } from './printing.mjs';
+import {
+  is_of_one, settle_run, show_choices, show_late_run, show_picture, undrawn,
+} from './run.mjs';
 import { cut, parts, past, state } from './state.mjs';
 import { name_of, number_in, string_in } from './toml.mjs';
 import { safely, trouble } from './trouble.mjs';
-import { conflict_told, facts_told, lines_told, mends_told, verdict_told } from './words.mjs';
+import { conflict_told, facts_told, mends_told, verdict_told } from './words.mjs';
 export const NO_ANSWER = { kind: 'refused', refusal: null, sentence: 'no answer' };
 const SHOW = {
   admit: it => {
@@ -26,41 +29,28 @@ const SHOW = {
   certify: ({ text, status }) => show_certificate(status === 0 || status === 3 ? text : null),
   check: ({ text }) => write(at('checked'), `desk check: ${text.trim()}`),
   releases: it => {
-    undrawn(it.status === 0 ? '' : `No picture. ${sentence_of(it, 'until')}`);
+    if (!is_of_one()) undrawn(it.status === 0 ? '' : `No picture. ${sentence_of(it, 'until')}`);
     show_lines();
   },
   simulate: () => {},
-  draw: it => show_picture(it),
+  draw: it => {
+    if (!is_of_one()) show_picture(it);
+  },
 };
 // What the new answers have no line for goes: the picture of a refused set, say.
 export function heard_of_set({ id, name, text, status, told }) {
   const is_growth = name === 'limits';
   if (!is_growth && id !== state.question) {
     state.question = id;
-    const { limits, judge, observe, play } = state.answers;
-    state.answers = { ...limits && { limits }, ...judge && { judge },
+    const { limits, worst, judge, observe, play } = state.answers;
+    state.answers = { ...limits && { limits }, ...worst && { worst }, ...judge && { judge },
       ...observe && { observe }, ...play && { play } };
-    for (const it of ['settings', 'certify', 'check', 'releases', 'simulate', 'draw'])
-      at(`printed-${it}`)?.parentElement.remove();
+    unprint('settings', 'certify', 'check', 'releases', 'simulate', 'draw');
   }
   state.answers[name] = { text, status, told };
   if (status === 6) trouble(`${name}: no memory for the whole answer.`);
   SHOW[name](state.answers[name]);
   show_printed(name, text, status);
-}
-const PRINTED = ['admit', 'explain', 'settings', 'certify', 'check', 'releases', 'simulate',
-  'draw', 'limits'];
-function show_printed(name, text, status) {
-  let place = at(`printed-${name}`);
-  if (!place) {
-    place = element('pre', { id: `printed-${name}`, tabIndex: 0 });
-    const behind = PRINTED.slice(PRINTED.indexOf(name) + 1)
-      .map(it => at(`printed-${it}`)?.parentElement).find(it => it) ?? null;
-    at('printed').insertBefore(
-      element('div', {}, element('h3', { className: 'code' }), place), behind);
-  }
-  write(place.previousSibling, `desk ${name}${status ? ` [${status}]` : ''}`);
-  write(place, cut(text));
 }
 // The note on a conflict stands above it; of very many others the first are shown.
 const NOTES = 100;
@@ -86,14 +76,8 @@ export function show_verdict(admit) {
     state.document, { wrong, bad: admit.kind === 'infeasible' ? admit.names : [] });
   at('answer').classList.toggle('is-stale', state.is_stale);
   at('stale').hidden = !state.is_stale || !state.explained;
-  if (admit.kind !== 'admitted') no_run();
+  settle_run();
   if (state.is_stale) write(at('facts'), '');
-}
-function no_run() {
-  parts.picture.clear();
-  offer(at('svg'), 'desk.svg', null);
-  const why = state.is_stale ? 'The set is refused' : 'No order passes';
-  undrawn(`${why}, so there is no run to draw.`);
 }
 function show_explained(explained) {
   if (!explained) return show_conflict(null);
@@ -172,21 +156,6 @@ function show_certificate(text) {
   if (text === null) write(at('checked'), '');
   show_lines();
 }
-function undrawn(text) {
-  at('undrawn').hidden = !text;
-  write(at('undrawn'), text);
-}
-function show_picture({ text, status }) {
-  if (status !== 0) return;
-  offer(at('svg'), 'desk.svg', text, 'image/svg+xml');
-  if (parts.picture.show(text)) return;
-  undrawn(is_drawable(text) ? 'The picture is long. ' : 'The picture is very long: download it.');
-  const onclick = safely(() => undrawn(parts.picture.show(text, true) ? '' : 'It is no picture.'));
-  if (is_drawable(text))
-    at('undrawn').append(element('button.small', { type: 'button', onclick }, 'Draw it'));
-}
-export const show_lines = () => write(
-  at('lines'), lines_told(state.file.name, state.answers, at('judged').value.trim()).join('\n'));
 // ---- the priorities that a node has
 export function heard_of_node(answer) {
   if (!answer) return show_judgement(null);
@@ -216,6 +185,7 @@ export function show_document() {
   at('undo').disabled = !past.can_undo;
   at('redo').disabled = !past.can_redo;
   write(at('file-name'), state.file.name);
+  show_choices();
 }
 // What is known no more once an answer is late: the limits of the set before it are not shown for
 // long beside new bounds.
@@ -224,6 +194,7 @@ export function show_late() {
     at('strip').className = 'verdict';
     write(at('verdict'), '…');
   }
+  show_late_run();
   if (!state.is_growing || !state.limits) return;
   state.limits = null;
   show_mends();

@@ -2,20 +2,24 @@
 import { element, grouped, us } from './dom.mjs';
 import { name_of, sections_in } from './toml.mjs';
 
-const JOB = /^(\S+): arrival (\d+), (?:done (\d+)|not done)/;
+const JOB = /^(\S+): arrival (\d+), (?:done (\d+), response \d+|not done), bound (\d+|-)/;
+const MISS =
+  /^(\S+): arrival (\d+), (?:done (\d+), response \d+|not done), deadline (\d+) us missed$/;
 const SLICE = /^(\S+) (?:holds (.+) )?(\d+) to (\d+) us$/;
+// (the processor's lane has each slice whole)
+const WHOLE = /^(\S+) executes() (\d+) to (\d+) us$/;
 
 const read_job = ([, name, arrival, done]) =>
   ({ name, arrival: Number(arrival), done: done === undefined ? null : Number(done) });
 const read_slice = ([, name, locks, start, stop]) =>
-  ({ name, locks: locks ?? null, start: Number(start), stop: Number(stop) });
+  ({ name, locks: locks || null, start: Number(start), stop: Number(stop) });
 const read_all = (titles, pattern, read) =>
   titles.map(it => it.match(pattern)).filter(it => it).map(read);
 
-// The jobs of a task end one after another: a slice is of the first that ends no earlier.
-function job_of({ name, stop }, jobs) {
+// A job of a task, with its number and since when the one before it is done.
+function job_of(name, jobs, is_it) {
   const own = jobs.filter(it => it.name === name).sort((a, b) => a.arrival - b.arrival);
-  const index = own.findIndex(it => it.done === null || it.done >= stop);
+  const index = own.findIndex(is_it);
   return index < 0 ? null : { ...own[index], number: index + 1, since: own[index - 1]?.done ?? 0 };
 }
 // A section stands where so much of the job's execution lies before it.
@@ -32,16 +36,24 @@ function job_told({ name, number, arrival, done }) {
   return [element('b', name), `, job ${number}, arrived at ${us(arrival)}, ${end}`];
 }
 
+// The title of a job's box, or of what is hatched of it, in words.
+function box_told(title, jobs) {
+  const missed = title.match(MISS), box = missed ?? title.match(JOB);
+  const { name, arrival } = box ? read_job(box) : {};
+  const job = box && job_of(name, jobs, it => it.arrival === arrival);
+  if (!job) return [title];
+  const what = missed ? `misses its deadline of ${us(Number(missed[4]))}` :
+    `from its arrival to its ${box[4] === '-' ? 'deadline' : 'bound'}`;
+  return [...job_told(job), `: ${what}.`];
+}
 // The title of what was clicked, in words; `point` shows a section in the table.
 export function slice_told(title, titles, { tasks }, point) {
   const jobs = read_all(titles, JOB, read_job), slices = read_all(titles, SLICE, read_slice);
-  const found = title.match(SLICE), box = title.match(JOB);
-  if (!found) {
-    const it = box && read_job(box);
-    const job = it && job_of({ name: it.name, stop: it.done ?? Infinity }, jobs);
-    return job ? [...job_told(job), ': from its arrival to its bound.'] : [title];
-  }
-  const slice = read_slice(found), job = job_of(slice, jobs);
+  const found = title.match(SLICE) ?? title.match(WHOLE);
+  if (!found) return box_told(title, jobs);
+  // The jobs of a task end one after another: a slice is of the first that ends no earlier.
+  const slice = read_slice(found);
+  const job = job_of(slice.name, jobs, it => it.done === null || it.done >= slice.stop);
   const head = job ? job_told(job) : [element('b', slice.name)];
   if (!slice.locks) return [...head, `: executes ${span_told(slice)}.`];
   const task = tasks.find(it => name_of(it) === slice.name);

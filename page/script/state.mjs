@@ -13,6 +13,8 @@ export const state = {
   text: at('set').value, document: null,
   file: { name: 'robot-mended.toml', has_mark: false, has_crlf: false },
   answers: {}, admit: null, explained: null, limits: null, baseline: null, changes: null,
+  // (whose worst case is drawn, none for all tasks, and what the desk says of it)
+  run_of: null, worst: null,
   conflict_told: null, is_stale: false, is_waiting: true, is_growing: true, question: 0,
 };
 export const past = new History(state.text);

@@ -4,10 +4,9 @@ import { read_observe, sentence_of } from './answers.mjs';
 import { ask_arrivals } from './asking.mjs';
 import { at, write } from './dom.mjs';
 import { lead, line_named } from './leading.mjs';
-import {
-  broken_rows, observation, picture_of, read_trace, releases_of, seen_rows,
-} from './observing.mjs';
+import { broken_rows, observation, read_trace, releases_of, seen_rows } from './observing.mjs';
 import { parts, state } from './state.mjs';
+import { picture_of } from './traced.mjs';
 
 // A longer trace isn't drawn: the browser would be busy with nothing else.
 const MOST_DRAWN = 2000;

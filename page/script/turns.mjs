@@ -14,6 +14,11 @@ export class Turns {
     this.left = [...items].reverse();
     this.go_on_later();
   }
+  // Nothing that is left is done.
+  stop() {
+    clearTimeout(this.timer);
+    this.left = null;
+  }
   // All that is left, at once.
   finish() {
     this.go_on(Infinity);

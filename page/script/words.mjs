@@ -1,6 +1,7 @@
 // The verdict, the minimal conflict and the facts beside them, in words.
 import { number_told } from './bars.mjs';
 import { element, grouped, plural, thousandths, us } from './dom.mjs';
+import { fate_told } from './judging.mjs';
 
 export function verdict_told(admit) {
   if (admit.kind === 'admitted') return `Admitted: ${plural(admit.count, 'task')}`;
@@ -38,10 +39,18 @@ export function mends_told(limits, mend) {
   return ['Each of these changes alone mends it:',
     element('ul', ...all.map(it => mend_told(it, mend)))];
 }
-// The desk's word on the conflict, and what each of its tasks needs.
-export function conflict_told(word, { accounts }, point) {
+// What becomes of each task in an order that passes wherever one does; the highest stands on top.
+function order_told(order) {
+  if (!order.length) return [];
+  const rows = [...order].reverse().map(it =>
+    element('li', element('b', it.name), `, level ${it.level}: ${fate_told(it)}`));
+  return [element('details', element('summary', 'In an order that passes wherever one does'),
+    element('ul', ...rows))];
+}
+// The desk's word on the conflict, what each of its tasks needs, and one order of all.
+export function conflict_told(word, { accounts, order }, point) {
   const needs = element('ul', ...accounts.map(it => need_told(it, point)));
-  return [...word ? [`${word}:`] : [], needs];
+  return [...word ? [`${word}:`] : [], needs, ...order_told(order)];
 }
 
 export function facts_told(explained, limits, was) {
@@ -61,7 +70,7 @@ export function facts_told(explained, limits, was) {
 }
 
 // The commands that print what the page shows, of a set's file.
-export function lines_told(file, { admit, releases }, has_settings) {
+export function lines_told(file, { admit, releases, worst }, has_settings, task) {
   const set = /^[\w.+][\w.+-]*$/.test(file) ? file : `'./${file.replaceAll("'", "'\\''")}'`;
   const lines = [`desk admit ${set}`];
   if (!admit || admit.status === 4) return lines;
@@ -71,6 +80,9 @@ export function lines_told(file, { admit, releases }, has_settings) {
   if (releases?.status === 0)
     lines.push(
       `desk releases ${set} ${releases.text.split(/\s/)[1]} | desk draw ${set} - > desk.svg`);
+  if (/^until /m.test(worst?.text))
+    lines.push(`desk worst ${set}${task === null ? '' : ` --task ${task}`} | ` +
+      `desk draw ${set} - > worst.svg`);
   if (has_settings) lines.push(`desk judge ${set} node-settings`);
   return lines;
 }

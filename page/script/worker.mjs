@@ -11,12 +11,12 @@ const INPUTS = {
   admit: ['set'], explain: ['set'], settings: ['set'], certify: ['set'], limits: ['set'],
   check: ['set', 'certificate'], diff: ['set', 'changed'],
   judge: ['set', 'settings'], releases: ['set', 'until'], simulate: ['set', 'releases'],
-  draw: ['set', 'releases'], play: ['script'], observe: ['set', 'trace'],
+  draw: ['set', 'releases'], play: ['script'], observe: ['set', 'trace'], worst: ['set', 'task'],
   tell: ['command', 'first', 'second', 'until'],
 };
 // The commands by the numbers that include/desk.h gives them, from 1.
 const NUMBERED = ['admit', 'certify', 'check', 'limits', 'settings', 'explain', 'judge', 'diff',
-  'releases', 'simulate', 'draw', 'play', 'observe'];
+  'releases', 'simulate', 'draw', 'play', 'observe', 'worst'];
 let module = null, desk = null;
 
 function room_of(length) {
@@ -107,6 +107,10 @@ const SAY = {
   },
   limits({ set }, ask) {
     ask('limits', { set });
+  },
+  worst({ set, task }, ask) {
+    const list = ask('worst', { set, task });
+    if (list.bytes && /^until /m.test(list.text)) ask('draw', { set, releases: list.bytes });
   },
   baseline({ set }, ask) {
     ask('admit', { set });

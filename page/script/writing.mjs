@@ -3,8 +3,9 @@ import { ask } from './asking.mjs';
 import { at } from './dom.mjs';
 import { opened, text_of_fragment } from './files.mjs';
 import { keep_set } from './keeping.mjs';
-import { draw_bars, show_document, show_lines } from './showing.mjs';
-import { followed, past, state } from './state.mjs';
+import { show_lines } from './printing.mjs';
+import { draw_bars, show_document } from './showing.mjs';
+import { followed, parts, past, state } from './state.mjs';
 import {
   name_of, number_in, put_key, put_preference, sections_in, set_number, spliced, string_in,
 } from './toml.mjs';
@@ -12,7 +13,7 @@ import { notice, safely } from './trouble.mjs';
 // The text is another. `by` is what was edited: the text area keeps what is typed there.
 export function change(text, { key = null, by = '' } = {}) {
   if (text === state.text) return;
-  past.push(text, key);
+  past.push(text, key, parts.bars.pulled !== null);
   become(text, by);
 }
 function become(text, by = '') {
@@ -66,7 +67,8 @@ export function grow(name, cost) {
   const last =
     Math.max(
     0, ...sections_in(state.document.tasks[index]).map(it => (it.at ?? 0) + (it.len ?? 0)));
-  edit(set_number(state.document, index, 'cost', Math.max(cost, last)), `grip ${name}`);
+  const key = `grip ${name} ${parts.bars.pulls}`;
+  edit(set_number(state.document, index, 'cost', Math.max(cost, last)), key);
 }
 // A number of a task, as far as `limits` says that it has to come. A period takes a later deadline
 // along, and a deadline a shorter period.

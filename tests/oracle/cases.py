@@ -85,6 +85,10 @@ def of_set(rng, subject):
         others = make_sets.changed(rng, sheets) if rng.random() < 0.7 else sheets
         inputs.append(make_lines.settings_of(rng, sets.by_rank(others)))
         return called(rng, subject, inputs, options, by="keep")
+    if subject == "worst" and rng.random() < 0.4:
+        tasks = sets.by_limits(sheets) if (prefer or own) == "deadline" else sets.by_rank(sheets)
+        inputs.append(make_lines.settings_of(rng, tasks))
+        return called(rng, subject, inputs, options, by="at")
     return called(rng, subject, inputs, options, number)
 
 
@@ -157,7 +161,7 @@ def called(rng, subject, inputs, options=(), number=None, by=None):
 
 
 WORDS = ["-", "--", "set", "set", "none", "folder", "--prefer", "deadline", "--prefer=deadline", "--prefer=weight", "--prefer=name", "--prefer=",
-         "--task", "--task=a", "--task=", "--seed", "--seed=8", "--seed=4294967296", "--tasks", "--tasks=", "--tolerance", "--tolerance=8", "--base=1", "--base=0", "--base", "--lower-is-higher", "--lower-is-higher=1", "--keep", "--keep=set", "--keep=-", "-x", "--x",
+         "--task", "--task=a", "--task=", "--seed", "--seed=8", "--seed=4294967296", "--tasks", "--tasks=", "--tolerance", "--tolerance=8", "--base=1", "--base=0", "--base", "--lower-is-higher", "--lower-is-higher=1", "--keep", "--keep=set", "--keep=-", "--at", "--at=set", "--at=-", "-x", "--x",
          "", "0", "1", "8", "9", "+8", "007", "+", "++8", "0x8", "-8", " 8", "8_0", "60000000", "60000001", "1" * 25]  # fmt: skip
 
 

@@ -67,15 +67,24 @@ def check(tasks, said):
 def of_task(command):
     """A command that with the name of a task says that task's lines alone."""
 
-    def on_set(tasks, task=None):
+    def on_set(tasks, *more, task=None):
         if task is None:
-            return command(tasks, None)
+            return command(tasks, *more, None)
         index = next((i for i, sheet in enumerate(tasks) if sheet.name == task), None)
         if index is None:
             return " ".join(["refused: NoSuchTask", *[task] * is_name(task)]) + "\n", 4
-        return command(tasks, index)
+        return command(tasks, *more, index)
 
     return on_set
+
+
+def at_settings(command):
+    """A command that speaks of an order which settings give, of one task or of all."""
+
+    def on_rows(tasks, rows, task=None):
+        return of_task(command)(tasks, settings.node_order(tasks, rows), task=task)
+
+    return on_rows
 
 
 @of_task
@@ -97,7 +106,16 @@ def explain(tasks, task):
                 text += needs(tasks, i, conflict - {i})
     if task is None:
         text.append(f"load {analysis.load(tasks)}\n")
+        if order is None:
+            text += decided(tasks)
     return "".join(text), 0 if order is not None else INFEASIBLE
+
+
+def decided(tasks):
+    """What becomes of each task in an order that decides; `below` speaks of two, so that no team stands there."""
+    for level, i, words in settings.judged_levels(tasks, worst.order_for(tasks, None)):
+        team = "" if words.startswith("below ") else tasks.beside(tasks[i].name)
+        yield f"{level} {tasks[i].name} {words}{team}\n"
 
 
 def needs(tasks, i, above):
@@ -191,13 +209,26 @@ def judge(tasks, rows, lower_is_higher=False):
     return settings.judge(tasks, settings.node_order(tasks, heights), rows)
 
 
+def simulate(tasks, said, by_task=False):
+    rows, until, releases = said
+    if rows:
+        return simulate_in(tasks, settings.node_order(tasks, rows), until, releases, by_task), 0
+    return simulate_best(tasks, until, releases, by_task)
+
+
 @with_order
-def simulate(tasks, order, said, by_task=False):
-    kernel.check_releases(tasks, *said)
-    slices, jobs = kernel.run(tasks, order, analysis.ceilings(tasks, order), *said)
+def simulate_best(tasks, order, until, releases, by_task):
+    return simulate_in(tasks, order, until, releases, by_task)
+
+
+def simulate_in(tasks, order, until, releases, by_task):
+    """What is printed of a run in an order, passing or not."""
+    kernel.check_releases(tasks, until, releases)
+    slices, jobs = kernel.run(tasks, order, analysis.ceilings(tasks, order), until, releases)
+    kernel.check_overruns(jobs)
     if not by_task:
         return kernel.simulated(slices, jobs)
-    return "".join(kernel.came_to(tasks[i], bound, jobs) for i, bound in bounds_of(tasks, order).items())
+    return "".join(kernel.came_to(tasks[i], bound, jobs) for i, bound in settings.bounds_in(tasks, order).items())
 
 
 def releases(tasks, until, seed=None):
@@ -240,6 +271,7 @@ def on_set(run, *readers, number=(), options=PREFERS, by_file=()):
 
 
 KEEP = on_set(keep, settings.read_settings)
+WORST_AT = on_set(at_settings(worst.worst_at), settings.read_settings, options=OF_TASK)
 
 
 COMMANDS = {
@@ -253,7 +285,7 @@ COMMANDS = {
     "diff": on_set(diff, read_change),
     "simulate": on_set(simulate, kernel.read_releases, options={**PREFERS, "tasks": calls.FLAG}),
     "releases": on_set(releases, number=(0, kernel.HORIZON), options={**PREFERS, "seed": calls.number_within(0, 2**32 - 1)}),
-    "worst": on_set(of_task(worst.worst), options=OF_TASK),
+    "worst": on_set(of_task(worst.worst), options={**OF_TASK, "at": calls.any_word}, by_file=("at", WORST_AT)),
     "draw": on_set(draw, kernel.read_releases),
     "observe": on_set(
         observe, observed.read_trace, options={**PREFERS, "tolerance": calls.number_within(0, observed.TOLERANCE_MOST)}
@@ -282,7 +314,9 @@ def answer(words, files, stdin=b""):
         return Answer("", 2, SAID)
     except Refused as refusal:
         return Answer(refusal.line, refusal.status, SAID)
-    if call.command.readers[0] is not teams.read_set:
+    # (of two inputs nothing is noted beside a refusal)
+    is_refused = call.command is WORST_AT and status == 4
+    if call.command.readers[0] is not teams.read_set or is_refused:
         return Answer(text, status, "")
     told = choice_note(call, said[0]) + notes(call, said[0]) + no_note(call, said[0], status) + parted_note(call, text)
     return Answer(text, status, told)

@@ -1,7 +1,9 @@
 """Release lists and the simulated kernel: DEFINITIONS.md, The simulated kernel; FORMATS.md, Release lists."""
 
+from itertools import takewhile
 from typing import NamedTuple
 
+import settings
 from lines import Faulty, all_lines, kept_lines, name_in, number_in, read_lines
 from refusals import Refused
 
@@ -21,12 +23,14 @@ class Release(NamedTuple):
 
 
 def read_releases(data):
-    """Until when, and the releases as they are written."""
+    """The settings in front, until when, and the releases as they are written."""
     lines = kept_lines(data)
+    front = list(takewhile(lambda line: line[1].split(" ")[0] in ("thread", "mutex"), lines))
+    rows, lines = settings.rows_of(front), lines[len(front) :]
     if not lines:
         raise Refused(4, "BadLine", len(all_lines(data)) + 1)
     (until,) = read_lines(lines[:1], read_until)
-    return until, read_lines(lines[1:], read_release)
+    return rows, until, read_lines(lines[1:], read_release)
 
 
 def read_until(words):
@@ -126,15 +130,23 @@ def run(tasks, order, ceilings, until, releases):
     return slices, jobs
 
 
-def has_overrun(jobs):
-    """A job becomes ready and the one before it of its task isn't finished."""
-    last = {}
+def overruns(jobs):
+    """The releases of jobs that become ready while the one before of their task isn't finished."""
+    last, over = {}, []
     for job in jobs:
         before = last.get(job.task.name)
         if before is not None and (before.finish is None or before.finish > job.release.ready):
-            return True
+            over.append(job.release)
         last[job.task.name] = job
-    return False
+    return over
+
+
+def check_overruns(jobs):
+    """The first of them: the earliest, then by place."""
+    over = overruns(jobs)
+    if over:
+        first = min(over, key=lambda release: release.ready)
+        raise Refused(4, "Overrun", first.name, first.ready)
 
 
 def simulated(slices, jobs):
@@ -145,9 +157,9 @@ def simulated(slices, jobs):
 
 
 def came_to(task, bound, jobs):
-    """How many jobs of a task are done, the greatest response among them, and its bound."""
+    """How many jobs of a task are done, the greatest response among them, and its bound, if it has one."""
     responses = [job.finish - job.release.arrival for job in jobs if job.task.name == task.name and job.finish is not None]
-    return f"task {task.name} {len(responses)} {max(responses, default='-')} {bound}\n"
+    return f"task {task.name} {len(responses)} {max(responses, default='-')} {'-' if bound is None else bound}\n"
 
 
 def words_of(task_rank, seed):

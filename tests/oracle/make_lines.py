@@ -175,6 +175,8 @@ def releases_of(rng, tasks):
         count = rng.choice([10_000, 10_001])
         until, out = 60_000_000, [kernel.Release(k * tasks[0].period, tasks[0].name, 0) for k in range(count)]
     data = with_gaps(rng, kernel.release_list(until, out).encode())
+    if rng.random() < 0.3:
+        data = settings_of(rng, tasks) + data
     return damaged_lines(rng, data) if rng.random() < 0.1 else data
 
 

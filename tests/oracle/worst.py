@@ -5,15 +5,24 @@ import kernel
 import settings
 
 
-def deciding_order(tasks):
-    """Lowest first: of those that are left and need not stand above another of them the one of the longest limit, of
-    equals that of least rank; where each must, that of least rank."""
-    order, left = [], set(range(len(tasks)))
+def deciding_order(tasks, members):
+    """Of these tasks, lowest first: of those that are left and need not stand above another of them the one of the longest
+    limit, of equals that of least rank; where each must, that of least rank."""
+    order, left = [], set(members)
     while left:
         free = [i for i in sorted(left) if not analysis.bound_by(tasks, i, left - {i})]
         order.append(max(free, key=lambda i: tasks[i].limit) if free else min(left))
         left.remove(order[-1])
     return order
+
+
+def order_for(tasks, i):
+    """The order of a refused set: below the others of the minimal conflict for a task of it, else one that decides."""
+    every = range(len(tasks))
+    conflict = analysis.least_conflict(tasks, analysis.greatest_obstruction(tasks, every))
+    if i not in conflict:
+        return deciding_order(tasks, every)
+    return [k for k in every if k not in conflict] + [i] + deciding_order(tasks, conflict - {i})
 
 
 def whose(tasks, order):
@@ -60,7 +69,7 @@ def run(tasks, order, i):
         return "too-many-releases", None
     _, jobs = kernel.run(tasks, order, analysis.ceilings(tasks, order), until, releases)
     own = next(job for job in jobs if job.task.name == task.name)
-    stopped = kernel.has_overrun(jobs)
+    stopped = kernel.overruns(jobs)
     if passes:
         if stopped:
             return "below-a-miss", None
@@ -85,13 +94,22 @@ def why_not(tasks, order, i):
 def worst(tasks, i=None):
     """What is printed, and the status."""
     best = analysis.best_order(tasks)
-    order = deciding_order(tasks) if best is None else best
-    status = 3 if best is None else 0
+    if best is None:
+        return worst_in(tasks, order_for(tasks, i), i, settings.settings), 3
+    return worst_in(tasks, best, i, lambda tasks, order: ""), 0
+
+
+def worst_at(tasks, order, i=None):
+    """The same in an order that a node has."""
+    passes = all(analysis.stands(tasks, i, above) for _, i, above in analysis.levels_of(order))
+    return worst_in(tasks, order, i, settings.settings), 0 if passes else 3
+
+
+def worst_in(tasks, order, i, front):
+    """What is printed of a task's worst case in an order, of which something stands in front of the list."""
     if not tasks:
-        return kernel.release_list(0, []), status
+        return kernel.release_list(0, [])
     i = whose(tasks, order) if i is None else i
     words, listed = run(tasks, order, i)
     text = f"# {tasks[i].name} {words}\n"
-    if listed is not None:
-        text += (settings.settings(tasks, order) if best is None else "") + kernel.release_list(*listed)
-    return text, status
+    return text if listed is None else text + front(tasks, order) + kernel.release_list(*listed)

@@ -57,7 +57,8 @@ fn is_run(call: Call<'_>) -> bool {
     match call {
         Call::Two { command, .. } => match command {
             OfTwo::Simulate | OfTwo::Draw => true,
-            OfTwo::Check | OfTwo::Diff | OfTwo::Judge | OfTwo::Observe | OfTwo::Keep => false,
+            OfTwo::Check | OfTwo::Diff | OfTwo::Judge | OfTwo::Observe => false,
+            OfTwo::Keep | OfTwo::WorstAt => false,
         },
         _ => false,
     }
@@ -69,7 +70,7 @@ fn is_diff(call: Call<'_>) -> bool {
         Call::Two { command, .. } => match command {
             OfTwo::Diff => true,
             OfTwo::Simulate | OfTwo::Draw => false,
-            OfTwo::Check | OfTwo::Judge | OfTwo::Observe | OfTwo::Keep => false,
+            OfTwo::Check | OfTwo::Judge | OfTwo::Observe | OfTwo::Keep | OfTwo::WorstAt => false,
         },
         _ => false,
     }

@@ -13,7 +13,7 @@ use Rattle.command_line.specs.declared.calls.OfNumber.TheVariants.{Releases, Scr
 use Rattle.command_line.specs.declared.calls.Verb.{Verb}
 use Rattle.command_line.specs.declared.calls.Verb.TheVariants.{One, Two, Number}
 use Rattle.command_line.specs.declared.calls.Choice.{Choice}
-use Rattle.command_line.specs.declared.calls.Choice.TheVariants.{Prefer, Task, Base, LowerIsHigher, Seed, Tasks, Tolerance, Keep}
+use Rattle.command_line.specs.declared.calls.Choice.TheVariants.{Prefer, Task, Base, LowerIsHigher, Seed, Tasks, Tolerance, Keep, At}
 use Rattle.command_line.specs.declared.calls.Takes.{Takes}
 use Rattle.command_line.specs.declared.calls.Takes.TheVariants as takes
 use Rattle.command_line.specs.declared.calls.TheConstants.{MOST_WORKERS, MOST_TEAM, MOST_PRIORITY, MOST_SEED, MOST_TOLERANCE, LATEST_END}
@@ -31,7 +31,7 @@ commands =
     ∷ (codes "certify", One Certify, Prefer ∷ [])
     ∷ (codes "check", Two Check, Prefer ∷ [])
     ∷ (codes "releases", Number Releases, Prefer ∷ Seed ∷ [])
-    ∷ (codes "worst", One Worst, Prefer ∷ Task ∷ [])
+    ∷ (codes "worst", One Worst, Prefer ∷ Task ∷ At ∷ [])
     ∷ (codes "simulate", Two Simulate, Prefer ∷ Tasks ∷ [])
     ∷ (codes "draw", Two Draw, Prefer ∷ [])
     ∷ (codes "observe", Two Observe, Prefer ∷ Tolerance ∷ [])
@@ -57,11 +57,13 @@ second_of Judge = codes "SETTINGS"
 second_of Diff = codes "NEW"
 second_of Observe = codes "TRACE"
 second_of of_two.Keep = codes "SETTINGS"
+second_of of_two.WorstAt = codes "SETTINGS"
 second_of _ = codes "RELEASES"
 
 -- the option that names a second input to a command of one, and the command of two that it then is
 abbrev pub by_file : OfOne → Option (Choice × OfTwo)
 by_file Settings = Some (Keep, of_two.Keep)
+by_file Worst = Some (At, of_two.WorstAt)
 by_file _ = None
 
 -- the name of the number of a command that takes one
@@ -92,6 +94,7 @@ choice_name Seed = codes "seed"
 choice_name Tasks = codes "tasks"
 choice_name Tolerance = codes "tolerance"
 choice_name Keep = codes "keep"
+choice_name At = codes "at"
 
 -- what an option takes
 abbrev pub takes_of : Choice → Takes
@@ -103,6 +106,7 @@ takes_of Seed = takes.Number 0 MOST_SEED
 takes_of Tasks = takes.Flag
 takes_of Tolerance = takes.Number 0 MOST_TOLERANCE
 takes_of Keep = takes.Word
+takes_of At = takes.Word
 
 -- the options that take a number
 abbrev pub number_choices : List Choice

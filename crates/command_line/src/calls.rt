@@ -67,6 +67,8 @@ pub enum OfTwo {
     Observe,
     /// `settings SET --keep SETTINGS`
     Keep,
+    /// `worst SET --at SETTINGS`
+    WorstAt,
 }
 
 /// A command of an input and a number.
@@ -116,6 +118,8 @@ pub(crate) enum Choice {
     Tolerance,
     // `--keep SETTINGS`
     Keep,
+    // `--at SETTINGS`
+    At,
 }
 
 // What an option takes: a word, a number from the least to the most, or nothing.
@@ -192,6 +196,7 @@ impl OfOne {
     {
         match self {
             OfOne::Settings => Some((Choice::Keep, OfTwo::Keep)),
+            OfOne::Worst => Some((Choice::At, OfTwo::WorstAt)),
             _ => None,
         }
     }
@@ -204,7 +209,7 @@ impl OfTwo {
     {
         match self {
             OfTwo::Check => "CERT",
-            OfTwo::Judge | OfTwo::Keep => "SETTINGS",
+            OfTwo::Judge | OfTwo::Keep | OfTwo::WorstAt => "SETTINGS",
             OfTwo::Diff => "NEW",
             OfTwo::Simulate | OfTwo::Draw => "RELEASES",
             OfTwo::Observe => "TRACE",
@@ -256,6 +261,7 @@ impl Choice {
             Choice::Tasks => "tasks",
             Choice::Tolerance => "tolerance",
             Choice::Keep => "keep",
+            Choice::At => "at",
         }
     }
 
@@ -264,7 +270,7 @@ impl Choice {
         ensures { result ≡ takes_of self }
     {
         match self {
-            Choice::Prefer | Choice::Task | Choice::Keep => Takes::Word,
+            Choice::Prefer | Choice::Task | Choice::Keep | Choice::At => Takes::Word,
             Choice::Base => Takes::Number {
                 least: 1,
                 most: MOST_PRIORITY as u32,
@@ -286,7 +292,7 @@ impl Choice {
         match self {
             Choice::Prefer => "ORDER",
             Choice::Task => "NAME",
-            Choice::Keep => "SETTINGS",
+            Choice::Keep | Choice::At => "SETTINGS",
             Choice::Base
             | Choice::Seed
             | Choice::LowerIsHigher
@@ -308,6 +314,7 @@ impl Choice {
                 "By how many microseconds a time may be past what is promised, up to 60000000"
             }
             Choice::Keep => "Settings of a node whose order stays, as far as both have its tasks",
+            Choice::At => "Settings whose order it is said of, in place of the best one",
         }
     }
 }

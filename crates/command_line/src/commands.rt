@@ -56,7 +56,7 @@ const COMMANDS: [Listed; 16] = [
         verb: Verb::One(OfOne::Explain),
         word: "explain",
         options: &[Choice::Prefer, Choice::Task],
-        about: "Prints what each response is made of, or a least set of tasks that collide",
+        about: "Prints what each response is made of, or a minimal set of tasks that collide and how one order fails",
         example: example!(
             "explain examples/shared-lock.toml",
             "0 admitted, 3 infeasible, 4 the set is refused"
@@ -135,7 +135,7 @@ const COMMANDS: [Listed; 16] = [
     Listed {
         verb: Verb::One(OfOne::Worst),
         word: "worst",
-        options: &[Choice::Prefer, Choice::Task],
+        options: &[Choice::Prefer, Choice::Task, Choice::At],
         about: "Prints the release list of a task's worst case: its latest response, or a missed deadline",
         example: example!(
             "worst examples/shared-lock.toml --task lo",

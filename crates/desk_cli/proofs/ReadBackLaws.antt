@@ -25,6 +25,7 @@ use Rattle.release_list.proofs.DensestLaws.{densest-is, horizon_from}
 use Rattle.release_list.proofs.RandomLaws.{drawn_below}
 use Rattle.release_list.proofs.RandomLists.{random_is_list}
 use Rattle.release_list.specs.Text.{late_words, runs_words, release_line, release_lines, list_lines}
+use Rattle.judge.specs.Front.{is_setting}
 use Rattle.desk_cli.specs.ReleasesText.{until_in, release_in, releases_from}
 use Rattle.desk_cli.specs.ReadBack.{IsWritable, ReadsBack}
 
@@ -181,12 +182,17 @@ release_again r w = elim (cases_eq r.late 0) [
       ∙ late_read r.time r.name r.late r.runs w.time w.named w.late w.runs
 ]
 
-until_again : (until : ℕ) → until < 10 ^ 10 → until_in (words (head until)) ≡ Some until
-until_again until short =
-    let two : words (head until) ≡ codes "until" ∷ decimal until ∷ [] =
+head_words : (until : ℕ) → until < 10 ^ 10 → words (head until) ≡ codes "until" ∷ decimal until ∷ []
+head_words until short =
     slice_split_at (λ b. b == 32) (codes "until") 32 (decimal until) (All-from_recursion (λ y. (y == 32) ≡ false) (codes "until") (refl, (refl, (refl, (refl, (refl, tt)))))) refl
-    ∙ ap (λ (x : List (List ℕ)). codes "until" ∷ x) (plain_number until short) in
-    ap until_in two ∙ number_again until short
+    ∙ ap (λ (x : List (List ℕ)). codes "until" ∷ x) (plain_number until short)
+
+until_again : (until : ℕ) → until < 10 ^ 10 → until_in (words (head until)) ≡ Some until
+until_again until short = ap until_in (head_words until short) ∙ number_again until short
+
+-- the line of the end sets nothing
+head_sets : (until : ℕ) → until < 10 ^ 10 → is_setting (words (head until)) ≡ false
+head_sets until short = ap is_setting (head_words until short)
 
 -- ---- the list
 releases_again : (n : ℕ) (rs : List Release) → AllByRecursion IsWritable rs → releases_from (kept_from n (map row rs)) ≡ Ok rs
@@ -198,7 +204,7 @@ releases_again n (r ∷ rs) all =
 pub list_again : (until : ℕ) (rs : List Release) → until < 10 ^ 10 → All IsWritable rs → ReadsBack until rs
 list_again until rs short all =
     let each : AllByRecursion IsWritable rs = recursion_from_All IsWritable rs all in
-    rw (all_lines until rs short each) (rw (until_again until short, releases_again 2 rs each) refl)
+    rw (all_lines until rs short each) (rw (head_sets until short) (rw (until_again until short, releases_again 2 rs each) refl))
 
 -- each release of a densest list can be read back
 densest_writable : (U : List Task) (until : ℕ) → IsTaskSet U → list_refusal U until ≡ None → All IsWritable (densest_of U until)

@@ -9,7 +9,7 @@ use Rattle.command_line.specs.declared.calls.Preferred.TheVariants as preferred
 use Rattle.command_line.specs.declared.calls.OfOne.{OfOne}
 use Rattle.command_line.specs.declared.calls.OfOne.TheVariants.{Admit, Certify, Limits, Settings, Explain, Worst, Play}
 use Rattle.command_line.specs.declared.calls.OfTwo.{OfTwo}
-use Rattle.command_line.specs.declared.calls.OfTwo.TheVariants.{Check, Judge, Diff, Simulate, Draw, Observe, Keep}
+use Rattle.command_line.specs.declared.calls.OfTwo.TheVariants.{Check, Judge, Diff, Simulate, Draw, Observe, Keep, WorstAt}
 use Rattle.desk_cli.specs.Admit.{Says, admit_lines}
 use Rattle.desk_cli.specs.Certify.{certificate_lines}
 use Rattle.desk_cli.specs.Check.{SaysChecked}
@@ -22,6 +22,7 @@ use Rattle.desk_cli.specs.OneTask.{SaysLimitsOf, SaysReasonsOf, SaysWorstOf}
 use Rattle.desk_cli.specs.Play.{SaysPlayed}
 use Rattle.desk_cli.specs.Settings.{settings_of}
 use Rattle.desk_cli.specs.Simulate.{SaysSimulation}
+use Rattle.desk_cli.specs.WorstAt.{SaysWorstAt}
 use Rattle.desk_cli.specs.declared.status.Status.{Status}
 
 -- what a call prefers, where its words say so
@@ -83,3 +84,5 @@ TwoSay Observe options first second before after s =
     SaysObserved (tolerance_of options) (preference_of options) first second before after s
 TwoSay Keep options first second before after s =
     SaysKeeping (base_of options) (preference_of options) first second before after s
+TwoSay WorstAt options first second before after s =
+    SaysWorstAt (task_of options) (preference_of options) first second before after s

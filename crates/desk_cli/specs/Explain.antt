@@ -1,15 +1,20 @@
 -- What `desk explain` answers and prints.
-use Rattle.std.specs.Prelude.{ℕ, List, ◌++◌, Option, Result, Ok, Err}
+use Rattle.std.specs.Prelude.{◌≡◌, ℕ, List, [], ◌++◌, Option, Result, Ok, Err}
 use Rattle.task_sheet.specs.declared.prefer.Preference.{Preference}
 use Rattle.task_sheet.specs.Sheet.{Task}
 use Rattle.assignment.specs.Placings.{IsPlacingOf}
 use Rattle.assignment.specs.declared.placing.Placing.{Placing}
+use Rattle.assignment.specs.declared.placing.Placing.TheVariants.{Best, Stuck}
 use Rattle.explain.specs.Explanations.{Explains}
 use Rattle.explain.specs.Lines.{explanation_lines}
 use Rattle.explain.specs.declared.explanation.Explanation.{Explanation}
+use Rattle.judge.specs.Judgements.{AllJudged, order_judged}
+use Rattle.judge.specs.Lines.{judged_level_lines}
+use Rattle.judge.specs.declared.judging.JudgedTask.{JudgedTask}
 use Rattle.owners.specs.NamedLines.{named_lines}
 use Rattle.owners.specs.declared.owner.Owner.{Owner}
 use Rattle.owners.specs.declared.words.Naming.TheVariants.{Reasons}
+use Rattle.worst_lines.specs.Deciding.{IsDeciding}
 use Rattle.desk_cli.specs.Admit.{Places, placing_status}
 use Rattle.desk_cli.specs.Limits.{placing_first}
 use Rattle.desk_cli.specs.Printed.{Prints}
@@ -17,28 +22,36 @@ use Rattle.desk_cli.specs.Owning.{HasOwned}
 use Rattle.desk_cli.specs.declared.refusal.CommandRefusal.{CommandRefusal}
 use Rattle.desk_cli.specs.declared.status.Status.{Status}
 
--- a set, whose its tasks are, its placing, and what explains the placing
+-- where no order passes, what becomes of each task in an order that decides; else nothing
+abbrev pub AreDecided : List Task → Placing → List JudgedTask → Type 0
+AreDecided U (Best places) judged = judged ≡ []
+AreDecided U (Stuck left) judged = IsDeciding U (order_judged judged) × AllJudged U judged
+
+-- a set, whose its tasks are, its placing, what explains the placing, and what becomes of the tasks in an order that decides
 pub record ExplainedData : Type 0 where
   pub set : List Task
   pub owners : List Owner
   pub placing : Placing
   pub explanation : Explanation
+  pub judged : List JudgedTask
 
 -- the answer on what a reader has: that of `desk admit`, explained
 abbrev pub AnswersExplained : Option Preference → Option (List ℕ) → Result ExplainedData CommandRefusal
     → Type 0
 AnswersExplained preference known (Ok e) =
     HasOwned preference known e.set e.owners × IsPlacingOf e.set e.placing
-    × Explains e.set e.placing e.explanation
+    × Explains e.set e.placing e.explanation × AreDecided e.set e.placing e.judged
 AnswersExplained preference known (Err r) = Places preference known (Err r)
 
--- what explains a placing, each task with its team
-abbrev pub reasons_said : List Owner → List Task → Explanation → List ℕ
-reasons_said owners U e = named_lines Reasons owners (explanation_lines U e)
+-- what explains a placing, and the lines of an order that decides, each task with its team
+abbrev pub reasons_said : List Owner → List Task → Explanation → List JudgedTask → List ℕ
+reasons_said owners U e judged =
+    named_lines Reasons owners (explanation_lines U e ++ judged_level_lines U [] 0 judged)
 
 -- what is printed of an explained placing: its first line, and then that
 abbrev pub explained_output : ExplainedData → List ℕ
-explained_output e = placing_first e.set e.placing ++ reasons_said e.owners e.set e.explanation
+explained_output e =
+    placing_first e.set e.placing ++ reasons_said e.owners e.set e.explanation e.judged
 
 -- the answer on what the reader had is printed after what the writer held, and the status is the answer's
 abbrev pub SaysExplained : Option Preference → Option (List ℕ) → (before after : Option (List ℕ)) → Status

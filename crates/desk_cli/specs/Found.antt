@@ -1,5 +1,5 @@
 -- What a command finds of a set and a text, and what is printed of it.
-use Rattle.std.specs.Prelude.{◌≡◌, ℕ, true, false, List, ◌<◌, All, Option, Result, Ok, Err}
+use Rattle.std.specs.Prelude.{◌≡◌, ℕ, true, false, List, ◌<◌, All, Option, Result, Ok, Err, string_bytes}
 use Rattle.task_sheet.specs.Sheet.{Task}
 use Rattle.task_sheet.specs.declared.set.TheConstants.{TASK_LIMIT}
 use Rattle.command_line.specs.declared.calls.Options.{Options}
@@ -10,7 +10,7 @@ use Rattle.command_line.specs.declared.calls.OfTwo.TheVariants as command
 use Rattle.judge.specs.Lines.{judged_lines}
 use Rattle.desk_cli.specs.Check.{ChecksText, checked_line}
 use Rattle.desk_cli.specs.Admit.{placing_status}
-use Rattle.desk_cli.specs.Commands.{base_of, preference_of}
+use Rattle.desk_cli.specs.Commands.{base_of, preference_of, task_of}
 use Rattle.desk_cli.specs.Diff.{ComparesText, compared_lines}
 use Rattle.desk_cli.specs.Draw.{drawing_said}
 use Rattle.desk_cli.specs.Judge.{JudgesText, judged_status}
@@ -18,8 +18,9 @@ use Rattle.desk_cli.specs.Observe.{ObservesText, sight_said, sight_status, toler
 use Rattle.desk_cli.specs.Printed.{IsPrinted}
 use Rattle.desk_cli.specs.Simulate.{IsInOrder, SimulatesText, reached_said, simulation_said, simulation_status}
 use Rattle.desk_cli.specs.declared.of_two.Found.{Found}
-use Rattle.desk_cli.specs.declared.of_two.Found.TheVariants.{Shown, Compared, Judged, Simulated, Reached, Drawn, Observed, Keeping}
+use Rattle.desk_cli.specs.declared.of_two.Found.TheVariants.{Shown, Compared, Judged, Simulated, Reached, Drawn, Observed, Keeping, WorstAt}
 use Rattle.desk_cli.specs.Keep.{IsKeptIn, KeepsText, keeping_lines, keeping_status}
+use Rattle.desk_cli.specs.WorstAt.{WorstsText}
 use Rattle.desk_cli.specs.declared.refusal.CommandRefusal.{CommandRefusal}
 use Rattle.desk_cli.specs.declared.status.Status.{Status}
 use Rattle.desk_cli.specs.declared.status.Status.TheVariants.{Done}
@@ -46,6 +47,8 @@ FindsIn command.Observe options U text (Err r) = ObservesText U text (Err r)
 FindsIn command.Keep options U text (Ok (Keeping keeping base)) =
     (base ≡ base_of options) × KeepsText U text (Ok keeping)
 FindsIn command.Keep options U text (Err r) = KeepsText U text (Err r)
+FindsIn command.WorstAt options U text (Ok (WorstAt found)) = WorstsText (task_of options) U text (Ok found)
+FindsIn command.WorstAt options U text (Err r) = WorstsText (task_of options) U text (Err r)
 FindsIn _ options U text _ = ⊥
 
 -- what was found speaks of tasks that a set may have, and of a run in an order of the set
@@ -67,6 +70,7 @@ found_said owners U (Reached answer) = reached_said U answer
 found_said owners U (Drawn answer) = drawing_said U answer
 found_said owners U (Observed tolerance sight) = sight_said tolerance U sight
 found_said owners U (Keeping keeping base) = keeping_lines U base keeping
+found_said owners U (WorstAt found) = string_bytes found.text
 
 -- the exit status of what was found
 abbrev pub found_status : Found → Status
@@ -78,6 +82,7 @@ found_status (Reached answer) = simulation_status answer
 found_status (Drawn answer) = simulation_status answer
 found_status (Observed tolerance sight) = sight_status tolerance sight
 found_status (Keeping keeping base) = keeping_status keeping
+found_status (WorstAt found) = judged_status found.node.judged.items
 
 -- that is printed after what the writer held, with its status; or that there was no memory for it
 abbrev pub PrintsFound : List Owner → List Task → Found → (before after : Option (List ℕ)) → Status → Type 0

@@ -29,6 +29,6 @@ pub mod Settings
 pub mod Simulate
 pub mod Statuses
 pub mod TextFaults
-pub mod TraceLines
 pub mod WordsFaults
 pub mod Worst
+pub mod WorstAt

@@ -1,8 +1,11 @@
 -- Release lists as text.
 use Rattle.std.specs.Prelude.{ℕ, ◌+◌, List, [], ◌∷◌, ◌++◌, length, Option, option_map, Some, None, Result, Ok, Err, bytes_eq, codes, if◌then◌else◌}
-use Rattle.lines.specs.Lines.{kept_lines, lines_of}
+use Rattle.lines.specs.Lines.{kept_from, kept_lines, lines_of}
 use Rattle.lines.specs.Words.{name_in, number_in, words}
 use Rattle.ceiling_kernel.specs.declared.trace.Release.{Release}
+use Rattle.judge.specs.Front.{behind_front, front_of}
+use Rattle.judge.specs.Rows.{rows_from}
+use Rattle.judge.specs.declared.rows.SettingRow.{SettingRow}
 
 -- the number of a line `until N`
 abbrev pub until_in : List (List ℕ) → Option ℕ
@@ -83,6 +86,15 @@ abbrev pub list_from : ℕ → List (ℕ × List ℕ) → Result (ℕ × List Re
 list_from past [] = Err past
 list_from past (l ∷ ls) = after_until l.0 (until_in (words l.1)) (releases_from ls)
 
--- a text's end and releases, or the number of its first faulty line: where the first is missing, the one past the last
+-- the end and the releases of lines, the first of which has a number: where there is none, the fault is one past the last
+abbrev pub list_at : ℕ → List ℕ → Result (ℕ × List Release) ℕ
+list_at line rest = list_from (line + length (lines_of rest)) (kept_from line (lines_of rest))
+
+-- what settings say in front of a list, or the number of their first faulty line
+abbrev pub settings_in : List ℕ → Result (List SettingRow) ℕ
+settings_in text = rows_from (front_of (kept_lines text))
+
+-- a text's end and releases behind its settings, or the number of their first faulty line: where the first is missing, the
+-- one past the last
 abbrev pub list_in : List ℕ → Result (ℕ × List Release) ℕ
-list_in text = list_from (1 + length (lines_of text)) (kept_lines text)
+list_in text = list_from (1 + length (lines_of text)) (behind_front (kept_lines text))

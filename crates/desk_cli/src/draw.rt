@@ -4,71 +4,137 @@ ghost use Rattle.task_sheet.specs.Orders.{IsOrder};
 ghost use Rattle.task_sheet.specs.declared.set.TheConstants.{TASK_LIMIT};
 ghost use Rattle.assignment.specs.Placings.{tasks_of_places};
 ghost use Rattle.desk_cli.specs.Printed.{IsPrinted};
+ghost use Rattle.judge.specs.Judgements.{order_judged};
+ghost use Rattle.run_lines.specs.TaskBounds.{bounds_of, tasks_of_bounds};
 ghost use Rattle.desk_cli.specs.Draw.{picture_of, drawn_row, rows_of};
 ghost use Rattle.desk_cli.specs.Outcomes.{IsSaidOn};
+ghost use Rattle.desk_cli.specs.Simulate.{bounds_judged};
 
 use crate::output::refuse;
 use crate::refusal::CommandRefusal;
-use crate::simulate::Run;
+use crate::simulate::{OrderedRun, Run, bounds_judged};
 use crate::status::Status;
-use assignment::Place;
+use ceiling_kernel::{Release, Trace};
 use picture::{DrawFault, TaskRow, draw};
+use run_lines::{TaskBound, bounds_of};
 use std::alloc::{AllocError, Global};
 use std::io::Write;
 use streams::Watched;
 use task_sheet::{Sheet, TaskSet};
 
 // The row of a level.
-fn row_of(alloc: Global, sheets: &[Sheet], place: Place) -> Result<TaskRow, AllocError>
-    requires { place.task < length sheets.now }
-    ensures { IfOk result (λ row. row ≡ drawn_row sheets.now place) }
+fn row_of(alloc: Global, sheets: &[Sheet], bound: TaskBound) -> Result<TaskRow, AllocError>
+    requires { bound.task < length sheets.now }
+    ensures { IfOk result (λ row. row ≡ drawn_row sheets.now bound) }
 {
-    let sheet = sheets[place.task].copy(alloc)?;
+    let sheet = sheets[bound.task].copy(alloc)?;
     Ok(TaskRow {
         sheet,
-        bound: place.response,
+        bound: bound.bound,
     })
 }
 
-// The rows of places, the last one first.
-fn rows_of(alloc: Global, sheets: &[Sheet], places: &[Place]) -> Result<Vec<TaskRow>, AllocError>
-    requires { All (λ task. task < length sheets.now) (tasks_of_places places.now) }
-    ensures { IfOk result (λ rows. rows.items ≡ rows_of sheets.now places.now) }
+// The rows of bounds, the last one first.
+fn rows_of(
+    alloc: Global,
+    sheets: &[Sheet],
+    bounds: &[TaskBound],
+) -> Result<Vec<TaskRow>, AllocError>
+    requires { All (λ task. task < length sheets.now) (tasks_of_bounds bounds.now) }
+    ensures { IfOk result (λ rows. rows.items ≡ rows_of sheets.now bounds.now) }
 {
-    let mut rows = Vec::with_capacity(alloc, places.len())?;
-    for i in 0..places.len() {
-        let place = places[places.len() - 1 - i];
-        rows.push(row_of(alloc, sheets, place)?)?;
+    let mut rows = Vec::with_capacity(alloc, bounds.len())?;
+    for i in 0..bounds.len() {
+        let bound = bounds[bounds.len() - 1 - i];
+        rows.push(row_of(alloc, sheets, bound)?)?;
     }
     Ok(rows)
 }
 
 // The rows of an order, the highest level first.
-fn rows_in(alloc: Global, set: &TaskSet, places: &[Place]) -> Result<Vec<TaskRow>, AllocError>
-    requires { IsOrder set.now (tasks_of_places places.now) }
-    ensures rows { IfOk result (λ rows. rows.items ≡ rows_of set.now places.now) }
+fn rows_in(alloc: Global, set: &TaskSet, bounds: &[TaskBound]) -> Result<Vec<TaskRow>, AllocError>
+    requires { IsOrder set.now (tasks_of_bounds bounds.now) }
+    ensures rows { IfOk result (λ rows. rows.items ≡ rows_of set.now bounds.now) }
     ensures few { IfOk result (λ rows. length rows.items ≤ TASK_LIMIT) }
 {
-    rows_of(alloc, set.sheets(), places)
+    rows_of(alloc, set.sheets(), bounds)
 }
 
-// Draws a run of a set.
-pub(crate) fn draw_run<W: Write + Drop>(
+// Draws a run in an order of a set.
+fn draw_run<W: Write + Drop>(
+    alloc: Global,
+    set: &TaskSet,
+    bounds: &[TaskBound],
+    until: u64,
+    releases: &[Release],
+    trace: &Trace,
+    output: &mut Watched<W>,
+) -> Status
+    requires { IsOrder set.now (tasks_of_bounds bounds.now) }
+    ensures { IsSaidOn (λ before after s. IsPrinted before after
+        (picture_of set.now bounds.now until releases.now trace.now) Status.Done s)
+        W.contents output.old output.new result }
+{
+    let Ok(rows) = rows_in(alloc, set, bounds) else {
+        return refuse(CommandRefusal::OutOfMemory, output);
+    };
+    match draw(alloc, &rows, until, releases, trace, output) {
+        Ok(()) => Status::Done,
+        Err(DrawFault::OutOfMemory) => refuse(CommandRefusal::OutOfMemory, output),
+        Err(DrawFault::WriteFailed) => Status::InputOrOutputFailed,
+    }
+}
+
+// Draws a run in the best order of a set.
+pub(crate) fn draw_best<W: Write + Drop>(
     alloc: Global,
     set: &TaskSet,
     run: &Run,
     output: &mut Watched<W>,
 ) -> Status
     requires { IsOrder set.now (tasks_of_places run.now.places.items) }
-    ensures { IsSaidOn (λ before after s. IsPrinted before after (picture_of set.now run.now)
-        Status.Done s) W.contents output.old output.new result }
+    ensures { IsSaidOn (λ before after s. IsPrinted before after
+        (picture_of set.now (bounds_of run.now.places.items) run.now.until
+        run.now.releases.items run.now.trace) Status.Done s)
+        W.contents output.old output.new result }
 {
-    let Ok(rows) = rows_in(alloc, set, &run.places) else {
-        return refuse(CommandRefusal::OutOfMemory, output);
-    };
-    match draw(alloc, &rows, run.until, &run.releases, &run.trace, output) {
-        Ok(()) => Status::Done,
-        Err(DrawFault::OutOfMemory) => refuse(CommandRefusal::OutOfMemory, output),
-        Err(DrawFault::WriteFailed) => Status::InputOrOutputFailed,
+    match bounds_of(alloc, &run.places) {
+        Ok(bounds) => draw_run(
+            alloc,
+            set,
+            &bounds,
+            run.until,
+            &run.releases,
+            &run.trace,
+            output,
+        ),
+        Err(_) => refuse(CommandRefusal::OutOfMemory, output),
+    }
+}
+
+// Draws a run in a given order of a set.
+pub(crate) fn draw_ordered<W: Write + Drop>(
+    alloc: Global,
+    set: &TaskSet,
+    run: &OrderedRun,
+    output: &mut Watched<W>,
+) -> Status
+    requires { IsOrder set.now (order_judged run.now.judged.items) }
+    ensures { IsSaidOn (λ before after s. IsPrinted before after
+        (picture_of set.now (bounds_judged run.now.judged.items) run.now.until
+        run.now.releases.items run.now.trace) Status.Done s)
+        W.contents output.old output.new result }
+{
+    match bounds_judged(alloc, &run.judged) {
+        Ok(bounds) => draw_run(
+            alloc,
+            set,
+            &bounds,
+            run.until,
+            &run.releases,
+            &run.trace,
+            output,
+        ),
+        Err(_) => refuse(CommandRefusal::OutOfMemory, output),
     }
 }

@@ -27,7 +27,7 @@ mod script;
 mod sets;
 mod simulate;
 mod status;
-mod trace;
+mod worst_at;
 
 pub use audience::{Audience, Nobody, Which};
 pub use of_one::carry_out;

@@ -10,16 +10,16 @@ use crate::answer::print_stuck;
 use crate::audience::{Audience, Which};
 use crate::check::{check_text, line_of};
 use crate::diff_lines::{Compared, compare_text, compared_text};
-use crate::draw::draw_run;
+use crate::draw::{draw_best, draw_ordered};
 use crate::judge_lines::{judge_text, judged_status};
 use crate::keep_lines::{keep_text, keeping_status, keeping_text};
 use crate::observe_lines::{observed_status, sight_of, tolerance_of};
 use crate::output::{print, print_bytes, print_made, refuse};
 use crate::refusal::CommandRefusal;
 use crate::sets::{base_of, preference_of, read_two, tell};
-use crate::simulate::{Simulated, reached_text, simulate_text};
+use crate::simulate::{Simulated, ordered_text, reached_text, simulate_text};
 use crate::status::Status;
-use crate::trace::trace_text;
+use crate::worst_at::{InOrder, worst_at};
 use cert_checker::Checked;
 use command_line::{OfTwo, Options};
 use judge::{JudgedNode, judged_text};
@@ -27,6 +27,7 @@ use kept_order::Keeping;
 use observed::Sight;
 use observed_lines::observed_text;
 use owners::Owner;
+use printed_runs::trace_text;
 use std::alloc::Global;
 use std::io::{Read, Write};
 use streams::Watched;
@@ -51,6 +52,8 @@ pub enum Found {
     Observed(u64, Sight),
     /// What becomes of a set that is to keep the order that settings give, and the priority of level 1.
     Keeping { keeping: Keeping, base: u32 },
+    /// The worst case of a task in the order that settings give.
+    WorstAt(InOrder),
 }
 
 // What a command finds of a set and a text.
@@ -90,6 +93,7 @@ fn find(
             keeping: keep_text(alloc, tasks, text)?,
             base: base_of(options),
         }),
+        OfTwo::WorstAt => Ok(Found::WorstAt(worst_at(alloc, options.task, tasks, text)?)),
     }
 }
 
@@ -122,7 +126,14 @@ fn print_found<W: Write + Drop>(
         Found::Reached(Simulated::Ran(run)) => {
             print_made(reached_text(alloc, tasks, run), Status::Done, output)
         }
-        Found::Drawn(Simulated::Ran(run)) => draw_run(alloc, tasks, run, output),
+        Found::Drawn(Simulated::Ran(run)) => draw_best(alloc, tasks, run, output),
+        Found::Simulated(Simulated::Ordered(run)) => {
+            print_made(trace_text(alloc, &run.trace), Status::Done, output)
+        }
+        Found::Reached(Simulated::Ordered(run)) => {
+            print_made(ordered_text(alloc, tasks, run), Status::Done, output)
+        }
+        Found::Drawn(Simulated::Ordered(run)) => draw_ordered(alloc, tasks, run, output),
         Found::Simulated(Simulated::Infeasible(members)) => {
             print_stuck(alloc, tasks, *members, output)
         }
@@ -141,6 +152,11 @@ fn print_found<W: Write + Drop>(
         Found::Keeping { keeping, base } => print_made(
             keeping_text(alloc, tasks, *base, keeping),
             keeping_status(keeping),
+            output,
+        ),
+        Found::WorstAt(found) => print(
+            found.text.as_bytes(),
+            judged_status(&found.node.judged),
             output,
         ),
     }

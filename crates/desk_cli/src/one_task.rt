@@ -39,7 +39,7 @@ pub enum TaskPart {
 }
 
 // The index of the task that a word names.
-fn find_task(set: &TaskSet, word: &str) -> Option<usize>
+pub(crate) fn find_task(set: &TaskSet, word: &str) -> Option<usize>
     ensures found { result ≡ asked_task set.now word.now }
     ensures within { IfSome result (λ task. task < length set.now) }
 {
@@ -50,7 +50,7 @@ fn find_task(set: &TaskSet, word: &str) -> Option<usize>
 }
 
 // That no task has the name that a word says.
-fn no_such_task(word: &str) -> CommandRefusal
+pub(crate) fn no_such_task(word: &str) -> CommandRefusal
     ensures { result ≡ no_such_task word.now }
 {
     CommandRefusal::NoSuchTask {

@@ -1,9 +1,9 @@
-//! Release lists as text: `until N`, and then for each release a line `TIME NAME` or `TIME NAME LATE`, perhaps with `runs N`
-//! behind it.
+//! Release lists as text: perhaps settings, which give an order, `until N`, and then for each release a line `TIME NAME` or
+//! `TIME NAME LATE`, perhaps with `runs N` behind it.
 ghost use Rattle.std.specs.Prelude.{◌≡◌, Ok, MatchResult, option_map};
 ghost use Rattle.lines.specs.Lines.{kept_from, lines_of};
 ghost use Rattle.lines.specs.Words.{words};
-ghost use Rattle.desk_cli.specs.ReleasesText.{list_in, release_in, releases_from, rest_in, runs_in, until_in};
+ghost use Rattle.desk_cli.specs.ReleasesText.{list_at, release_in, releases_from, rest_in, runs_in, until_in};
 ghost use Rattle.desk_cli.specs.TextFaults.{IsTextFault};
 ghost use Rattle.desk_cli.specs.declared.release_text.TextFault.TheVariants.{OutOfMemory};
 
@@ -119,14 +119,14 @@ fn releases_at<'a>(alloc: Global, at: TextPlace<'a>) -> Result<Vec<Release>, Tex
     Ok(releases)
 }
 
-/// Reads a release list: the time at which the run ends, and the releases, in microseconds. Empty lines and
-/// lines that begin with `#` are skipped and counted; the last line may lack its LF.
-pub fn read_releases(alloc: Global, text: &[u8]) -> Result<(u64, Vec<Release>), TextFault>
+/// Reads a release list, behind its settings: the time at which the run ends, and the releases, in microseconds. Empty lines
+/// and lines that begin with `#` are skipped and counted; the last line may lack its LF.
+pub fn read_releases(alloc: Global, at: TextPlace<'_>) -> Result<(u64, Vec<Release>), TextFault>
     ensures { MatchResult result
-        (λ list. list_in text.now ≡ Ok (list.0, list.1.items))
-        (λ fault. IsTextFault fault (list_in text.now)) }
+        (λ list. list_at at.entry.line at.entry.rest.now ≡ Ok (list.0, list.1.items))
+        (λ fault. IsTextFault fault (list_at at.entry.line at.entry.rest.now)) }
 {
-    let (line, after) = match next_kept(TextPlace::start(text)) {
+    let (line, after) = match next_kept(at) {
         Ok(found) => found,
         Err(past) => return Err(TextFault::BadLine { line: past }),
     };

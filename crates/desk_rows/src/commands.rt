@@ -82,3 +82,15 @@ fn simulate_prints_the_trace(rt: HostRuntime) -> Result<(), Fail> {
     assert_eq!(rt; status, Status::Done);
     Ok(())
 }
+
+// The best order has hi on top.
+#[test]
+fn simulate_runs_the_order_of_a_list(rt: HostRuntime) -> Result<(), Fail> {
+    let list = b"thread hi 1\nthread lo 2\nuntil 20000\n0 hi\n0 lo\n";
+    let set = BLOCKED_OUT_REPAIRED.as_bytes();
+    let (printed, status) = printed_of_two(rt.alloc(), OfTwo::Simulate, set, list)?;
+    let trace = "0 10000 lo\n10000 12000 hi\njob hi 0 12000\njob lo 0 10000\n";
+    assert_eq!(rt; printed.as_str(), trace);
+    assert_eq!(rt; status, Status::Done);
+    Ok(())
+}

@@ -52,7 +52,7 @@ fn wants(rt: HostRuntime) -> Result<(), Fail> {
     Ok(())
 }
 
-// `simulate` runs passing orders alone, which have no overrun.
+// Only in an order that a list gives a job may overrun the one before it.
 #[test]
 fn overrun(rt: HostRuntime) -> Result<(), Fail> {
     let fault = CommandRefusal::Run(RunFault::Overrun {

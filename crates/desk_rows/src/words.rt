@@ -18,27 +18,17 @@ const PLAIN: Options<'static> = Options {
 // Where deadlines are preferred.
 const BY_DEADLINE: Options<'static> = Options {
     prefer: Some(Preferred::Deadline),
-    task: None,
-    base: None,
-    lower_is_higher: false,
-    seed: None,
-    by_task: false,
-    tolerance: None,
+    ..PLAIN
 };
 
 // Where weights are.
 const BY_WEIGHT: Options<'static> = Options {
     prefer: Some(Preferred::Weight),
-    task: None,
-    base: None,
-    lower_is_higher: false,
-    seed: None,
-    by_task: false,
-    tolerance: None,
+    ..PLAIN
 };
 
 // Words, and the call that they name.
-const CALLS: [(&[&str], Call<'static>); 21] = [
+const CALLS: [(&[&str], Call<'static>); 22] = [
     (
         &[],
         Call::One {
@@ -211,6 +201,18 @@ const CALLS: [(&[&str], Call<'static>); 21] = [
         },
     ),
     (
+        &["worst", "--at", "n", "s", "--task=a"],
+        Call::Two {
+            command: OfTwo::WorstAt,
+            first: Input::File("s"),
+            second: Input::File("n"),
+            options: Options {
+                task: Some("a"),
+                ..PLAIN
+            },
+        },
+    ),
+    (
         &["settings", "s", "--keep", "n"],
         Call::Two {
             command: OfTwo::Keep,
@@ -249,7 +251,7 @@ const OTHERS: [&[&str]; 5] = [
 
 // Words that an option is no part of: twice, with no word or number, before the command, at another command, by half its
 // name, with a number that it doesn't take.
-const NONE: [&[&str]; 17] = [
+const NONE: [&[&str]; 18] = [
     &["admit", "--prefer", "deadline", "--prefer", "deadline", "s"],
     &["admit", "s", "--prefer"],
     &["--prefer", "deadline", "admit", "s"],
@@ -266,6 +268,7 @@ const NONE: [&[&str]; 17] = [
     &["judge", "s", "t", "--tolerance", "1"],
     &["worst", "s", "--tolerance", "1"],
     &["settings", "s", "--keep"],
+    &["settings", "s", "--at", "n"],
     &["judge", "s", "n", "--keep", "m"],
 ];
 

@@ -14,8 +14,9 @@ use Rattle.task_sheet.specs.Indexes.{below}
 use Rattle.task_sheet.specs.Orders.{IsOrder, IsPassingOrder, IsFeasible}
 use Rattle.task_sheet.proofs.SetLaws.{by_rank_one, no_fault}
 use Rattle.task_sheet.proofs.TaskLaws.{AllTasks-from_set, valid_at}
-use Rattle.limits.specs.Easier.{IsEasier, AreEasier}
-use Rattle.limits.proofs.EasierLaws.{AreShorter-refl, IsPassingOrder-easier, IsFeasible-easier}
+use Rattle.limits.specs.Easier.{AreEasier}
+use Rattle.limits.proofs.EasierLaws.{IsPassingOrder-easier, IsFeasible-easier}
+use Rattle.limits.proofs.NumberLaws.{easier-same}
 use Rattle.factor.specs.Factors.{scaled_task, scaled, MayScale, Scales, IsFactor, HasNoFactor, ScalesIn, IsFactorIn}
 use Rattle.factor.proofs.ScaledTasks.{scaled_cost-mono, scaled_task-same, within-same, valid-scaled, few-scaled, easier-scaled}
 
@@ -81,23 +82,12 @@ scaled-more f U xs ys i x y lt is scales before pushed =
     pushed ∙ rw (before, scales, is) (sym (map_more (scaled_task f) U i x lt))
 
 -- ---- two factors
-easier-none : (low high : Task) → low ≡ no_task → high ≡ no_task → IsEasier low high
-easier-none low high is is' = rw (is, is') record {
-  name = refl;
-  outranks = refl;
-  cost = omega arith;
-  jitter = omega arith;
-  period = omega arith;
-  deadline = omega arith;
-  sections = tt;
-}
-
 pub AreEasier-scaled : (U : List Task) (low high : ℕ) → low ≤ high → AreEasier (scaled low U) (scaled high U)
 AreEasier-scaled U low high le = record {
   count = count-scaled low U ∙ sym (count-scaled high U);
   each = λ k. elim (cases_lt k (length U)) [
     | inl lt ↦ rw (scaled-at low U k lt, scaled-at high U k lt) (easier-scaled low high (task_at U k) le)
-    | inr past ↦ easier-none _ _ (scaled-past low U k past) (scaled-past high U k past)
+    | inr past ↦ easier-same no_task _ _ (scaled-past low U k past) (scaled-past high U k past)
   ];
 }
 

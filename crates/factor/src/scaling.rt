@@ -6,6 +6,7 @@ ghost use Rattle.factor.specs.declared.scaling.TheConstants.{FACTOR_END};
 ghost use Rattle.factor.specs.Failing.{IsPastPeriod};
 ghost use Rattle.factor.specs.Factors.{thousandths, scaled_sections, scaled_end, scaled_cost, scaled_task, scaled, MayScale};
 
+use headroom::{Times, remade, times_of};
 use std::alloc::{AllocError, Global};
 use task_sheet::{Section, SetCause, Sheet, TaskSet};
 
@@ -74,23 +75,11 @@ fn scaled_sheet(alloc: Global, sheet: &Sheet, factor: u64) -> Result<Sheet, Allo
     let cost = scaled_cost(sheet, factor);
     let sections = scaled_sections(alloc, sheet, factor)?;
     let outranks = Vec::from_slice(alloc, sheet.outranks())?;
-    let Ok(other) = Sheet::new(
-        sheet.name(),
-        sheet.weight(),
-        sheet.period(),
-        sheet.deadline(),
+    let times = Times {
         cost,
-        sections,
-    ) else {
-        unreachable!()
+        ..times_of(sheet)
     };
-    let Ok(other) = other.jittered(sheet.jitter()) else {
-        unreachable!()
-    };
-    match other.outranking(outranks) {
-        Ok(other) => Ok(other),
-        Err(_) => unreachable!(),
-    }
+    Ok(remade(sheet, times, sections, outranks))
 }
 
 // The sheets, each scaled.

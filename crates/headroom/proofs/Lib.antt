@@ -4,3 +4,4 @@ pub mod SetCostLaws
 pub mod RoomLaws
 pub mod OrderLaws
 pub mod SomeOrderLaws
+pub mod PlacedLaws

@@ -1,43 +1,19 @@
--- A set with another cost of one task has the same ranks and the same locks.
-use Rattle.std.proofs.Common.{◌≡◌, ◌↔◌, ℕ, zero, suc, inl, inr, ◌<◌, ◌≤◌, false, None, List, [], ◌∷◌, ◌++◌, length, Less, refl, sym, ◌∙◌, ap, subst, arith, flat_map}
+-- A set with another cost of one task has the same locks.
+use Rattle.std.proofs.Common.{◌≡◌, ◌↔◌, ℕ, zero, suc, inl, inr, ◌<◌, ◌≤◌, List, [], ◌∷◌, ◌++◌, length, refl, sym, ◌∙◌, ap, subst, arith, flat_map}
 use Rattle.std.proofs.lemmas.Bool.{cases_lt}
 use Rattle.task_sheet.specs.Orders.{must_outrank, IsFeasible}
 use Rattle.task_sheet.proofs.TaskLaws.{valid_at}
 use Rattle.headroom.proofs.CostLaws.{IsFeasible-less, longest-same}
-use Rattle.std.specs.List.{AllByRecursion, list_any}
-use Rattle.std.specs.List.Sorted.{IsStrictlySortedBy}
+use Rattle.std.specs.List.{list_any}
 use Rattle.std.proofs.lemmas.List.{length-set, set-get_or}
-use Rattle.std.proofs.lemmas.List.Sorted.{IsPermutation-refl}
 use Rattle.task_sheet.specs.Sheet.{CriticalSection, Task, no_task, task_at}
-use Rattle.task_sheet.specs.TaskSet.{rank_cmp, same_name, AreDistinct, IsTaskSet, IsByRank}
-use Rattle.task_sheet.specs.SheetsFault.{sheets_fault}
+use Rattle.task_sheet.specs.TaskSet.{IsTaskSet}
 use Rattle.task_sheet.specs.Locks.{names_lock}
-use Rattle.task_sheet.proofs.SetLaws.{by_rank_one, no_fault}
 use Rattle.task_sheet.specs.Indexes.{indexes_of}
 use Rattle.ceilings.specs.Table.{Table}
 use Rattle.ceilings.specs.Holds.{TableData}
 use Rattle.ceilings.specs.IsTableOf.{AreUsersOf, IsTableOf, names_in, first_sights}
 use Rattle.headroom.specs.Costs.{with_cost, costed, MayCost, IsHeadroom, HasNoHeadroom}
-
--- ---- ranks
--- what doesn't rest on the cost holds of each task as before
-all-costed : (P : Task → Type 0) (cost : ℕ) → ((y : Task) → P y → P (with_cost y cost)) → (U : List Task) (i : ℕ) → AllByRecursion P U → AllByRecursion P (costed U i cost)
-all-costed P cost kept [] i h = tt
-all-costed P cost kept (y ∷ ys) zero h = (kept y h.0, h.1)
-all-costed P cost kept (y ∷ ys) (suc i) h = (h.0, all-costed P cost kept ys i h.1)
-
-pub ranked-costed : (U : List Task) (i cost : ℕ) → IsStrictlySortedBy rank_cmp U → IsStrictlySortedBy rank_cmp (costed U i cost)
-unfolding IsStrictlySortedBy
-ranked-costed [] i cost h = tt
-ranked-costed (y ∷ ys) zero cost h = h
-ranked-costed (y ∷ ys) (suc i) cost h = (all-costed (λ z. rank_cmp y z ≡ Less) cost (λ z before. before) ys i h.0, ranked-costed ys i cost h.1)
-
--- the sheets with another cost stand by rank
-pub IsByRank-costed : (U : List Task) (i cost : ℕ) (V : List Task) → IsTaskSet U → IsByRank (costed U i cost) V → V ≡ costed U i cost
-IsByRank-costed U i cost V valid by_rank =
-    let sheets = costed U i cost in
-    let own : IsByRank sheets sheets = record { permutation = IsPermutation-refl sheets; ranked = ranked-costed U i cost valid.ranked } in
-    by_rank_one sheets sheets V sheets (IsPermutation-refl sheets) by_rank own
 
 -- what doesn't rest on a task's cost is as before
 same-costed : {R : Type 0} (of : Task → R) (cost : ℕ) → ((y : Task) → of (with_cost y cost) ≡ of y) → (U : List Task) (i k : ℕ) → of (task_at (costed U i cost) k) ≡ of (task_at U k)
@@ -82,16 +58,6 @@ IsTableOf-costed U i cost table is = record {
       let count = length-set U i (with_cost (task_at U i) cost) in
       is.outranked j k (omega (arith, lt, count)) (omega (arith, within, count)) ∙ sym (must_outrank-costed U i cost j k);
 }
-
--- ---- names: the sheets with another cost are no fault
-distinct-costed : (U : List Task) (i cost : ℕ) → AreDistinct same_name U → AreDistinct same_name (costed U i cost)
-distinct-costed [] i cost h = tt
-distinct-costed (y ∷ ys) zero cost h = h
-distinct-costed (y ∷ ys) (suc i) cost h = (all-costed (λ z. same_name y z ≡ false) cost (λ z apart. apart) ys i h.0, distinct-costed ys i cost h.1)
-
-pub no_fault-costed : (U : List Task) (i cost : ℕ) → IsTaskSet U → sheets_fault (costed U i cost) ≡ None
-no_fault-costed U i cost valid =
-    no_fault (costed U i cost) (distinct-costed U i cost valid.distinct) (few-costed U i cost valid.few)
 
 -- ---- what a headroom says
 -- with its own cost a task is as it was

@@ -11,11 +11,13 @@ ghost use Rattle.headroom.specs.Costs.{costed, MayCost, AnswersHeadroom, IsHeadr
 mod costs;
 mod in_order;
 pub mod laws;
+mod others;
 mod some_order;
 
 pub use crate::costs::{last_end, with_cost};
 use crate::costs::{costed, least_cost};
 pub use crate::in_order::headroom_in_order;
+pub use crate::others::{Times, copy_sections, remade, times_of};
 use crate::some_order::some_order;
 use ceilings::LockTable;
 use std::alloc::{AllocError, Global};

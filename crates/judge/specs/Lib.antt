@@ -4,3 +4,4 @@ pub mod Faults
 pub mod Lines
 pub mod Node
 pub mod Kept
+pub mod Front

@@ -3,6 +3,7 @@
 #![tactic(auto)]
 
 mod fault;
+mod front;
 mod judging;
 mod kept;
 pub mod laws;
@@ -15,9 +16,10 @@ mod settings_fault;
 mod text;
 
 pub use crate::fault::SettingsFault;
+pub use crate::front::{Front, read_front};
 pub use crate::judging::{JudgedTask, Judgement, all_meet, judge_order};
 pub use crate::kept::read_kept;
 pub use crate::node::{JudgedNode, judge_settings};
-pub use crate::reading::{read_settings, read_settings_by};
+pub use crate::reading::{order_of_rows, read_settings, read_settings_by};
 pub use crate::rows::{NUMBER_LIMIT, Setting, SettingRow};
-pub use crate::text::judged_text;
+pub use crate::text::{judged_text, levels_text};

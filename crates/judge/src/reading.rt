@@ -47,7 +47,7 @@ pub fn read_settings_by(
 
 /// The order that rows of settings give, as indexes, the lowest first; a smaller number may be the higher one. Refused in
 /// the order of `SettingsFault`, but for `BadLine`. The table is that of the set.
-pub(crate) fn order_of_rows(
+pub fn order_of_rows(
     alloc: Global,
     set: &TaskSet,
     table: &LockTable,

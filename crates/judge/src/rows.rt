@@ -63,7 +63,7 @@ fn row_of(word: &[u8], setting: Setting) -> Option<SettingRow>
 }
 
 // The row that a line says.
-fn read_row(line: u64, text: &[u8]) -> Option<SettingRow>
+pub(crate) fn read_row(line: u64, text: &[u8]) -> Option<SettingRow>
     ensures { result ≡ setting_row_in line (words text.now) }
 {
     let mut words = Words::of(text);

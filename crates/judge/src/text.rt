@@ -1,5 +1,5 @@
 //! The lines that say what becomes of the tasks of an order.
-ghost use Rattle.std.specs.Prelude.{◌≡◌, ◌++◌, ◌<◌, codes, slice_get, All, OnOk, IfOk, string_bytes};
+ghost use Rattle.std.specs.Prelude.{◌≡◌, ◌++◌, ◌<◌, [], codes, slice_get, All, OnOk, IfOk, string_bytes};
 ghost use Rattle.task_sheet.specs.declared.set.TheConstants.{TASK_LIMIT};
 ghost use Rattle.task_sheet.specs.Sheet.{task_at};
 ghost use Rattle.task_sheet.specs.Indexes.{indexes_of};
@@ -111,6 +111,24 @@ fn push_judged(
     push_number(text, number)
 }
 
+// A line for each level.
+fn push_levels(
+    text: &mut String,
+    set: &TaskSet,
+    judged: &[JudgedTask],
+    numbers: &[u64],
+) -> Result<(), AllocError>
+    ensures { OnOk result (string_bytes text.new
+        ≡ string_bytes text.old ++ judged_level_lines set.now numbers.now 0 judged.now) }
+{
+    for (place, entry) in judged.iter().enumerate() {
+        let level = place + 1;
+        write!(text, "{level} ")?;
+        push_judged(text, set, entry, number_at(numbers, place))?;
+    }
+    Ok(())
+}
+
 /// The lines that say what becomes of the tasks of an order, the lowest first: whether all meet their deadlines, and then
 /// each, with the numbers of their threads, where they are given. The error is want of memory.
 pub fn judged_text(
@@ -125,10 +143,20 @@ pub fn judged_text(
 {
     let mut text = String::new(alloc);
     push_first(&mut text, set, judged)?;
-    for (place, entry) in judged.iter().enumerate() {
-        let level = place + 1;
-        write!(text, "{level} ")?;
-        push_judged(&mut text, set, entry, number_at(numbers, place))?;
-    }
+    push_levels(&mut text, set, judged, numbers)?;
+    Ok(text)
+}
+
+/// Those of each task alone, with no numbers. The error is want of memory.
+pub fn levels_text(
+    alloc: Global,
+    set: &TaskSet,
+    judged: &[JudgedTask],
+) -> Result<String, AllocError>
+    ensures { IfOk result (λ text. string_bytes text
+        ≡ judged_level_lines set.now [] 0 judged.now) }
+{
+    let mut text = String::new(alloc);
+    push_levels(&mut text, set, judged, &[])?;
     Ok(text)
 }

@@ -1,11 +1,23 @@
 -- What a command says of what it is given.
-use Rattle.std.specs.Prelude.{ℕ, List, Option, Some}
+use Rattle.std.specs.Prelude.{◌≡◌, ◌⊎◌, ℕ, List, [], ◌∷◌, Option, Some, None, IsUtf8}
 use Rattle.command_line.specs.Calls.{no_options}
 use Rattle.desk_cli.specs.Commands.{OneSays, TwoSay, preference_of}
+use Rattle.desk_cli.specs.OneTask.{SaysWorstOf}
 use Rattle.desk_cli.specs.Releases.{SaysList}
 use Rattle.desk_cli.specs.declared.status.Status.{Status}
 use Rattle.libdesk.specs.declared.asked.Asked.{Asked}
-use Rattle.libdesk.specs.declared.asked.Asked.TheVariants.{One, Two, Releases}
+use Rattle.libdesk.specs.declared.asked.Asked.TheVariants.{One, Two, Releases, Worst}
+
+-- a word asks about the task with a name: none where there is none; bytes that are no text are nobody's name
+abbrev pub AsksAbout : (name : List ℕ) → Option (List ℕ) → Type 0
+AsksAbout [] word = word ≡ None
+AsksAbout (byte ∷ bytes) word =
+    (word ≡ Some (byte ∷ bytes)) ⊎ (¬ IsUtf8 (byte ∷ bytes) × (word ≡ Some []))
+
+-- the worst case of the task with a name, or that of the one that the set's verdict is about
+abbrev pub SaysWorstAsked : (set name : List ℕ) → (before after : Option (List ℕ)) → Status → Type 0
+SaysWorstAsked set name before after s =
+    (word : Option (List ℕ)) × AsksAbout name word × SaysWorstOf word None (Some set) before after s
 
 -- what a writer held, what it holds then, and the status, are those of the command's answer
 abbrev pub AskedSays : Asked → (before after : Option (List ℕ)) → Status → Type 0
@@ -15,3 +27,4 @@ AskedSays (Two command first second) before after s =
     TwoSay command no_options (Some first.now) (Some second.now) before after s
 AskedSays (Releases set until) before after s =
     SaysList (preference_of no_options) no_options.seed until (Some set.now) before after s
+AskedSays (Worst set name) before after s = SaysWorstAsked set.now name.now before after s

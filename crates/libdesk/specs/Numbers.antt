@@ -1,10 +1,10 @@
 -- The commands by their numbers in include/desk.h.
 use Rattle.std.specs.Prelude.{ℕ, ◌==◌, if◌then◌else◌, List, Option, Some, None}
 use Rattle.std.specs.Borrow.{Bor}
-use Rattle.command_line.specs.declared.calls.OfOne.TheVariants.{Admit, Certify, Limits, Settings, Explain, Worst, Play}
+use Rattle.command_line.specs.declared.calls.OfOne.TheVariants.{Admit, Certify, Limits, Settings, Explain, Play}
 use Rattle.command_line.specs.declared.calls.OfTwo.TheVariants.{Check, Judge, Diff, Simulate, Draw, Observe}
 use Rattle.libdesk.specs.declared.asked.Asked.{Asked}
-use Rattle.libdesk.specs.declared.asked.Asked.TheVariants.{One, Two, Releases}
+use Rattle.libdesk.specs.declared.asked.Asked.TheVariants.{One, Two, Releases, Worst}
 
 -- the command of a number, with what it takes of the inputs; there is none of another
 abbrev pub command_of : ℕ → (first second : Bor (List ℕ)) → (until : ℕ) → Option Asked
@@ -22,5 +22,5 @@ command_of number first second until =
     else if number == 11 then Some (Two Draw first second)
     else if number == 12 then Some (One Play first)
     else if number == 13 then Some (Two Observe first second)
-    else if number == 14 then Some (One Worst first)
+    else if number == 14 then Some (Worst first second)
     else None

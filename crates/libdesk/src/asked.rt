@@ -1,7 +1,7 @@
 //! A command with what it is given, and what it answers.
-ghost use Rattle.std.specs.Prelude.{◌≡◌, length, Some, true, false};
+ghost use Rattle.std.specs.Prelude.{◌≡◌, length, option_map, Some, true, false};
 ghost use Rattle.libdesk.specs.Answers.{AnswersCall};
-ghost use Rattle.libdesk.specs.Asked.{AskedSays};
+ghost use Rattle.libdesk.specs.Asked.{AskedSays, AsksAbout};
 
 use crate::hand_out::hand_out;
 use command_line::{OfOne, OfTwo, Options};
@@ -16,6 +16,21 @@ pub enum Asked<'a> {
     Two(OfTwo, &'a [u8], &'a [u8]),
     /// The list of a set up to a time in microseconds.
     Releases(&'a [u8], u64),
+    /// The worst case of the task of a set that has this name; without one that of the task that its verdict is about.
+    Worst(&'a [u8], &'a [u8]),
+}
+
+// The word that asks about the task with a name; bytes that are no text are nobody's.
+pub(crate) fn task_word(name: &[u8]) -> Option<&str>
+    ensures { AsksAbout name.now (option_map (λ word. word.now) result) }
+{
+    if name.is_empty() {
+        return None;
+    }
+    match str::from_utf8(name) {
+        Ok(word) => Some(word),
+        Err(_) => Some(""),
+    }
 }
 
 // Runs a command on what it is given, and tells the audience what becomes of that.
@@ -52,6 +67,14 @@ pub(crate) fn run<'a, P: Audience>(
         Asked::Releases(set, until) => {
             let mut set = Watched::new(set);
             run_releases(alloc, options, &mut set, until, output, people)
+        }
+        Asked::Worst(set, task) => {
+            let mut set = Watched::new(set);
+            let options = Options {
+                task: task_word(task),
+                ..options
+            };
+            carry_out(alloc, OfOne::Worst, options, &mut set, output, people)
         }
     }
 }

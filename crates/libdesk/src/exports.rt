@@ -14,9 +14,8 @@ ghost use Rattle.desk_cli.specs.Releases.{SaysList};
 ghost use Rattle.desk_cli.specs.Settings.{settings_of};
 ghost use Rattle.desk_cli.specs.Simulate.{SaysSimulated};
 ghost use Rattle.desk_cli.specs.Statuses.{code_of};
-ghost use Rattle.desk_cli.specs.Worst.{SaysWorst};
 ghost use Rattle.libdesk.specs.Answers.{AnswersCall, TellsCall};
-ghost use Rattle.libdesk.specs.Asked.{AskedSays};
+ghost use Rattle.libdesk.specs.Asked.{AskedSays, SaysWorstAsked};
 ghost use Rattle.libdesk.specs.Numbers.{command_of};
 
 use crate::asked::{Asked, answer};
@@ -105,14 +104,20 @@ pub extern "C" fn desk_releases(
     answer(alloc, Asked::Releases(set, until), room, status)
 }
 
-/// What `desk worst` prints of a task set.
+/// What `desk worst` prints of a task set, with `--task` where the name of a task is given.
 #[unsafe(no_mangle)]
-pub extern "C" fn desk_worst(alloc: Global, set: &[u8], room: &mut [u8], status: &mut u8) -> usize
+pub extern "C" fn desk_worst(
+    alloc: Global,
+    set: &[u8],
+    task: &[u8],
+    room: &mut [u8],
+    status: &mut u8,
+) -> usize
     ensures room { length room.new ≡ length room.old }
-    ensures answer { AnswersCall (SaysWorst None
-        (Some set.now)) room.old room.new result status.new }
+    ensures answer { AnswersCall (SaysWorstAsked set.now task.now)
+        room.old room.new result status.new }
 {
-    answer(alloc, Asked::One(OfOne::Worst, set), room, status)
+    answer(alloc, Asked::Worst(set, task), room, status)
 }
 
 /// What `desk check` prints of a task set and a certificate.

@@ -4,7 +4,7 @@ ghost use Rattle.libdesk.specs.Answers.{TellsCall};
 ghost use Rattle.libdesk.specs.Asked.{AskedSays};
 ghost use Rattle.libdesk.specs.Numbers.{command_of};
 
-use crate::asked::{Asked, run};
+use crate::asked::{Asked, run, task_word};
 use crate::hand_out::hand_out;
 use advice::Advice;
 use command_line::{Call, Input, OfNumber, OfOne, OfTwo, Options};
@@ -24,7 +24,7 @@ fn name_of_one(command: OfOne) -> &'static str {
 fn name_of_second(command: OfTwo) -> &'static str {
     match command {
         OfTwo::Check => "certificate",
-        OfTwo::Judge | OfTwo::Keep => "settings",
+        OfTwo::Judge | OfTwo::Keep | OfTwo::WorstAt => "settings",
         OfTwo::Diff => "changed",
         OfTwo::Simulate | OfTwo::Draw => "releases",
         OfTwo::Observe => "trace",
@@ -45,6 +45,14 @@ fn call_of<'a>(asked: Asked<'a>) -> Call<'a> {
             first: Input::File("set"),
             second: Input::File(name_of_second(command)),
             options,
+        },
+        Asked::Worst(_, task) => Call::One {
+            command: OfOne::Worst,
+            input: Input::File("set"),
+            options: Options {
+                task: task_word(task),
+                ..options
+            },
         },
         Asked::Releases(_, until) => Call::Number {
             command: OfNumber::Releases,
@@ -78,7 +86,7 @@ pub(crate) fn command_of<'a>(
         11 => Asked::Two(OfTwo::Draw, first, second),
         12 => Asked::One(OfOne::Play, first),
         13 => Asked::Two(OfTwo::Observe, first, second),
-        14 => Asked::One(OfOne::Worst, first),
+        14 => Asked::Worst(first, second),
         _ => return None,
     })
 }

@@ -22,7 +22,7 @@ enum Call {
     Settings(&'static [u8]),
     Play(&'static [u8]),
     Releases(&'static [u8], u64),
-    Worst(&'static [u8]),
+    Worst(&'static [u8], &'static [u8]),
     Check(&'static [u8], &'static [u8]),
     Judge(&'static [u8], &'static [u8]),
     Diff(&'static [u8], &'static [u8]),
@@ -41,7 +41,7 @@ fn made(alloc: Global, call: Call, room: &mut [u8], status: &mut u8) -> usize {
         Call::Settings(set) => desk_settings(alloc, set, room, status),
         Call::Play(script) => desk_play(alloc, script, room, status),
         Call::Releases(set, until) => desk_releases(alloc, set, until, room, status),
-        Call::Worst(set) => desk_worst(alloc, set, room, status),
+        Call::Worst(set, task) => desk_worst(alloc, set, task, room, status),
         Call::Check(set, certificate) => desk_check(alloc, set, certificate, room, status),
         Call::Judge(set, settings) => desk_judge(alloc, set, settings, room, status),
         Call::Diff(set, changed) => desk_diff(alloc, set, changed, room, status),
@@ -62,7 +62,7 @@ fn holds(alloc: Global, call: Call, room: &mut [u8], text: &[u8], wanted: u8) ->
 }
 
 // Calls, with what each puts into the room and its status.
-const ANSWERS: [(Call, &[u8], u8); 15] = [
+const ANSWERS: [(Call, &[u8], u8); 18] = [
     (Call::Admit(SET), b"admitted 1\n1 x 1000\n", 0),
     (Call::Admit(b"x = 1"), b"refused: UnknownKey 0 0\n", 4),
     (Call::Certify(b""), CERTIFICATE, 0),
@@ -81,7 +81,18 @@ const ANSWERS: [(Call, &[u8], u8); 15] = [
     ),
     (Call::Diff(SET, SET), b"admitted 1\nwas admitted 1\n", 0),
     (Call::Releases(SET, 1000), RELEASES, 0),
-    (Call::Worst(SET), b"# x 1000 of 1000\nuntil 1000\n0 x\n", 0),
+    (
+        Call::Worst(SET, b""),
+        b"# x 1000 of 1000\nuntil 1000\n0 x\n",
+        0,
+    ),
+    (
+        Call::Worst(SET, b"x"),
+        b"# x 1000 of 1000\nuntil 1000\n0 x\n",
+        0,
+    ),
+    (Call::Worst(SET, b"y"), b"refused: NoSuchTask y\n", 4),
+    (Call::Worst(SET, b"\xff"), b"refused: NoSuchTask\n", 4),
     (
         Call::Simulate(SET, RELEASES),
         b"0 1000 x\njob x 0 1000\n",

@@ -1,5 +1,4 @@
 pub mod EasierLaws
-pub mod PlacedLaws
 pub mod NumberLaws
 pub mod SpanLaws
 pub mod TableLaws

@@ -13,7 +13,7 @@ use Rattle.limits.specs.declared.number.Number.TheVariants.{Cost, Period, Deadli
 use Rattle.limits.specs.Easier.{AreShorter, IsEasier, AreEasier}
 use Rattle.limits.specs.Numbers.{no_section, with_len, value_of, with_number, IsNoFurther, numbered, MayHave, IsFurthest, NoneHelps}
 use Rattle.limits.proofs.EasierLaws.{AreShorter-refl, IsPassingOrder-easier, IsFeasible-easier}
-use Rattle.limits.proofs.PlacedLaws.{IsNamesake, AllTasks-placed}
+use Rattle.headroom.proofs.PlacedLaws.{IsNamesake, AllTasks-placed}
 
 pub namesake : (number : Number) (t : Task) (value : ℕ) → IsNamesake (with_number number t value) t
 namesake Cost t value = record { name = refl; weight = refl }
@@ -28,7 +28,8 @@ shorter-len [] k low high le = tt
 shorter-len (x ∷ xs) zero low high le = (refl, le, AreShorter-refl xs)
 shorter-len (x ∷ xs) (suc k) low high le = (refl, omega arith, shorter-len xs k low high le)
 
-easier-same : (x easy hard : Task) → easy ≡ x → hard ≡ x → IsEasier easy hard
+-- a task asks no more than itself
+pub easier-same : (x easy hard : Task) → easy ≡ x → hard ≡ x → IsEasier easy hard
 easier-same x easy hard e f = rw (e, f) record {
   name = refl;
   outranks = refl;

@@ -184,6 +184,22 @@ at-start (Len k) easiest = omega arith
 pub section_read : (xs ys : List CriticalSection) (k : ℕ) (x : CriticalSection) → ys ≡ xs → k < length xs → x ≡ get_or ys k x → x ≡ section_at xs k
 section_read xs ys k x same lt is = get_or_read xs k x lt (is ∙ ap (λ zs. get_or zs k x) same) no_section
 
+-- what a section that is read from a valid sheet's, and the end of its room, are
+pub record IsRoom (t : Task) (k at end : ℕ) : Type 0 where
+  pub inside : k < length t.sections
+  pub at_is : at ≡ (section_at t.sections k).at
+  pub end_is : end ≡ room_end t.cost t.sections k
+  pub some : at + 1 ≤ end
+  pub within : end ≤ t.cost
+
+pub room_read : (t : Task) (k : ℕ) (xs ys : List CriticalSection) (x : CriticalSection) (at cost end : ℕ) → IsValidSheet t → k < length t.sections
+    → xs ≡ t.sections → x ≡ get_or xs k x → at ≡ x.at → ys ≡ t.sections → cost ≡ t.cost → end ≡ room_end cost ys k → IsRoom t k at end
+room_read t k xs ys x at cost end valid inside same is at_is same' cost_is end_is =
+    let own = room-own 0 t.cost t.sections k inside valid.sections in
+    let here : at ≡ (section_at t.sections k).at = at_is ∙ ap (λ (s : CriticalSection). s.at) (section_read t.sections xs k x same inside is) in
+    let there : end ≡ room_end t.cost t.sections k = end_is ∙ ap (λ m. room_end m ys k) cost_is ∙ ap (λ (zs : List CriticalSection). room_end t.cost zs k) same' in
+    record { inside = inside; at_is = here; end_is = there; some = omega (arith, here, there, own.0); within = omega (arith, there, own.1) }
+
 -- ---- distances
 far-back : (number : Number) (easiest far : ℕ)
     → (distance number easiest (at_distance number easiest far) ≤ far) × (at_distance number easiest (distance number easiest (at_distance number easiest far)) ≡ at_distance number easiest far)

@@ -1,5 +1,4 @@
 pub mod Numbers
 pub mod Easier
-pub mod Remade
 pub mod Rooms
 pub mod InOrder

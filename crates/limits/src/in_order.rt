@@ -8,7 +8,7 @@ ghost use Rattle.limits.specs.InOrder.{IsFurthestIn};
 
 use crate::number::Number;
 use crate::numbered::{keeps_sections, numbered};
-use crate::spans::{at_distance, distance, span_of, value_of};
+use crate::spans::{at_distance, distance, span_in, value_of};
 use assignment::least_over;
 use ceilings::LockTable;
 use response_time::passes;
@@ -78,7 +78,7 @@ pub fn furthest_in_order(
     requires has { HasNumber (task_at set.now task) number }
     ensures { IfOk result (IsFurthestIn set.now order.now task number) }
 {
-    let span = span_of(&set.sheets()[task], number);
+    let span = span_in(set, task, number);
     let own = value_of(&set.sheets()[task], number);
     let mut passing = distance(number, span.easiest, own);
     let mut failing = span.length + 1;

@@ -19,7 +19,7 @@ pub use crate::in_order::{furthest_in_order, order_passes};
 pub use crate::number::Number;
 use crate::numbered::{keeps_sections, numbered};
 pub use crate::spans::value_of;
-use crate::spans::{Span, at_distance, distance, span_of};
+use crate::spans::{Span, at_distance, distance, span_in};
 use assignment::is_feasible;
 use ceilings::LockTable;
 use std::alloc::{AllocError, Global};
@@ -103,7 +103,7 @@ pub fn furthest(
     requires has { HasNumber (task_at set.now task) number }
     ensures { IfOk result (λ answer. AnswersFurthest set.now task number answer) }
 {
-    let span = span_of(&set.sheets()[task], number);
+    let span = span_in(set, task, number);
     if !passes_with(alloc, set, table, task, number, span.easiest)? {
         return Ok(None);
     }
@@ -127,7 +127,7 @@ pub fn furthest_from(
     requires passes { IsFeasible (numbered set.now task number known) }
     ensures { IfOk result (IsFurthest set.now task number) }
 {
-    let span = span_of(&set.sheets()[task], number);
+    let span = span_in(set, task, number);
     let far = distance(number, span.easiest, known);
     furthest_beyond(alloc, set, table, task, number, span, far)
 }

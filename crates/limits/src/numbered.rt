@@ -1,28 +1,12 @@
 //! Sets with another value of one number of a task.
 ghost use Rattle.std.specs.Prelude.{◌≡◌, ◌<◌, length, IfOk, IsTrue};
 ghost use Rattle.task_sheet.specs.Sheet.{IsValidSheet, task_at};
-ghost use Rattle.limits.specs.Remade.{remade};
 ghost use Rattle.limits.specs.Numbers.{KeepsSections, HasNumber, with_len, with_number, numbered, MayHave};
 
 use crate::number::Number;
+use headroom::{copy_sections, remade, times_of};
 use std::alloc::{AllocError, Global};
 use task_sheet::{Section, SetCause, Sheet, TaskSet, copy_sheets};
-
-// Sections that say the same.
-fn copy_sections(alloc: Global, sections: &[Section]) -> Result<Vec<Section>, AllocError>
-    ensures { IfOk result (λ copies. copies.items ≡ sections.now) }
-{
-    let mut copies = Vec::with_capacity(alloc, sections.len())?;
-    for section in sections {
-        let locks = Vec::from_slice(alloc, &section.locks)?;
-        copies.push(Section {
-            locks,
-            at: section.at,
-            len: section.len,
-        })?;
-    }
-    Ok(copies)
-}
 
 // The sections, with another length of the one at a place.
 fn with_len(
@@ -37,57 +21,6 @@ fn with_len(
     let mut others = copy_sections(alloc, sections)?;
     others[place].len = len;
     Ok(others)
-}
-
-// Numbers of a sheet.
-#[derive(Clone, Copy)]
-struct Times {
-    period: u64,
-    deadline: u64,
-    cost: u64,
-    jitter: u64,
-}
-
-// Those of this one.
-fn times_of(sheet: &Sheet) -> Times
-    ensures { result ≡ record { period = sheet.now.period; deadline = sheet.now.deadline; cost = sheet.now.cost; jitter = sheet.now.jitter } }
-{
-    Times {
-        period: sheet.period(),
-        deadline: sheet.deadline(),
-        cost: sheet.cost(),
-        jitter: sheet.jitter(),
-    }
-}
-
-// The sheet with other numbers and sections.
-fn remade(
-    alloc: Global,
-    sheet: &Sheet,
-    times: Times,
-    sections: Vec<Section>,
-) -> Result<Sheet, AllocError>
-    requires may { IsValidSheet (remade sheet.now times.period times.deadline times.cost times.jitter sections.items) }
-    ensures { IfOk result (λ other. other ≡ remade sheet.now times.period times.deadline times.cost times.jitter sections.items) }
-{
-    let outranks = Vec::from_slice(alloc, sheet.outranks())?;
-    let Ok(other) = Sheet::new(
-        sheet.name(),
-        sheet.weight(),
-        times.period,
-        times.deadline,
-        times.cost,
-        sections,
-    ) else {
-        unreachable!()
-    };
-    let Ok(other) = other.jittered(times.jitter) else {
-        unreachable!()
-    };
-    match other.outranking(outranks) {
-        Ok(other) => Ok(other),
-        Err(_) => unreachable!(),
-    }
 }
 
 // The sheet with another value of a number.
@@ -119,7 +52,8 @@ fn with_number(
         Number::Jitter => times.jitter = value,
         Number::Len(_) => {}
     }
-    remade(alloc, sheet, times, sections)
+    let outranks = Vec::from_slice(alloc, sheet.outranks())?;
+    Ok(remade(sheet, times, sections, outranks))
 }
 
 /// The set with another value of a number of one task. The error is want of memory.

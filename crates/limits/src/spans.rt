@@ -1,12 +1,13 @@
 //! The values that a number of a sheet may have.
 ghost use Rattle.std.specs.Prelude.{◌≡◌, ◌+◌, ◌-◌, ◌<◌, ◌≤◌, length};
-ghost use Rattle.task_sheet.specs.Sheet.{IsValidSheet};
+ghost use Rattle.task_sheet.specs.Sheet.{IsValidSheet, task_at};
+ghost use Rattle.task_sheet.specs.TaskSet.{IsTaskSet};
 ghost use Rattle.limits.specs.Numbers.{HasNumber, IsSpan, at_distance, distance, section_at, value_of};
 ghost use Rattle.limits.specs.Rooms.{room_end};
 
 use crate::number::Number;
 use headroom::last_end;
-use task_sheet::{Section, Sheet};
+use task_sheet::{Section, Sheet, TaskSet};
 
 /// The values from the easiest on.
 #[derive(Clone, Copy)]
@@ -68,8 +69,8 @@ fn room_end(cost: u64, sections: &[Section], place: usize) -> u64
     }
 }
 
-/// Which values a number of a sheet may have.
-pub(crate) fn span_of(sheet: &Sheet, number: Number) -> Span
+// Which values a number of a sheet may have.
+fn span_of(sheet: &Sheet, number: Number) -> Span
     requires valid { IsValidSheet sheet.now }
     requires has { HasNumber sheet.now number }
     ensures span { IsSpan sheet.now number result.easiest result.length }
@@ -106,4 +107,15 @@ pub(crate) fn span_of(sheet: &Sheet, number: Number) -> Span
             }
         }
     }
+}
+
+/// Which values a number of a task of a set may have.
+pub(crate) fn span_in(set: &TaskSet, task: usize, number: Number) -> Span
+    requires task { task < length set.now }
+    requires has { HasNumber (task_at set.now task) number }
+    ensures span { IsSpan (task_at set.now task) number result.easiest result.length }
+    ensures short { result.easiest + result.length ≤ 20000000 }
+    ensures kept { IsTaskSet set.now }
+{
+    span_of(&set.sheets()[task], number)
 }

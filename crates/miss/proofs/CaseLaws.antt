@@ -1,11 +1,11 @@
 -- The streams of a task's worst case.
-use Rattle.std.proofs.Common.{◌≡◌, ◌≢◌, ℕ, zero, suc, ◌+◌, ◌-◌, ◌<◌, ◌≤◌, ◌⊎◌, inl, inr, Bool, true, false, ◌==◌, ◌||◌, Some, None, Option, List, [], ◌∷◌, ◌++◌, length, map, get_or, refl, sym, ◌∙◌, ap, subst, arith}
+use Rattle.std.proofs.Common.{◌≡◌, ◌≢◌, ℕ, zero, suc, ◌+◌, ◌-◌, ◌<◌, ◌≤◌, ◌⊎◌, inl, inr, true, false, ◌==◌, Some, None, Option, List, [], ◌∷◌, ◌++◌, length, map, get_or, refl, sym, ◌∙◌, ap, subst, arith}
 use Rattle.std.specs.Prelude.{slice_get}
 use Rattle.std.proofs.Math.ListN.{get_or-append}
 use Rattle.std.proofs.Math.Seq.{get_or-append_right}
 use Rattle.std.proofs.lemmas.List.{length-append, length-map}
 use Rattle.std.proofs.lemmas.Option.{get_or_from_slice_get, none-some}
-use Rattle.std.proofs.lemmas.Bool.{cases_lt, cases_eq, eq-eqb, true≢false}
+use Rattle.std.proofs.lemmas.Bool.{cases_lt, cases_eq, eq-eqb, true≢false, or_parts}
 use Rattle.task_sheet.specs.Sheet.{Task, CriticalSection, IsValidSheet, IsSection, AreSections, no_task, task_at}
 use Rattle.task_sheet.specs.TaskSet.{IsTaskSet}
 use Rattle.task_sheet.specs.Indexes.{with_index, among}
@@ -171,8 +171,8 @@ module _ (node : Node) (ok : IsNode node) (i : ℕ) (lt : i < length node.tasks)
       let room : (f.section.at + f.section.len ≤ (task_at U bb.task).cost) × (0 < f.section.len) = section_in 0 (task_at U bb.task).cost (task_at U bb.task).sections bb.place f.section v.sections at.section in
       let same : among above ≡ above_of node i = λ x h. after_is_above node ok i h lt x in
       let outside : with_index (above_of node i) i bb.task ≡ false = subst (λ H. with_index H i bb.task ≡ false) same at.outside in
-      let not_i : bb.task ≢ i = λ s. absurd (true≢false (sym (eq-eqb bb.task i s) ∙ or-left-false (bb.task == i) (above_of node i bb.task) outside)) in
-      let le : level_in_order node bb.task ≤ level_in_order node i = not_lt (level_in_order node i) (level_in_order node bb.task) (or-right-false (bb.task == i) (above_of node i bb.task) outside) in
+      let not_i : bb.task ≢ i = λ s. absurd (true≢false (sym (eq-eqb bb.task i s) ∙ (or_parts (bb.task == i) (above_of node i bb.task) outside).0)) in
+      let le : level_in_order node bb.task ≤ level_in_order node i = not_lt (level_in_order node i) (level_in_order node bb.task) (or_parts (bb.task == i) (above_of node i bb.task) outside).1 in
       let s : IsSound node = sound node ok in
       record {
         section = f.section;
@@ -186,14 +186,6 @@ module _ (node : Node) (ok : IsNode node) (i : ℕ) (lt : i < length node.tasks)
           | inr differ ↦ omega arith
         ];
       }
-    where
-      or-left-false : (x y : Bool) → (x || y) ≡ false → x ≡ false
-      or-left-false true y h = h
-      or-left-false false y h = refl
-
-      or-right-false : (x y : Bool) → (x || y) ≡ false → y ≡ false
-      or-right-false true y h = absurd (true≢false h)
-      or-right-false false y h = h
 
   lead_small : (o : Option BlockerData) → b ≡ o → lead_of U o ≤ 10000000
   lead_small None e = omega arith

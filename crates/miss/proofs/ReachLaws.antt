@@ -1,7 +1,7 @@
 -- Where a task of a level or above reaches a section, its ceiling does.
-use Rattle.std.proofs.Common.{◌≡◌, ℕ, suc, ◌-◌, ◌<◌, ◌≤◌, inl, inr, Bool, true, false, ◌==◌, ◌&&◌, ◌||◌, List, [], ◌∷◌, length, get_or, take, ◌+◌, refl, sym, ◌∙◌, ap, ap₂, subst, arith}
+use Rattle.std.proofs.Common.{◌≡◌, ℕ, suc, ◌-◌, ◌<◌, ◌≤◌, inl, inr, Bool, true, false, ◌==◌, ◌&&◌, ◌||◌, List, [], ◌∷◌, length, get_or, take, ◌+◌, sym, ◌∙◌, ap, ap₂, subst, arith}
 use Rattle.std.specs.List.{list_any}
-use Rattle.std.proofs.lemmas.Bool.{cases_Bool, cases_lt, true≢false, or_cases, and_parts, and_from, eqb-true, ltb-true, lt-ltb}
+use Rattle.std.proofs.lemmas.Bool.{cases_Bool, cases_lt, true≢false, or_cases, and_parts, and_from, eqb-true, ltb-true, lt-ltb, or_parts}
 use Rattle.std.proofs.lemmas.List.{take_all}
 use Rattle.std.proofs.lemmas.List.Folds.{list_any_at, list_any_more}
 use Rattle.task_sheet.specs.Sheet.{Task, CriticalSection, task_at}
@@ -59,8 +59,8 @@ module _ (node : Node) (ok : IsNode node) (i : ℕ) where
   held_low : (ss : List CriticalSection) (e : ℕ) → list_any (raises e) ss ≡ false → held_ceiling node ss e ≤ level_in_order node i
   held_low [] e h = omega arith
   held_low (s ∷ ss) e h =
-      let here : raises e s ≡ false = or-left-false (raises e s) (list_any (raises e) ss) h in
-      let ih : held_ceiling node ss e ≤ level_in_order node i = held_low ss e (or-right-false (raises e s) (list_any (raises e) ss) h) in
+      let here : raises e s ≡ false = (or_parts (raises e s) (list_any (raises e) ss) h).0 in
+      let ih : held_ceiling node ss e ≤ level_in_order node i = held_low ss e (or_parts (raises e s) (list_any (raises e) ss) h).1 in
       elim (cases_Bool (is_inside s e)) [
         | inr out ↦ rw out (omega arith)
         | inl in_ ↦ elim (cases_lt (level_in_order node i) (top_ceiling node s.locks)) [
@@ -68,14 +68,6 @@ module _ (node : Node) (ok : IsNode node) (i : ℕ) where
           | inr low ↦ rw in_ (omega arith)
         ]
       ]
-    where
-      or-left-false : (x y : Bool) → (x || y) ≡ false → x ≡ false
-      or-left-false true y h = h
-      or-left-false false y h = refl
-
-      or-right-false : (x y : Bool) → (x || y) ≡ false → y ≡ false
-      or-right-false true y h = absurd (true≢false h)
-      or-right-false false y h = h
 
   held_high : (ss : List CriticalSection) (e : ℕ) → list_any (raises e) ss ≡ true → level_in_order node i < held_ceiling node ss e
   held_high [] e h = absurd (true≢false (sym h))

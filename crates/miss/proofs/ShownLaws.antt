@@ -1,6 +1,6 @@
 -- Why a task that doesn't pass has no run, and what is left open then.
 use Rattle.std.proofs.Common.{◌≡◌, ℕ, suc, ◌+◌, ◌-◌, ◌<◌, ◌≤◌, inl, inr, Bool, true, false, ◌||◌, List, length, get_or, take, drop, All, refl, sym, ◌∙◌, ap, subst, arith}
-use Rattle.std.proofs.lemmas.Bool.{cases_lt, cases_eq, cases_Bool, or_cases, true≢false}
+use Rattle.std.proofs.lemmas.Bool.{cases_lt, cases_eq, cases_Bool, or_cases, true≢false, or_parts}
 use Rattle.std.proofs.lemmas.List.{get_or-drop, length-drop}
 use Rattle.task_sheet.specs.Sheet.{Task, task_at}
 use Rattle.task_sheet.specs.TaskSet.{IsTaskSet}
@@ -139,22 +139,14 @@ module _ (U : List Task) (order : List ℕ) (is : IsOrder U order) (tasks : IsTa
           | inr other ↦ so.needs p (omega (arith, from)) lt must
         ];
         short = λ off p from lt must. elim (cases_eq p (place - 1)) [
-          | inl at ↦ need_not_miss (node_in U order) (get_or order (place - 1) 0) s shows none (or-right-false long (is_too_long s) off) (subst (λ k. MustMiss (node_in U order) (get_or order k 0)) at must)
-          | inr other ↦ so.short (or-left-false long (is_too_long s) off) p (omega (arith, from)) lt must
+          | inl at ↦ need_not_miss (node_in U order) (get_or order (place - 1) 0) s shows none (or_parts long (is_too_long s) off).1 (subst (λ k. MustMiss (node_in U order) (get_or order k 0)) at must)
+          | inr other ↦ so.short (or_parts long (is_too_long s) off).0 p (omega (arith, from)) lt must
         ];
         open_ = λ on. elim (or_cases long (is_too_long s) on) [
           | inl before ↦ so.open_ before
           | inr here ↦ (let t = too_long (node_in U order) (get_or order (place - 1) 0) s shows here in (place - 1, omega (arith, so.within), t.0, t.1))
         ];
       }
-    where
-      or-left-false : (x y : Bool) → (x || y) ≡ false → x ≡ false
-      or-left-false true y h = h
-      or-left-false false y h = refl
-
-      or-right-false : (x y : Bool) → (x || y) ≡ false → y ≡ false
-      or-right-false true y h = absurd (true≢false h)
-      or-right-false false y h = h
 
   pub left_open : (place : ℕ) (long : Bool) → IsSofar U order place long → place ≡ 0 → long ≡ true → IsLeftOpen node
   left_open place long so end on =

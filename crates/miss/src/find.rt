@@ -11,6 +11,7 @@ ghost use Rattle.miss.specs.Shown.{IsShown, is_too_long, IsLeftOpen};
 ghost use Rattle.ceilings.specs.IsTableOf.{IsTableOf};
 
 use crate::fault::MissFault;
+use crate::reaching::is_of;
 use crate::reason::{members_above, why_not};
 use crate::shown::{Miss, NoRun, Shown};
 use crate::worst::{Run, worst_case};
@@ -30,10 +31,8 @@ fn is_missed(set: &TaskSet, task: usize, release: Release, job: &JobRecord, unti
     if job.finish.is_some() || until < release.time {
         return false;
     }
-    let Some(found) = set.find(release.name) else {
-        return false;
-    };
-    found == task && until - release.time == set.sheets()[task].deadline()
+    let age = until - release.time;
+    is_of(set, task, release) && age == set.sheets()[task].deadline()
 }
 
 // The place of the first such job.

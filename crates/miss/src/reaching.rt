@@ -37,8 +37,8 @@ pub enum Reached {
     Stopped,
 }
 
-// The release is one of the task's.
-fn is_of(set: &TaskSet, task: usize, release: Release) -> bool
+/// The release is one of the task's.
+pub(crate) fn is_of(set: &TaskSet, task: usize, release: Release) -> bool
     requires { task < length set.now }
     ensures yes { OnTrue result (task_number set.now release ≡ task) }
     ensures no { OnFalse result (¬ (task_number set.now release ≡ task)) }

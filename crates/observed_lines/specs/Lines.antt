@@ -7,14 +7,17 @@ use Rattle.observed.specs.declared.seen.Seen.{Seen}
 use Rattle.observed_lines.specs.Broken.{broken_lines}
 use Rattle.observed_lines.specs.Reached.{done_of, least_gap, of_level}
 
--- the least gap, or `-` for none
-abbrev pub gap_words : Option ℕ → List ℕ
-gap_words None = codes "-"
-gap_words (Some gap) = decimal gap
+-- a time, or `-` for none, and what is promised of it
+abbrev pub beside_words : Option ℕ → (promised : ℕ) → List ℕ
+beside_words None promised = codes " - " ++ decimal promised
+beside_words (Some time) promised = codes " " ++ decimal time ++ codes " " ++ decimal promised
 
--- the greatest response of so many jobs that are done, or `-` of none
-abbrev pub response_words : (done response : ℕ) → List ℕ
-response_words done response = if done == 0 then codes "-" else decimal response
+-- the greatest response of a level, where a job of it is done
+abbrev pub greatest_response : ℕ → List Seen → Option ℕ
+greatest_response level seen =
+    if length (done_of level seen) == 0
+    then None
+    else Some (greatest_of (λ s. s.lasted) (done_of level seen))
 
 -- the task's jobs, their longest execution, and its cost
 abbrev pub cost_part : ℕ → Promise → List Seen → List ℕ
@@ -23,23 +26,12 @@ cost_part level promise seen =
     ++ codes " " ++ decimal (greatest_of (λ s. s.executed) (of_level level seen))
     ++ codes " " ++ decimal promise.cost
 
--- their least gap, and its period
-abbrev pub period_part : ℕ → Promise → List Seen → List ℕ
-period_part level promise seen =
-    codes " " ++ gap_words (least_gap (of_level level seen)) ++ codes " " ++ decimal promise.period
-
--- their greatest response, and its bound
-abbrev pub bound_part : ℕ → Promise → List Seen → List ℕ
-bound_part level promise seen =
-    codes " "
-    ++ response_words (length (done_of level seen))
-    (greatest_of (λ s. s.lasted) (done_of level seen))
-    ++ codes " " ++ decimal promise.bound ++ codes "\n"
-
--- the task at a level
+-- the task at a level: the least gap stands beside its period, the greatest response beside its bound
 abbrev pub task_line : ℕ → Promise → List Seen → List ℕ
 task_line level promise seen =
-    cost_part level promise seen ++ period_part level promise seen ++ bound_part level promise seen
+    cost_part level promise seen
+    ++ beside_words (least_gap (of_level level seen)) promise.period
+    ++ beside_words (greatest_response level seen) promise.bound ++ codes "\n"
 
 -- a line for each task, of which the first has a level
 abbrev pub task_lines : ℕ → List Promise → List Seen → List ℕ

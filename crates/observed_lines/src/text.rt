@@ -1,31 +1,31 @@
 //! What a trace shows: a line for each task, and then the promises that are broken.
 ghost use Rattle.std.specs.Prelude.{◌≡◌, ◌++◌, OnOk, IfOk, string_bytes};
-ghost use Rattle.observed_lines.specs.Lines.{bound_part, cost_part, gap_words, observed_lines, period_part, response_words, task_line, task_lines};
+ghost use Rattle.observed_lines.specs.Lines.{beside_words, cost_part, greatest_response, observed_lines, task_line, task_lines};
 
 use crate::broken::push_all_broken;
 use crate::reached::{done_of, executed_of, gap_of, jobs_of, response_of};
 use observed::{Promise, Seen};
 use std::alloc::{AllocError, Global};
 
-// The least gap, or `-` for none.
-fn push_gap(text: &mut String, gap: Option<u64>) -> Result<(), AllocError>
-    ensures { OnOk result (string_bytes text.new ≡ string_bytes text.old ++ gap_words gap) }
+// A time, or `-` for none, and what is promised of it.
+fn push_beside(text: &mut String, time: Option<u64>, promised: u64) -> Result<(), AllocError>
+    ensures { OnOk result (string_bytes text.new
+        ≡ string_bytes text.old ++ beside_words time promised) }
 {
-    match gap {
-        Some(gap) => write!(text, "{gap}"),
-        None => text.push_str("-"),
+    match time {
+        Some(time) => write!(text, " {time} {promised}"),
+        None => write!(text, " - {promised}"),
     }
 }
 
-// The greatest response of so many jobs that are done, or `-` of none.
-fn push_response(text: &mut String, done: usize, response: u64) -> Result<(), AllocError>
-    ensures { OnOk result (string_bytes text.new
-        ≡ string_bytes text.old ++ response_words done response) }
+// The greatest response of a level, where a job of it is done.
+fn greatest_response(level: usize, seen: &[Seen]) -> Option<u64>
+    ensures { result ≡ greatest_response level seen.now }
 {
-    if done == 0 {
-        return text.push_str("-");
+    if done_of(level, seen) == 0 {
+        return None;
     }
-    write!(text, "{response}")
+    Some(response_of(level, seen))
 }
 
 // The jobs of a task at a level, their longest execution, and its cost.
@@ -45,38 +45,6 @@ fn push_cost_part(
     write!(text, "task {name} {jobs} {executed} {cost}")
 }
 
-// Their least gap, and its period.
-fn push_period_part(
-    text: &mut String,
-    level: usize,
-    promise: &Promise,
-    seen: &[Seen],
-) -> Result<(), AllocError>
-    ensures { OnOk result (string_bytes text.new
-        ≡ string_bytes text.old ++ period_part level promise.now seen.now) }
-{
-    let period = promise.period;
-    text.push_str(" ")?;
-    push_gap(text, gap_of(level, seen))?;
-    write!(text, " {period}")
-}
-
-// Their greatest response, and its bound.
-fn push_bound_part(
-    text: &mut String,
-    level: usize,
-    promise: &Promise,
-    seen: &[Seen],
-) -> Result<(), AllocError>
-    ensures { OnOk result (string_bytes text.new
-        ≡ string_bytes text.old ++ bound_part level promise.now seen.now) }
-{
-    let bound = promise.bound;
-    text.push_str(" ")?;
-    push_response(text, done_of(level, seen), response_of(level, seen))?;
-    writeln!(text, " {bound}")
-}
-
 // The line of a task at a level.
 fn push_task(
     text: &mut String,
@@ -88,8 +56,9 @@ fn push_task(
         ≡ string_bytes text.old ++ task_line level promise.now seen.now) }
 {
     push_cost_part(text, level, promise, seen)?;
-    push_period_part(text, level, promise, seen)?;
-    push_bound_part(text, level, promise, seen)
+    push_beside(text, gap_of(level, seen), promise.period)?;
+    push_beside(text, greatest_response(level, seen), promise.bound)?;
+    text.push_str("\n")
 }
 
 // A line for each task.

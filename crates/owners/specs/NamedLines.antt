@@ -38,10 +38,14 @@ part_place line =
     else if is_at line 2 (codes "above") then Some 3
     else None
 
--- `LEVEL NAME TIME of DEADLINE`, or `NAME TIME of DEADLINE`
+-- `LEVEL NAME TIME of DEADLINE` or `LEVEL NAME misses DEADLINE`; `LEVEL NAME below OTHER` speaks of two
+abbrev pub level_place : List (List ℕ) → Option ℕ
+level_place line = if is_at line 2 (codes "below") then None else Some 1
+
+-- a line of a level, or `NAME TIME of DEADLINE`
 abbrev pub time_place : List (List ℕ) → Option ℕ
 time_place line =
-    if number_at line 0 && is_at line 3 (codes "of") then Some 1
+    if number_at line 0 then level_place line
     else if number_at line 1 && is_at line 2 (codes "of") then Some 0
     else None
 

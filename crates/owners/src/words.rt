@@ -1,7 +1,7 @@
 //! Which word of a line is the name of a task.
 ghost use Rattle.std.specs.Prelude.{◌≡◌, List, ℕ, None, Some, slice_get, MatchOption};
 ghost use Rattle.lines.specs.Words.{words};
-ghost use Rattle.owners.specs.NamedLines.{begins_number, change_place, is_at, number_at, part_place, task_place, task_word, time_place};
+ghost use Rattle.owners.specs.NamedLines.{begins_number, change_place, is_at, level_place, number_at, part_place, task_place, task_word, time_place};
 
 use lines::Words;
 
@@ -84,12 +84,23 @@ fn part_place(line: &[u8]) -> Option<usize>
     }
 }
 
+// Where the line of a level has its task, unless another one stands behind `below`.
+fn level_place(line: &[u8]) -> Option<usize>
+    ensures { result ≡ level_place (words line.now) }
+{
+    if is_at(line, 2, b"below") {
+        None
+    } else {
+        Some(1)
+    }
+}
+
 // Where the line of a time has its task.
 fn time_place(line: &[u8]) -> Option<usize>
     ensures { result ≡ time_place (words line.now) }
 {
-    if number_at(line, 0) && is_at(line, 3, b"of") {
-        Some(1)
+    if number_at(line, 0) {
+        level_place(line)
     } else if number_at(line, 1) && is_at(line, 2, b"of") {
         Some(0)
     } else {

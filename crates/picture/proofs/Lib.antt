@@ -1,3 +1,6 @@
 pub mod Puts
 pub mod Counts
 pub mod Darker
+pub mod Widths
+mod Lanes
+pub mod LockLaws

@@ -1,78 +1,50 @@
 -- The elements of the picture, as text.
-use Rattle.std.specs.Prelude.{ℕ, ◌+◌, ◌-◌, ◌*◌, ◌/◌, nat_le, nat_lt, if◌then◌else◌, Option, Some, None, List, [], ◌∷◌, ◌++◌, length, slice_index_or, codes}
+use Rattle.std.specs.Prelude.{ℕ, ◌+◌, ◌-◌, ◌/◌, nat_le, nat_lt, if◌then◌else◌, Option, Some, None, List, [], ◌∷◌, ◌++◌, length, slice_index_or, codes}
+use Rattle.std.specs.Option.{unwrap_or}
 use Rattle.std.specs.Fmt.{decimal}
 use Rattle.std.specs.List.{concat}
 use Rattle.task_sheet.specs.Sheet.{CriticalSection}
-use Rattle.task_sheet.specs.Demand.{greatest_of}
-use Rattle.run_lines.specs.Lines.{greatest_words}
-use Rattle.run_lines.specs.Reached.{done_of, response_of}
 use Rattle.ceiling_kernel.specs.declared.trace.Release.{Release}
 use Rattle.ceiling_kernel.specs.declared.trace.JobRecord.{JobRecord}
 use Rattle.ceiling_kernel.specs.declared.trace.Slice.{Slice}
 use Rattle.picture.specs.declared.rows.TaskRow.{TaskRow}
 use Rattle.picture.specs.declared.marks.Mark.{Mark}
 use Rattle.picture.specs.declared.marks.Mark.TheVariants.{Arrival, Ready, Bound, Deadline}
-use Rattle.picture.specs.Frame.{Frame, x_of, frame_end, right_of, top_of, unit_of, unit_name}
+use Rattle.picture.specs.Frame.{Frame, x_of, frame_end, right_of, top_of, tone_of, unit_of, unit_name}
 use Rattle.picture.specs.Rows.{each}
+use Rattle.picture.specs.Boxes.{span_text}
+use Rattle.picture.specs.Numbers.{known_text}
+use Rattle.picture.specs.Locks.{stripes_text}
 use Rattle.picture.specs.Sections.{dark_from, dark_to, nth_section, fits}
 
 -- ---- ground
 -- a line down through the rows, and its time
 abbrev pub tick_text : Frame → (bottom step time : ℕ) → List ℕ
 tick_text f bottom step time =
-    concat (codes "<path class=\"g\" d=\"M" ∷ decimal (x_of f time) ∷ codes " 1300V"
+    concat (codes "<path class=\"g\" d=\"M" ∷ decimal (x_of f time) ∷ codes " 1230V"
     ∷ decimal bottom
-    ∷ codes "\"/><text class=\"s\" x=\"" ∷ decimal (x_of f time) ∷ codes "\" y=\"1260\">"
+    ∷ codes "\"/><text class=\"s\" x=\"" ∷ decimal (x_of f time) ∷ codes "\" y=\"1200\">"
     ∷ decimal (time / unit_of step) ∷ codes " " ∷ unit_name step ∷ codes "</text>\n" ∷ [])
 
--- the line of a row, below its bars
+-- the line between rows, and the line of a row, below its bars
 abbrev pub line_text : Frame → ℕ → List ℕ
 line_text f k =
-    concat (codes "<path class=\"l\" d=\"M160 " ∷ decimal (top_of k + 490) ∷ codes "H"
-    ∷ decimal (frame_end f) ∷ codes "\"/>\n" ∷ [])
-
--- what the jobs of a row's task came to: how many are done, the greatest response among them, and the row's bound
-abbrev pub outcome_text : TaskRow → List JobRecord → List ℕ
-outcome_text row jobs =
-    concat (codes "<title>done: " ∷ decimal (length (done_of row.sheet.name jobs))
-    ∷ codes ", greatest response: " ∷ [])
-    ++ greatest_words (length (done_of row.sheet.name jobs))
-    (greatest_of response_of (done_of row.sheet.name jobs))
-    ++ concat (codes ", bound: " ∷ decimal row.bound ∷ codes " us</title>" ∷ [])
-
--- the name of a row, with that as its title
-abbrev pub name_text : List JobRecord → ℕ → TaskRow → List ℕ
-name_text jobs k row =
-    concat (codes "<text class=\"n\" x=\"160\" y=\"" ∷ decimal (top_of k + 140) ∷ codes "\">" ∷ [])
-    ++ outcome_text row jobs ++ concat (row.sheet.name ∷ codes "</text>\n" ∷ [])
-
--- all names again, 300 pixels further
-abbrev pub again_text : ℕ → List ℕ
-again_text i =
-    concat (codes "<use xlink:href=\"#n\" x=\"" ∷ decimal (3000 * (i + 1)) ∷ codes "\"/>\n" ∷ [])
+    concat (codes "<path class=\"g\" d=\"M100 " ∷ decimal (top_of k) ∷ codes "H"
+    ∷ decimal (frame_end f)
+    ∷ codes "\"/><path class=\"l\" d=\"M" ∷ decimal f.left ∷ codes " "
+    ∷ decimal (top_of k + 345)
+    ∷ codes "H" ∷ decimal (frame_end f) ∷ codes "\"/>\n" ∷ [])
 
 -- ---- bars
--- a box as high as a bar
-abbrev pub bar_path : (x right y : ℕ) → List ℕ
-bar_path x right y =
-    concat (codes "M" ∷ decimal x ∷ codes " " ∷ decimal y ∷ codes "H" ∷ decimal right
-    ∷ codes "v180H" ∷ decimal x
-    ∷ codes "z" ∷ [])
+-- how long after its arrival a job is done at the latest, or without a bound has to be
+abbrev pub limit_of : TaskRow → ℕ
+limit_of row = unwrap_or row.bound row.sheet.deadline
 
--- the box from a time up to another, in row k
-abbrev pub span_text : Frame → (k start stop : ℕ) → List ℕ
-span_text f k start stop = bar_path (x_of f start) (right_of f start stop) (top_of k + 305)
-
--- the box of a job from its arrival, up to its bound if it is done, else open at the end
-abbrev pub job_box : Frame → ℕ → TaskRow → JobRecord → Option ℕ → List ℕ
-job_box f k row job (Some finish) =
-    concat (codes "<path class=\"w\" d=\"" ∷ span_text f k job.release (job.release + row.bound)
+-- the box of a job from its arrival, up to its bound or deadline
+abbrev pub job_box : Frame → ℕ → TaskRow → JobRecord → List ℕ
+job_box f k row job =
+    concat (codes "<path class=\"w\" d=\"" ∷ span_text f k job.release (job.release + limit_of row)
     ∷ codes "\"><title>" ∷ [])
-job_box f k row job None =
-    concat (codes "<path class=\"w\" d=\"M" ∷ decimal (x_of f job.release) ∷ codes " "
-    ∷ decimal (top_of k + 305)
-    ∷ codes "H" ∷ decimal (frame_end f) ∷ codes "l60 30-60 30 60 30-60 30 60 30-60 30H"
-    ∷ decimal (x_of f job.release) ∷ codes "z\"><title>" ∷ [])
 
 -- whose job it is, and when it arrives
 abbrev pub arrival_words : JobRecord → List ℕ
@@ -85,11 +57,19 @@ done_words job (Some finish) =
     ∷ codes ", " ∷ [])
 done_words job None = codes "not done, "
 
--- how long after its arrival it is done at the latest, and has to be
+-- how long after its arrival it is done at the latest, where that is known, and has to be
 abbrev pub limit_words : TaskRow → List ℕ
 limit_words row =
-    concat (codes "bound " ∷ decimal row.bound ∷ codes ", deadline " ∷ decimal row.sheet.deadline
+    concat (codes "bound " ∷ known_text row.bound ∷ codes ", deadline " ∷ decimal row.sheet.deadline
     ∷ codes " us</title></path>\n" ∷ [])
+
+-- a sign at the end where a job goes on
+abbrev pub on_text : Frame → ℕ → Option ℕ → List ℕ
+on_text f k (Some finish) = []
+on_text f k None =
+    concat (codes "<path class=\"a\" d=\"M" ∷ decimal (frame_end f) ∷ codes " "
+    ∷ decimal (top_of k + 195)
+    ∷ codes "m20 0l60 60-60 60m60-120l60 60-60 60\"/>\n" ∷ [])
 
 -- what is told of a job
 abbrev pub job_words : TaskRow → JobRecord → List ℕ
@@ -97,13 +77,14 @@ job_words row job = arrival_words job ++ done_words job job.finish ++ limit_word
 
 -- a job
 abbrev pub job_text : Frame → JobRecord → ℕ → TaskRow → List ℕ
-job_text f job k row = job_box f k row job job.finish ++ job_words row job
+job_text f job k row = job_box f k row job ++ job_words row job ++ on_text f k job.finish
 
 -- a slice
 abbrev pub bar_text : Frame → Slice → ℕ → TaskRow → List ℕ
 bar_text f s k row =
-    concat (codes "<path class=\"e\" d=\"" ∷ span_text f k s.start s.stop ∷ codes "\"><title>"
-    ∷ row.sheet.name ∷ codes " "
+    concat (codes "<path class=\"e f" ∷ decimal (tone_of k) ∷ codes "\" d=\""
+    ∷ span_text f k s.start s.stop
+    ∷ codes "\"><title>" ∷ row.sheet.name ∷ codes " "
     ∷ decimal s.start ∷ codes " to " ∷ decimal s.stop ∷ codes " us</title></path>\n" ∷ [])
 
 -- names, each after one space
@@ -114,7 +95,7 @@ names_text names = each (length names) (λ i. codes " " ++ slice_index_or names 
 abbrev pub label_head : (x right k : ℕ) → List ℕ
 label_head x right k =
     concat (codes "<text class=\"k\" x=\"" ∷ decimal ((x + right) / 2) ∷ codes "\" y=\""
-    ∷ decimal (top_of k + 433)
+    ∷ decimal (top_of k + 293)
     ∷ codes "\">" ∷ [])
 
 -- the names of locks in the middle of a part
@@ -139,40 +120,42 @@ part_end start stop =
     ∷ [])
 
 -- a part of a slice in which its job holds locks
-abbrev pub part_text : Frame → ℕ → TaskRow → List (List ℕ) → (start stop : ℕ) → List ℕ
-part_text f k row locks start stop =
+abbrev pub part_text : Frame → List (List ℕ) → ℕ → TaskRow → List (List ℕ) → (start stop : ℕ) → List ℕ
+part_text f all k row locks start stop =
     part_head f k row start stop ++ names_text locks ++ part_end start stop
+    ++ stripes_text all (x_of f start) (right_of f start stop) k locks
     ++ label_text (x_of f start) (x_of f stop) k locks
 
 -- the darker part of a slice for a section, if there is one
-abbrev pub dark_text : Frame → (e : ℕ) → Slice → ℕ → TaskRow → CriticalSection → List ℕ
-dark_text f e s k row x =
+abbrev pub dark_text : Frame → List (List ℕ) → (e : ℕ) → Slice → ℕ → TaskRow → CriticalSection → List ℕ
+dark_text f all e s k row x =
     if nat_lt (dark_from x e) (dark_to x e s)
-    then part_text f k row x.locks (s.start + dark_from x e) (s.start + dark_to x e s)
+    then part_text f all k row x.locks (s.start + dark_from x e) (s.start + dark_to x e s)
     else []
 
 -- the darker parts of a slice for some sections
-abbrev pub darks_text : Frame → (e : ℕ) → Slice → ℕ → TaskRow → List CriticalSection → List ℕ
-darks_text f e s k row sections =
-    each (length sections) (λ i. dark_text f e s k row (nth_section sections i))
+abbrev pub darks_text : Frame → List (List ℕ) → (e : ℕ) → Slice → ℕ → TaskRow → List CriticalSection → List ℕ
+darks_text f all e s k row sections =
+    each (length sections) (λ i. dark_text f all e s k row (nth_section sections i))
 
 -- a slice and its darker parts, of a job that has executed e ticks before it
-abbrev pub slice_text : Frame → (e : ℕ) → Slice → ℕ → TaskRow → List ℕ
-slice_text f e s k row = bar_text f s k row ++ darks_text f e s k row row.sheet.sections
+abbrev pub slice_text : Frame → List (List ℕ) → (e : ℕ) → Slice → ℕ → TaskRow → List ℕ
+slice_text f all e s k row = bar_text f s k row ++ darks_text f all e s k row row.sheet.sections
 
 -- ---- marks
 -- an arrow up at an arrival
 abbrev pub arrival_text : Frame → Release → (y : ℕ) → List ℕ
 arrival_text f r y =
     concat (codes "M" ∷ decimal (x_of f r.time) ∷ codes " " ∷ decimal y
-    ∷ codes "v100m-35-50l35-50 35 50\n" ∷ [])
+    ∷ codes "v-100m-35 50l35-50 35 50\n" ∷ [])
 
--- a stroke to when a job becomes ready, where that is later
+-- a line up to when a job becomes ready, where that is later
 abbrev pub ready_text : Frame → Release → (y : ℕ) → List ℕ
 ready_text f r y =
     if nat_lt 0 r.late
-    then concat (codes "M" ∷ decimal (x_of f r.time) ∷ codes " " ∷ decimal y
-    ∷ codes "H" ∷ decimal (x_of f (r.time + r.late)) ∷ codes "v-95\n" ∷ [])
+    then concat (codes "M" ∷ decimal (x_of f r.time) ∷ codes " " ∷ decimal y ∷ codes "H"
+    ∷ decimal (x_of f (r.time + r.late))
+    ∷ codes "\n" ∷ [])
     else []
 
 -- a mark of a shape so long after an arrival, where that is in the picture
@@ -182,14 +165,18 @@ later_text f r len y shape =
     then concat (codes "M" ∷ decimal (x_of f (r.time + len)) ∷ codes " " ∷ decimal y ∷ shape ∷ [])
     else []
 
--- a mark of a release in row k: an arrow up, a stroke, a tick at the bound, an arrow down
+-- a bracket at a bound, where there is one
+abbrev pub bound_text : Frame → Release → (y : ℕ) → Option ℕ → List ℕ
+bound_text f r y None = []
+bound_text f r y (Some bound) = later_text f r bound y (codes "h-35m35 0v40m0 120v40h-35\n")
+
+-- a mark of a release in row k: an arrow up, a line, a bracket at the bound, an arrow down
 abbrev pub mark_text : Frame → Mark → Release → ℕ → TaskRow → List ℕ
-mark_text f Arrival r k row = arrival_text f r (top_of k + 510)
-mark_text f Ready r k row = ready_text f r (top_of k + 610)
-mark_text f Bound r k row =
-    later_text f r row.bound (top_of k + 485) (codes "v-195h-60v15h40v180z\n")
+mark_text f Arrival r k row = arrival_text f r (top_of k + 450)
+mark_text f Ready r k row = ready_text f r (top_of k + 255)
+mark_text f Bound r k row = bound_text f r (top_of k + 155) row.bound
 mark_text f Deadline r k row =
-    later_text f r row.sheet.deadline (top_of k + 280) (codes "v-100m0 100l-35-50h70z\n")
+    later_text f r row.sheet.deadline (top_of k + 60) (codes "v100m0 0l-35-50h70z\n")
 
 -- what opens the marks of a kind
 abbrev pub mark_head : Mark → List ℕ

@@ -1,11 +1,16 @@
--- What the darker ticks mean, and that names stand in the document as they are.
-use Rattle.std.specs.Prelude.{◌≡◌, ℕ, ◌+◌, ◌<◌, ◌≤◌, ◌↔◌, Bool, false, not, ◌&&◌, ◌==◌, nat_le, nat_lt, List, IsTrue}
+-- What the darker ticks and the missed deadlines mean, how wide a picture is, and that names stand in it as they are.
+use Rattle.std.specs.Prelude.{◌≡◌, ℕ, ◌+◌, ◌<◌, ◌≤◌, ◌↔◌, Bool, false, Some, None, not, ◌&&◌, ◌==◌, nat_le, nat_lt, List, IsTrue}
 use Rattle.std.specs.List.{list_all}
 use Rattle.task_sheet.specs.Sheet.{CriticalSection}
 use Rattle.task_sheet.specs.Name.{IsName}
 use Rattle.ceiling_kernel.specs.Tick.{is_inside}
 use Rattle.ceiling_kernel.specs.declared.trace.Slice.{Slice}
+use Rattle.ceiling_kernel.specs.declared.trace.JobRecord.{JobRecord}
+use Rattle.picture.specs.declared.rows.TaskRow.{TaskRow}
+use Rattle.picture.specs.Frame.{Frame, frame_of}
 use Rattle.picture.specs.Sections.{ticks_of, dark_from, dark_to}
+use Rattle.picture.specs.Misses.{is_late}
+use Rattle.picture.specs.Document.{width_of}
 
 -- a job's tick number e, from 0, is executed inside a section
 abbrev pub executes_inside : CriticalSection → ℕ → Bool
@@ -23,6 +28,21 @@ abbrev pub IsHeldBetween : Type 0
 IsHeldBetween =
     (x : CriticalSection) → (is_inside x 0 ≡ false)
     × ((e : ℕ) → is_inside x (e + 1) ≡ (executes_inside x e && executes_inside x (e + 1)))
+
+-- a deadline is shown as missed where the job is done after it, or isn't done by an end that isn't before it; there is
+-- some time up to each
+abbrev pub AreMissesShown : Type 0
+AreMissesShown =
+    (f : Frame) (row : TaskRow) (job : JobRecord) → 0 < row.sheet.deadline
+    → ((finish : ℕ) → job.finish ≡ Some finish
+    → is_late f row job ≡ nat_lt (job.release + row.sheet.deadline) finish)
+    × (job.finish ≡ None → is_late f row job ≡ nat_le (job.release + row.sheet.deadline) f.until)
+
+-- a picture is from 960 to 1,600 pixels wide, of which each has ten units
+abbrev pub HasWidth : Type 0
+HasWidth =
+    (rows : List TaskRow) (until : ℕ) → (9600 ≤ width_of (frame_of rows until))
+    × (width_of (frame_of rows until) ≤ 16000)
 
 -- a byte that stands for itself in text and between quotes: none of & < > " '
 abbrev pub is_plain : ℕ → Bool

@@ -2,6 +2,15 @@ pub mod Puts
 pub mod Frame
 pub mod Rows
 pub mod Sections
+pub mod Numbers
+pub mod Boxes
+pub mod Locks
+pub mod Misses
+pub mod Margin
+pub mod Lane
+pub mod Blocking
+pub mod Waits
+pub mod WaitTexts
 pub mod Elements
 pub mod Document
 pub mod Laws

@@ -7,7 +7,7 @@ ghost use Rattle.picture.specs.Document.{slice_by, slices_text};
 
 use crate::boxes::bar_of;
 use crate::chart::{Chart, Lane};
-use crate::frame::x_of;
+use crate::frame::{tone_of, x_of};
 use crate::page::Page;
 use crate::rows::find_row;
 use crate::ticks::executed_after;
@@ -37,19 +37,20 @@ impl<W: Write + Drop> Page<'_, W> {
         let start = x_of(lane.frame, slice.start);
         let stop = x_of(lane.frame, slice.stop);
         let bar = bar_of(start, stop, lane.k);
+        let tone = tone_of(lane.k);
         let name = lane.row.sheet.name();
         let start = slice.start;
         let stop = slice.stop;
         write!(
             self.out,
-            "<path class=\"e\" d=\"{bar}\"><title>{name} {start} to {stop} us</title></path>\n"
+            "<path class=\"e f{tone}\" d=\"{bar}\"><title>{name} {start} to {stop} us</title></path>\n"
         )
     }
 
     // A slice and its darker parts.
     fn put_whole(&mut self, executed: u64, slice: Slice, lane: &Lane<'_>) -> Result<(), WriteFailed>
         ensures { Puts W.contents self.old self.new result
-            (slice_text lane.now.frame executed slice lane.now.k lane.now.row.now) }
+            (slice_text lane.now.frame lane.now.locks.now executed slice lane.now.k lane.now.row.now) }
     {
         self.put_bar(slice, lane)?;
         for section in lane.row.sheet.sections() {
@@ -66,7 +67,7 @@ impl<W: Write + Drop> Page<'_, W> {
         slice: Slice,
     ) -> Result<(), WriteFailed>
         ensures put { Puts W.contents self.old self.new result
-            (slice_by chart.now.frame chart.now.rows.now chart.now.jobs.now
+            (slice_by chart.now.frame chart.now.locks.now chart.now.rows.now chart.now.jobs.now
             (slice_index executed.old slice.job) slice) }
         ensures counted { executed.new ≡ counted executed.old slice }
     {
@@ -88,7 +89,7 @@ impl<W: Write + Drop> Page<'_, W> {
     ) -> Result<(), WriteFailed>
         requires { AreUncounted executed.old (length chart.now.jobs.now) }
         ensures { Puts W.contents self.old self.new result
-            (slices_text chart.now.frame chart.now.rows.now chart.now.jobs.now
+            (slices_text chart.now.frame chart.now.locks.now chart.now.rows.now chart.now.jobs.now
             chart.now.slices.now) }
     {
         for slice in chart.slices {

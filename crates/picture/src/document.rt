@@ -4,16 +4,20 @@ ghost use Rattle.task_sheet.specs.declared.set.TheConstants.{TASK_LIMIT};
 ghost use Rattle.picture.specs.Puts.{Puts};
 ghost use Rattle.std.specs.Io.KnownBytes.{Appends};
 ghost use Rattle.picture.specs.Sections.{AreUncounted};
+ghost use Rattle.picture.specs.declared.locks.TheConstants.{LOCKS_LIMIT};
+ghost use Rattle.picture.specs.Locks.{locks_of};
 ghost use Rattle.picture.specs.Document.{framed, document};
 
 use crate::chart::Chart;
 use crate::frame::frame_of;
+use crate::locks::locks_of;
 use crate::page::Page;
 use crate::rows::TaskRow;
 use ceiling_kernel::{Release, Trace};
 use std::alloc::{AllocError, Global};
 use std::io::Write;
 use streams::{Outlet, Watched, WriteFailed};
+use task_sheet::Name;
 
 /// Why there is no picture.
 #[derive(Clone, Copy, Debug, PartialEq, Eq)]
@@ -39,13 +43,16 @@ fn put_document<W: Write + Drop>(
 ) -> Result<(), WriteFailed>
     requires { AreUncounted executed.old (length chart.now.jobs.now) }
     ensures { Puts W.contents page.old page.new result
-        (framed chart.now.frame chart.now.rows.now chart.now.until chart.now.releases.now
+        (framed chart.now.frame chart.now.locks.now chart.now.rows.now chart.now.until chart.now.releases.now
         chart.now.jobs.now chart.now.slices.now) }
 {
     page.put_ground(chart)?;
+    page.put_lanes(chart)?;
     page.put_jobs(chart)?;
-    page.put_slices(chart, executed)?;
     page.put_all_marks(chart)?;
+    page.put_waits(chart)?;
+    page.put_slices(chart, executed)?;
+    page.put_misses(chart)?;
     page.out.put(b"</svg>\n")
 }
 
@@ -57,7 +64,7 @@ fn put_all<W: Write + Drop>(
 ) -> Result<(), WriteFailed>
     requires { AreUncounted executed.old (length chart.now.jobs.now) }
     ensures sent { OnOk result (Appends (W.contents output.old.inner) (W.contents output.new.inner)
-        (framed chart.now.frame chart.now.rows.now chart.now.until chart.now.releases.now
+        (framed chart.now.frame chart.now.locks.now chart.now.rows.now chart.now.until chart.now.releases.now
         chart.now.jobs.now chart.now.slices.now)) }
     ensures ok { OnOk result (output.new.has_failed ≡ output.old.has_failed) }
     ensures failed { OnErr result (output.new.has_failed ≡ true) }
@@ -69,9 +76,44 @@ fn put_all<W: Write + Drop>(
     page.out.flush()
 }
 
+// The picture, of rows with these locks.
+fn draw_with<W: Write + Drop>(
+    alloc: Global,
+    rows: &[TaskRow],
+    locks: &[Name],
+    until: u64,
+    releases: &[Release],
+    trace: &Trace,
+    output: &mut Watched<W>,
+) -> Result<(), DrawFault>
+    requires rows { length rows.now ≤ TASK_LIMIT }
+    requires locks { locks.now ≡ locks_of rows.now }
+    requires few { length locks.now ≤ LOCKS_LIMIT }
+    ensures drawn { OnOk result (Appends (W.contents output.old.inner) (W.contents output.new.inner)
+        (document rows.now until releases.now trace.now)) }
+    ensures ok { OnOk result (output.new.has_failed ≡ output.old.has_failed) }
+    ensures failed { result ≡ Err DrawFault.WriteFailed → output.new.has_failed ≡ true }
+    ensures memory { result ≡ Err DrawFault.OutOfMemory → output.new ≡ output.old }
+{
+    let mut executed = no_ticks(alloc, trace.jobs.len()).map_err(|_| DrawFault::OutOfMemory)?;
+    let chart = Chart {
+        frame: frame_of(rows, until),
+        rows,
+        until,
+        releases,
+        jobs: &trace.jobs,
+        slices: &trace.slices,
+        locks,
+    };
+    match put_all(&chart, &mut executed, output) {
+        Ok(()) => Ok(()),
+        Err(_) => Err(DrawFault::WriteFailed),
+    }
+}
+
 /// Writes the picture of a run of these rows, the highest level first, whose trace ends at `until`, in microseconds:
-/// an SVG 1.1 document. It is held back and sent, 16,384 bytes at a time; memory is taken for one count of each job, before
-/// anything is written.
+/// an SVG 1.1 document. It is held back and sent, 16,384 bytes at a time; memory is taken for one count of each job and one
+/// name of each lock, before anything is written.
 pub fn draw<W: Write + Drop>(
     alloc: Global,
     rows: &[TaskRow],
@@ -87,17 +129,8 @@ pub fn draw<W: Write + Drop>(
     ensures failed { result ≡ Err DrawFault.WriteFailed → output.new.has_failed ≡ true }
     ensures memory { result ≡ Err DrawFault.OutOfMemory → output.new ≡ output.old }
 {
-    let mut executed = no_ticks(alloc, trace.jobs.len()).map_err(|_| DrawFault::OutOfMemory)?;
-    let chart = Chart {
-        frame: frame_of(rows, until),
-        rows,
-        until,
-        releases,
-        jobs: &trace.jobs,
-        slices: &trace.slices,
-    };
-    match put_all(&chart, &mut executed, output) {
-        Ok(()) => Ok(()),
-        Err(_) => Err(DrawFault::WriteFailed),
+    match locks_of(alloc, rows) {
+        Ok(locks) => draw_with(alloc, rows, &locks, until, releases, trace, output),
+        Err(_) => Err(DrawFault::OutOfMemory),
     }
 }

@@ -1,8 +1,8 @@
 //! How time and rows lie in the picture.
-ghost use Rattle.std.specs.Prelude.{◌≡◌, ◌+◌, ◌*◌, ◌<◌, ◌≤◌};
-ghost use Rattle.picture.specs.declared.frame.TheConstants.{LONGEST_PERIOD, RIGHTMOST, LOWEST_TOP, WIDEST_STEP, WIDEST_DECADE};
+ghost use Rattle.std.specs.Prelude.{◌≡◌, ◌+◌, ◌*◌, ◌<◌, ◌≤◌, length};
+ghost use Rattle.picture.specs.declared.frame.TheConstants.{LONGEST_PERIOD, RIGHTMOST, LOWEST_TOP, WIDEST_MARGIN, WIDEST_STEP, WIDEST_DECADE};
 ghost use Rattle.task_sheet.specs.declared.set.TheConstants.{TASK_LIMIT};
-ghost use Rattle.picture.specs.Frame.{frame_of, least_period, x_of, frame_end, right_of, top_of, is_wide, decade_of, step_in, step_of, unit_of, unit_name, Frame, IsFrame};
+ghost use Rattle.picture.specs.Frame.{frame_of, least_period, longest_name, left_of, x_of, frame_end, right_of, top_of, level_of, tone_of, is_wide, decade_of, step_in, step_of, unit_of, unit_name, Frame, IsFrame};
 
 use crate::rows::TaskRow;
 use ceiling_kernel::HORIZON;
@@ -11,17 +11,17 @@ use std::marker::Model;
 // The longest period that a sheet may have, in microseconds.
 const LONGEST_PERIOD: u64 = 10_000_000;
 
-// How narrow the span of time is at least.
-const NARROWEST: u64 = 9_500;
+// How far to the right time ends at least.
+const NARROWEST: u64 = 9_400;
 
-// How wide it is at most.
-const WIDEST: u64 = 159_500;
+// How far to the right it ends at most.
+const RIGHTMOST: u64 = 15_800;
 
-// No time lies further to the right.
-const RIGHTMOST: u64 = 160 + WIDEST;
+// How wide the margin to the left of it is at most.
+const WIDEST_MARGIN: u64 = 2_500;
 
 // No row begins further down.
-const LOWEST_TOP: u64 = 21_500;
+const LOWEST_TOP: u64 = 17_050;
 
 // The widest power of ten of the scale, in microseconds.
 const WIDEST_DECADE: u64 = 1_000_000;
@@ -29,21 +29,23 @@ const WIDEST_DECADE: u64 = 1_000_000;
 // The widest step of the scale, in microseconds.
 const WIDEST_STEP: u64 = 5 * WIDEST_DECADE;
 
-// A span of time in microseconds, and its width.
+// A span of time in microseconds, where it begins and how wide it is, and how many rows there are.
 #[derive(Clone, Copy)]
 pub(crate) struct Frame {
     pub(crate) until: u64,
+    pub(crate) left: u64,
     pub(crate) span: u64,
+    pub(crate) count: u64,
 }
 
 impl Model for Frame {
     ghost Value = { Frame };
 
-    ghost view = { λ f. record { until = f.until; span = f.span } };
+    ghost view = { λ f. record { until = f.until; left = f.left; span = f.span; count = f.count } };
 
-    ghost inverse = { λ f. record { until = f.until; span = f.span } };
+    ghost inverse = { λ f. record { until = f.until; left = f.left; span = f.span; count = f.count } };
 
-    ghost invariant = { λ f. IsFrame (record { until = f.until; span = f.span }) };
+    ghost invariant = { λ f. IsFrame (record { until = f.until; left = f.left; span = f.span; count = f.count }) };
 }
 
 // The shortest period of the rows.
@@ -57,14 +59,44 @@ fn least_period(rows: &[TaskRow]) -> u64
     least
 }
 
+// How many letters the longest name of the rows has.
+fn longest_name(rows: &[TaskRow]) -> u64
+    ensures { result ≡ longest_name 0 rows.now }
+{
+    let mut most = 0;
+    for row in rows {
+        most = (row.sheet.name().bytes().len() as u64).max(most);
+    }
+    most
+}
+
+// Where time begins, to the right of names with so many letters.
+fn left_of(letters: u64) -> u64
+    ensures value { result ≡ left_of letters }
+    ensures within { result ≤ WIDEST_MARGIN }
+{
+    let letters = letters.min(WIDEST_MARGIN);
+    (620 + (78 * letters).max(1_340)).min(WIDEST_MARGIN)
+}
+
 // The frame of a run of the rows.
 pub(crate) fn frame_of(rows: &[TaskRow], until: u64) -> Frame
+    requires { length rows.now ≤ TASK_LIMIT }
     ensures { result ≡ frame_of rows.now until }
 {
+    let left = left_of(longest_name(rows));
     let least = least_period(rows).max(1);
     let until = until.min(HORIZON).max(1);
-    let span = (240 * until / least).max(NARROWEST).min(WIDEST);
-    Frame { until, span }
+    let span = (240 * until / least)
+        .min(RIGHTMOST - left)
+        .max(NARROWEST - left);
+    let count = rows.len() as u64;
+    Frame {
+        until,
+        left,
+        span,
+        count,
+    }
 }
 
 // Where a time lies.
@@ -72,7 +104,7 @@ pub(crate) fn x_of(frame: Frame, time: u64) -> u64
     ensures value { result ≡ x_of frame time }
     ensures within { result ≤ RIGHTMOST }
 {
-    160 + time.min(frame.until) * frame.span / frame.until
+    frame.left + time.min(frame.until) * frame.span / frame.until
 }
 
 // Where the time lies that comes so long after another.
@@ -85,11 +117,19 @@ pub(crate) fn x_after(frame: Frame, time: u64, len: u64) -> u64
     x_of(frame, time + len.min(rest))
 }
 
+// Where the beginning lies.
+pub(crate) fn start_of(frame: Frame) -> u64
+    ensures { result ≡ frame.left }
+{
+    frame.left
+}
+
 // Where the end lies.
 pub(crate) fn end_of(frame: Frame) -> u64
-    ensures { result ≡ frame_end frame }
+    ensures value { result ≡ frame_end frame }
+    ensures within { result ≤ RIGHTMOST }
 {
-    160 + frame.span
+    frame.left + frame.span
 }
 
 // Where a row begins.
@@ -98,7 +138,21 @@ pub(crate) fn top_of(k: usize) -> u64
     ensures value { result ≡ top_of k }
     ensures within { result ≤ LOWEST_TOP }
 {
-    1340 + 630 * k as u64
+    1690 + 480 * k as u64
+}
+
+// The level of a row.
+pub(crate) fn level_of(frame: Frame, k: usize) -> u64
+    ensures { result ≡ level_of frame k }
+{
+    frame.count.saturating_sub(k as u64)
+}
+
+// The tone of a row's task.
+pub(crate) fn tone_of(k: usize) -> usize
+    ensures { result ≡ tone_of k }
+{
+    k % 10
 }
 
 // Whether a step is wide enough.

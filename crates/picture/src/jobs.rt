@@ -1,45 +1,41 @@
 //! Jobs, from their arrivals up to their bounds.
-ghost use Rattle.std.specs.Prelude.{◌+◌};
+ghost use Rattle.std.specs.Prelude.{◌≡◌, ◌+◌};
 ghost use Rattle.picture.specs.Puts.{Puts};
 ghost use Rattle.picture.specs.Rows.{on_row};
-ghost use Rattle.picture.specs.Elements.{job_box, arrival_words, done_words, limit_words, job_words, job_text};
+ghost use Rattle.picture.specs.Elements.{limit_of, job_box, arrival_words, done_words, limit_words, on_text, job_words, job_text};
 ghost use Rattle.picture.specs.Document.{jobs_text};
 
 use crate::boxes::bar_of;
 use crate::chart::{Chart, Lane};
 use crate::frame::{end_of, top_of, x_after, x_of};
+use crate::numbers::Known;
 use crate::page::Page;
 use crate::rows::{TaskRow, find_row};
 use ceiling_kernel::JobRecord;
 use std::io::Write;
 use streams::WriteFailed;
 
+// How long after its arrival a job of a row's task is done at the latest, or without a bound has to be.
+fn limit_of(row: &TaskRow) -> u64
+    ensures { result ≡ limit_of row.now }
+{
+    row.bound.unwrap_or(row.sheet.deadline())
+}
+
 impl<W: Write + Drop> Page<'_, W> {
     // The box of a job.
     fn put_box(&mut self, lane: &Lane<'_>, job: &JobRecord) -> Result<(), WriteFailed>
         ensures { Puts W.contents self.old self.new result
-            (job_box lane.now.frame lane.now.k lane.now.row.now job.now job.now.finish) }
+            (job_box lane.now.frame lane.now.k lane.now.row.now job.now) }
     {
         let x = x_of(lane.frame, job.release);
-        match job.finish {
-            Some(_) => {
-                let right = x_after(lane.frame, job.release, lane.row.bound);
-                let bar = bar_of(x, right, lane.k);
-                write!(self.out, "<path class=\"w\" d=\"{bar}\"><title>")
-            }
-            None => {
-                let y = top_of(lane.k) + 305;
-                let end = end_of(lane.frame);
-                write!(
-                    self.out,
-                    "<path class=\"w\" d=\"M{x} {y}H{end}l60 30-60 30 60 30-60 30 60 30-60 30H{x}z\"><title>"
-                )
-            }
-        }
+        let right = x_after(lane.frame, job.release, limit_of(lane.row));
+        let bar = bar_of(x, right, lane.k);
+        write!(self.out, "<path class=\"w\" d=\"{bar}\"><title>")
     }
 
     // Whose job it is, and when it arrives.
-    fn put_arrival_words(&mut self, job: &JobRecord) -> Result<(), WriteFailed>
+    pub(crate) fn put_arrival_words(&mut self, job: &JobRecord) -> Result<(), WriteFailed>
         ensures { Puts W.contents self.old self.new result (arrival_words job.now) }
     {
         let name = job.name;
@@ -48,7 +44,7 @@ impl<W: Write + Drop> Page<'_, W> {
     }
 
     // When it is done, and how long after its arrival, if it is.
-    fn put_finish_words(&mut self, job: &JobRecord) -> Result<(), WriteFailed>
+    pub(crate) fn put_finish_words(&mut self, job: &JobRecord) -> Result<(), WriteFailed>
         ensures { Puts W.contents self.old self.new result (done_words job.now job.now.finish) }
     {
         match job.finish {
@@ -60,16 +56,34 @@ impl<W: Write + Drop> Page<'_, W> {
         }
     }
 
-    // How long after its arrival a job is done at the latest, and has to be.
+    // How long after its arrival a job is done at the latest, where that is known, and has to be.
     fn put_limit_words(&mut self, row: &TaskRow) -> Result<(), WriteFailed>
         ensures { Puts W.contents self.old self.new result (limit_words row.now) }
     {
-        let bound = row.bound;
+        let bound = Known { bound: row.bound };
         let deadline = row.sheet.deadline();
         write!(
             self.out,
             "bound {bound}, deadline {deadline} us</title></path>\n"
         )
+    }
+
+    // A sign at the end where a job goes on.
+    fn put_on(&mut self, lane: &Lane<'_>, job: &JobRecord) -> Result<(), WriteFailed>
+        ensures { Puts W.contents self.old self.new result
+            (on_text lane.now.frame lane.now.k job.now.finish) }
+    {
+        match job.finish {
+            Some(_) => Ok(()),
+            None => {
+                let end = end_of(lane.frame);
+                let y = top_of(lane.k) + 195;
+                write!(
+                    self.out,
+                    "<path class=\"a\" d=\"M{end} {y}m20 0l60 60-60 60m60-120l60 60-60 60\"/>\n"
+                )
+            }
+        }
     }
 
     // What is told of a job.
@@ -81,6 +95,16 @@ impl<W: Write + Drop> Page<'_, W> {
         self.put_limit_words(row)
     }
 
+    // A job in a row.
+    fn put_job_in(&mut self, lane: &Lane<'_>, job: &JobRecord) -> Result<(), WriteFailed>
+        ensures { Puts W.contents self.old self.new result
+            (job_text lane.now.frame job.now lane.now.k lane.now.row.now) }
+    {
+        self.put_box(lane, job)?;
+        self.put_job_words(lane.row, job)?;
+        self.put_on(lane, job)
+    }
+
     // A job in the row of its task.
     fn put_job(&mut self, chart: &Chart<'_>, job: &JobRecord) -> Result<(), WriteFailed>
         ensures { Puts W.contents self.old self.new result
@@ -88,11 +112,7 @@ impl<W: Write + Drop> Page<'_, W> {
     {
         match find_row(chart.rows, job.name) {
             None => Ok(()),
-            Some(k) => {
-                let lane = chart.lane(k);
-                self.put_box(&lane, job)?;
-                self.put_job_words(lane.row, job)
-            }
+            Some(k) => self.put_job_in(&chart.lane(k), job),
         }
     }
 

@@ -1,5 +1,5 @@
 //! Laws of the picture.
-ghost use Rattle.picture.specs.Laws.{AreTicksDark, IsHeldBetween, AreNamesPlain};
+ghost use Rattle.picture.specs.Laws.{AreTicksDark, IsHeldBetween, AreMissesShown, HasWidth, AreNamesPlain};
 
 /// The darker ticks of a slice are those that its job executes inside the section.
 pub fn ticks_are_dark()
@@ -10,6 +10,16 @@ pub fn ticks_are_dark()
 /// tick is darker from the first one inside on, and the locks are held from the end of it.
 pub fn held_between()
     ensures { IsHeldBetween }
+{}
+
+/// A deadline is shown as missed exactly where the job is done after it, or isn't done by an end that isn't before it.
+pub fn misses_are_shown()
+    ensures { AreMissesShown }
+{}
+
+/// A picture is from 960 to 1,600 pixels wide, however long the run is.
+pub fn widths_are_held()
+    ensures { HasWidth }
 {}
 
 /// Names have no byte that a document would have to escape.

@@ -2,7 +2,7 @@
 ghost use Rattle.std.specs.Prelude.{◌≡◌, ◌+◌, nat_le};
 ghost use Rattle.picture.specs.Puts.{Puts};
 ghost use Rattle.picture.specs.Rows.{on_row};
-ghost use Rattle.picture.specs.Elements.{arrival_text, ready_text, later_text, mark_text, mark_head};
+ghost use Rattle.picture.specs.Elements.{arrival_text, ready_text, later_text, bound_text, mark_text, mark_head};
 ghost use Rattle.picture.specs.Document.{marks_text, all_marks};
 
 use crate::chart::{Chart, Lane};
@@ -18,9 +18,9 @@ use streams::WriteFailed;
 pub(crate) enum Mark {
     // An arrow up at the arrival.
     Arrival,
-    // A stroke from the arrival to when the job becomes ready, where that is later.
+    // A line from the arrival to when the job becomes ready, where that is later.
     Ready,
-    // A tick at the arrival and the bound.
+    // A bracket at the bound, where there is one.
     Bound,
     // An arrow down at the deadline.
     Deadline,
@@ -39,10 +39,10 @@ impl<W: Write + Drop> Page<'_, W> {
         ensures { Puts W.contents self.old self.new result (arrival_text frame release y) }
     {
         let x = x_of(frame, release.time);
-        write!(self.out, "M{x} {y}v100m-35-50l35-50 35 50\n")
+        write!(self.out, "M{x} {y}v-100m-35 50l35-50 35 50\n")
     }
 
-    // A stroke to when the job becomes ready, where that is later.
+    // A line to when the job becomes ready, where that is later.
     fn put_ready(&mut self, frame: Frame, release: Release, y: u64) -> Result<(), WriteFailed>
         ensures { Puts W.contents self.old self.new result (ready_text frame release y) }
     {
@@ -51,7 +51,7 @@ impl<W: Write + Drop> Page<'_, W> {
         }
         let x = x_of(frame, release.time);
         let ready = x_after(frame, release.time, release.late);
-        write!(self.out, "M{x} {y}H{ready}v-95\n")
+        write!(self.out, "M{x} {y}H{ready}\n")
     }
 
     // A mark so long after the arrival, where that is in the picture.
@@ -73,6 +73,22 @@ impl<W: Write + Drop> Page<'_, W> {
         write!(self.out, "M{x} {y}{shape}")
     }
 
+    // A bracket at the bound, where there is one.
+    fn put_bound(
+        &mut self,
+        frame: Frame,
+        release: Release,
+        y: u64,
+        bound: Option<u64>,
+    ) -> Result<(), WriteFailed>
+        ensures { Puts W.contents self.old self.new result (bound_text frame release y bound) }
+    {
+        match bound {
+            None => Ok(()),
+            Some(len) => self.put_later(frame, release, len, y, "h-35m35 0v40m0 120v40h-35\n"),
+        }
+    }
+
     // The mark of a release in a row.
     fn put_mark_in(
         &mut self,
@@ -87,16 +103,13 @@ impl<W: Write + Drop> Page<'_, W> {
         let row = lane.row;
         let top = top_of(lane.k);
         match mark {
-            Mark::Arrival => self.put_arrival(frame, release, top + 510),
-            Mark::Ready => self.put_ready(frame, release, top + 610),
-            Mark::Bound => {
-                let shape = "v-195h-60v15h40v180z\n";
-                self.put_later(frame, release, row.bound, top + 485, shape)
-            }
+            Mark::Arrival => self.put_arrival(frame, release, top + 450),
+            Mark::Ready => self.put_ready(frame, release, top + 255),
+            Mark::Bound => self.put_bound(frame, release, top + 155, row.bound),
             Mark::Deadline => {
-                let shape = "v-100m0 100l-35-50h70z\n";
+                let shape = "v100m0 0l-35-50h70z\n";
                 let len = row.sheet.deadline();
-                self.put_later(frame, release, len, top + 280, shape)
+                self.put_later(frame, release, len, top + 60, shape)
             }
         }
     }

@@ -4,6 +4,7 @@ ghost use Rattle.picture.specs.declared.frame.TheConstants.{RIGHTMOST};
 ghost use Rattle.task_sheet.specs.declared.set.TheConstants.{TASK_LIMIT};
 ghost use Rattle.picture.specs.Puts.{Puts};
 ghost use Rattle.picture.specs.Sections.{fits};
+ghost use Rattle.picture.specs.Locks.{stripes_text};
 ghost use Rattle.picture.specs.Elements.{names_text, label_head, label_text, part_head, part_end, part_text, dark_text};
 
 use crate::boxes::bar_of;
@@ -55,7 +56,7 @@ impl<W: Write + Drop> Page<'_, W> {
         ensures { Puts W.contents self.old self.new result (label_head x right k) }
     {
         let middle = (x + right) / 2;
-        let y = top_of(k) + 433;
+        let y = top_of(k) + 293;
         write!(self.out, "<text class=\"k\" x=\"{middle}\" y=\"{y}\">")
     }
 
@@ -78,6 +79,20 @@ impl<W: Write + Drop> Page<'_, W> {
         self.put_label_head(x, right, k)?;
         self.put_locks(section)?;
         self.out.put(b"</text>\n")
+    }
+
+    // The stripes of the locks of a section.
+    fn put_stripes_of(
+        &mut self,
+        lane: &Lane<'_>,
+        x: u64,
+        right: u64,
+        section: &Section,
+    ) -> Result<(), WriteFailed>
+        ensures { Puts W.contents self.old self.new result
+            (stripes_text lane.now.locks.now x right lane.now.k section.now.locks) }
+    {
+        self.put_stripes(lane.locks, x, right, lane.k, &section.locks)
     }
 
     // The box of a part, up to the names of its locks.
@@ -109,13 +124,17 @@ impl<W: Write + Drop> Page<'_, W> {
         stop: u64,
     ) -> Result<(), WriteFailed>
         ensures { Puts W.contents self.old self.new result
-            (part_text lane.now.frame lane.now.k lane.now.row.now section.now.locks start stop) }
+            (part_text lane.now.frame lane.now.locks.now lane.now.k lane.now.row.now
+            section.now.locks start stop) }
     {
         self.put_part_head(lane, start, stop)?;
         self.put_locks(section)?;
         self.put_part_end(start, stop)?;
         let x = x_of(lane.frame, start);
-        self.put_label(x, x_of(lane.frame, stop), lane.k, section)
+        let end = x_of(lane.frame, stop);
+        let right = bar_of(x, end, lane.k).right;
+        self.put_stripes_of(lane, x, right, section)?;
+        self.put_label(x, end, lane.k, section)
     }
 
     // The darker part of a slice for a section, if there is one.
@@ -127,7 +146,8 @@ impl<W: Write + Drop> Page<'_, W> {
         section: &Section,
     ) -> Result<(), WriteFailed>
         ensures { Puts W.contents self.old self.new result
-            (dark_text lane.now.frame executed slice lane.now.k lane.now.row.now section.now) }
+            (dark_text lane.now.frame lane.now.locks.now executed slice lane.now.k lane.now.row.now
+            section.now) }
     {
         let from = dark_from(section, executed);
         let to = dark_to(section, executed, slice);

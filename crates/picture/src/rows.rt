@@ -1,14 +1,22 @@
 //! Rows.
 ghost use Rattle.std.specs.Prelude.{◌≡◌, ◌<◌, length, IfSome};
-ghost use Rattle.picture.specs.Rows.{row_named};
+ghost use Rattle.picture.specs.Rows.{name_in, row_named};
 
 use task_sheet::{Name, Sheet};
 
-/// A row: a task, and how long after its arrival each of its jobs is done, in microseconds.
+/// A row: a task, and how long after its arrival each of its jobs is done at the latest, where that is known; in microseconds.
 #[derive(Drop)]
 pub struct TaskRow {
     pub sheet: Sheet,
-    pub bound: u64,
+    pub bound: Option<u64>,
+}
+
+// The name of the task of a row.
+pub(crate) fn name_in(rows: &[TaskRow], k: usize) -> Name
+    requires { k < length rows.now }
+    ensures { result ≡ name_in rows.now k }
+{
+    rows[k].sheet.name()
 }
 
 // The place of the row of the task with a name.

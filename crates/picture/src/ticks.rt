@@ -1,6 +1,6 @@
 //! Which ticks of a slice are darker.
 ghost use Rattle.std.specs.Prelude.{◌≡◌, ◌+◌, ◌<◌, ◌≤◌, ◌^◌, ◌-◌, min};
-ghost use Rattle.picture.specs.Sections.{dark_from, dark_to, ticks_of, fits};
+ghost use Rattle.picture.specs.Sections.{executed_with, dark_from, dark_to, ticks_of, fits};
 
 use ceiling_kernel::Slice;
 use task_sheet::{Name, Section};
@@ -17,6 +17,17 @@ pub(crate) fn executed_after(executed: u64, slice: Slice) -> u64
     ensures { result ≡ min executed slice.start + ticks_of slice }
 {
     executed.min(slice.start) + ticks_of(slice)
+}
+
+// How many ticks a job has executed after a slice, which may be another's.
+pub(crate) fn executed_with(executed: u64, job: usize, slice: Slice) -> u64
+    ensures { result ≡ executed_with job executed slice }
+{
+    if slice.job == job {
+        executed_after(executed, slice)
+    } else {
+        executed
+    }
 }
 
 // Where the darker part of a slice begins.

@@ -3,6 +3,7 @@ pub mod ListLaws
 pub mod TimeLaws
 pub mod TaskNumbers
 pub mod JobLaws
+pub mod Unrefused
 pub mod FitLaws
 pub mod DensestLaws
 pub mod OrderLaws

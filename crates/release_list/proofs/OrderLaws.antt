@@ -125,6 +125,23 @@ in_by_time rs (suc n) x h = elim (in_either x (by_time rs n) (filter (λ r. r.ti
   | inr here ↦ (let f : In x rs × ((x.time == n) ≡ true) = from_filter (λ r. r.time == n) x rs here in (f.0, omega (arith, eqb-true x.time n f.1)))
 ]
 
+-- two releases of it stand as in the list where their times are one, and else by their times
+pairs_by_time : (P Q : Release → Release → Type 0) (rs : List Release) → Pairs P rs → ((x y : Release) → x.time ≡ y.time → P x y → Q x y)
+    → ((x y : Release) → In x rs → In y rs → x.time < y.time → Q x y) → (n : ℕ) → Pairs Q (by_time rs n)
+pairs_by_time P Q rs h same less zero = subst (Pairs Q) (sym (by_start rs)) tt
+pairs_by_time P Q rs h same less (suc n) = subst (Pairs Q) (sym (by_step rs n))
+    (pairs_append Q (by_time rs n) (filter (λ r. r.time == n) rs) (pairs_by_time P Q rs h same less n)
+    (pairs_with P Q (filter (λ r. r.time == n) rs) (pairs_filter (λ r. r.time == n) P rs h)
+    (λ x y a b p.
+    let ex : x.time ≡ n = eqb-true x.time n (from_filter (λ r. r.time == n) x rs a).1 in
+    let ey : y.time ≡ n = eqb-true y.time n (from_filter (λ r. r.time == n) y rs b).1 in
+    same x y (ex ∙ sym ey) p))
+    (λ x y a b.
+    let fx : In x rs × (x.time < n) = in_by_time rs n x a in
+    let fy : In y rs × ((y.time == n) ≡ true) = from_filter (λ r. r.time == n) y rs b in
+    let ey : y.time ≡ n = eqb-true y.time n fy.1 in
+    less x y fx.0 fy.0 (omega (arith, fx.1))))
+
 -- of two releases of one task the second comes a period later, by some number and some period of it
 module _ (number period : Release → ℕ) where
   abbrev pub Spaced : Release → Release → Type 0
@@ -150,20 +167,8 @@ module _ (number period : Release → ℕ) where
   ]
 
   pub in_time : (rs : List Release) → Pairs Spaced rs → (n : ℕ) → Pairs InTime (by_time rs n)
-  in_time rs h zero = subst (Pairs InTime) (sym (by_start rs)) tt
-  in_time rs h (suc n) = subst (Pairs InTime) (sym (by_step rs n))
-      (pairs_append InTime (by_time rs n) (filter (λ r. r.time == n) rs) (in_time rs h n)
-      (pairs_with Spaced InTime (filter (λ r. r.time == n) rs) (pairs_filter (λ r. r.time == n) Spaced rs h)
-      (λ x y a b s.
-      let ex : x.time ≡ n = eqb-true x.time n (from_filter (λ r. r.time == n) x rs a).1 in
-      let ey : y.time ≡ n = eqb-true y.time n (from_filter (λ r. r.time == n) y rs b).1 in
-      (omega arith, s)))
-      (λ x y a b.
-      let fx : In x rs × (x.time < n) = in_by_time rs n x a in
-      let fy : In y rs × ((y.time == n) ≡ true) = from_filter (λ r. r.time == n) y rs b in
-      let ey : y.time ≡ n = eqb-true y.time n fy.1 in
-      let lt : x.time < y.time = omega (arith, fx.1) in
-      (omega arith, spaced_by_time rs h x y fx.0 fy.0 lt)))
+  in_time rs h =
+      pairs_by_time Spaced InTime rs h (λ x y same s. (omega (arith, same), s)) (λ x y a b lt. (omega (arith, lt), spaced_by_time rs h x y a b lt))
 
 -- ---- a stable sort by time gives it
 abbrev pub Rises : Release → Release → Type 0
@@ -267,15 +272,5 @@ module _ (number : Release → ℕ) where
   ByTime x y = (x.time < y.time) ⊎ ((x.time ≡ y.time) × (number x < number y))
 
   pub ordered_by_time : (rs : List Release) → Pairs ByNumber rs → (n : ℕ) → Pairs ByTime (by_time rs n)
-  ordered_by_time rs h zero = subst (Pairs ByTime) (sym (by_start rs)) tt
-  ordered_by_time rs h (suc n) = subst (Pairs ByTime) (sym (by_step rs n))
-      (pairs_append ByTime (by_time rs n) (filter (λ r. r.time == n) rs) (ordered_by_time rs h n)
-      (pairs_with ByNumber ByTime (filter (λ r. r.time == n) rs) (pairs_filter (λ r. r.time == n) ByNumber rs h)
-      (λ x y a b q.
-      let ex : x.time ≡ n = eqb-true x.time n (from_filter (λ r. r.time == n) x rs a).1 in
-      let ey : y.time ≡ n = eqb-true y.time n (from_filter (λ r. r.time == n) y rs b).1 in
-      elim q [ inl lt ↦ inr (ex ∙ sym ey, lt) | inr lt ↦ absurd (omega arith) ]))
-      (λ x y a b.
-      let fx : In x rs × (x.time < n) = in_by_time rs n x a in
-      let ey : y.time ≡ n = eqb-true y.time n (from_filter (λ r. r.time == n) y rs b).1 in
-      inl (omega (arith, fx.1))))
+  ordered_by_time rs h =
+      pairs_by_time ByNumber ByTime rs h (λ x y same q. elim q [ inl lt ↦ inr (same, lt) | inr lt ↦ absurd (omega (arith, same, lt)) ]) (λ x y a b lt. inl lt)

@@ -1,29 +1,17 @@
 -- A kernel refuses no random list.
-use Rattle.std.proofs.Common.{◌≡◌, ℕ, zero, suc, ◌+◌, ◌<◌, ◌≤◌, inl, inr, Bool, false, ◌&&◌, ◌||◌, ◌==◌, nat_lt, Some, None, List, length, refl, sym, ◌∙◌, ap, ap₂, subst, arith}
+use Rattle.std.proofs.Common.{◌≡◌, ℕ, zero, suc, ◌+◌, ◌<◌, ◌≤◌, inl, inr, false, ◌==◌, nat_lt, Some, None, List, length, refl, sym, ◌∙◌, ap, ap₂, subst, arith}
 use Rattle.std.specs.Prelude.{is_none, unwrap_or}
-use Rattle.std.specs.List.{list_any}
-use Rattle.std.proofs.lemmas.List.{get_or_default}
-use Rattle.std.proofs.lemmas.List.Folds.{list_any_none}
-use Rattle.std.proofs.lemmas.Bool.{and_left, and_right, cases_Bool, cases_eq, le-ltb, lt-leb, ne_eqb, or_from}
+use Rattle.std.proofs.lemmas.Bool.{cases_Bool, le-ltb, ne_eqb, or_from}
 use Rattle.task_sheet.specs.Sheet.{Task, IsValidSheet, no_task, task_at}
 use Rattle.task_sheet.specs.TaskSet.{IsTaskSet}
 use Rattle.ceiling_kernel.specs.declared.trace.Release.{Release}
 use Rattle.ceiling_kernel.specs.Waits.{lateness_of}
-use Rattle.ceiling_kernel.specs.Releases.{task_named, task_number, jobs_of, first_where, no_release, release_at, is_unsorted, is_unknown, is_soon_job, is_too_soon, is_too_late, is_outside_cost, runs_of, is_past, refusal_of, ready_of}
-use Rattle.ceiling_kernel.proofs.AcceptLaws.{first_start, first_more}
-use Rattle.ceiling_kernel.proofs.ReleaseLaws.{job_is}
-use Rattle.task_sheet.proofs.Below.{some_below-none}
+use Rattle.ceiling_kernel.specs.Releases.{task_named, task_number, release_at, is_unsorted, is_unknown, is_too_late, is_outside_cost, runs_of, refusal_of}
 use Rattle.release_list.specs.Random.{word_after, word_before, drawn, late_after, runs_after, word_of, random_release, jobs_within, jobs_by_rank, all_jobs, random_of}
 use Rattle.release_list.proofs.TaskNumbers.{found}
+use Rattle.release_list.proofs.Unrefused.{unrefused}
 use Rattle.release_list.proofs.OrderLaws.{Pairs, in_at, pairs_at, pairs_append, in_by_time, Spaced, InTime, in_time}
 use Rattle.release_list.proofs.RandomLaws.{drawn_below, in_within, within_spaced, rank_start, rank_step, IsDrawn, in_rank}
-
--- where none passes, none is the first
-first_none : (test : ℕ → Bool) (n : ℕ) → ((k : ℕ) → k < n → test k ≡ false) → first_where test n ≡ None
-first_none test zero h = first_start test
-first_none test (suc n) h =
-    let one : suc n ≡ n + 1 = omega arith in
-    ap (first_where test) one ∙ first_more test n (first_none test n (λ k lt. h k (omega arith))) (h n (omega arith))
 
 module _ (U : List Task) (until seed : ℕ) (set : IsTaskSet U) where
   abbrev pub rs : List Release
@@ -72,24 +60,6 @@ module _ (U : List Task) (until seed : ℕ) (set : IsTaskSet U) where
       let b = job_at_place k lt in
       ap (λ r. is_none (task_named U r.name)) b.3.is ∙ ap is_none (named b.0 (word_before seed b.0) b.2 b.1)
 
-  none_soon_by : (j k : ℕ) → j < k → k < length rs → is_soon_job U (jobs_of U rs) k j ≡ false
-  none_soon_by j k less lt =
-      let r : Release = release_at rs j in
-      let s : Release = release_at rs k in
-      let at : is_soon_job U (jobs_of U rs) k j
-      ≡ ((task_number U r == task_number U s) && nat_lt s.time (r.time + (task_at U (task_number U s)).period)) =
-      ap₂ (λ x y. (x.task == y.task) && nat_lt y.arrival (x.arrival + (task_at U y.task).period)) (job_is U rs j (omega arith)) (job_is U rs k lt) in
-      let o = pairs_at (InTime number period) rs j k ordered less lt in
-      at ∙ elim (cases_eq (task_number U r) (task_number U s)) [
-        | inl same ↦ and_right (task_number U r == task_number U s) (nat_lt s.time (r.time + (task_at U (task_number U s)).period))
-            (le-ltb s.time (r.time + (task_at U (task_number U s)).period) (o.1 same))
-        | inr other ↦ and_left (task_number U r == task_number U s) (nat_lt s.time (r.time + (task_at U (task_number U s)).period))
-            (ne_eqb (task_number U r) (task_number U s) other)
-      ]
-
-  none_soon : (k : ℕ) → k < length rs → is_too_soon U (jobs_of U rs) k ≡ false
-  none_soon k lt = some_below-none k (is_soon_job U (jobs_of U rs) k) (λ j less. none_soon_by j k less lt)
-
   none_late : (k : ℕ) → k < length rs → is_too_late U rs k ≡ false
   none_late k lt =
       let b = job_at_place k lt in
@@ -124,18 +94,6 @@ module _ (U : List Task) (until seed : ℕ) (set : IsTaskSet U) where
       (ne_eqb (runs_of U r) 0 (λ none. omega (arith, none, runs, within.0)))
       (le-ltb (task_at U (task_number U r)).cost (runs_of U r) (omega (arith, runs, own, within.1)))
 
-  none_past : list_any (is_past until) rs ≡ false
-  none_past = list_any_none (is_past until) rs (λ k d lt.
-      let b = job_at_place k lt in
-      subst (λ r. is_past until r ≡ false) (get_or_default rs k no_release d lt) (lt-leb until (ready_of (release_at rs k)) b.3.before))
-
   pub random_accepted : until ≤ 60000000 → length rs ≤ 10000 → refusal_of U rs until ≡ None
-  random_accepted horizon few =
-      let a = first_none (is_unsorted rs) (length rs) none_unsorted in
-      let b = first_none (is_unknown U rs) (length rs) none_unknown in
-      let c = first_none (is_too_soon U (jobs_of U rs)) (length rs) none_soon in
-      let d = first_none (is_too_late U rs) (length rs) none_late in
-      let f = first_none (is_outside_cost U rs) (length rs) none_outside in
-      let e : (nat_lt 60000000 until || list_any (is_past until) rs) ≡ false = or_from (nat_lt 60000000 until) (list_any (is_past until) rs) (le-ltb 60000000 until horizon) none_past in
-      let g : nat_lt 10000 (length rs) ≡ false = le-ltb 10000 (length rs) few in
-      rw (a, b, c, d, f, e, g) refl
+  random_accepted =
+      unrefused U rs until none_unsorted none_unknown (λ j k less lt. (pairs_at (InTime number period) rs j k ordered less lt).1) none_late none_outside (λ k lt. (job_at_place k lt).3.before)

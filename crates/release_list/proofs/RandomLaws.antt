@@ -1,15 +1,15 @@
 -- What the rule of random lists draws, and the jobs that come of it.
-use Rattle.std.proofs.Common.{◌≡◌, ℕ, zero, suc, ◌+◌, ◌-◌, ◌*◌, ◌/◌, ◌%◌, ◌^◌, ◌<◌, ◌≤◌, inl, inr, true, false, nat_lt, Option, None, List, [], ◌∷◌, ◌++◌, length, refl, sym, ◌∙◌, ap, ap₂, subst, arith, append_assoc}
+use Rattle.std.proofs.Common.{◌≡◌, ℕ, zero, suc, ◌+◌, ◌-◌, ◌*◌, ◌/◌, ◌%◌, ◌^◌, ◌<◌, ◌≤◌, inl, inr, true, false, nat_lt, None, List, [], ◌∷◌, ◌++◌, length, refl, sym, ◌∙◌, ap, ap₂, subst, arith, append_assoc}
 use Rattle.std.proofs.Math.Nat.{mod-lt, mul-lt-mul_of_pos_right}
 use Rattle.std.proofs.lemmas.Bool.{cases_lt, cases_eq, le-ltb, lt-ltb, ltb-true, cases_Bool}
 use Rattle.std.proofs.lemmas.List.{append-nil, length-append}
-use Rattle.std.proofs.lemmas.Option.{none-some}
 use Rattle.task_sheet.specs.Sheet.{Task, task_at}
 use Rattle.ceiling_kernel.specs.declared.trace.Release.{Release}
 use Rattle.ceiling_kernel.specs.declared.trace.RunFault.{RunFault}
 use Rattle.ceiling_kernel.specs.declared.trace.RunFault.TheVariants as fault
 use Rattle.ceiling_kernel.specs.Releases.{ready_of, refuse_if, IsRefusal}
 use Rattle.release_list.specs.Random.{word_after, word_before, drawn, late_after, runs_after, third_after, gap_after, word_of, arrival_at, random_release, if_ready, jobs_within, jobs_by_rank, all_jobs, random_refusal}
+use Rattle.release_list.proofs.TimeLaws.{nothing_else}
 use Rattle.release_list.proofs.OrderLaws.{In, Pairs, in_either, pairs_append, Spaced}
 
 -- ---- words
@@ -99,18 +99,21 @@ within_ends t x until k (suc d) some past =
 pub within_all : (t : Task) (x until k : ℕ) → 0 < t.period → k ≤ until → until ≤ arrival_at t x k → jobs_within t x until k ≡ jobs_within t x until until
 within_all t x until k some le past = (let e : (until - k) + k ≡ until = omega arith in sym (within_ends t x until k (until - k) some past) ∙ ap (jobs_within t x until) e)
 
--- fewer jobs are no longer a list
-pub within_longer : (t : Task) (x until k n : ℕ) → k ≤ n → length (jobs_within t x until k) ≤ length (jobs_within t x until n)
-within_longer t x until k zero le = (let e : length (jobs_within t x until k) ≡ length (jobs_within t x until 0) = ap (λ m. length (jobs_within t x until m)) (omega arith) in omega arith)
-within_longer t x until k (suc n) le =
+-- a list to which each step adds gets no shorter
+longer : (list more : ℕ → List Release) → ((n : ℕ) → list (suc n) ≡ list n ++ more n) → (k n : ℕ) → k ≤ n → length (list k) ≤ length (list n)
+longer list more step k zero le = (let e : length (list k) ≡ length (list 0) = ap (λ m. length (list m)) (omega arith) in omega arith)
+longer list more step k (suc n) le =
     elim (cases_eq k (suc n)) [
-      | inl same ↦ (let e : length (jobs_within t x until k) ≡ length (jobs_within t x until (suc n)) = ap (λ m. length (jobs_within t x until m)) same in omega arith)
+      | inl same ↦ (let e : length (list k) ≡ length (list (suc n)) = ap (λ m. length (list m)) same in omega arith)
       | inr other ↦
-          let ih : length (jobs_within t x until k) ≤ length (jobs_within t x until n) = within_longer t x until k n (omega arith) in
-          let e : length (jobs_within t x until (suc n)) ≡ length (jobs_within t x until n) + length (if_ready until (random_release t x n)) =
-          ap length (within_step t x until n) ∙ length-append (jobs_within t x until n) (if_ready until (random_release t x n)) in
+          let ih : length (list k) ≤ length (list n) = longer list more step k n (omega arith) in
+          let e : length (list (suc n)) ≡ length (list n) + length (more n) = ap length (step n) ∙ length-append (list n) (more n) in
           omega arith
     ]
+
+-- fewer jobs are no longer a list
+pub within_longer : (t : Task) (x until k n : ℕ) → k ≤ n → length (jobs_within t x until k) ≤ length (jobs_within t x until n)
+within_longer t x until = longer (jobs_within t x until) (λ n. if_ready until (random_release t x n)) (within_step t x until)
 
 -- what stands among them
 pub in_ready : (until : ℕ) (r x : Release) → In x (if_ready until r) → (r ≡ x) × (ready_of r < until)
@@ -157,16 +160,7 @@ unfolding jobs_by_rank
 rank_step U until seed n = refl
 
 pub rank_longer : (U : List Task) (until seed k n : ℕ) → k ≤ n → length (jobs_by_rank U until seed k) ≤ length (jobs_by_rank U until seed n)
-rank_longer U until seed k zero le = (let e : length (jobs_by_rank U until seed k) ≡ length (jobs_by_rank U until seed 0) = ap (λ m. length (jobs_by_rank U until seed m)) (omega arith) in omega arith)
-rank_longer U until seed k (suc n) le =
-    elim (cases_eq k (suc n)) [
-      | inl same ↦ (let e : length (jobs_by_rank U until seed k) ≡ length (jobs_by_rank U until seed (suc n)) = ap (λ m. length (jobs_by_rank U until seed m)) same in omega arith)
-      | inr other ↦
-          let ih : length (jobs_by_rank U until seed k) ≤ length (jobs_by_rank U until seed n) = rank_longer U until seed k n (omega arith) in
-          let e : length (jobs_by_rank U until seed (suc n)) ≡ length (jobs_by_rank U until seed n) + length (jobs_within (task_at U n) (word_before seed n) until until) =
-          ap length (rank_step U until seed n) ∙ length-append (jobs_by_rank U until seed n) (jobs_within (task_at U n) (word_before seed n) until until) in
-          omega arith
-    ]
+rank_longer U until seed = longer (jobs_by_rank U until seed) (λ n. jobs_within (task_at U n) (word_before seed n) until until) (rank_step U until seed)
 
 -- a release is that of job k of the task at an index, and ready before the end
 pub record IsDrawn (U : List Task) (until seed : ℕ) (r : Release) (i k : ℕ) : Type 0 where
@@ -190,19 +184,8 @@ refusal_grows e m n le h = elim (cases_lt 10000 m) [
       rw b (rw a at h)
   | inr few ↦
       let a : nat_lt 10000 m ≡ false = le-ltb 10000 m few in
-      only_memory e (refuse_if (nat_lt 10000 n) fault.TooMany) (rw a at h)
+      nothing_else e (refuse_if (nat_lt 10000 n) fault.TooMany) (rw a at h)
 ]
-  where
-    only_memory : (e : RunFault) (o : Option RunFault) → IsRefusal e None → IsRefusal e o
-    only_memory fault.OutOfMemory o h = tt
-    only_memory (fault.Unsorted k) o h = absurd (none-some (fault.Unsorted k) h)
-    only_memory (fault.UnknownTask k) o h = absurd (none-some (fault.UnknownTask k) h)
-    only_memory (fault.TooSoon k) o h = absurd (none-some (fault.TooSoon k) h)
-    only_memory (fault.TooLate k) o h = absurd (none-some (fault.TooLate k) h)
-    only_memory (fault.OutsideCost k) o h = absurd (none-some (fault.OutsideCost k) h)
-    only_memory fault.PastHorizon o h = absurd (none-some fault.PastHorizon h)
-    only_memory fault.TooMany o h = absurd (none-some fault.TooMany h)
-    only_memory (fault.Overrun name time) o h = absurd (none-some (fault.Overrun name time) h)
 
 -- ---- the jobs of a task, one by one
 -- so many of them have been taken: the next arrives at a time, and its words come after a word

@@ -5,3 +5,5 @@
 mod lists;
 #[cfg(test)]
 mod random_lists;
+#[cfg(test)]
+mod runs;

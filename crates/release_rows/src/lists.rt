@@ -1,23 +1,19 @@
 //! The densest release lists of sets, and what a kernel makes of them.
-use ceiling_kernel::{Kernel, Release, RunFault, Trace};
+use crate::runs::{by_rank, run_of, words_of};
+use ceiling_kernel::RunFault;
 use example_sets::{
     BOTH_FULL, BY_WEIGHT, EACH_10_000_000, EACH_1000, ONE_LATE, SHARED_LOCK, THREE_TASKS_LATE,
     again, match_rows, set_of,
 };
-use release_list::{densest, list_text};
+use release_list::densest;
 use std::alloc::Global;
 use std::test::Fail;
-use task_sheet::TaskSet;
 
 // The densest list of a document's set, as text, or the refusal's name.
 fn list_of(alloc: Global, document: &str, until: u64) -> Result<String, Fail> {
     let set = set_of(alloc, document)?;
-    match again!(densest(alloc, &set, until), RunFault::OutOfMemory) {
-        Ok(releases) => Ok(again!(list_text(alloc, until, &releases))?),
-        Err(RunFault::PastHorizon) => Ok(String::from_str(alloc, "PastHorizon")?),
-        Err(RunFault::TooMany) => Ok(String::from_str(alloc, "TooMany")?),
-        Err(_) => Err("another refusal")?,
-    }
+    let releases = again!(densest(alloc, &set, until), RunFault::OutOfMemory);
+    words_of(alloc, until, releases)
 }
 
 // How many releases the densest list of a document's set has.
@@ -105,29 +101,6 @@ fn lists_by_hand(rt: HostRuntime) -> Result<(), Fail> {
 fn ten_thousand_releases(rt: HostRuntime) -> Result<(), Fail> {
     assert_eq!(rt; count_of(rt.alloc(), EACH_1000, 10_000_000)?, 10_000);
     Ok(())
-}
-
-// Each index of a set, by rank.
-fn by_rank(alloc: Global, set: &TaskSet) -> Result<Vec<usize>, Fail> {
-    let mut order = Vec::new(alloc);
-    for task in 0..set.len() {
-        order.push(task)?;
-    }
-    Ok(order)
-}
-
-// What a kernel of a set in an order makes of releases.
-fn run_of(
-    alloc: Global,
-    set: &TaskSet,
-    order: &[usize],
-    releases: &[Release],
-    until: u64,
-) -> Result<Trace, RunFault> {
-    match Kernel::new(alloc, set, order) {
-        Ok(kernel) => kernel.run(alloc, releases, until),
-        Err(_) => Err(RunFault::OutOfMemory),
-    }
 }
 
 // Whether a kernel of a document's set runs its densest list: to the end, or until a job overruns.

@@ -1,20 +1,16 @@
 //! Random release lists, as a plain program in another language draws them, and what a kernel makes of them.
-use ceiling_kernel::{Kernel, Release, RunFault, Trace};
+use crate::runs::{by_rank, run_of, words_of};
+use ceiling_kernel::RunFault;
 use example_sets::{BY_WEIGHT, EACH_1000, ONE_LATE, SHARED_LOCK, again, match_rows, set_of};
-use release_list::{list_text, random};
+use release_list::random;
 use std::alloc::Global;
 use std::test::Fail;
-use task_sheet::TaskSet;
 
 // The random list of a document's set and a seed, as text, or the refusal's name.
 fn list_of(alloc: Global, document: &str, until: u64, seed: u64) -> Result<String, Fail> {
     let set = set_of(alloc, document)?;
-    match again!(random(alloc, &set, until, seed), RunFault::OutOfMemory) {
-        Ok(releases) => Ok(again!(list_text(alloc, until, &releases))?),
-        Err(RunFault::PastHorizon) => Ok(String::from_str(alloc, "PastHorizon")?),
-        Err(RunFault::TooMany) => Ok(String::from_str(alloc, "TooMany")?),
-        Err(_) => Err("another refusal")?,
-    }
+    let releases = again!(random(alloc, &set, until, seed), RunFault::OutOfMemory);
+    words_of(alloc, until, releases)
 }
 
 // A seed, a document, and its lists: until when each goes, and its text.
@@ -64,29 +60,6 @@ fn lists_of_seeds(rt: HostRuntime) -> Result<(), Fail> {
         )?;
     }
     Ok(())
-}
-
-// Each index of a set, by rank.
-fn by_rank(alloc: Global, set: &TaskSet) -> Result<Vec<usize>, Fail> {
-    let mut order = Vec::new(alloc);
-    for task in 0..set.len() {
-        order.push(task)?;
-    }
-    Ok(order)
-}
-
-// A kernel of a set in an order runs releases.
-fn run_of(
-    alloc: Global,
-    set: &TaskSet,
-    order: &[usize],
-    releases: &[Release],
-    until: u64,
-) -> Result<Trace, RunFault> {
-    match Kernel::new(alloc, set, order) {
-        Ok(kernel) => kernel.run(alloc, releases, until),
-        Err(_) => Err(RunFault::OutOfMemory),
-    }
 }
 
 // How many jobs a kernel of a document's set records of its random list.

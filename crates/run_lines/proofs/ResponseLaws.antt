@@ -1,5 +1,5 @@
--- The responses of a set's best order bound the jobs of each run in it.
-use Rattle.std.proofs.Common.{◌≡◌, ◌∙◌, ℕ, zero, suc, ◌+◌, ◌<◌, ◌≤◌, inl, inr, true, false, List, [], ◌∷◌, length, Option, Some, None, Ok, is_some, unwrap_or, nat_lt, refl, sym, ap, subst, arith, slice_index_or, eqb}
+-- The responses of an order bound the jobs of each run in it.
+use Rattle.std.proofs.Common.{◌≡◌, ◌∙◌, All, ℕ, suc, ◌+◌, ◌<◌, ◌≤◌, inl, inr, true, false, List, [], ◌∷◌, length, Option, Some, None, Ok, is_some, unwrap_or, nat_lt, refl, sym, ap, subst, arith, slice_index_or, eqb}
 use Rattle.std.proofs.lemmas.Bool.{and_parts, cases_Bool, cases_lt, eq-eqb, eqb-true, lt-ltb, true≢false}
 use Rattle.std.proofs.lemmas.Slice.Eq.{bytes_eq-Decides}
 use Rattle.task_sheet.specs.Sheet.{Task, task_at, same_bytes}
@@ -12,7 +12,7 @@ use Rattle.task_sheet.proofs.TaskLaws.{place_of_name}
 use Rattle.lines.specs.Naming.{name_at}
 use Rattle.assignment.specs.Places.{PlaceData}
 use Rattle.assignment.specs.Placings.{IsBestPlacing, tasks_of_places}
-use Rattle.explain.specs.Accounts.{AreInTime, IsInTime}
+use Rattle.explain.specs.Accounts.{AreInTime}
 use Rattle.explain.proofs.AccountLaws.{best-in_time}
 use Rattle.ceiling_kernel.specs.Tick.{Job, Node, node_in}
 use Rattle.ceiling_kernel.specs.Trace.{finish_before}
@@ -27,8 +27,11 @@ use Rattle.ceiling_kernel.proofs.BoundLaws.{responses_law}
 use Rattle.ceiling_kernel.proofs.EndLaws.{bounded_trace, records_at, some_executes}
 use Rattle.ceiling_kernel.proofs.FinishLaws.{finish_is}
 use Rattle.ceiling_kernel.proofs.NodeLaws.{after_is_above}
+use Rattle.ceiling_kernel.proofs.OrderLaws.{order_iff}
 use Rattle.run_lines.specs.Reached.{done_of, is_done_of, response_of}
-use Rattle.run_lines.specs.Responses.{AllDoneWithin, AllReachWithin, DoneWithin}
+use Rattle.run_lines.specs.Responses.{AllDoneWithin, AllKeptWithin, AllReachWithin, DoneWithin, IsKeptWithin}
+use Rattle.run_lines.specs.TaskBounds.{AreBounds, IsBoundBelow, tasks_of_bounds}
+use Rattle.run_lines.specs.declared.bounds.TaskBound.{TaskBound}
 
 -- ---- an order
 -- those after the first task
@@ -163,6 +166,35 @@ module _ (U : List Task) (set : IsTaskSet U) (order : List ℕ) (is_order : IsOr
         (done_within p lt response in_time.0.in_time, rest.0),
         (reach_within p lt response in_time.0.in_time, rest.1),
       )
+
+  -- the same of each task of an order that has a bound
+  kept_along : (L : Indexes) (bounds : List TaskBound) → IsOrderOf L (tasks_of_bounds bounds) → All (λ k. k < length U) (tasks_of_bounds bounds) → AreBounds U bounds
+      → ((x : ℕ) → among (tasks_of_bounds bounds) x ≡ true → after_of order x ≡ after_of (tasks_of_bounds bounds) x)
+      → AllKeptWithin U bounds rs until trace
+  kept_along L [] each small sound same = tt
+  kept_along L (b ∷ bounds) each small sound same =
+      let above = tasks_of_bounds bounds in
+      let lt : b.task < length U = small 0 0 (omega arith) in
+      let here : after_of order b.task ≡ above = same b.task (first_among b.task above) ∙ after_first b.task above in
+      let high : among (after_of order b.task) ≡ above_of node b.task = λ x h. after_is_above node is_node b.task h lt x in
+      let over : among above ≡ above_of node b.task = subst (λ (o : List ℕ). among o ≡ above_of node b.task) here high in
+      let rest = kept_along (without_index L b.task) bounds (IsOrderOf-rest L b.task above each) (λ k d within. small (suc k) d (omega (arith, within))) sound.1
+      (λ x has. same x (among_more b.task above x has) ∙ after_other b.task above x (apart L b.task above x each has)) in
+      let own : IsKeptWithin U b.task b.bound rs until trace =
+      elim b.bound as (λ o. IsBoundBelow U above b.task o → IsKeptWithin U b.task o rs until trace) [
+        | None ↦ λ _. tt
+        | Some r ↦ λ is.
+            let response : IsResponseOf U b.task (above_of node b.task) r = subst (λ (H : Indexes). IsResponseOf U b.task H r) over is.0 in
+            let place : PlaceData = record { task = b.task; response = r } in
+            (done_within place lt response is.1, reach_within place lt response is.1)
+      ] sound.0 in
+      (own, rest)
+
+-- each task of an order that has a bound
+pub all_kept : (U : List Task) (bounds : List TaskBound) (rs : List Release) (until : ℕ) (trace : Trace) → IsTaskSet U → IsOrder U (tasks_of_bounds bounds) → AreBounds U bounds
+    → Runs (node_in U (tasks_of_bounds bounds)) rs until (Ok trace) → AllKeptWithin U bounds rs until trace
+all_kept U bounds rs until trace set each sound ran =
+    kept_along U set (tasks_of_bounds bounds) each rs until trace ran (all_of U) bounds each ((order_iff (length U) (tasks_of_bounds bounds)).1 each).0 sound (λ x has. refl)
 
 -- each of a set's best order
 pub all_within : (U : List Task) (places : List PlaceData) (rs : List Release) (until : ℕ) (trace : Trace) → IsTaskSet U → IsBestPlacing U places → Runs (node_in U (tasks_of_places places)) rs until (Ok trace)

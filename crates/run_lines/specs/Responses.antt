@@ -1,5 +1,5 @@
--- The responses of a set's best order (Audsley et al. 1993), as bounds of what happens in a run.
-use Rattle.std.specs.Prelude.{◌≡◌, ℕ, ◌+◌, ◌<◌, ◌≤◌, Some, List, [], ◌∷◌, length, slice_index_or}
+-- The responses of an order (Audsley et al. 1993), as bounds of what happens in a run.
+use Rattle.std.specs.Prelude.{◌≡◌, ℕ, ◌+◌, ◌<◌, ◌≤◌, Some, None, Option, List, [], ◌∷◌, length, slice_index_or}
 use Rattle.task_sheet.specs.Sheet.{Task}
 use Rattle.task_sheet.specs.Demand.{greatest_of}
 use Rattle.lines.specs.Naming.{name_at}
@@ -10,6 +10,7 @@ use Rattle.ceiling_kernel.specs.declared.trace.JobRecord.{JobRecord}
 use Rattle.ceiling_kernel.specs.declared.trace.Release.{Release}
 use Rattle.ceiling_kernel.specs.declared.trace.Trace.{Trace}
 use Rattle.run_lines.specs.Reached.{done_of, response_of}
+use Rattle.run_lines.specs.declared.bounds.TaskBound.{TaskBound}
 
 -- a job of the task of a place whose bound lies in the run, its arrival and the place's response, is done by then
 abbrev pub DoneWithin : List Task → PlaceData → List Release → ℕ → Trace → Type 0
@@ -32,3 +33,16 @@ AllReachWithin U jobs [] = Unit {0}
 AllReachWithin U jobs (place ∷ places) =
     (greatest_of response_of (done_of (name_at U place.task) jobs) ≤ place.response)
     × AllReachWithin U jobs places
+
+-- both of a task that has a bound
+abbrev pub IsKeptWithin : List Task → (task : ℕ) → Option ℕ → List Release → ℕ → Trace → Type 0
+IsKeptWithin U task None rs until trace = Unit {0}
+IsKeptWithin U task (Some bound) rs until trace =
+    DoneWithin U (record { task = task; response = bound }) rs until trace
+    × (greatest_of response_of (done_of (name_at U task) trace.jobs.items) ≤ bound)
+
+-- that holds of each task
+abbrev pub AllKeptWithin : List Task → List TaskBound → List Release → ℕ → Trace → Type 0
+AllKeptWithin U [] rs until trace = Unit {0}
+AllKeptWithin U (b ∷ bounds) rs until trace =
+    IsKeptWithin U b.task b.bound rs until trace × AllKeptWithin U bounds rs until trace

@@ -1,11 +1,11 @@
 //! The lines of the tasks.
 ghost use Rattle.std.specs.Prelude.{◌≡◌, ◌++◌, IfOk, OnOk, string_bytes};
 ghost use Rattle.task_sheet.specs.Orders.{IsOrder};
-ghost use Rattle.assignment.specs.Placings.{tasks_of_places};
-ghost use Rattle.run_lines.specs.Lines.{greatest_words, task_line, task_lines};
+ghost use Rattle.run_lines.specs.Lines.{bound_words, greatest_words, task_line, task_lines};
+ghost use Rattle.run_lines.specs.TaskBounds.{tasks_of_bounds};
 
+use crate::bounds::TaskBound;
 use crate::outcome::{Outcome, outcome_of};
-use assignment::Place;
 use ceiling_kernel::JobRecord;
 use std::alloc::{AllocError, Global};
 use task_sheet::{Sheet, TaskSet};
@@ -22,11 +22,21 @@ fn push_greatest(text: &mut String, outcome: Outcome) -> Result<(), AllocError>
     write!(text, "{greatest}")
 }
 
+// The bound of a task, or `-` where it has none.
+fn push_bound(text: &mut String, bound: Option<u64>) -> Result<(), AllocError>
+    ensures { OnOk result (string_bytes text.new ≡ string_bytes text.old ++ bound_words bound) }
+{
+    match bound {
+        Some(bound) => write!(text, "{bound}"),
+        None => text.push_str("-"),
+    }
+}
+
 // The line of the task of a sheet, with its bound.
 fn push_task(
     text: &mut String,
     sheet: &Sheet,
-    bound: u64,
+    bound: Option<u64>,
     jobs: &[JobRecord],
 ) -> Result<(), AllocError>
     ensures { OnOk result (string_bytes text.new ≡ string_bytes text.old
@@ -37,25 +47,27 @@ fn push_task(
     let done = outcome.done;
     write!(text, "task {name} {done} ")?;
     push_greatest(text, outcome)?;
-    writeln!(text, " {bound}")
+    text.push_str(" ")?;
+    push_bound(text, bound)?;
+    text.push_str("\n")
 }
 
-/// The lines that say what each task of a set came to in a run, in the order of its places, the lowest level first: its name,
-/// how many of its jobs are done, the greatest response among them, `-` where none is, and its bound; in microseconds. The
-/// error is want of memory.
+/// The lines that say what each task of an order came to in a run, the lowest level first: its name, how many of its jobs
+/// are done, the greatest response among them, `-` where none is, and its bound, `-` where it has none; in microseconds.
+/// The error is want of memory.
 pub fn tasks_text(
     alloc: Global,
     set: &TaskSet,
-    places: &[Place],
+    bounds: &[TaskBound],
     jobs: &[JobRecord],
 ) -> Result<String, AllocError>
-    requires { IsOrder set.now (tasks_of_places places.now) }
-    ensures { IfOk result (λ text. string_bytes text ≡ task_lines set.now jobs.now places.now) }
+    requires { IsOrder set.now (tasks_of_bounds bounds.now) }
+    ensures { IfOk result (λ text. string_bytes text ≡ task_lines set.now jobs.now bounds.now) }
 {
     let sheets = set.sheets();
     let mut text = String::new(alloc);
-    for place in places {
-        push_task(&mut text, &sheets[place.task], place.response, jobs)?;
+    for bound in bounds {
+        push_task(&mut text, &sheets[bound.task], bound.bound, jobs)?;
     }
     Ok(text)
 }

@@ -29,12 +29,21 @@ fn first_line<F: FnMut(&[u8]) -> bool>(bytes: &[u8], mut holds: F) -> Option<u64
     None
 }
 
-// The number of the line of a place among those that aren't skipped; the line until has place 0.
+// Whether a line sets a thread or a mutex, as those do that may stand in front of a release list.
+fn is_setting(line: &[u8]) -> bool {
+    let word = word_at(line, 0);
+    word == Some(b"thread") || word == Some(b"mutex")
+}
+
+// The number of the line of a place among those of the list that aren't skipped; the line until has place 0.
 fn line_of_place(bytes: &[u8], place: usize) -> Option<u64> {
     let mut left = place;
-    first_line(bytes, |_| {
-        let is_here = left == 0;
-        left = left.saturating_sub(1);
+    first_line(bytes, |line| {
+        let is_listed = !is_setting(line);
+        let is_here = is_listed && left == 0;
+        if is_listed {
+            left = left.saturating_sub(1);
+        }
         is_here
     })
 }
@@ -135,7 +144,7 @@ fn line_ready_at(bytes: &[u8], until: u64) -> Option<u64> {
     let mut is_release = false;
     first_line(bytes, |line| {
         let is_ready = is_release && time_at(line, 0).saturating_add(time_at(line, 2)) >= until;
-        is_release = true;
+        is_release = is_release || !is_setting(line);
         is_ready
     })
 }

@@ -1,2 +1,4 @@
 pub mod DecidingLaws
 pub mod PassLaws
+pub mod JudgedLaws
+pub mod BelowLaws

@@ -1,4 +1,5 @@
 pub mod Deciding
+pub mod Below
 pub mod Asked
 pub mod Worst
 pub mod Lines

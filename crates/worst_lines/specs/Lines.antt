@@ -18,7 +18,7 @@ use Rattle.miss.specs.declared.shown.Shown.{Shown}
 use Rattle.miss.specs.declared.shown.Shown.TheVariants as shown
 use Rattle.release_list.specs.Text.{list_lines}
 use Rattle.settings.specs.Settings.{settings_from}
-use Rattle.worst_lines.specs.Worst.{IsLookedAtIn, IsWorstOf, chosen}
+use Rattle.worst_lines.specs.Worst.{IsLookedAtIn, IsWorstOf, chosen, chosen_in}
 use Rattle.worst_lines.specs.declared.worst.Worst.{Worst}
 use Rattle.worst_lines.specs.declared.worst.Worst.TheVariants.{Comes, Fails}
 
@@ -70,17 +70,22 @@ abbrev pub worst_lines : List Task → List ℕ → JudgedTask → Worst → Lis
 worst_lines U front j (Comes bound reached) = reached_lines U front j bound reached
 worst_lines U front j (Fails shown) = shown_lines U front j shown
 
--- a text is what is printed of the worst case of a task that was chosen; of a set without tasks the list of no releases
-abbrev pub AreLinesOf : List Task → Placing → List ℕ → Option JudgedTask → List ℕ → Type 0
-AreLinesOf U placing order None text = text ≡ list_lines 0 []
-AreLinesOf U placing order (Some j) text =
-    (worst : Worst) × IsWorstOf U order j worst
-    × (text ≡ worst_lines U (front_of U placing order) j worst)
+-- a text is what is printed of the worst case of a task that was chosen, with this in front of the list; of a set without
+-- tasks the list of no releases
+abbrev pub AreLinesOf : List Task → (front order : List ℕ) → Option JudgedTask → List ℕ → Type 0
+AreLinesOf U front order None text = text ≡ list_lines 0 []
+AreLinesOf U front order (Some j) text =
+    (worst : Worst) × IsWorstOf U order j worst × (text ≡ worst_lines U front j worst)
 
 -- the same of the one that is asked about, in the order in which a set is looked at
 pub record AreWorstLines (U : List Task) (placing : Placing) (asked : Option ℕ) (text : List ℕ)
     : Type 0 where
   pub judged : List JudgedTask
-  pub order : IsLookedAtIn U placing (order_judged judged)
+  pub order : IsLookedAtIn U placing asked (order_judged judged)
   pub each : AllJudged U judged
-  pub lines : AreLinesOf U placing (order_judged judged) (chosen U placing asked judged) text
+  pub lines : AreLinesOf U (front_of U placing (order_judged judged)) (order_judged judged) (chosen U placing asked judged) text
+
+-- the same in an order that is given, and was judged: its settings stand in front of the list
+abbrev pub AreWorstLinesIn : List Task → List JudgedTask → Option ℕ → List ℕ → Type 0
+AreWorstLinesIn U judged asked text =
+    AreLinesOf U (settings_from U 1 (order_judged judged)) (order_judged judged) (chosen_in U asked judged) text

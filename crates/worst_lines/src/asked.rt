@@ -3,10 +3,10 @@ ghost use Rattle.std.specs.Prelude.{◌≡◌, ◌<◌, length, All, IfSome};
 ghost use Rattle.task_sheet.specs.Sheet.{task_at};
 ghost use Rattle.judge.specs.Judgements.{does_meet};
 ghost use Rattle.worst_lines.specs.Asked.{highest_failing, judged_at, slack_of, tighter, tightest};
-ghost use Rattle.worst_lines.specs.Worst.{chosen};
+ghost use Rattle.worst_lines.specs.Worst.{chosen, chosen_in};
 
 use assignment::Placing;
-use judge::{JudgedTask, Judgement};
+use judge::{JudgedTask, Judgement, all_meet};
 use task_sheet::TaskSet;
 
 // How much later than at its response a task has to be done.
@@ -113,5 +113,28 @@ pub(crate) fn chosen(
             Placing::Best(_) => tightest(set, judged),
             Placing::Stuck(_) => highest_failing(set, judged),
         },
+    }
+}
+
+/// The same in an order that is given: the one that is asked about; else, where all meet their deadlines, that of least slack,
+/// and else the highest that doesn't.
+pub(crate) fn chosen_in(
+    set: &TaskSet,
+    asked: Option<usize>,
+    judged: &[JudgedTask],
+) -> Option<JudgedTask>
+    requires { All (λ j. j.task < length set.now) judged.now }
+    ensures is { result ≡ chosen_in set.now asked judged.now }
+    ensures within { IfSome result (λ j. j.task < length set.now) }
+{
+    match asked {
+        Some(task) => judged_at(set, judged, task),
+        None => {
+            if all_meet(judged) {
+                tightest(set, judged)
+            } else {
+                highest_failing(set, judged)
+            }
+        }
     }
 }

@@ -1,4 +1,4 @@
-//! The order in which a refused set is looked at.
+//! The order in which a refused set is looked at, and what becomes of its tasks there.
 ghost use Rattle.std.specs.Prelude.{◌≡◌, ◌↔◌, ◌<◌, ℕ, length, IfOk, IfSome, IfNone, IsTrue, IsFalse};
 ghost use Rattle.task_sheet.specs.TaskSet.{IsTaskSet};
 ghost use Rattle.task_sheet.specs.Indexes.{indexes_of, IsPart};
@@ -6,10 +6,12 @@ ghost use Rattle.task_sheet.specs.Orders.{all_of};
 ghost use Rattle.latest_first.specs.LatestFirst.{IsFree, IsLatest};
 ghost use Rattle.ceilings.specs.IsTableOf.{IsTableOf};
 ghost use Rattle.assignment.specs.Longer.{is_longer};
+ghost use Rattle.judge.specs.Judgements.{AllJudged, order_judged};
 ghost use Rattle.worst_lines.specs.Deciding.{IsDeciding, IsNext};
 
 use assignment::least_over;
 use ceilings::LockTable;
+use judge::{JudgedTask, judge_order};
 use std::alloc::{AllocError, Global};
 use task_sheet::{Members, TaskSet};
 
@@ -94,4 +96,20 @@ pub(crate) fn deciding_order(
         order.push(task)?;
     }
     Ok(order)
+}
+
+/// What becomes of each task of a set in an order that decides, the lowest task first. The error is want of memory; the table
+/// is that of the set.
+pub fn judge_deciding(
+    alloc: Global,
+    set: &TaskSet,
+    table: &LockTable,
+) -> Result<Vec<JudgedTask>, AllocError>
+    requires { IsTableOf set.now table.now }
+    ensures decides { IfOk result (λ judged. IsDeciding set.now (order_judged judged.items)) }
+    ensures each { IfOk result (λ judged. AllJudged set.now judged.items) }
+{
+    let order = deciding_order(alloc, set, table)?;
+    let judged = judge_order(alloc, set, table, &order)?;
+    Ok(judged)
 }

@@ -3,10 +3,12 @@
 #![tactic(auto)]
 
 mod asked;
+mod below;
 mod deciding;
 pub mod laws;
 mod text;
 mod worst;
 
-pub use crate::text::worst_text;
+pub use crate::deciding::judge_deciding;
+pub use crate::text::{worst_text, worst_text_in};
 pub use crate::worst::Worst;

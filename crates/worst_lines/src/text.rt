@@ -2,28 +2,33 @@
 ghost use Rattle.std.specs.Prelude.{◌≡◌, ◌<◌, ◌++◌, length, codes, IfOk, IfSome, OnOk, string_bytes};
 ghost use Rattle.std.specs.Fmt.{decimal};
 ghost use Rattle.task_sheet.specs.Sheet.{task_at};
+ghost use Rattle.task_sheet.specs.Indexes.{indexes_of};
 ghost use Rattle.task_sheet.specs.Orders.{IsOrder};
 ghost use Rattle.ceilings.specs.IsTableOf.{IsTableOf};
 ghost use Rattle.assignment.specs.Placings.{IsPlacingOf, tasks_of_places};
 ghost use Rattle.ceiling_kernel.specs.Releases.{release_at};
 ghost use Rattle.release_list.specs.Text.{list_lines};
 ghost use Rattle.settings.specs.Settings.{settings_from};
-ghost use Rattle.worst_lines.specs.Worst.{IsLookedAtIn};
-ghost use Rattle.worst_lines.specs.Lines.{AreLinesOf, AreWorstLines, comes_words, comment, front_of, reached_lines, reason_words, response_words, shown_lines, worst_lines};
+ghost use Rattle.explain.specs.Conflict.{IsLeastConflict};
+ghost use Rattle.judge.specs.Judgements.{order_judged};
+ghost use Rattle.worst_lines.specs.Worst.{IsLookedAtIn, IsOrderFor};
+ghost use Rattle.worst_lines.specs.Lines.{AreLinesOf, AreWorstLines, AreWorstLinesIn, comes_words, comment, front_of, reached_lines, reason_words, response_words, shown_lines, worst_lines};
 
-use crate::asked::chosen;
+use crate::asked::{chosen, chosen_in};
+use crate::below::order_below;
 use crate::deciding::deciding_order;
 use crate::worst::{Worst, worst_of};
 use assignment::{Place, Placing, tasks_of_places};
 use ceiling_kernel::Release;
 use ceilings::LockTable;
+use explain::least_conflict;
 use judge::{JudgedTask, judge_order};
 use lines::push_name;
 use miss::{NoRun, Reached, Shown, WorstRun};
 use release_list::list_text;
 use settings::settings_text;
 use std::alloc::{AllocError, Global};
-use task_sheet::TaskSet;
+use task_sheet::{Members, TaskSet};
 
 // How long after its arrival a job is done, or `-` where it isn't.
 fn push_response(text: &mut String, arrival: u64, finish: Option<u64>) -> Result<(), AllocError>
@@ -251,21 +256,50 @@ fn front_text(
     }
 }
 
+// The order in which a refused set is looked at for a task, by its minimal conflict.
+fn order_for(
+    alloc: Global,
+    set: &TaskSet,
+    table: &LockTable,
+    conflict: Members,
+    asked: Option<usize>,
+) -> Result<Vec<usize>, AllocError>
+    requires table { IsTableOf set.now table.now }
+    requires conflict { IsLeastConflict set.now (indexes_of conflict) }
+    ensures looked { IfOk result (λ order. IsOrderFor set.now (indexes_of conflict) asked order.items) }
+    ensures order { IfOk result (λ order. IsOrder set.now order.items) }
+{
+    match asked {
+        Some(task) => {
+            if task < set.sheets().len() && conflict.has(task) {
+                order_below(alloc, set, table, conflict, task)
+            } else {
+                deciding_order(alloc, set, table)
+            }
+        }
+        None => deciding_order(alloc, set, table),
+    }
+}
+
 // The order in which a set is looked at.
 fn order_of(
     alloc: Global,
     set: &TaskSet,
     table: &LockTable,
     placing: &Placing,
+    asked: Option<usize>,
 ) -> Result<Vec<usize>, AllocError>
     requires table { IsTableOf set.now table.now }
     requires placing { IsPlacingOf set.now placing.now }
-    ensures looked { IfOk result (λ order. IsLookedAtIn set.now placing.now order.items) }
+    ensures looked { IfOk result (λ order. IsLookedAtIn set.now placing.now asked order.items) }
     ensures order { IfOk result (λ order. IsOrder set.now order.items) }
 {
     match placing {
         Placing::Best(places) => tasks_of_places(alloc, places),
-        Placing::Stuck(_) => deciding_order(alloc, set, table),
+        Placing::Stuck(greatest) => {
+            let conflict = least_conflict(set, table, *greatest);
+            order_for(alloc, set, table, conflict, asked)
+        }
     }
 }
 
@@ -273,28 +307,27 @@ fn order_of(
 fn chosen_text(
     alloc: Global,
     set: &TaskSet,
-    placing: &Placing,
+    front: &str,
     order: &[usize],
     chosen: Option<JudgedTask>,
 ) -> Result<String, AllocError>
     requires order { IsOrder set.now order.now }
     requires chosen { IfSome chosen (λ j. j.task < length set.now) }
-    ensures { IfOk result (λ text. AreLinesOf set.now placing.now order.now chosen
+    ensures { IfOk result (λ text. AreLinesOf set.now front.now order.now chosen
         (string_bytes text)) }
 {
     match chosen {
         Some(entry) => {
-            let front = front_text(alloc, set, placing, order)?;
             let worst = worst_of(alloc, set, order, entry)?;
-            lines_text(alloc, set, front.as_str(), entry, &worst)
+            lines_text(alloc, set, front, entry, &worst)
         }
         None => list_text(alloc, 0, &[]),
     }
 }
 
 /// What is printed of a task's worst case: in a set's best order that of the task that is asked about, or of the one of least
-/// slack; of a refused set in an order that decides that of the task that is asked about, or of the highest one that doesn't
-/// meet its deadline there. The error is want of memory.
+/// slack; of a refused set that of the task that is asked about, below the others of the minimal conflict where it is of that,
+/// else in an order that decides; or of the highest one that doesn't meet its deadline there. The error is want of memory.
 pub fn worst_text(
     alloc: Global,
     set: &TaskSet,
@@ -305,8 +338,37 @@ pub fn worst_text(
     ensures { IfOk result (λ text. AreWorstLines set.now placing.now asked (string_bytes text)) }
 {
     let table = LockTable::new(alloc, set)?;
-    let order = order_of(alloc, set, &table, placing)?;
+    let order = order_of(alloc, set, &table, placing, asked)?;
     let judged = judge_order(alloc, set, &table, &order)?;
     let chosen = chosen(set, placing, asked, &judged);
-    chosen_text(alloc, set, placing, &order, chosen)
+    let front = front_text(alloc, set, placing, &order)?;
+    chosen_text(alloc, set, front.as_str(), &order, chosen)
+}
+
+// The order that was judged.
+fn order_of_judged(alloc: Global, judged: &[JudgedTask]) -> Result<Vec<usize>, AllocError>
+    ensures { IfOk result (λ order. order.items ≡ order_judged judged.now) }
+{
+    let mut order = Vec::with_capacity(alloc, judged.len())?;
+    for entry in judged {
+        order.push(entry.task)?;
+    }
+    Ok(order)
+}
+
+/// The same in an order that is given, and was judged: of the task that is asked about; else, where all meet their deadlines,
+/// of the one of least slack, and else of the highest one that doesn't. The error is want of memory.
+pub fn worst_text_in(
+    alloc: Global,
+    set: &TaskSet,
+    judged: &[JudgedTask],
+    asked: Option<usize>,
+) -> Result<String, AllocError>
+    requires { IsOrder set.now (order_judged judged.now) }
+    ensures { IfOk result (λ text. AreWorstLinesIn set.now judged.now asked (string_bytes text)) }
+{
+    let order = order_of_judged(alloc, judged)?;
+    let chosen = chosen_in(set, asked, judged);
+    let front = settings_of(alloc, set, &order)?;
+    chosen_text(alloc, set, front.as_str(), &order, chosen)
 }

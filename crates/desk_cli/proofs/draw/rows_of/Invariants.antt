@@ -3,4 +3,4 @@ use Rattle.desk_cli.specs.Draw.{rows_of}
 use Rattle.desk_cli.proofs.draw.rows_of.Given as goal
 
 abbrev pub invariant-loop-i : goal.invariant-loop-i
-invariant-loop-i l = l.rows.items ≡ rows_of l.sheets (drop (length l.places - l.i) l.places)
+invariant-loop-i l = l.rows.items ≡ rows_of l.sheets (drop (length l.bounds - l.i) l.bounds)

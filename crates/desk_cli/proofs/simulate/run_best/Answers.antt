@@ -1,13 +1,12 @@
-use Rattle.std.proofs.Common.{◌≡◌, ◌∙◌, Ok, ap, subst, List, ℕ}
-use Rattle.ceiling_kernel.specs.Runs.{MeetsTighterBounds, Runs}
-use Rattle.ceiling_kernel.specs.Tick.{node_in}
-use Rattle.assignment.specs.Placings.{tasks_of_places}
+use Rattle.std.proofs.Common.{◌∙◌, ℕ, List, sym, subst}
+use Rattle.task_sheet.specs.Orders.{IsOrder}
+use Rattle.desk_cli.specs.Simulate.{RunsOrder}
 use Rattle.desk_cli.proofs.simulate.run_best.Goals as goal
 
-pub returns-in-Ok-run : goal.returns-in-Ok-run
-returns-in-Ok-run c =
-    let node : c.in-Ok.kernel ≡ node_in c.args.set.now (tasks_of_places c.args.places.now) =
-    c.in-Ok.ensures.ok.0 ∙ ap (λ (order : List ℕ). node_in c.args.set.now order) (c.deref.ensures.value ∙ c.in_ok-order.ensures) in (
-      subst (λ n. Runs n c.args.releases.now c.args.until (Ok c.in-Ok-run.trace)) node c.in-Ok-run.ensures.trace,
-      subst (λ n. MeetsTighterBounds n c.args.releases.now c.args.until c.in-Ok-run.trace) node c.in-Ok-run.ensures.tighter,
-    )
+pub run_order-requires : goal.run_order-requires
+run_order-requires c =
+    subst (λ (order : List ℕ). IsOrder c.args.set.now order) (sym (c.deref.ensures.value ∙ c.in_ok-order.ensures)) c.requires.passing.each_once
+
+pub returns : goal.returns
+returns c =
+    subst (λ (order : List ℕ). RunsOrder c.args.set.now order c.args.releases.now c.args.until c.run_order.result) (c.deref.ensures.value ∙ c.in_ok-order.ensures) c.run_order.ensures

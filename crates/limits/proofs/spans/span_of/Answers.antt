@@ -1,9 +1,8 @@
-use Rattle.std.proofs.Common.{◌≡◌, ◌+◌, ◌-◌, ◌<◌, List, length, sym, ◌∙◌, ap, subst, arith}
+use Rattle.std.proofs.Common.{◌+◌, ◌-◌, sym, ap, subst, arith}
 use Rattle.task_sheet.specs.Sheet.{CriticalSection}
 use Rattle.task_sheet.proofs.Below.{ord_max-is}
-use Rattle.limits.specs.Numbers.{section_at, HasNumber, IsSpan}
-use Rattle.limits.specs.Rooms.{room_end}
-use Rattle.limits.proofs.SpanLaws.{section_read, IsSpan-cost, IsSpan-period, IsSpan-deadline, IsSpan-jitter, IsSpan-len, room-own}
+use Rattle.limits.specs.Numbers.{HasNumber, IsSpan}
+use Rattle.limits.proofs.SpanLaws.{IsSpan-cost, IsSpan-period, IsSpan-deadline, IsSpan-jitter, IsSpan-len, room_read}
 use Rattle.limits.proofs.spans.span_of.Goals as goal
 
 pub returns-in-Cost-clause-span : goal.returns-in-Cost-clause-span
@@ -33,48 +32,28 @@ returns-in-Jitter-clause-span c =
 pub overflow_sub-result-in-Len : goal.overflow_sub-result-in-Len
 overflow_sub-result-in-Len c =
     let t = c.args.sheet.now in
-    let k = c.in-Len.place in
-    let inside : k < length t.sections = subst (λ n. HasNumber t n) c.in-Len.is c.requires.has in
-    let read = section_read t.sections c.sections.result.now k c.index-sections-place.result c.sections.ensures inside c.index-sections-place.is in
-    let at : c.section.inside.at ≡ (section_at t.sections k).at = ap (λ (s : CriticalSection). s.at) c.section.view_is ∙ ap (λ (s : CriticalSection). s.at) read in
-    let end : c.room_end.result ≡ room_end t.cost t.sections k =
-    c.room_end.ensures ∙ ap (λ m. room_end m c.sections-in-Len.result.now k) c.cost-in-Len.ensures ∙ ap (λ (xs : List CriticalSection). room_end t.cost xs k) c.sections-in-Len.ensures in
-    let room = room-own 0 t.cost t.sections k inside c.requires.valid.sections in
-    omega (arith, at, end, room.0)
+    let room = room_read t c.in-Len.place c.sections.result.now c.sections-in-Len.result.now c.index-sections-place.result c.section.inside.at c.cost-in-Len.result c.room_end.result c.requires.valid (subst (λ n. HasNumber t n) c.in-Len.is c.requires.has)
+    c.sections.ensures c.index-sections-place.is (ap (λ (s : CriticalSection). s.at) c.section.view_is) c.sections-in-Len.ensures c.cost-in-Len.ensures c.room_end.ensures in
+    omega (arith, room.some)
 
 pub overflow_sub-result-in-Len-2 : goal.overflow_sub-result-in-Len-2
 overflow_sub-result-in-Len-2 c =
     let t = c.args.sheet.now in
-    let k = c.in-Len.place in
-    let inside : k < length t.sections = subst (λ n. HasNumber t n) c.in-Len.is c.requires.has in
-    let read = section_read t.sections c.sections.result.now k c.index-sections-place.result c.sections.ensures inside c.index-sections-place.is in
-    let at : c.section.inside.at ≡ (section_at t.sections k).at = ap (λ (s : CriticalSection). s.at) c.section.view_is ∙ ap (λ (s : CriticalSection). s.at) read in
-    let end : c.room_end.result ≡ room_end t.cost t.sections k =
-    c.room_end.ensures ∙ ap (λ m. room_end m c.sections-in-Len.result.now k) c.cost-in-Len.ensures ∙ ap (λ (xs : List CriticalSection). room_end t.cost xs k) c.sections-in-Len.ensures in
-    let room = room-own 0 t.cost t.sections k inside c.requires.valid.sections in
-    omega (arith, at, end, room.0)
+    let room = room_read t c.in-Len.place c.sections.result.now c.sections-in-Len.result.now c.index-sections-place.result c.section.inside.at c.cost-in-Len.result c.room_end.result c.requires.valid (subst (λ n. HasNumber t n) c.in-Len.is c.requires.has)
+    c.sections.ensures c.index-sections-place.is (ap (λ (s : CriticalSection). s.at) c.section.view_is) c.sections-in-Len.ensures c.cost-in-Len.ensures c.room_end.ensures in
+    omega (arith, room.some)
 
 pub returns-in-Len-clause-span : goal.returns-in-Len-clause-span
 returns-in-Len-clause-span c =
     let t = c.args.sheet.now in
-    let k = c.in-Len.place in
-    let inside : k < length t.sections = subst (λ n. HasNumber t n) c.in-Len.is c.requires.has in
-    let read = section_read t.sections c.sections.result.now k c.index-sections-place.result c.sections.ensures inside c.index-sections-place.is in
-    let at : c.section.inside.at ≡ (section_at t.sections k).at = ap (λ (s : CriticalSection). s.at) c.section.view_is ∙ ap (λ (s : CriticalSection). s.at) read in
-    let end : c.room_end.result ≡ room_end t.cost t.sections k =
-    c.room_end.ensures ∙ ap (λ m. room_end m c.sections-in-Len.result.now k) c.cost-in-Len.ensures ∙ ap (λ (xs : List CriticalSection). room_end t.cost xs k) c.sections-in-Len.ensures in
-    let room = room-own 0 t.cost t.sections k inside c.requires.valid.sections in
+    let room = room_read t c.in-Len.place c.sections.result.now c.sections-in-Len.result.now c.index-sections-place.result c.section.inside.at c.cost-in-Len.result c.room_end.result c.requires.valid (subst (λ n. HasNumber t n) c.in-Len.is c.requires.has)
+    c.sections.ensures c.index-sections-place.is (ap (λ (s : CriticalSection). s.at) c.section.view_is) c.sections-in-Len.ensures c.cost-in-Len.ensures c.room_end.ensures in
     subst (λ n. IsSpan t n 1 (c.room_end.result - c.section.inside.at - 1)) (sym c.in-Len.is)
-    (IsSpan-len t k _ c.requires.valid inside (omega (arith, at, end)))
+    (IsSpan-len t c.in-Len.place _ c.requires.valid room.inside (omega (arith, room.at_is, room.end_is)))
 
 pub returns-in-Len-clause-short : goal.returns-in-Len-clause-short
 returns-in-Len-clause-short c =
     let t = c.args.sheet.now in
-    let k = c.in-Len.place in
-    let inside : k < length t.sections = subst (λ n. HasNumber t n) c.in-Len.is c.requires.has in
-    let read = section_read t.sections c.sections.result.now k c.index-sections-place.result c.sections.ensures inside c.index-sections-place.is in
-    let at : c.section.inside.at ≡ (section_at t.sections k).at = ap (λ (s : CriticalSection). s.at) c.section.view_is ∙ ap (λ (s : CriticalSection). s.at) read in
-    let end : c.room_end.result ≡ room_end t.cost t.sections k =
-    c.room_end.ensures ∙ ap (λ m. room_end m c.sections-in-Len.result.now k) c.cost-in-Len.ensures ∙ ap (λ (xs : List CriticalSection). room_end t.cost xs k) c.sections-in-Len.ensures in
-    let room = room-own 0 t.cost t.sections k inside c.requires.valid.sections in
-    omega (arith, end, room.1, c.requires.valid.cost_to, c.requires.valid.period_to)
+    let room = room_read t c.in-Len.place c.sections.result.now c.sections-in-Len.result.now c.index-sections-place.result c.section.inside.at c.cost-in-Len.result c.room_end.result c.requires.valid (subst (λ n. HasNumber t n) c.in-Len.is c.requires.has)
+    c.sections.ensures c.index-sections-place.is (ap (λ (s : CriticalSection). s.at) c.section.view_is) c.sections-in-Len.ensures c.cost-in-Len.ensures c.room_end.ensures in
+    omega (arith, room.within, c.requires.valid.cost_to, c.requires.valid.period_to)

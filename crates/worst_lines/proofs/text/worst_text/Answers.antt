@@ -1,18 +1,8 @@
-use Rattle.std.proofs.Common.{◌∙◌, ◌<◌, ℕ, List, length, All, sym, subst, arith}
-use Rattle.std.proofs.lemmas.List.{get_or-map, length-map}
-use Rattle.task_sheet.specs.Sheet.{Task}
+use Rattle.std.proofs.Common.{◌∙◌, ◌<◌, ℕ, List, length, All, sym, subst}
 use Rattle.task_sheet.specs.Orders.{IsOrder}
-use Rattle.ceiling_kernel.proofs.OrderLaws.{order_iff}
-use Rattle.judge.specs.Judgements.{order_judged}
 use Rattle.judge.specs.declared.judging.JudgedTask.{JudgedTask}
+use Rattle.worst_lines.proofs.JudgedLaws.{in_set, judged_in_set}
 use Rattle.worst_lines.proofs.text.worst_text.Goals as goal
-
-in_set : (U : List Task) (order : List ℕ) → IsOrder U order → All (λ i. i < length U) order
-in_set U order each = ((order_iff (length U) order).1 each).0
-
-judged_in_set : (U : List Task) (judged : List JudgedTask) → IsOrder U (order_judged judged) → All (λ (j : JudgedTask). j.task < length U) judged
-judged_in_set U judged each = λ k d lt.
-    omega (arith, in_set U (order_judged judged) each k 0 (omega (arith, lt, length-map judged (λ (j : JudgedTask). j.task))), get_or-map (λ (j : JudgedTask). j.task) judged k d 0 lt)
 
 pub judge_order-requires-clause-within : goal.judge_order-requires-clause-within
 judge_order-requires-clause-within c =

@@ -2,4 +2,5 @@ use Rattle.streams.proofs.Puts.{puts_both}
 use Rattle.picture.proofs.page.Page.put_group.Goals as goal
 
 pub returns : goal.returns
-returns g c = puts_both (puts_both c.in_ok-put.ensures c.in_ok-put_own_names.ensures) c.put-2.ensures
+returns g c =
+    puts_both (puts_both (puts_both c.in_ok-put.ensures c.in_ok-put_lane_head.ensures) c.in_ok-put_margins.ensures) c.put-2.ensures

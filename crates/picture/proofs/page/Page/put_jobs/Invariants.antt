@@ -3,7 +3,7 @@ use Rattle.picture.specs.Rows.{each}
 use Rattle.picture.specs.Puts.{Puts}
 use Rattle.picture.specs.Elements.{job_text}
 use Rattle.picture.specs.Rows.{on_row}
-use Rattle.picture.specs.Document.{record_at}
+use Rattle.picture.specs.Rows.{record_at}
 use Rattle.picture.proofs.page.Page.put_jobs.Given as goal
 
 abbrev pub invariant-loop-job : goal.invariant-loop-job

@@ -5,4 +5,4 @@ returns-in-Arrival g c = rw c.in-Arrival.is (rw (← c.top_of-top.ensures.value)
 
 pub returns-in-Deadline : goal.returns-in-Deadline
 returns-in-Deadline g c =
-    rw c.in-Deadline.is (rw (← c.top_of-top.ensures.value) (rw (← c.deadline-len.ensures) c.put_later-in-Deadline.ensures))
+    rw c.in-Deadline.is (rw (← c.top_of-top.ensures.value) (rw (← c.deadline-len.ensures) c.put_later.ensures))

@@ -1,4 +1,4 @@
 use Rattle.picture.proofs.page.Page.put_measures.Goals as goal
 
 pub returns : goal.returns
-returns g c = rw (← c.frame.view_is) c.write.ensures.put
+returns g c = rw (← c.end_of.ensures.value) c.write.ensures.put

@@ -1,0 +1,7 @@
+pub mod TickLaws
+pub mod LevelLaws
+pub mod JobLaws
+pub mod BlockLaws
+pub mod ListLaws
+pub mod SeenLaws
+pub mod BreakLaws

@@ -1,0 +1,6 @@
+use Rattle.kept_promises.specs.Kept.{Keeps}
+use Rattle.kept_promises.proofs.SeenLaws.{all_seen, keeps}
+use Rattle.kept_promises.proofs.laws.promises_are_kept.Goals as goal
+
+pub returns : goal.returns
+returns c = λ U places lines run. all_seen run Keeps (keeps run)

@@ -1,0 +1,10 @@
+use Rattle.std.proofs.Common.{Option, sym, ◌∙◌}
+use Rattle.picture.specs.declared.waits.Wait.{Wait}
+use Rattle.picture.specs.WaitTexts.{wait_text}
+use Rattle.picture.proofs.Lanes.{puts_same}
+use Rattle.picture.proofs.page.Page.put_nth_wait.Goals as goal
+
+pub returns-in-Some : goal.returns-in-Some
+returns-in-Some g c =
+    let chart = c.args.chart.now in
+    puts_same (λ (w : Option Wait). wait_text chart.frame chart.locks.now chart.rows.now chart.jobs.now chart.slices.now c.args.stay c.args.k c.args.n w) (sym c.in-Some.is ∙ c.wait_at.ensures.wait) c.put_wait.ensures

@@ -1,0 +1,71 @@
+-- The margin: each row's level, tone and name, and how long its jobs take at most.
+use Rattle.std.specs.Prelude.{ℕ, ◌+◌, ◌==◌, if◌then◌else◌, Option, Some, None, List, [], ◌∷◌, ◌++◌, length, codes}
+use Rattle.std.specs.Fmt.{decimal}
+use Rattle.std.specs.List.{concat}
+use Rattle.task_sheet.specs.Demand.{greatest_of}
+use Rattle.run_lines.specs.Lines.{greatest_words}
+use Rattle.run_lines.specs.Reached.{done_of, response_of}
+use Rattle.ceiling_kernel.specs.declared.trace.JobRecord.{JobRecord}
+use Rattle.picture.specs.declared.rows.TaskRow.{TaskRow}
+use Rattle.picture.specs.Frame.{Frame, top_of, level_of, tone_of}
+use Rattle.picture.specs.Numbers.{millis_text, known_text}
+use Rattle.picture.specs.Misses.{missed_in}
+
+-- a row's level, and the tone of its task
+abbrev pub level_text : Frame → ℕ → List ℕ
+level_text f k =
+    concat (codes "<text class=\"v\" x=\"300\" y=\"" ∷ decimal (top_of k + 230) ∷ codes "\">"
+    ∷ decimal (level_of f k)
+    ∷ codes "</text><rect class=\"f" ∷ decimal (tone_of k) ∷ codes "\" x=\"350\" y=\""
+    ∷ decimal (top_of k + 130)
+    ∷ codes "\" width=\"100\" height=\"100\" rx=\"20\"/>\n" ∷ [])
+
+-- what the jobs of a row's task came to: how many are done, the greatest response among them, and the row's bound
+abbrev pub outcome_text : TaskRow → List JobRecord → List ℕ
+outcome_text row jobs =
+    concat (codes "<title>done: " ∷ decimal (length (done_of row.sheet.name jobs))
+    ∷ codes ", greatest response: " ∷ [])
+    ++ greatest_words (length (done_of row.sheet.name jobs))
+    (greatest_of response_of (done_of row.sheet.name jobs))
+    ++ concat (codes ", bound: " ∷ known_text row.bound ∷ codes " us</title>" ∷ [])
+
+-- a name is red where a deadline is missed
+abbrev pub name_class : (missed : ℕ) → List ℕ
+name_class missed = if missed == 0 then codes "n" else codes "n q"
+
+-- the name of a row, with what its jobs came to as its title
+abbrev pub name_text : (missed : ℕ) → List JobRecord → ℕ → TaskRow → List ℕ
+name_text missed jobs k row =
+    concat (codes "<text class=\"" ∷ name_class missed ∷ codes "\" x=\"500\" y=\""
+    ∷ decimal (top_of k + 230)
+    ∷ codes "\">" ∷ [])
+    ++ outcome_text row jobs ++ concat (row.sheet.name ∷ codes "</text>\n" ∷ [])
+
+-- the bound and the deadline, in milliseconds; without a bound the deadline
+abbrev pub limits_text : ℕ → TaskRow → Option ℕ → List ℕ
+limits_text k row (Some bound) =
+    concat (codes "<text x=\"500\" y=\"" ∷ decimal (top_of k + 355) ∷ codes "\">bound "
+    ∷ millis_text bound
+    ∷ codes " of " ∷ millis_text row.sheet.deadline ∷ codes " ms</text>\n" ∷ [])
+limits_text k row None =
+    concat (codes "<text x=\"500\" y=\"" ∷ decimal (top_of k + 355) ∷ codes "\">deadline "
+    ∷ millis_text row.sheet.deadline
+    ∷ codes " ms</text>\n" ∷ [])
+
+-- how many deadlines are missed
+abbrev pub missed_words : ℕ → (missed : ℕ) → List ℕ
+missed_words k missed =
+    concat (codes "<text class=\"q\" x=\"500\" y=\"" ∷ decimal (top_of k + 355)
+    ∷ codes "\">deadlines missed: " ∷ decimal missed
+    ∷ codes "</text>\n" ∷ [])
+
+-- one of the two
+abbrev pub second_line : (missed : ℕ) → ℕ → TaskRow → List ℕ
+second_line missed k row =
+    if missed == 0 then limits_text k row row.bound else missed_words k missed
+
+-- a row's part of the margin
+abbrev pub margin_text : Frame → List JobRecord → ℕ → TaskRow → List ℕ
+margin_text f jobs k row =
+    level_text f k ++ name_text (missed_in f row jobs) jobs k row
+    ++ second_line (missed_in f row jobs) k row

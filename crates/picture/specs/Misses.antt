@@ -1,0 +1,80 @@
+-- Which jobs miss their deadlines, and how they are drawn.
+use Rattle.std.specs.Prelude.{ℕ, ◌+◌, ◌-◌, max, Bool, false, ◌&&◌, nat_le, nat_lt, if◌then◌else◌, Option, Some, None, List, [], ◌∷◌, ◌++◌, length, codes}
+use Rattle.std.specs.Option.{unwrap_or}
+use Rattle.std.specs.Fmt.{decimal}
+use Rattle.std.specs.List.{concat, filter}
+use Rattle.task_sheet.specs.Sheet.{same_bytes}
+use Rattle.ceiling_kernel.specs.declared.trace.JobRecord.{JobRecord}
+use Rattle.picture.specs.declared.rows.TaskRow.{TaskRow}
+use Rattle.picture.specs.Frame.{Frame, x_of, top_of}
+use Rattle.picture.specs.Rows.{row_at, row_named}
+use Rattle.picture.specs.Boxes.{box_path}
+use Rattle.picture.specs.Elements.{arrival_words, done_words}
+
+-- a job that has to be done so long after its arrival is done later, or isn't done by an end that isn't earlier
+abbrev pub is_behind : (arrival deadline end : ℕ) → Option ℕ → Bool
+is_behind arrival deadline end (Some finish) = nat_lt deadline (finish - arrival)
+is_behind arrival deadline end None = nat_le deadline (end - arrival)
+
+-- a job of a row's task misses its deadline
+abbrev pub is_late : Frame → TaskRow → JobRecord → Bool
+is_late f row job = is_behind job.release row.sheet.deadline f.until job.finish
+
+-- when a job is done, or the end of the run
+abbrev pub ended : Frame → JobRecord → ℕ
+ended f job = unwrap_or job.finish f.until
+
+-- it is one of the row's task
+abbrev pub misses_in : Frame → TaskRow → JobRecord → Bool
+misses_in f row job = same_bytes job.name row.sheet.name && is_late f row job
+
+-- how many jobs of a row's task do
+abbrev pub missed_in : Frame → TaskRow → List JobRecord → ℕ
+missed_in f row jobs = length (filter (misses_in f row) jobs)
+
+-- a job of the task of a row, if there is one
+abbrev pub is_late_at : Frame → List TaskRow → JobRecord → Option ℕ → Bool
+is_late_at f rows job None = false
+is_late_at f rows job (Some k) = is_late f (row_at rows k) job
+
+-- a job misses its deadline
+abbrev pub misses : Frame → List TaskRow → JobRecord → Bool
+misses f rows job = is_late_at f rows job (row_named rows job.name)
+
+-- how many jobs of all do
+abbrev pub all_missed : Frame → List TaskRow → List JobRecord → ℕ
+all_missed f rows jobs = length (filter (misses f rows) jobs)
+
+-- a disc with a cross
+abbrev pub badge_text : (x y : ℕ) → List ℕ
+badge_text x y =
+    concat (codes "<path class=\"x\" d=\"M" ∷ decimal x ∷ codes " " ∷ decimal y
+    ∷ codes "h1\"/><path class=\"y\" d=\"M" ∷ decimal x ∷ codes " " ∷ decimal y
+    ∷ codes "m-38-38l76 76m0-76l-76 76\"/>\n" ∷ [])
+
+-- from the deadline up to the finish, or to the end
+abbrev pub hatch_path : Frame → (k : ℕ) → TaskRow → JobRecord → List ℕ
+hatch_path f k row job =
+    box_path (x_of f (job.release + row.sheet.deadline))
+    (max (x_of f (ended f job)) (x_of f (job.release + row.sheet.deadline) + 20))
+    (top_of k + 145) 220
+
+-- that, up to what is told of it
+abbrev pub hatch_text : Frame → (k : ℕ) → TaskRow → JobRecord → List ℕ
+hatch_text f k row job =
+    concat (codes "<path class=\"z\" d=\"" ∷ hatch_path f k row job ∷ codes "\"><title>" ∷ [])
+
+-- the deadline, behind when the job arrives and is done
+abbrev pub due_words : TaskRow → List ℕ
+due_words row =
+    concat (codes "deadline " ∷ decimal row.sheet.deadline ∷ codes " us missed</title></path>\n" ∷ [])
+
+-- with a badge at the deadline
+abbrev pub missed_text : Frame → (k : ℕ) → TaskRow → JobRecord → List ℕ
+missed_text f k row job =
+    hatch_text f k row job ++ arrival_words job ++ done_words job job.finish ++ due_words row
+    ++ badge_text (x_of f (job.release + row.sheet.deadline)) (top_of k + 85)
+
+-- of a job that misses its deadline
+abbrev pub miss_text : Frame → JobRecord → ℕ → TaskRow → List ℕ
+miss_text f job k row = if is_late f row job then missed_text f k row job else []

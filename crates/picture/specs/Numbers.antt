@@ -1,0 +1,21 @@
+-- Numbers: milliseconds with no more digits than they need, and bounds that may not be known.
+use Rattle.std.specs.Prelude.{ℕ, ◌/◌, ◌%◌, ◌==◌, if◌then◌else◌, Option, Some, None, List, [], ◌∷◌, ◌++◌, codes}
+use Rattle.std.specs.Fmt.{decimal}
+use Rattle.std.specs.List.{concat}
+
+-- what stands behind whole milliseconds, of so many microseconds below one
+abbrev pub rest_text : ℕ → List ℕ
+rest_text n =
+    if n == 0 then []
+    else if n % 100 == 0 then concat (codes "." ∷ decimal (n / 100) ∷ [])
+    else if n % 10 == 0 then concat (codes "." ∷ decimal (n / 100) ∷ decimal (n / 10 % 10) ∷ [])
+    else concat (codes "." ∷ decimal (n / 100) ∷ decimal (n / 10 % 10) ∷ decimal (n % 10) ∷ [])
+
+-- so many microseconds, in milliseconds
+abbrev pub millis_text : ℕ → List ℕ
+millis_text n = decimal (n / 1000) ++ rest_text (n % 1000)
+
+-- a bound, or `-` where none is known
+abbrev pub known_text : Option ℕ → List ℕ
+known_text (Some bound) = decimal bound
+known_text None = codes "-"

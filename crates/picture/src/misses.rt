@@ -1,0 +1,161 @@
+//! Jobs that miss their deadlines.
+ghost use Rattle.std.specs.Prelude.{◌≡◌, ◌+◌, ◌≤◌, ◌<◌, max, length};
+ghost use Rattle.picture.specs.declared.frame.TheConstants.{RIGHTMOST};
+ghost use Rattle.task_sheet.specs.declared.set.TheConstants.{TASK_LIMIT};
+ghost use Rattle.picture.specs.Puts.{Puts};
+ghost use Rattle.picture.specs.Rows.{on_row};
+ghost use Rattle.picture.specs.Frame.{x_of, top_of};
+ghost use Rattle.picture.specs.Misses.{is_late, ended, misses_in, missed_in, misses, all_missed, badge_text, hatch_text, due_words, missed_text, miss_text};
+ghost use Rattle.picture.specs.Document.{misses_text};
+
+use crate::boxes::Bar;
+use crate::chart::{Chart, Lane};
+use crate::frame::{Frame, top_of, x_after, x_of};
+use crate::page::Page;
+use crate::rows::{TaskRow, find_row};
+use ceiling_kernel::JobRecord;
+use std::io::Write;
+use streams::WriteFailed;
+
+// Whether a job of a row's task misses its deadline.
+fn is_late(frame: Frame, row: &TaskRow, job: &JobRecord) -> bool
+    ensures { result ≡ is_late frame row.now job.now }
+{
+    let deadline = row.sheet.deadline();
+    match job.finish {
+        Some(finish) => finish.saturating_sub(job.release) > deadline,
+        None => frame.until.saturating_sub(job.release) >= deadline,
+    }
+}
+
+// When a job is done, or the end of the run.
+pub(crate) fn ended(frame: Frame, job: &JobRecord) -> u64
+    ensures { result ≡ ended frame job.now }
+{
+    job.finish.unwrap_or(frame.until)
+}
+
+// Whether it is one of a row's task, too.
+fn misses_in(frame: Frame, row: &TaskRow, job: &JobRecord) -> bool
+    ensures { result ≡ misses_in frame row.now job.now }
+{
+    job.name == row.sheet.name() && is_late(frame, row, job)
+}
+
+// How many jobs of a row's task do.
+pub(crate) fn missed_in(frame: Frame, row: &TaskRow, jobs: &[JobRecord]) -> usize
+    ensures { result ≡ missed_in frame row.now jobs.now }
+{
+    let mut count = 0;
+    for job in jobs {
+        if misses_in(frame, row, job) {
+            count += 1;
+        }
+    }
+    count
+}
+
+// Whether a job does.
+fn misses(frame: Frame, rows: &[TaskRow], job: &JobRecord) -> bool
+    ensures { result ≡ misses frame rows.now job.now }
+{
+    match find_row(rows, job.name) {
+        None => false,
+        Some(k) => is_late(frame, &rows[k], job),
+    }
+}
+
+// How many jobs of all do.
+pub(crate) fn all_missed(frame: Frame, rows: &[TaskRow], jobs: &[JobRecord]) -> usize
+    ensures { result ≡ all_missed frame rows.now jobs.now }
+{
+    let mut count = 0;
+    for job in jobs {
+        if misses(frame, rows, job) {
+            count += 1;
+        }
+    }
+    count
+}
+
+impl<W: Write + Drop> Page<'_, W> {
+    // A disc with a cross.
+    pub(crate) fn put_badge(&mut self, x: u64, y: u64) -> Result<(), WriteFailed>
+        ensures { Puts W.contents self.old self.new result (badge_text x y) }
+    {
+        write!(
+            self.out,
+            "<path class=\"x\" d=\"M{x} {y}h1\"/><path class=\"y\" d=\"M{x} {y}m-38-38l76 76m0-76l-76 76\"/>\n"
+        )
+    }
+
+    // From the deadline up to the finish, or to the end.
+    fn put_hatch(&mut self, lane: &Lane<'_>, job: &JobRecord) -> Result<(), WriteFailed>
+        ensures { Puts W.contents self.old self.new result
+            (hatch_text lane.now.frame lane.now.k lane.now.row.now job.now) }
+    {
+        let x = x_after(lane.frame, job.release, lane.row.sheet.deadline());
+        let hatch = Bar {
+            x,
+            right: x_of(lane.frame, ended(lane.frame, job)).max(x + 20),
+            y: top_of(lane.k) + 145,
+            high: 220,
+        };
+        write!(self.out, "<path class=\"z\" d=\"{hatch}\"><title>")
+    }
+
+    // The deadline, behind when the job arrives and is done.
+    fn put_due_words(&mut self, row: &TaskRow) -> Result<(), WriteFailed>
+        ensures { Puts W.contents self.old self.new result (due_words row.now) }
+    {
+        let deadline = row.sheet.deadline();
+        write!(self.out, "deadline {deadline} us missed</title></path>\n")
+    }
+
+    // That, with what is told of it, and a badge at the deadline.
+    fn put_missed(&mut self, lane: &Lane<'_>, job: &JobRecord) -> Result<(), WriteFailed>
+        ensures { Puts W.contents self.old self.new result
+            (missed_text lane.now.frame lane.now.k lane.now.row.now job.now) }
+    {
+        self.put_hatch(lane, job)?;
+        self.put_arrival_words(job)?;
+        self.put_finish_words(job)?;
+        self.put_due_words(lane.row)?;
+        let x = x_after(lane.frame, job.release, lane.row.sheet.deadline());
+        self.put_badge(x, top_of(lane.k) + 85)
+    }
+
+    // Of a job in its row, if it misses its deadline.
+    fn put_miss_in(&mut self, lane: &Lane<'_>, job: &JobRecord) -> Result<(), WriteFailed>
+        ensures { Puts W.contents self.old self.new result
+            (miss_text lane.now.frame job.now lane.now.k lane.now.row.now) }
+    {
+        if is_late(lane.frame, lane.row, job) {
+            self.put_missed(lane, job)
+        } else {
+            Ok(())
+        }
+    }
+
+    // Of a job, if it misses its deadline.
+    fn put_miss(&mut self, chart: &Chart<'_>, job: &JobRecord) -> Result<(), WriteFailed>
+        ensures { Puts W.contents self.old self.new result
+            (on_row chart.now.rows.now job.now.name (miss_text chart.now.frame job.now)) }
+    {
+        match find_row(chart.rows, job.name) {
+            None => Ok(()),
+            Some(k) => self.put_miss_in(&chart.lane(k), job),
+        }
+    }
+
+    // Each job that misses its deadline.
+    pub(crate) fn put_misses(&mut self, chart: &Chart<'_>) -> Result<(), WriteFailed>
+        ensures { Puts W.contents self.old self.new result
+            (misses_text chart.now.frame chart.now.rows.now chart.now.jobs.now) }
+    {
+        for job in chart.jobs {
+            self.put_miss(chart, job)?;
+        }
+        Ok(())
+    }
+}

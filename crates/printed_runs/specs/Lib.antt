@@ -1,0 +1,3 @@
+pub mod TraceLines
+pub mod RunRows
+pub mod Clean
