@@ -79,7 +79,7 @@ size_t desk_releases(const uint8_t *set, size_t set_length, uint64_t until, uint
 size_t desk_worst(const uint8_t *set, size_t set_length, const uint8_t *task, size_t task_length, uint8_t *room,
                   size_t room_length, uint8_t *status);
 
-/* What a simulated kernel does with a release list at the levels of the best order. */
+/* What a simulated kernel does with a release list, at the levels of the best order or of that which the list gives. */
 size_t desk_simulate(const uint8_t *set, size_t set_length, const uint8_t *releases, size_t releases_length,
                      uint8_t *room, size_t room_length, uint8_t *status);
 

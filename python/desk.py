@@ -295,9 +295,9 @@ class Releases(_Answer):
 @dataclass(frozen=True)
 class Worst(_Answer):
     """The worst case of a task in the best order, or, of a refused set, in one that decides, whose
-    `settings` are here; then it is false. `kind` is `comes`, and the task's job takes `response` of
-    its bound, the `limit`; `misses`, and it misses its deadline, the `limit`; or says why there are
-    no `releases`, with the `other` task where it names one."""
+    `settings` are here and in the text of `releases`; then it is false. `kind` is `comes`, and the
+    task's job takes `response` of its bound, the `limit`; `misses`, and it misses its deadline, the
+    `limit`; or says why there are no `releases`, with the `other` task where it names one."""
 
     admitted: bool
     task: str | None
@@ -689,10 +689,10 @@ def releases(tasks: Sheets, until: int) -> Releases:
     return _list(_ask("releases", tasks, until if 0 <= until < 2**64 else 2**64 - 1)[1])
 
 
-def _list(said: str) -> Releases:
+def _list(said: str, order: str = "") -> Releases:
     first, *rows = (it.split() for it in said.splitlines())
     jobs = (Release(int(it[0]), it[1], int(it[2]) if len(it) > 2 else 0) for it in rows)
-    return Releases(int(first[1]), tuple(jobs), text=said)
+    return Releases(int(first[1]), tuple(jobs), text=order + said)
 
 
 def _set_to(lines: Iterable[str]) -> Settings:
@@ -711,6 +711,9 @@ def worst(tasks: Sheets, task: str = "") -> Worst:
     ('a', 8000, 8000, Release(arrival=0, task='a', late=0, runs=None))
     >>> worst([Task("a", 10_000, 10_000, 6000), Task("b", 5000, 5000, 1000)], "b").response
     1000
+    >>> late = [Task("a", 10_000, 9000, 6000), Task("b", 10_000, 9000, 6000)]
+    >>> simulate(late, worst(late).releases).jobs[0]
+    Job(task='a', arrival=0, finish=None)
     """
     status, said = _ask("worst", tasks, task.encode())
     lines = said.splitlines()
@@ -724,13 +727,15 @@ def worst(tasks: Sheets, task: str = "") -> Worst:
         kind, more = "comes", []
     first = next((k for k, it in enumerate(lines) if it.startswith("until ")), None)
     if first is not None:
+        order, said_list = ("".join(it + "\n" for it in part) for part in (lines[:first], lines[first:]))
         times["settings"] = _set_to(lines[:first]) if status else None
-        times["releases"] = _list("".join(it + "\n" for it in lines[first:]))
+        times["releases"] = _list(said_list, order)
     return Worst(status == 0, name, kind, other=more[0] if more else None, **times, text=said)
 
 
 def simulate(tasks: Sheets, releases: Text | Releases) -> Run | Infeasible:
-    """What a simulated kernel does with the releases, at the levels of the best order.
+    """What a simulated kernel does with the releases, at the levels of the best order or of that
+    which the releases give.
 
     >>> simulate([Task("a", 10_000, 10_000, 6000)], "until 20000\\n0 a\\n").jobs
     (Job(task='a', arrival=0, finish=6000),)
