@@ -1,1 +1,2 @@
 mod Cover
+mod BandSteps
