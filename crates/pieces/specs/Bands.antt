@@ -63,8 +63,15 @@ abbrev pub is_banded : (gap : ℕ) → List JobRecord → ℕ → Bool
 is_banded gap jobs n =
     nat_lt n (length jobs) && (joins gap jobs n || nat_lt 1 (length (band_of gap jobs n)))
 
--- a band begins with job n, and job j is in it
+-- a place from n on, before another
+abbrev pub is_within : (n next j : ℕ) → Bool
+is_within n next j = nat_le n j && nat_lt j next
+
+-- job j is one of those of job n's task up to the next that begins a band
+abbrev pub is_behind : (gap : ℕ) → List JobRecord → (n j : ℕ) → Bool
+is_behind gap jobs n j =
+    is_of (job_of jobs n).name (job_of jobs j) && is_within n (next_of gap jobs n) j
+
+-- job n begins a band, and job j is in it
 abbrev pub holds_job : (gap : ℕ) → List JobRecord → (n j : ℕ) → Bool
-holds_job gap jobs n j =
-    not (joins gap jobs n) && is_of (job_of jobs n).name (job_of jobs j) && nat_le n j
-    && nat_lt j (next_of gap jobs n)
+holds_job gap jobs n j = not (joins gap jobs n) && is_behind gap jobs n j
