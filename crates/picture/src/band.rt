@@ -3,6 +3,7 @@ ghost use Rattle.std.specs.Prelude.{◌≡◌, ◌+◌, ◌*◌, ◌<◌, ◌≤
 ghost use Rattle.picture.specs.declared.frame.TheConstants.{RIGHTMOST};
 ghost use Rattle.task_sheet.specs.declared.set.TheConstants.{TASK_LIMIT};
 ghost use Rattle.picture.specs.Puts.{Puts};
+ghost use Rattle.picture.specs.Rows.{record_at};
 ghost use Rattle.picture.specs.Bands.{gap_of, band_box, band_words, reached_words, band_title, longest_words, wide_words, count_word, band_label, bracket_text, last_bound, band_on, label_of, band_with, stand_text, place_text};
 
 use crate::boxes::bar_of;
@@ -23,6 +24,14 @@ pub(crate) fn gap_of(frame: Frame) -> u64
     ensures { result ≡ gap_of frame }
 {
     200 * frame.until / frame.span
+}
+
+// The job at a place.
+fn job_at(jobs: &[JobRecord], i: usize) -> JobRecord
+    requires { i < length jobs.now }
+    ensures { result ≡ record_at jobs.now i }
+{
+    jobs[i]
 }
 
 impl<W: Write + Drop> Page<'_, W> {
@@ -256,7 +265,7 @@ impl<W: Write + Drop> Page<'_, W> {
         if joins(gap, jobs, i) {
             return Ok(());
         }
-        let stretch = stretch_of(gap, jobs, i);
-        self.put_stand(lane, &jobs[i], stretch)
+        let first = job_at(jobs, i);
+        self.put_stand(lane, &first, stretch_of(gap, jobs, i))
     }
 }

@@ -36,6 +36,14 @@ pub(crate) fn is_shown(frame: Frame, time: u64, len: u64) -> bool
     time <= frame.until && len <= frame.until - time
 }
 
+// The release at a place.
+fn release_at(releases: &[Release], i: usize) -> Release
+    requires { i < length releases.now }
+    ensures { result ≡ release_at releases.now i }
+{
+    releases[i]
+}
+
 impl<W: Write + Drop> Page<'_, W> {
     // An arrow up at the arrival.
     fn put_arrival(&mut self, frame: Frame, release: Release, y: u64) -> Result<(), WriteFailed>
@@ -160,7 +168,7 @@ impl<W: Write + Drop> Page<'_, W> {
         if is_banded(gap_of(chart.frame), chart.jobs, i) {
             return Ok(());
         }
-        self.put_mark(chart, mark, chart.releases[i])
+        self.put_mark(chart, mark, release_at(chart.releases, i))
     }
 
     // The marks of a kind, as one path.

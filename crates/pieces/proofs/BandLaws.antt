@@ -1,6 +1,6 @@
 -- Each job is in one band.
-use Rattle.std.proofs.Common.{◌≡◌, ◌⊎◌, inl, inr, ℕ, suc, zero, ◌+◌, ◌-◌, ◌<◌, ◌≤◌, List, length, get_or, drop, Bool, true, false, not, ◌&&◌, Option, Some, None, refl, sym, ap, ◌∙◌, subst, arith}
-use Rattle.std.specs.Prelude.{if◌then◌else◌, nat_lt, nat_le, IsTrue}
+use Rattle.std.proofs.Common.{◌≡◌, ◌⊎◌, inl, inr, ℕ, suc, zero, ◌+◌, ◌-◌, ◌<◌, ◌≤◌, List, length, get_or, drop, Bool, true, false, not, ◌&&◌, Option, None, refl, sym, ap, ◌∙◌, subst, arith}
+use Rattle.std.specs.Prelude.{if◌then◌else◌, nat_lt, nat_le}
 use Rattle.std.proofs.Math.Bool.{and-true}
 use Rattle.std.proofs.lemmas.Bool.{both_ways, cases_lt, cases_order, and_parts, and_from, and_left, and_right, not-true, lt-ltb, le-ltb, le-leb, lt-leb, ltb-true, leb-true}
 use Rattle.std.proofs.lemmas.List.{length-drop, get_or-drop}
@@ -44,24 +44,24 @@ next_within gap jobs name n (suc more) = by (begins gap jobs name n) refl (next_
 -- no further than a place at which a band begins
 next_upto : (gap : ℕ) (jobs : List JobRecord) (name : List ℕ) (q n more : ℕ) → begins gap jobs name q ≡ true → n ≤ q → q < n + more → next_from gap jobs name n more ≤ q
 next_upto gap jobs name q n zero is lo hi = absurd (omega (arith, lo, hi))
-next_upto gap jobs name q n (suc more) is lo hi = by (begins gap jobs name n) refl (cases_lt n q)
+next_upto gap jobs name q n (suc more) is lo hi = by (begins gap jobs name n) refl (cases_lt n q) (λ lt. next_upto gap jobs name q (n + 1) more is (omega (arith, lt)) (omega (arith, hi)))
   where
-    by : (b : Bool) → begins gap jobs name n ≡ b → (n < q) ⊎ (q ≤ n) → next_from gap jobs name n (suc more) ≤ q
-    by true h at = rw (here gap jobs name n more h) lo
-    by false h (inl lt) = rw (later gap jobs name n more h) (next_upto gap jobs name q (n + 1) more is (omega (arith, lt)) (omega (arith, hi)))
-    by false h (inr ge) =
+    by : (b : Bool) → begins gap jobs name n ≡ b → (n < q) ⊎ (q ≤ n) → (n < q → next_from gap jobs name (n + 1) more ≤ q) → next_from gap jobs name n (suc more) ≤ q
+    by true h at rest = rw (here gap jobs name n more h) lo
+    by false h (inl lt) rest = rw (later gap jobs name n more h) (rest lt)
+    by false h (inr ge) rest =
         let at : q ≡ n = omega (arith, lo, ge) in
         absurd (both_ways (begins gap jobs name n) h (subst (λ (z : ℕ). begins gap jobs name z ≡ true) at is))
 
 -- past a place up to which none begins
 next_past : (gap : ℕ) (jobs : List JobRecord) (name : List ℕ) (j n more : ℕ) → ((q : ℕ) → n ≤ q → q ≤ j → begins gap jobs name q ≡ false) → j < n + more → j < next_from gap jobs name n more
 next_past gap jobs name j n zero clear lt = rw (nowhere gap jobs name n) (omega (arith, lt))
-next_past gap jobs name j n (suc more) clear lt = by (begins gap jobs name n) refl (cases_lt j n)
+next_past gap jobs name j n (suc more) clear lt = by (begins gap jobs name n) refl (cases_lt j n) (next_past gap jobs name j (n + 1) more (λ q lo hi. clear q (omega (arith, lo)) hi) (omega (arith, lt)))
   where
-    by : (b : Bool) → begins gap jobs name n ≡ b → (j < n) ⊎ (n ≤ j) → j < next_from gap jobs name n (suc more)
-    by true h (inl below) = rw (here gap jobs name n more h) below
-    by true h (inr ge) = absurd (both_ways (begins gap jobs name n) (clear n (omega arith) ge) h)
-    by false h at = rw (later gap jobs name n more h) (next_past gap jobs name j (n + 1) more (λ q lo hi. clear q (omega (arith, lo)) hi) (omega (arith, lt)))
+    by : (b : Bool) → begins gap jobs name n ≡ b → (j < n) ⊎ (n ≤ j) → j < next_from gap jobs name (n + 1) more → j < next_from gap jobs name n (suc more)
+    by true h (inl below) rest = rw (here gap jobs name n more h) below
+    by true h (inr ge) rest = absurd (both_ways (begins gap jobs name n) (clear n (omega arith) ge) h)
+    by false h at rest = rw (later gap jobs name n more h) rest
 
 -- ---- the last band that begins below a place
 last_clear : (jobs : List JobRecord) (name : List ℕ) (n : ℕ) → ((q : ℕ) → q < n → is_of name (job_of jobs q) ≡ false) → last_of jobs name n ≡ None
@@ -163,7 +163,7 @@ stands_at gap jobs j lt l =
     let same : (job_of jobs p).name ≡ name = same_is (job_of jobs p).name name is.0 in
     let apart : joins gap jobs p ≡ false = not-true (joins gap jobs p) is.1 in
     let clear : (q : ℕ) → p + 1 ≤ q → q ≤ j → begins gap jobs (job_of jobs p).name q ≡ false =
-      λ q lo hi. subst (λ (z : List ℕ). begins gap jobs z q ≡ false) (sym same) (l.clear q (omega (arith, lo)) (omega (arith, hi))) in
+    λ q lo hi. subst (λ (z : List ℕ). begins gap jobs z q ≡ false) (sym same) (l.clear q (omega (arith, lo)) (omega (arith, hi))) in
     let under : j < next_of gap jobs p = next_past gap jobs (job_of jobs p).name j (p + 1) (length jobs - (p + 1)) clear (omega (arith, lt, some)) in
     let own : is_of (job_of jobs p).name (job_of jobs j) ≡ true = subst (λ (z : List ℕ). is_of z (job_of jobs j) ≡ true) (sym same) (same_own name) in
     record {
@@ -257,7 +257,7 @@ pub counted : CountOnce
 counted gap jobs = (
   λ j lt. (let it = stands gap jobs j lt in (it.place, it.holds, it.only)),
   same_sum (length jobs) (counted_at gap jobs) (λ n. sum_below (length jobs) (share gap jobs n)) (share_sum gap jobs)
-  ∙ swapped (length jobs) (length jobs) (share gap jobs)
-  ∙ same_sum (length jobs) (λ j. sum_below (length jobs) (λ n. share gap jobs n j)) (λ j. 1) (share_one gap jobs)
-  ∙ ones (length jobs),
+      ∙ swapped (length jobs) (length jobs) (share gap jobs)
+      ∙ same_sum (length jobs) (λ j. sum_below (length jobs) (λ n. share gap jobs n j)) (λ j. 1) (share_one gap jobs)
+      ∙ ones (length jobs),
 )

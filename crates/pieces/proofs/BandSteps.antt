@@ -1,5 +1,5 @@
 -- Bands, a job at a time.
-use Rattle.std.proofs.Common.{◌≡◌, ℕ, ◌+◌, ◌-◌, ◌<◌, ◌≤◌, List, length, Bool, true, false, Option, Some, None, refl, sym, ap, ◌∙◌, arith, add-one}
+use Rattle.std.proofs.Common.{◌≡◌, ℕ, ◌+◌, ◌-◌, ◌<◌, ◌≤◌, List, true, false, Some, None, refl, sym, ap, ◌∙◌, arith, add-one}
 use Rattle.ceiling_kernel.specs.declared.trace.JobRecord.{JobRecord}
 use Rattle.pieces.specs.Bands.{job_of, is_of, last_of, begins, next_from}
 

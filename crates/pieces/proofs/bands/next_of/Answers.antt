@@ -1,4 +1,4 @@
-use Rattle.std.proofs.Common.{◌≡◌, ◌+◌, ◌≤◌, length, sym, ◌∙◌, arith}
+use Rattle.std.proofs.Common.{◌≡◌, length, sym, ◌∙◌, arith}
 use Rattle.pieces.proofs.BandSteps.{next_found, next_passed, next_nowhere}
 use Rattle.pieces.proofs.bands.next_of.Goals as goal
 

@@ -1,4 +1,4 @@
-use Rattle.std.proofs.Common.{◌≡◌, ◌-◌, ◌+◌, ◌≤◌, length}
+use Rattle.std.proofs.Common.{◌≡◌, ◌-◌, length}
 use Rattle.pieces.specs.Bands.{next_from, next_of}
 use Rattle.pieces.proofs.bands.next_of.Given as goal
 
