@@ -220,16 +220,16 @@ stands on it, and above how many they are. Where none is missed, that stands abo
 Jobs of a task that are too close to be drawn apart are one band, with their number, their longest response and the last
 bound; of their marks no other stands:
 
-  $ printf "task = [\n{ name = 'a', period = 100, deadline = 100, cost = 10 },\n{ name = 'b', period = 20000, deadline = 20000, cost = 30 },\n]\n" > many.toml
-  $ desk releases many.toml 20000 | desk draw many.toml - > many.svg
+  $ printf "task = [\n{ name = 'a', period = 1000, deadline = 400, cost = 100 },\n{ name = 'b', period = 200000, deadline = 200000, cost = 600 },\n]\n" > many.toml
+  $ desk releases many.toml 200000 | desk draw many.toml - > many.svg
   $ grep -A 2 'class="l w"' many.svg
-  <path class="l w" d="M1960 1855H15737v180H1960z"><title>a: 200 jobs, arrivals 0 to 19900, done 200, longest response 10, bound 10, deadline 100 us</title></path>
-  <text x="1980" y="2145">200 jobs, longest 0.01 ms</text>
+  <path class="l w" d="M1960 1855H15737v180H1960z"><title>a: 200 jobs, arrivals 0 to 199000, done 200, longest response 100, bound 100, deadline 400 us</title></path>
+  <text x="1980" y="2145">200 jobs, longest 0.1 ms</text>
   <path class="b" d="M15737 1845h-35m35 0v40m0 120v40h-35"/>
   $ grep -c 'class="l w"' many.svg
   1
   $ grep '^<path class="w".*: arrival' many.svg
-  <path class="w" d="M1960 2335H1987v180H1960z"><title>b: arrival 0, done 40, response 40, bound 40, deadline 20000 us</title></path>
+  <path class="w" d="M1960 2335H2008v180H1960z"><title>b: arrival 0, done 700, response 700, bound 700, deadline 200000 us</title></path>
   $ sed -n '/<path class="[ard]" d="$/,/^"/p' many.svg
   <path class="r" d="
   "/>
@@ -244,28 +244,27 @@ bound; of their marks no other stands:
 
 A band goes on while each job comes close behind the one before it, and others stand alone; the last one may not be done:
 
-  $ printf 'until 20000\n0 a\n100 a\n200 a\n10000 a\n10100 a\n10500 a\n' | desk draw many.toml - > many.svg
+  $ printf 'until 200000\n0 a\n1000 a\n2000 a\n100000 a\n101000 a\n105000 a\n' | desk draw many.toml - > many.svg
   $ grep -oE '<title>a: .*(jobs|arrival).*</title>' many.svg
-  <title>a: 3 jobs, arrivals 0 to 200, done 3, longest response 10, bound 10, deadline 100 us</title>
-  <title>a: 2 jobs, arrivals 10000 to 10100, done 2, longest response 10, bound 10, deadline 100 us</title>
-  <title>a: arrival 10500, done 10510, response 10, bound 10, deadline 100 us</title>
+  <title>a: 3 jobs, arrivals 0 to 2000, done 3, longest response 100, bound 100, deadline 400 us</title>
+  <title>a: 2 jobs, arrivals 100000 to 101000, done 2, longest response 100, bound 100, deadline 400 us</title>
+  <title>a: arrival 105000, done 105100, response 100, bound 100, deadline 400 us</title>
   $ grep -o '<text x="[0-9]*" y="2145">.*' many.svg
   <text x="1980" y="2145">3</text>
   <text x="8900" y="2145">2</text>
-  $ printf 'until 19905\n19700 a\n19800 a\n19900 a\n' | desk draw many.toml - > many.svg
+  $ printf 'until 199050\n197000 a\n198000 a\n199000 a\n' | desk draw many.toml - > many.svg
   $ grep -A 2 'class="l w"' many.svg
-  <path class="l w" d="M15657 1855H15800v180H15657z"><title>a: 3 jobs, arrivals 19700 to 19900, done 2, longest response 10, bound 10, deadline 100 us</title></path>
+  <path class="l w" d="M15657 1855H15800v180H15657z"><title>a: 3 jobs, arrivals 197000 to 199000, done 2, longest response 100, bound 100, deadline 400 us</title></path>
   <text x="15677" y="2145">3</text>
   <path class="a" d="M15800 1885m20 0l60 60-60 60m60-120l60 60-60 60"/>
 
 A deadline that is missed in one is shown as ever:
 
-  $ sed 's/cost = 30/cost = 150/' many.toml > late.toml
-  $ printf 'thread a 1\nthread b 2\nuntil 20000\n0 a\n0 b\n100 a\n200 a\n' | desk draw late.toml - > many.svg
+  $ printf 'thread a 1\nthread b 2\nuntil 200000\n0 a\n0 b\n1000 a\n2000 a\n' | desk draw many.toml - > many.svg
   $ grep -oE '<title>a: .*(jobs|missed).*</title>' many.svg
-  <title>a: 3 jobs, arrivals 0 to 200, done 3, longest response 160, bound -, deadline 100 us</title>
-  <title>a: arrival 0, done 160, response 160, deadline 100 us missed</title>
-  $ grep -c '^<path class="x" d="M2029 2255h1"/>' many.svg
+  <title>a: 3 jobs, arrivals 0 to 2000, done 3, longest response 700, bound -, deadline 400 us</title>
+  <title>a: arrival 0, done 700, response 700, deadline 400 us missed</title>
+  $ grep -c '^<path class="x" d="M1987 2255h1"/>' many.svg
   1
 
 What it draws stands alone:
