@@ -63,14 +63,16 @@ abbrev pub band_label : (x right k count done greatest : ℕ) → List ℕ
 band_label x right k count done greatest =
     count_word x k count ++ wide_words (right - x) done greatest ++ codes "</text>\n"
 
--- a bracket at a bound behind the latest arrival, where that is in the picture
+-- a bracket in row k
+abbrev pub bracket_at : (x k : ℕ) → List ℕ
+bracket_at x k =
+    concat (codes "<path class=\"b\" d=\"M" ∷ decimal x ∷ codes " " ∷ decimal (top_of k + 155)
+    ∷ codes "h-35m35 0v40m0 120v40h-35\"/>\n" ∷ [])
+
+-- one at a bound behind the latest arrival, where that is in the picture
 abbrev pub bracket_text : Frame → (k latest bound : ℕ) → List ℕ
 bracket_text f k latest bound =
-    if nat_le (latest + bound) f.until
-    then concat (codes "<path class=\"b\" d=\"M" ∷ decimal (x_of f (latest + bound)) ∷ codes " "
-    ∷ decimal (top_of k + 155)
-    ∷ codes "h-35m35 0v40m0 120v40h-35\"/>\n" ∷ [])
-    else []
+    if nat_le (latest + bound) f.until then bracket_at (x_of f (latest + bound)) k else []
 
 -- the same, if there is a bound
 abbrev pub last_bound : Frame → (k latest : ℕ) → Option ℕ → List ℕ

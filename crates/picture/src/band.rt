@@ -4,7 +4,7 @@ ghost use Rattle.picture.specs.declared.frame.TheConstants.{RIGHTMOST};
 ghost use Rattle.task_sheet.specs.declared.set.TheConstants.{TASK_LIMIT};
 ghost use Rattle.picture.specs.Puts.{Puts};
 ghost use Rattle.picture.specs.Rows.{record_at};
-ghost use Rattle.picture.specs.Bands.{gap_of, band_box, band_words, reached_words, band_title, longest_words, wide_words, count_word, band_label, bracket_text, last_bound, band_on, label_of, band_with, stand_text, place_text};
+ghost use Rattle.picture.specs.Bands.{gap_of, band_box, band_words, reached_words, band_title, longest_words, wide_words, count_word, band_label, bracket_at, bracket_text, last_bound, band_on, label_of, band_with, stand_text, place_text};
 
 use crate::boxes::bar_of;
 use crate::chart::Lane;
@@ -163,7 +163,19 @@ impl<W: Write + Drop> Page<'_, W> {
         self.put_band_label(x, right, lane.k, band.count, outcome)
     }
 
-    // A bracket at a bound behind the latest arrival, where that is in the picture.
+    // A bracket in row k.
+    fn put_bracket_at(&mut self, x: u64, k: usize) -> Result<(), WriteFailed>
+        requires { k ≤ TASK_LIMIT }
+        ensures { Puts W.contents self.old self.new result (bracket_at x k) }
+    {
+        let y = top_of(k) + 155;
+        write!(
+            self.out,
+            "<path class=\"b\" d=\"M{x} {y}h-35m35 0v40m0 120v40h-35\"/>\n"
+        )
+    }
+
+    // One at a bound behind the latest arrival, where that is in the picture.
     fn put_bracket(
         &mut self,
         frame: Frame,
@@ -177,12 +189,7 @@ impl<W: Write + Drop> Page<'_, W> {
         if !is_shown(frame, latest, bound) {
             return Ok(());
         }
-        let x = x_after(frame, latest, bound);
-        let y = top_of(k) + 155;
-        write!(
-            self.out,
-            "<path class=\"b\" d=\"M{x} {y}h-35m35 0v40m0 120v40h-35\"/>\n"
-        )
+        self.put_bracket_at(x_after(frame, latest, bound), k)
     }
 
     // The same, if there is a bound.
