@@ -33,16 +33,16 @@ stands_in_band f first jobs k row count latest done greatest is last are most lt
 pub apart_text : (f : Frame) (jobs : List JobRecord) (i k : ℕ) (row : TaskRow) (gap : ℕ) (joined : Bool) (first : JobRecord) (stretch : List JobRecord)
     → gap ≡ gap_of f → joined ≡ joins gap jobs i → joined ≡ false → first ≡ record_at jobs i → stretch ≡ stretch_of gap jobs i
     → stand_text f first stretch k row ≡ place_text f jobs i k row
-apart_text f jobs i k row gap joined first stretch gap_is joined_is no first_is stretch_is =
+apart_text f jobs i k row gap joined first stretch gap_is joined_is apart first_is stretch_is =
     ap (λ (x : JobRecord). stand_text f x stretch k row) first_is
     ∙ ap (λ (s : List JobRecord). stand_text f (record_at jobs i) s k row) (stretch_is ∙ ap (λ (g : ℕ). stretch_of g jobs i) gap_is)
     ∙ sym (ap (λ (b : Bool). if b then [] else stand_text f (record_at jobs i) (stretch_of (gap_of f) jobs i) k row)
-    (ap (λ (g : ℕ). joins g jobs i) (sym gap_is) ∙ sym joined_is ∙ no))
+    (ap (λ (g : ℕ). joins g jobs i) (sym gap_is) ∙ sym joined_is ∙ apart))
 
 -- a job that stands alone has marks
 pub alone_mark : (f : Frame) (rows : List TaskRow) (jobs : List JobRecord) (mark : Mark) (i : ℕ) (r it : Release) (gap : ℕ) (banded : Bool) → gap ≡ gap_of f → banded ≡ is_banded gap jobs i → banded ≡ false → it ≡ r
     → on_row rows it.name (mark_text f mark it) ≡ mark_alone f rows jobs mark i r
-alone_mark f rows jobs mark i r it gap banded gap_is banded_is no is =
+alone_mark f rows jobs mark i r it gap banded gap_is banded_is alone is =
     ap (λ (x : Release). on_row rows x.name (mark_text f mark x)) is
     ∙ sym (ap (λ (b : Bool). if b then [] else on_row rows r.name (mark_text f mark r))
-    (ap (λ (g : ℕ). is_banded g jobs i) (sym gap_is) ∙ sym banded_is ∙ no))
+    (ap (λ (g : ℕ). is_banded g jobs i) (sym gap_is) ∙ sym banded_is ∙ alone))

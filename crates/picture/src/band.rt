@@ -204,12 +204,7 @@ impl<W: Write + Drop> Page<'_, W> {
     }
 
     // A sign at the end where some job of a band goes on.
-    fn put_band_on(
-        &mut self,
-        lane: &Lane<'_>,
-        count: usize,
-        done: usize,
-    ) -> Result<(), WriteFailed>
+    fn put_band_on(&mut self, lane: &Lane<'_>, count: usize, done: usize) -> Result<(), WriteFailed>
         ensures { Puts W.contents self.old self.new result
             (band_on lane.now.frame lane.now.k count done) }
     {

@@ -154,12 +154,7 @@ impl<W: Write + Drop> Page<'_, W> {
     }
 
     // The mark of release i, whose job stands alone.
-    fn put_mark_alone(
-        &mut self,
-        chart: &Chart<'_>,
-        mark: Mark,
-        i: usize,
-    ) -> Result<(), WriteFailed>
+    fn put_mark_alone(&mut self, chart: &Chart<'_>, mark: Mark, i: usize) -> Result<(), WriteFailed>
         requires { i < length chart.now.releases.now }
         ensures { Puts W.contents self.old self.new result
             (mark_alone chart.now.frame chart.now.rows.now chart.now.jobs.now mark i
