@@ -1,9 +1,7 @@
-use Rattle.std.proofs.Common.{ℕ, refl}
-use Rattle.ceiling_kernel.specs.Releases.{no_release, release_at}
-use Rattle.ceiling_kernel.specs.declared.trace.Release.{Release}
+use Rattle.ceiling_kernel.specs.Releases.{release_at}
 use Rattle.picture.specs.Elements.{mark_head}
 use Rattle.picture.specs.Document.{mark_alone}
-use Rattle.picture.proofs.Puts.{puts_head, puts_item_behind}
+use Rattle.picture.proofs.Puts.{puts_head, puts_one_more_behind}
 use Rattle.picture.proofs.page.Page.put_marks.Goals as goal
 
 pub loop-i-init : goal.loop-i-init
@@ -11,4 +9,4 @@ loop-i-init g c = puts_head (λ i. mark_alone c.args.chart.now.frame c.args.char
 
 pub loop-i-preserved : goal.loop-i-preserved
 loop-i-preserved g c =
-    puts_item_behind (mark_head c.args.mark) (λ (i : ℕ) (r : Release). mark_alone c.args.chart.now.frame c.args.chart.now.rows.now c.args.chart.now.jobs.now c.args.mark i r) c.args.chart.now.releases.now no_release c.loop-i.i (release_at c.args.chart.now.releases.now c.loop-i.i) c.loop-i-test.true refl c.loop-i.invariant c.in_ok-put_mark_alone.ensures
+    puts_one_more_behind (mark_head c.args.mark) (λ i. mark_alone c.args.chart.now.frame c.args.chart.now.rows.now c.args.chart.now.jobs.now c.args.mark i (release_at c.args.chart.now.releases.now i)) c.loop-i.i c.loop-i.invariant c.in_ok-put_mark_alone.ensures
