@@ -217,6 +217,56 @@ stands on it, and above how many they are. Where none is missed, that stands abo
   $ grep -o 'no deadline missed' run.svg
   no deadline missed
 
+Jobs of a task that are too close to be drawn apart are one band, with their number, their longest response and the last
+bound; of their marks no other stands:
+
+  $ printf "task = [\n{ name = 'a', period = 1000, deadline = 400, cost = 100 },\n{ name = 'b', period = 200000, deadline = 200000, cost = 600 },\n]\n" > many.toml
+  $ desk releases many.toml 200000 | desk draw many.toml - > many.svg
+  $ grep -A 2 'class="l w"' many.svg
+  <path class="l w" d="M1960 1855H15737v180H1960z"><title>a: 200 jobs, arrivals 0 to 199000, done 200, longest response 100, bound 100, deadline 400 us</title></path>
+  <text x="1980" y="2145">200 jobs, longest 0.1 ms</text>
+  <path class="b" d="M15737 1845h-35m35 0v40m0 120v40h-35"/>
+  $ grep -c 'class="l w"' many.svg
+  1
+  $ grep '^<path class="w".*: arrival' many.svg
+  <path class="w" d="M1960 2335H2008v180H1960z"><title>b: arrival 0, done 700, response 700, bound 700, deadline 200000 us</title></path>
+  $ sed -n '/<path class="[ard]" d="$/,/^"/p' many.svg
+  <path class="r" d="
+  "/>
+  <path class="a" d="
+  M1960 2620v-100m-35 50l35-50 35 50
+  "/>
+  <path class="d" d="
+  M15800 2230v100m0 0l-35-50h70z
+  "/>
+  $ slices many.svg
+  201
+
+A band goes on while each job comes close behind the one before it, and others stand alone; the last one may not be done:
+
+  $ printf 'until 200000\n0 a\n1000 a\n2000 a\n100000 a\n101000 a\n105000 a\n' | desk draw many.toml - > many.svg
+  $ grep -oE '<title>a: .*(jobs|arrival).*</title>' many.svg
+  <title>a: 3 jobs, arrivals 0 to 2000, done 3, longest response 100, bound 100, deadline 400 us</title>
+  <title>a: 2 jobs, arrivals 100000 to 101000, done 2, longest response 100, bound 100, deadline 400 us</title>
+  <title>a: arrival 105000, done 105100, response 100, bound 100, deadline 400 us</title>
+  $ grep -o '<text x="[0-9]*" y="2145">.*' many.svg
+  <text x="1980" y="2145">3</text>
+  <text x="8900" y="2145">2</text>
+  $ printf 'until 199050\n197000 a\n198000 a\n199000 a\n' | desk draw many.toml - > many.svg
+  $ grep -A 2 'class="l w"' many.svg
+  <path class="l w" d="M15657 1855H15800v180H15657z"><title>a: 3 jobs, arrivals 197000 to 199000, done 2, longest response 100, bound 100, deadline 400 us</title></path>
+  <text x="15677" y="2145">3</text>
+  <path class="a" d="M15800 1885m20 0l60 60-60 60m60-120l60 60-60 60"/>
+
+A deadline that is missed in one is shown as ever:
+
+  $ printf 'thread a 1\nthread b 2\nuntil 200000\n0 a\n0 b\n1000 a\n2000 a\n' | desk draw many.toml - > many.svg
+  $ grep -oE '<title>a: .*(jobs|missed).*</title>' many.svg
+  <title>a: 3 jobs, arrivals 0 to 2000, done 3, longest response 700, bound -, deadline 400 us</title>
+  <title>a: arrival 0, done 700, response 700, deadline 400 us missed</title>
+  $ grep -c '^<path class="x" d="M1987 2255h1"/>' many.svg
+  1
+
 What it draws stands alone:
 
   $ head -n 1 run.svg

@@ -4,3 +4,4 @@ pub mod Darker
 pub mod Widths
 mod Lanes
 pub mod LockLaws
+mod BandLaws

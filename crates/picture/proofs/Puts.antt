@@ -47,15 +47,19 @@ pub puts_head : {W : Type 0} {contents : W → Option (List ℕ)} {a b : Outlet 
 unfolding each
 puts_head {contents = contents} {a = a} {b = b} {u = u} {head = head} text first = subst (Puts contents a b (Ok u)) (sym (append-nil head)) first
 
+-- one text more behind a first text
+pub puts_one_more_behind : {W : Type 0} {contents : W → Option (List ℕ)} {a b c : Outlet W} {u v : ⊤} (head : List ℕ) (text : ℕ → List ℕ) (n : ℕ)
+    → Puts contents a b (Ok u) (head ++ each n text) → Puts contents b c (Ok v) (text n) → Puts contents a c (Ok v) (head ++ each (n + 1) text)
+puts_one_more_behind {contents = contents} {a = a} {c = c} {v = v} head text n so_far next =
+    subst (Puts contents a c (Ok v)) (append_assoc head (each n text) (text n) ∙ ap (λ (l : List ℕ). head ++ l) (sym (each_more text n))) (puts_both so_far next)
+
 -- one item's text more behind a first text
 pub puts_item_behind : {W : Type 0} {contents : W → Option (List ℕ)} {a b c : Outlet W} {u v : ⊤} {X : Type 0} (head : List ℕ) (text : ℕ → X → List ℕ) (items : List X) (none : X) (n : ℕ) (x : X)
     → n < length items → x ≡ get_or items n x
     → Puts contents a b (Ok u) (head ++ each n (λ i. text i (get_or items i none))) → Puts contents b c (Ok v) (text n x)
     → Puts contents a c (Ok v) (head ++ each (n + 1) (λ i. text i (get_or items i none)))
-puts_item_behind {contents = contents} {a = a} {b = b} {c = c} {v = v} {X = X} head text items none n x lt is so_far next =
-    let one : ℕ → List ℕ = λ i. text i (get_or items i none) in
-    let read : Puts contents b c (Ok v) (one n) = subst (λ (y : X). Puts contents b c (Ok v) (text n y)) (get_or_read items n x lt is none) next in
-    subst (Puts contents a c (Ok v)) (append_assoc head (each n one) (one n) ∙ ap (λ (l : List ℕ). head ++ l) (sym (each_more one n))) (puts_both so_far read)
+puts_item_behind {contents = contents} {b = b} {c = c} {v = v} {X = X} head text items none n x lt is so_far next =
+    puts_one_more_behind head (λ i. text i (get_or items i none)) n so_far (subst (λ (y : X). Puts contents b c (Ok v) (text n y)) (get_or_read items n x lt is none) next)
 
 -- what is held back at the end was sent as well
 pub all_sent : (r : Result ⊤ WriteFailed) (a b c : Option (List ℕ)) (held text : List ℕ)

@@ -7,6 +7,7 @@ use Rattle.ceiling_kernel.specs.declared.trace.JobRecord.{JobRecord}
 use Rattle.ceiling_kernel.specs.declared.trace.Slice.{Slice}
 use Rattle.ceiling_kernel.specs.declared.trace.Trace.{Trace}
 use Rattle.ceiling_kernel.specs.Releases.{release_at}
+use Rattle.pieces.specs.Bands.{is_banded}
 use Rattle.picture.specs.declared.rows.TaskRow.{TaskRow}
 use Rattle.picture.specs.declared.marks.Mark.{Mark}
 use Rattle.picture.specs.declared.marks.Mark.TheVariants.{Arrival, Ready, Bound, Deadline}
@@ -21,7 +22,8 @@ use Rattle.picture.specs.Margin.{margin_text}
 use Rattle.picture.specs.Locks.{locks_of, locks_high, locks_group}
 use Rattle.picture.specs.WaitTexts.{waits_text}
 use Rattle.picture.specs.Lane.{lane_head, lane_line, lane_text}
-use Rattle.picture.specs.Elements.{tick_text, line_text, job_text, slice_text, mark_text, mark_head}
+use Rattle.picture.specs.Bands.{gap_of, place_text}
+use Rattle.picture.specs.Elements.{tick_text, line_text, slice_text, mark_text, mark_head}
 
 -- how wide the picture is
 abbrev pub width_of : Frame → ℕ
@@ -107,10 +109,10 @@ ground_text f locks rows jobs slices until =
     document_head f (length locks) (length rows) (length jobs) until ++ top_text f rows jobs until
     ++ rows_text f locks rows jobs slices
 
--- each job
+-- each job, alone or in a band
 abbrev pub jobs_text : Frame → List TaskRow → List JobRecord → List ℕ
 jobs_text f rows jobs =
-    each (length jobs) (λ i. on_row rows (record_at jobs i).name (job_text f (record_at jobs i)))
+    each (length jobs) (λ i. on_row rows (record_at jobs i).name (place_text f jobs i))
 
 -- a text for a job, if there is one
 abbrev pub of_job : (JobRecord → List ℕ) → Option JobRecord → List ℕ
@@ -146,26 +148,32 @@ abbrev pub misses_text : Frame → List TaskRow → List JobRecord → List ℕ
 misses_text f rows jobs =
     each (length jobs) (λ i. on_row rows (record_at jobs i).name (miss_text f (record_at jobs i)))
 
--- a mark of a kind for each release
-abbrev pub each_mark : Frame → List TaskRow → Mark → List Release → List ℕ
-each_mark f rows mark rs =
-    each (length rs) (λ i. on_row rows (release_at rs i).name (mark_text f mark (release_at rs i)))
+-- a mark of a kind for release i, whose job stands alone
+abbrev pub mark_alone : Frame → List TaskRow → List JobRecord → Mark → (i : ℕ) → Release → List ℕ
+mark_alone f rows jobs mark i r =
+    if is_banded (gap_of f) jobs i then [] else on_row rows r.name (mark_text f mark r)
+
+-- the same for each
+abbrev pub each_mark : Frame → List TaskRow → List JobRecord → Mark → List Release → List ℕ
+each_mark f rows jobs mark rs =
+    each (length rs) (λ i. mark_alone f rows jobs mark i (release_at rs i))
 
 -- the marks of a kind, as one path
-abbrev pub marks_text : Frame → List TaskRow → Mark → List Release → List ℕ
-marks_text f rows mark rs = mark_head mark ++ each_mark f rows mark rs ++ codes "\"/>\n"
+abbrev pub marks_text : Frame → List TaskRow → List JobRecord → Mark → List Release → List ℕ
+marks_text f rows jobs mark rs =
+    mark_head mark ++ each_mark f rows jobs mark rs ++ codes "\"/>\n"
 
 -- the marks of all kinds
-abbrev pub all_marks : Frame → List TaskRow → List Release → List ℕ
-all_marks f rows rs =
-    marks_text f rows Ready rs ++ marks_text f rows Arrival rs ++ marks_text f rows Bound rs
-    ++ marks_text f rows Deadline rs
+abbrev pub all_marks : Frame → List TaskRow → List JobRecord → List Release → List ℕ
+all_marks f rows jobs rs =
+    marks_text f rows jobs Ready rs ++ marks_text f rows jobs Arrival rs
+    ++ marks_text f rows jobs Bound rs ++ marks_text f rows jobs Deadline rs
 
 -- the document in a frame: what stands still, the lane, the jobs, the marks, why jobs wait, the slices, and what is missed
 abbrev pub framed : Frame → List (List ℕ) → List TaskRow → ℕ → List Release → List JobRecord → List Slice → List ℕ
 framed f locks rows until rs jobs slices =
     ground_text f locks rows jobs slices until ++ lanes_text f rows jobs slices ++ jobs_text f rows jobs
-    ++ all_marks f rows rs ++ waits_text f locks rows rs jobs slices
+    ++ all_marks f rows jobs rs ++ waits_text f locks rows rs jobs slices
     ++ slices_text f locks rows jobs slices ++ misses_text f rows jobs ++ codes "</svg>\n"
 
 -- THE DOCUMENT: the picture of a trace below a time

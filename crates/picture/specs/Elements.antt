@@ -63,13 +63,17 @@ limit_words row =
     concat (codes "bound " ∷ known_text row.bound ∷ codes ", deadline " ∷ decimal row.sheet.deadline
     ∷ codes " us</title></path>\n" ∷ [])
 
--- a sign at the end where a job goes on
-abbrev pub on_text : Frame → ℕ → Option ℕ → List ℕ
-on_text f k (Some finish) = []
-on_text f k None =
+-- a sign at the end of row k: it goes on
+abbrev pub goes_on : Frame → ℕ → List ℕ
+goes_on f k =
     concat (codes "<path class=\"a\" d=\"M" ∷ decimal (frame_end f) ∷ codes " "
     ∷ decimal (top_of k + 195)
     ∷ codes "m20 0l60 60-60 60m60-120l60 60-60 60\"/>\n" ∷ [])
+
+-- where a job does
+abbrev pub on_text : Frame → ℕ → Option ℕ → List ℕ
+on_text f k (Some finish) = []
+on_text f k None = goes_on f k
 
 -- what is told of a job
 abbrev pub job_words : TaskRow → JobRecord → List ℕ

@@ -12,5 +12,6 @@ pub mod Blocking
 pub mod Waits
 pub mod WaitTexts
 pub mod Elements
+pub mod Bands
 pub mod Document
 pub mod Laws

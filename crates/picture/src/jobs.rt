@@ -1,8 +1,9 @@
 //! Jobs, from their arrivals up to their bounds.
-ghost use Rattle.std.specs.Prelude.{◌≡◌, ◌+◌};
+ghost use Rattle.std.specs.Prelude.{◌≡◌, ◌+◌, ◌<◌, length};
 ghost use Rattle.picture.specs.Puts.{Puts};
-ghost use Rattle.picture.specs.Rows.{on_row};
-ghost use Rattle.picture.specs.Elements.{limit_of, job_box, arrival_words, done_words, limit_words, on_text, job_words, job_text};
+ghost use Rattle.picture.specs.Rows.{record_at, on_row};
+ghost use Rattle.picture.specs.Elements.{limit_of, job_box, arrival_words, done_words, limit_words, goes_on, on_text, job_words, job_text};
+ghost use Rattle.picture.specs.Bands.{place_text};
 ghost use Rattle.picture.specs.Document.{jobs_text};
 
 use crate::boxes::bar_of;
@@ -10,13 +11,13 @@ use crate::chart::{Chart, Lane};
 use crate::frame::{end_of, top_of, x_after, x_of};
 use crate::numbers::Known;
 use crate::page::Page;
-use crate::rows::{TaskRow, find_row};
+use crate::rows::{TaskRow, find_row, name_of};
 use ceiling_kernel::JobRecord;
 use std::io::Write;
 use streams::WriteFailed;
 
 // How long after its arrival a job of a row's task is done at the latest, or without a bound has to be.
-fn limit_of(row: &TaskRow) -> u64
+pub(crate) fn limit_of(row: &TaskRow) -> u64
     ensures { result ≡ limit_of row.now }
 {
     row.bound.unwrap_or(row.sheet.deadline())
@@ -57,7 +58,7 @@ impl<W: Write + Drop> Page<'_, W> {
     }
 
     // How long after its arrival a job is done at the latest, where that is known, and has to be.
-    fn put_limit_words(&mut self, row: &TaskRow) -> Result<(), WriteFailed>
+    pub(crate) fn put_limit_words(&mut self, row: &TaskRow) -> Result<(), WriteFailed>
         ensures { Puts W.contents self.old self.new result (limit_words row.now) }
     {
         let bound = Known { bound: row.bound };
@@ -68,21 +69,26 @@ impl<W: Write + Drop> Page<'_, W> {
         )
     }
 
-    // A sign at the end where a job goes on.
+    // A sign at the end of a row: it goes on.
+    pub(crate) fn put_goes_on(&mut self, lane: &Lane<'_>) -> Result<(), WriteFailed>
+        ensures { Puts W.contents self.old self.new result (goes_on lane.now.frame lane.now.k) }
+    {
+        let end = end_of(lane.frame);
+        let y = top_of(lane.k) + 195;
+        write!(
+            self.out,
+            "<path class=\"a\" d=\"M{end} {y}m20 0l60 60-60 60m60-120l60 60-60 60\"/>\n"
+        )
+    }
+
+    // The same where a job does.
     fn put_on(&mut self, lane: &Lane<'_>, job: &JobRecord) -> Result<(), WriteFailed>
         ensures { Puts W.contents self.old self.new result
             (on_text lane.now.frame lane.now.k job.now.finish) }
     {
         match job.finish {
             Some(_) => Ok(()),
-            None => {
-                let end = end_of(lane.frame);
-                let y = top_of(lane.k) + 195;
-                write!(
-                    self.out,
-                    "<path class=\"a\" d=\"M{end} {y}m20 0l60 60-60 60m60-120l60 60-60 60\"/>\n"
-                )
-            }
+            None => self.put_goes_on(lane),
         }
     }
 
@@ -96,7 +102,7 @@ impl<W: Write + Drop> Page<'_, W> {
     }
 
     // A job in a row.
-    fn put_job_in(&mut self, lane: &Lane<'_>, job: &JobRecord) -> Result<(), WriteFailed>
+    pub(crate) fn put_job_in(&mut self, lane: &Lane<'_>, job: &JobRecord) -> Result<(), WriteFailed>
         ensures { Puts W.contents self.old self.new result
             (job_text lane.now.frame job.now lane.now.k lane.now.row.now) }
     {
@@ -105,14 +111,16 @@ impl<W: Write + Drop> Page<'_, W> {
         self.put_on(lane, job)
     }
 
-    // A job in the row of its task.
-    fn put_job(&mut self, chart: &Chart<'_>, job: &JobRecord) -> Result<(), WriteFailed>
+    // Job i in the row of its task, alone or in a band.
+    fn put_job(&mut self, chart: &Chart<'_>, i: usize) -> Result<(), WriteFailed>
+        requires { i < length chart.now.jobs.now }
         ensures { Puts W.contents self.old self.new result
-            (on_row chart.now.rows.now job.now.name (job_text chart.now.frame job.now)) }
+            (on_row chart.now.rows.now (record_at chart.now.jobs.now i).name
+            (place_text chart.now.frame chart.now.jobs.now i)) }
     {
-        match find_row(chart.rows, job.name) {
+        match find_row(chart.rows, name_of(chart.jobs, i)) {
             None => Ok(()),
-            Some(k) => self.put_job_in(&chart.lane(k), job),
+            Some(k) => self.put_place(&chart.lane(k), chart.jobs, i),
         }
     }
 
@@ -121,8 +129,8 @@ impl<W: Write + Drop> Page<'_, W> {
         ensures { Puts W.contents self.old self.new result
             (jobs_text chart.now.frame chart.now.rows.now chart.now.jobs.now) }
     {
-        for job in chart.jobs {
-            self.put_job(chart, job)?;
+        for i in 0..chart.jobs.len() {
+            self.put_job(chart, i)?;
         }
         Ok(())
     }

@@ -1,6 +1,7 @@
 //! The picture of a run: one SVG document.
 #![tactic(auto)]
 
+mod band;
 mod bars;
 mod blocker;
 mod boxes;

@@ -41,7 +41,7 @@ impl<W: Write + Drop> Page<'_, W> {
     }
 
     // The greatest response of jobs that are done, or `-` for none.
-    fn put_greatest(&mut self, outcome: Outcome) -> Result<(), WriteFailed>
+    pub(crate) fn put_greatest(&mut self, outcome: Outcome) -> Result<(), WriteFailed>
         ensures { Puts W.contents self.old self.new result
             (greatest_words outcome.done outcome.greatest) }
     {

@@ -1,15 +1,18 @@
 //! The marks of releases.
-ghost use Rattle.std.specs.Prelude.{◌≡◌, ◌+◌, nat_le};
+ghost use Rattle.std.specs.Prelude.{◌≡◌, ◌+◌, ◌<◌, nat_le, length};
 ghost use Rattle.picture.specs.Puts.{Puts};
 ghost use Rattle.picture.specs.Rows.{on_row};
+ghost use Rattle.ceiling_kernel.specs.Releases.{release_at};
 ghost use Rattle.picture.specs.Elements.{arrival_text, ready_text, later_text, bound_text, mark_text, mark_head};
-ghost use Rattle.picture.specs.Document.{marks_text, all_marks};
+ghost use Rattle.picture.specs.Document.{mark_alone, marks_text, all_marks};
 
+use crate::band::gap_of;
 use crate::chart::{Chart, Lane};
 use crate::frame::{Frame, top_of, x_after, x_of};
 use crate::page::Page;
 use crate::rows::find_row;
 use ceiling_kernel::Release;
+use pieces::is_banded;
 use std::io::Write;
 use streams::WriteFailed;
 
@@ -27,10 +30,18 @@ pub(crate) enum Mark {
 }
 
 // Whether the time that comes so long after another is in the picture.
-fn is_shown(frame: Frame, time: u64, len: u64) -> bool
+pub(crate) fn is_shown(frame: Frame, time: u64, len: u64) -> bool
     ensures { result ≡ nat_le (time + len) frame.until }
 {
     time <= frame.until && len <= frame.until - time
+}
+
+// The release at a place.
+fn release_at(releases: &[Release], i: usize) -> Release
+    requires { i < length releases.now }
+    ensures { result ≡ release_at releases.now i }
+{
+    releases[i]
 }
 
 impl<W: Write + Drop> Page<'_, W> {
@@ -142,14 +153,28 @@ impl<W: Write + Drop> Page<'_, W> {
         }
     }
 
+    // The mark of release i, whose job stands alone.
+    fn put_mark_alone(&mut self, chart: &Chart<'_>, mark: Mark, i: usize) -> Result<(), WriteFailed>
+        requires { i < length chart.now.releases.now }
+        ensures { Puts W.contents self.old self.new result
+            (mark_alone chart.now.frame chart.now.rows.now chart.now.jobs.now mark i
+            (release_at chart.now.releases.now i)) }
+    {
+        if is_banded(gap_of(chart.frame), chart.jobs, i) {
+            return Ok(());
+        }
+        self.put_mark(chart, mark, release_at(chart.releases, i))
+    }
+
     // The marks of a kind, as one path.
     fn put_marks(&mut self, chart: &Chart<'_>, mark: Mark) -> Result<(), WriteFailed>
         ensures { Puts W.contents self.old self.new result
-            (marks_text chart.now.frame chart.now.rows.now mark chart.now.releases.now) }
+            (marks_text chart.now.frame chart.now.rows.now chart.now.jobs.now mark
+            chart.now.releases.now) }
     {
         self.put_mark_head(mark)?;
-        for release in chart.releases {
-            self.put_mark(chart, mark, *release)?;
+        for i in 0..chart.releases.len() {
+            self.put_mark_alone(chart, mark, i)?;
         }
         self.out.put(b"\"/>\n")
     }
@@ -157,7 +182,8 @@ impl<W: Write + Drop> Page<'_, W> {
     // The marks of all kinds.
     pub(crate) fn put_all_marks(&mut self, chart: &Chart<'_>) -> Result<(), WriteFailed>
         ensures { Puts W.contents self.old self.new result
-            (all_marks chart.now.frame chart.now.rows.now chart.now.releases.now) }
+            (all_marks chart.now.frame chart.now.rows.now chart.now.jobs.now
+            chart.now.releases.now) }
     {
         self.put_marks(chart, Mark::Ready)?;
         self.put_marks(chart, Mark::Arrival)?;

@@ -3,7 +3,7 @@ ghost use Rattle.std.specs.Prelude.{◌≡◌, ◌+◌, ◌*◌, ◌<◌, ◌≤
 ghost use Rattle.task_sheet.specs.declared.set.TheConstants.{TASK_LIMIT};
 ghost use Rattle.picture.specs.declared.frame.TheConstants.{RIGHTMOST};
 ghost use Rattle.picture.specs.Puts.{Puts};
-ghost use Rattle.picture.specs.Rows.{name_in, record_at};
+ghost use Rattle.picture.specs.Rows.{name_in};
 ghost use Rattle.picture.specs.WaitTexts.{ink_text, line_path, wait_words, wait_end, above_text, dots_path, blocked_words, lock_words, tone_of_lock, blocked_text, who_word, who_at, who_text, why_text, wait_text, nth_wait_text, stay_text, job_waits, waits_text};
 
 use crate::blocker::blocking_lock;
@@ -12,9 +12,8 @@ use crate::frame::{Frame, tone_of, top_of, x_of};
 use crate::lane::has_room;
 use crate::locks::lock_tone;
 use crate::page::Page;
-use crate::rows::{TaskRow, find_row, name_in};
+use crate::rows::{TaskRow, find_row, name_in, name_of};
 use crate::waits::{Stay, Wait, is_gathered, stay_of, wait_at};
-use ceiling_kernel::JobRecord;
 use std::io::Write;
 use streams::WriteFailed;
 use task_sheet::Name;
@@ -34,14 +33,6 @@ fn is_below(k: usize, wait: Wait) -> bool
     ensures { result ≡ nat_lt k wait.row }
 {
     k < wait.row
-}
-
-// The name of the task of job j.
-fn name_of(jobs: &[JobRecord], j: usize) -> Name
-    requires { j < length jobs.now }
-    ensures { result ≡ (record_at jobs.now j).name }
-{
-    jobs[j].name
 }
 
 impl<W: Write + Drop> Page<'_, W> {

@@ -1,1 +1,4 @@
 mod Cover
+mod BandSteps
+mod BandSums
+mod BandLaws

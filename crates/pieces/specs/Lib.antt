@@ -1,2 +1,3 @@
 pub mod Pieces
+pub mod Bands
 pub mod Laws

@@ -1,13 +1,10 @@
-use Rattle.std.proofs.Common.{ℕ, get_or}
-use Rattle.ceiling_kernel.specs.Runs.{no_record}
-use Rattle.ceiling_kernel.specs.declared.trace.JobRecord.{JobRecord}
-use Rattle.picture.specs.Elements.{job_text}
-use Rattle.picture.specs.Rows.{on_row}
-use Rattle.picture.proofs.Puts.{puts_none, puts_item}
+use Rattle.picture.specs.Bands.{place_text}
+use Rattle.picture.specs.Rows.{record_at, on_row}
+use Rattle.picture.proofs.Puts.{puts_none, puts_one_more}
 use Rattle.picture.proofs.page.Page.put_jobs.Goals as goal
 
-pub loop-job-init : goal.loop-job-init
-loop-job-init g c = puts_none g.W.Write.contents c.args.self.now.out (λ i. (λ (i : ℕ) (job : JobRecord). on_row c.args.chart.now.rows.now job.name (job_text c.args.chart.now.frame job)) i (get_or c.args.chart.now.jobs.now i no_record))
+pub loop-i-init : goal.loop-i-init
+loop-i-init g c = puts_none g.W.Write.contents c.args.self.now.out (λ i. on_row c.args.chart.now.rows.now (record_at c.args.chart.now.jobs.now i).name (place_text c.args.chart.now.frame c.args.chart.now.jobs.now i))
 
-pub loop-job-preserved : goal.loop-job-preserved
-loop-job-preserved g c = puts_item (λ (i : ℕ) (job : JobRecord). on_row c.args.chart.now.rows.now job.name (job_text c.args.chart.now.frame job)) c.args.chart.now.jobs.now no_record c.loop-job.job-index c.job-item.result c.loop-job-test.true c.job-item.is c.loop-job.invariant c.in_ok-put_job.ensures
+pub loop-i-preserved : goal.loop-i-preserved
+loop-i-preserved g c = puts_one_more (λ i. on_row c.args.chart.now.rows.now (record_at c.args.chart.now.jobs.now i).name (place_text c.args.chart.now.frame c.args.chart.now.jobs.now i)) c.loop-i.i c.loop-i.invariant c.in_ok-put_job.ensures
