@@ -31,6 +31,11 @@ Why a job waits, for a task above or for one below that blocks it by a lock:
   mid waits for hi 4100 to 5100 us
   hi is blocked by lo with m 300 to 4100 us
 
+Both waits for one section end at one instant, from which a link goes down to the bar of the task that held it:
+
+  $ desk draw examples/shared-lock.toml examples/shared-lock.releases | grep 'class="wj d0" d="M2265 .*V2815"' | wc -l
+  2
+
 The pictures of README.md and docs/FORMATS.md are those of the commands beside them:
 
   $ desk releases examples/shared-lock.toml 100000 | desk draw examples/shared-lock.toml - | cmp - docs/picture-1.svg
