@@ -165,7 +165,10 @@ impl<W: Write + Drop> Page<'_, W> {
         let x = x_of(frame, wait.stop);
         let y = top_of(k) + 255;
         let bar = top_of(wait.row) + 165;
-        write!(self.out, "<path class=\"wj d{tone}\" d=\"M{x} {y}V{bar}\"/>\n")
+        write!(
+            self.out,
+            "<path class=\"wj d{tone}\" d=\"M{x} {y}V{bar}\"/>\n"
+        )
     }
 
     // The same where the wait is at least 2 pixels wide.
