@@ -63,11 +63,23 @@ abbrev pub tone_of_lock : List (List ℕ) → Option (List ℕ) → ℕ
 tone_of_lock locks None = 0
 tone_of_lock locks (Some lock) = lock_tone locks lock
 
+-- a link in a tone, from the end of a wait of row k down to the bar of the task below
+abbrev pub link_path : Frame → ℕ → Wait → (tone : ℕ) → List ℕ
+link_path f k w tone =
+    concat (codes "<path class=\"wj d" ∷ decimal tone ∷ codes "\" d=\"M" ∷ decimal (x_of f w.stop)
+    ∷ codes " " ∷ decimal (top_of k + 255)
+    ∷ codes "V" ∷ decimal (top_of w.row + 165) ∷ codes "\"/>\n" ∷ [])
+
+-- the same where the wait is at least 2 pixels wide
+abbrev pub link_text : Frame → ℕ → Wait → (tone : ℕ) → List ℕ
+link_text f k w tone =
+    if nat_lt (x_of f w.stop) (x_of f w.start + 20) then [] else link_path f k w tone
+
 -- a wait of row k for a task below, which blocks by a lock
 abbrev pub blocked_text : Frame → List (List ℕ) → List TaskRow → ℕ → Wait → Option (List ℕ) → List ℕ
 blocked_text f locks rows k w lock =
     dots_path f k w (tone_of_lock locks lock) ++ blocked_words rows k w.row ++ lock_words lock
-    ++ wait_end w
+    ++ wait_end w ++ link_text f k w (tone_of_lock locks lock)
 
 -- the name of who executes, in the middle, above
 abbrev pub who_word : (x right k : ℕ) → List ℕ → List ℕ

@@ -4,7 +4,7 @@ ghost use Rattle.task_sheet.specs.declared.set.TheConstants.{TASK_LIMIT};
 ghost use Rattle.picture.specs.declared.frame.TheConstants.{RIGHTMOST};
 ghost use Rattle.picture.specs.Puts.{Puts};
 ghost use Rattle.picture.specs.Rows.{name_in};
-ghost use Rattle.picture.specs.WaitTexts.{ink_text, line_path, wait_words, wait_end, above_text, dots_path, blocked_words, lock_words, tone_of_lock, blocked_text, who_word, who_at, who_text, why_text, wait_text, nth_wait_text, stay_text, job_waits, waits_text};
+ghost use Rattle.picture.specs.WaitTexts.{ink_text, line_path, wait_words, wait_end, above_text, dots_path, blocked_words, lock_words, tone_of_lock, link_path, link_text, blocked_text, who_word, who_at, who_text, why_text, wait_text, nth_wait_text, stay_text, job_waits, waits_text};
 
 use crate::blocker::blocking_lock;
 use crate::chart::Chart;
@@ -141,6 +141,46 @@ impl<W: Write + Drop> Page<'_, W> {
         }
     }
 
+    // A link in a tone, from the end of a wait of row k down to the bar of the task below.
+    fn put_link_path(
+        &mut self,
+        frame: Frame,
+        k: usize,
+        wait: Wait,
+        tone: usize,
+    ) -> Result<(), WriteFailed>
+        requires row { k ≤ TASK_LIMIT }
+        requires other { wait.row ≤ TASK_LIMIT }
+        ensures { Puts W.contents self.old self.new result (link_path frame k wait tone) }
+    {
+        let x = x_of(frame, wait.stop);
+        let y = top_of(k) + 255;
+        let bar = top_of(wait.row) + 165;
+        write!(
+            self.out,
+            "<path class=\"wj d{tone}\" d=\"M{x} {y}V{bar}\"/>\n"
+        )
+    }
+
+    // The same where the wait is at least 2 pixels wide.
+    fn put_link(
+        &mut self,
+        frame: Frame,
+        k: usize,
+        wait: Wait,
+        tone: usize,
+    ) -> Result<(), WriteFailed>
+        requires row { k ≤ TASK_LIMIT }
+        requires other { wait.row ≤ TASK_LIMIT }
+        ensures { Puts W.contents self.old self.new result (link_text frame k wait tone) }
+    {
+        if x_of(frame, wait.stop) < x_of(frame, wait.start) + 20 {
+            Ok(())
+        } else {
+            self.put_link_path(frame, k, wait, tone)
+        }
+    }
+
     // A wait of row k for a task below, which blocks by a lock.
     fn put_blocked(
         &mut self,
@@ -159,7 +199,8 @@ impl<W: Write + Drop> Page<'_, W> {
         self.put_dots(chart.frame, k, wait, tone)?;
         self.put_blocked_words(chart.rows, k, wait.row)?;
         self.put_lock_words(lock)?;
-        self.put_wait_end(wait)
+        self.put_wait_end(wait)?;
+        self.put_link(chart.frame, k, wait, tone)
     }
 
     // The name of who executes, in the middle, above.
