@@ -9,12 +9,13 @@ use Rattle.command_line.specs.declared.calls.Preferred.TheVariants as preferred
 use Rattle.command_line.specs.declared.calls.OfOne.{OfOne}
 use Rattle.command_line.specs.declared.calls.OfOne.TheVariants.{Admit, Certify, Limits, Settings, Explain, Worst, Play}
 use Rattle.command_line.specs.declared.calls.OfTwo.{OfTwo}
-use Rattle.command_line.specs.declared.calls.OfTwo.TheVariants.{Check, Judge, Diff, Simulate, Draw, Observe, Keep, WorstAt}
+use Rattle.command_line.specs.declared.calls.OfTwo.TheVariants.{Check, Judge, Diff, Simulate, Draw, Observe, Keep, WorstAt, ExplainAt}
 use Rattle.desk_cli.specs.Admit.{Says, admit_lines}
 use Rattle.desk_cli.specs.Certify.{certificate_lines}
 use Rattle.desk_cli.specs.Check.{SaysChecked}
 use Rattle.desk_cli.specs.Diff.{SaysCompared}
 use Rattle.desk_cli.specs.Draw.{SaysDrawn}
+use Rattle.desk_cli.specs.ExplainAt.{SaysExplainedAt}
 use Rattle.desk_cli.specs.Judge.{SaysJudged}
 use Rattle.desk_cli.specs.Observe.{SaysObserved, tolerance_of}
 use Rattle.desk_cli.specs.Keep.{SaysKeeping}
@@ -86,3 +87,5 @@ TwoSay Keep options first second before after s =
     SaysKeeping (base_of options) (preference_of options) first second before after s
 TwoSay WorstAt options first second before after s =
     SaysWorstAt (task_of options) (preference_of options) first second before after s
+TwoSay ExplainAt options first second before after s =
+    SaysExplainedAt (task_of options) (preference_of options) first second before after s

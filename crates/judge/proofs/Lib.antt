@@ -1,4 +1,6 @@
 pub mod JudgedLaws
+pub mod TaskLaws
+pub mod ExplainedLaws
 pub mod FaultLaws
 pub mod NumberLaws
 pub mod TextLaws
