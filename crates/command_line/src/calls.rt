@@ -71,6 +71,8 @@ pub enum OfTwo {
     WorstAt,
     /// `explain SET --at SETTINGS`
     ExplainAt,
+    /// `limits SET --at SETTINGS`
+    LimitsAt,
 }
 
 /// A command of an input and a number.
@@ -200,6 +202,7 @@ impl OfOne {
             OfOne::Settings => Some((Choice::Keep, OfTwo::Keep)),
             OfOne::Worst => Some((Choice::At, OfTwo::WorstAt)),
             OfOne::Explain => Some((Choice::At, OfTwo::ExplainAt)),
+            OfOne::Limits => Some((Choice::At, OfTwo::LimitsAt)),
             _ => None,
         }
     }
@@ -212,7 +215,8 @@ impl OfTwo {
     {
         match self {
             OfTwo::Check => "CERT",
-            OfTwo::Judge | OfTwo::Keep | OfTwo::WorstAt | OfTwo::ExplainAt => "SETTINGS",
+            OfTwo::Judge | OfTwo::Keep => "SETTINGS",
+            OfTwo::WorstAt | OfTwo::ExplainAt | OfTwo::LimitsAt => "SETTINGS",
             OfTwo::Diff => "NEW",
             OfTwo::Simulate | OfTwo::Draw => "RELEASES",
             OfTwo::Observe => "TRACE",

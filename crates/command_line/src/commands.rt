@@ -65,7 +65,7 @@ const COMMANDS: [Listed; 16] = [
     Listed {
         verb: Verb::One(OfOne::Limits),
         word: "limits",
-        options: &[Choice::Prefer, Choice::Task],
+        options: &[Choice::Prefer, Choice::Task, Choice::At],
         about: "Prints how far each number of a set may go with some order passing, all else equal",
         example: example!(
             "limits examples/robot.toml",

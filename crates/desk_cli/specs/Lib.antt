@@ -34,3 +34,4 @@ pub mod Worst
 pub mod InOrder
 pub mod WorstAt
 pub mod ExplainAt
+pub mod LimitsAt

@@ -1,5 +1,5 @@
 //! Commands with `--at SETTINGS`.
-ghost use Rattle.std.specs.Prelude.{◌<◌, All, IfOk, option_map};
+ghost use Rattle.std.specs.Prelude.{◌<◌, length, All, IfOk, IfSome, option_map};
 ghost use Rattle.task_sheet.specs.declared.set.TheConstants.{TASK_LIMIT};
 ghost use Rattle.desk_cli.specs.InOrder.{AsksIn, AsksTask};
 
@@ -21,7 +21,8 @@ pub struct InOrder {
 
 // The task that is asked about, where a word names one.
 fn asked_in(tasks: &TaskSet, word: Option<&str>) -> Result<Option<usize>, CommandRefusal>
-    ensures { AsksTask tasks.now (option_map (λ w. w.now) word.entry) result }
+    ensures answer { AsksTask tasks.now (option_map (λ w. w.now) word.entry) result }
+    ensures within { IfOk result (λ asked. IfSome asked (λ task. task < length tasks.now)) }
 {
     let Some(word) = word else {
         return Ok(None);
@@ -40,6 +41,7 @@ pub(crate) fn judge_asked(
     text: &[u8],
 ) -> Result<(JudgedNode, Option<usize>), CommandRefusal>
     ensures answer { AsksIn (option_map (λ w. w.now) word.entry) tasks.now text.now result }
+    ensures asked { IfOk result (λ found. IfSome found.1 (λ task. task < length tasks.now)) }
     ensures within { IfOk result (λ found. All (λ j. j.task < TASK_LIMIT) found.0.judged.items) }
 {
     let node = judge_text(alloc, false, tasks, text)?;

@@ -14,6 +14,7 @@ mod in_order;
 mod judge_lines;
 mod keep_lines;
 pub mod laws;
+mod limits_at;
 mod limits_lines;
 mod observe_lines;
 mod of_one;

@@ -15,6 +15,7 @@ use crate::explain_at::{explain_at, explained_at_text};
 use crate::in_order::InOrder;
 use crate::judge_lines::{judge_text, judged_status};
 use crate::keep_lines::{keep_text, keeping_status, keeping_text};
+use crate::limits_at::limits_at;
 use crate::observe_lines::{observed_status, sight_of, tolerance_of};
 use crate::output::{print, print_bytes, print_made, refuse};
 use crate::refusal::CommandRefusal;
@@ -58,6 +59,8 @@ pub enum Found {
     WorstAt(InOrder),
     /// What explains the order that settings give, without the teams of its tasks.
     ExplainedAt(InOrder),
+    /// How far the numbers of a set may go in the order that settings give.
+    LimitedAt(InOrder),
 }
 
 // What a command finds of a set and a text.
@@ -98,6 +101,7 @@ fn find(
             base: base_of(options),
         }),
         OfTwo::WorstAt => Ok(Found::WorstAt(worst_at(alloc, options.task, tasks, text)?)),
+        OfTwo::LimitsAt => Ok(Found::LimitedAt(limits_at(alloc, options.task, tasks, text)?)),
         OfTwo::ExplainAt => Ok(Found::ExplainedAt(explain_at(alloc, options.task, tasks, text)?)),
     }
 }
@@ -160,6 +164,11 @@ fn print_found<W: Write + Drop>(
             output,
         ),
         Found::WorstAt(found) => print(
+            found.text.as_bytes(),
+            judged_status(&found.node.judged),
+            output,
+        ),
+        Found::LimitedAt(found) => print(
             found.text.as_bytes(),
             judged_status(&found.node.judged),
             output,
