@@ -1,20 +1,19 @@
 //! `desk limits SET --at SETTINGS`.
-ghost use Rattle.std.specs.Prelude.{◌≡◌, ◌<◌, List, ◌++◌, length, All, IfOk, IfSome, option_map, string_bytes};
+ghost use Rattle.std.specs.Prelude.{◌≡◌, ◌<◌, length, All, IfOk, IfSome, None, option_map, string_bytes};
 ghost use Rattle.task_sheet.specs.declared.set.TheConstants.{TASK_LIMIT};
 ghost use Rattle.task_sheet.specs.Orders.{IsOrder, IsPassingOrder};
 ghost use Rattle.ceilings.specs.IsTableOf.{IsTableOf};
 ghost use Rattle.assignment.specs.Placings.{tasks_of_places};
-ghost use Rattle.judge.specs.Judgements.{AllJudged, order_judged};
-ghost use Rattle.judge.specs.Lines.{meets_line};
+ghost use Rattle.judge.specs.Judgements.{AllJudged, judged_of, order_judged};
 ghost use Rattle.limit_lines.specs.Lines.{HasPassing, places_in, order_in};
 ghost use Rattle.desk_cli.specs.Limits.{AreLines};
-ghost use Rattle.desk_cli.specs.LimitsAt.{AreLimitsIn, AreLimitsOf, IsLimitsText, LimitsText};
+ghost use Rattle.desk_cli.specs.LimitsAt.{AreLimitsIn, AreLimitsOf, IsLimitsText, LimitsText, PassesWith};
 
 use crate::in_order::{InOrder, judge_asked};
 use crate::refusal::CommandRefusal;
 use assignment::{Place, Placing, tasks_of_places};
 use ceilings::LockTable;
-use judge::{JudgedNode, JudgedTask, first_text, judged_text, places_of};
+use judge::{JudgedNode, first_text, judged_text, places_of};
 use limit_lines::{last_text, task_text};
 use std::alloc::{AllocError, Global};
 use task_sheet::TaskSet;
@@ -41,7 +40,27 @@ fn each_text(
     Ok(text)
 }
 
-// How far the numbers of the task that is asked about may go, or those of each, and all execution at once.
+// How far the numbers of each task may go, and all execution at once.
+fn whole_text(
+    alloc: Global,
+    set: &TaskSet,
+    table: &LockTable,
+    placing: &Placing,
+    order: &[usize],
+) -> Result<String, AllocError>
+    requires table { IsTableOf set.now table.now }
+    requires placing { HasPassing set.now placing.now }
+    requires order { order.now ≡ order_in placing.now }
+    ensures { IfOk result (λ text. AreLimitsOf set.now (places_in placing.now) None
+        (string_bytes text)) }
+{
+    let mut text = each_text(alloc, set, table, placing, order)?;
+    let last = last_text(alloc, set, placing, order)?;
+    text.push_str(last.as_str())?;
+    Ok(text)
+}
+
+// How far the numbers of the task that is asked about may go; else those of each.
 fn asked_text(
     alloc: Global,
     set: &TaskSet,
@@ -58,12 +77,7 @@ fn asked_text(
     let table = LockTable::new(alloc, set)?;
     match asked {
         Some(task) => task_text(alloc, set, &table, placing, order, task),
-        None => {
-            let mut text = each_text(alloc, set, &table, placing, order)?;
-            let last = last_text(alloc, set, placing, order)?;
-            text.push_str(last.as_str())?;
-            Ok(text)
-        }
+        None => whole_text(alloc, set, &table, placing, order),
     }
 }
 
@@ -84,22 +98,27 @@ fn limits_in(
     asked_text(alloc, set, &placing, &order, asked)
 }
 
-// The first line of an order that was judged, and then another text.
-fn behind_first(
+// That all tasks of an order with these places meet their deadlines, and how far its numbers may go.
+fn passing_text(
     alloc: Global,
     set: &TaskSet,
-    judged: &[JudgedTask],
-    lines: &str,
+    node: &JudgedNode,
+    places: Vec<Place>,
+    asked: Option<usize>,
 ) -> Result<String, AllocError>
-    requires { All (λ j. j.task < TASK_LIMIT) judged.now }
-    ensures { IfOk result (λ text. string_bytes text ≡ meets_line set.now judged.now ++ lines.now) }
+    requires within { All (λ j. j.task < TASK_LIMIT) node.now.judged.items }
+    requires passing { IsPassingOrder set.now (tasks_of_places places.items) }
+    requires same { node.now.judged.items ≡ judged_of places.items }
+    requires asked { IfSome asked (λ task. task < length set.now) }
+    ensures { IfOk result (λ text. PassesWith set.now node.now asked (string_bytes text)) }
 {
-    let mut text = first_text(alloc, set, judged)?;
-    text.push_str(lines)?;
+    let lines = limits_in(alloc, set, places, asked)?;
+    let mut text = first_text(alloc, set, &node.judged)?;
+    text.push_str(lines.as_str())?;
     Ok(text)
 }
 
-// That all tasks of an order meet their deadlines, and how far its numbers may go; or what becomes of each.
+// That, or what becomes of each task, where some doesn't meet its deadline.
 fn node_text(
     alloc: Global,
     set: &TaskSet,
@@ -113,10 +132,7 @@ fn node_text(
     ensures { IfOk result (λ text. IsLimitsText set.now node.now asked (string_bytes text)) }
 {
     match places_of(alloc, &node.judged)? {
-        Some(places) => {
-            let lines = limits_in(alloc, set, places, asked)?;
-            behind_first(alloc, set, &node.judged, lines.as_str())
-        }
+        Some(places) => passing_text(alloc, set, node, places, asked),
         None => judged_text(alloc, set, &node.judged, &node.numbers),
     }
 }

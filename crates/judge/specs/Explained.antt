@@ -1,5 +1,5 @@
 -- The lines that explain what becomes of the tasks of an order that is given.
-use Rattle.std.specs.Prelude.{◌≡◌, ℕ, ◌+◌, ◌==◌, Bool, true, List, [], ◌∷◌, ◌++◌, codes, Option, Some, None, if◌then◌else◌}
+use Rattle.std.specs.Prelude.{◌≡◌, ℕ, ◌+◌, ◌==◌, Bool, true, false, List, [], ◌∷◌, ◌++◌, codes, Option, Some, None}
 use Rattle.std.specs.Fmt.{decimal}
 use Rattle.task_sheet.specs.Sheet.{Task}
 use Rattle.explain.specs.Accounts.{IsResponseAccount}
@@ -36,8 +36,8 @@ is_asked (Some asked) task = asked == task
 
 -- the text is those lines, where it is asked about the task
 abbrev pub AreAskedLines : Bool → List Task → (above : List ℕ) → ℕ → JudgedTask → List ℕ → Type 0
-AreAskedLines asked U above number j text =
-    if asked then AreLevelLines U above number j.task j.judgement text else text ≡ []
+AreAskedLines true U above number j text = AreLevelLines U above number j.task j.judgement text
+AreAskedLines false U above number j text = text ≡ []
 
 -- the text is those of each level, of which the first has a number, with those after it above it
 abbrev pub AreLevels : List Task → Option ℕ → (number : ℕ) → List JudgedTask → List ℕ → Type 0

@@ -148,11 +148,7 @@ pub fn judged_text(
 }
 
 /// The first of them alone: whether all meet their deadlines. The error is want of memory.
-pub fn first_text(
-    alloc: Global,
-    set: &TaskSet,
-    judged: &[JudgedTask],
-) -> Result<String, AllocError>
+pub fn first_text(alloc: Global, set: &TaskSet, judged: &[JudgedTask]) -> Result<String, AllocError>
     requires { All (λ j. j.task < TASK_LIMIT) judged.now }
     ensures { IfOk result (λ text. string_bytes text ≡ meets_line set.now judged.now) }
 {
