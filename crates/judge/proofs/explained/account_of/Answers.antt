@@ -1,4 +1,4 @@
-use Rattle.std.proofs.Common.{◌∙◌, ◌<◌, ◌≤◌, ℕ, List, length, reverse, All, ap, sym, subst, arith}
+use Rattle.std.proofs.Common.{◌∙◌, ◌<◌, ℕ, List, length, reverse, All, ap, sym, subst, arith}
 use Rattle.explain.proofs.NeedLaws.{All-reversed}
 use Rattle.judge.specs.Judgements.{order_judged}
 use Rattle.judge.proofs.ExplainedLaws.{order_within}

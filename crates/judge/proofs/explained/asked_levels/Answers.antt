@@ -1,4 +1,4 @@
-use Rattle.std.proofs.Common.{◌≡◌, ◌∙◌, ◌<◌, ◌+◌, ℕ, List, [], ◌∷◌, ◌++◌, length, All, append-nil, ap, refl, sym, subst, arith, string_bytes}
+use Rattle.std.proofs.Common.{◌≡◌, ◌∙◌, ◌<◌, ◌+◌, ℕ, List, [], ◌∷◌, ◌++◌, length, All, append-nil, ap, refl, subst, arith, string_bytes}
 use Rattle.judge.specs.Explained.{AreLevels}
 use Rattle.judge.specs.Judgements.{AllJudged}
 use Rattle.judge.specs.declared.judging.JudgedTask.{JudgedTask}
