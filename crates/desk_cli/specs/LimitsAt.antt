@@ -1,5 +1,5 @@
 -- What `desk limits SET --at SETTINGS` answers and prints.
-use Rattle.std.specs.Prelude.{◌≡◌, ◌⊎◌, ℕ, List, ◌++◌, length, Option, Some, None, Result, Ok, Err, IsFalse, string_bytes}
+use Rattle.std.specs.Prelude.{◌≡◌, ℕ, Bool, true, false, List, ◌++◌, length, Option, Some, None, Result, Ok, Err, string_bytes}
 use Rattle.task_sheet.specs.declared.prefer.Preference.{Preference}
 use Rattle.task_sheet.specs.Sheet.{Task}
 use Rattle.assignment.specs.Places.{PlaceData}
@@ -35,11 +35,13 @@ PassesWith U node asked text =
     × (text ≡ meets_line U node.judged.items ++ lines)
 
 -- else what `desk judge` prints
+abbrev pub IsLimitsBy : (meet : Bool) → List Task → JudgedNode → (asked : Option ℕ) → List ℕ → Type 0
+IsLimitsBy true U node asked text = PassesWith U node asked text
+IsLimitsBy false U node asked text = text ≡ judged_lines U node.judged.items node.numbers.items
+
+-- by whether all tasks of the order meet their deadlines
 abbrev pub IsLimitsText : List Task → JudgedNode → (asked : Option ℕ) → List ℕ → Type 0
-IsLimitsText U node asked text =
-    PassesWith U node asked text
-    ⊎ (IsFalse (all_meet node.judged.items)
-    × (text ≡ judged_lines U node.judged.items node.numbers.items))
+IsLimitsText U node asked text = IsLimitsBy (all_meet node.judged.items) U node asked text
 
 -- the answer on a set and the text of settings: what becomes of each task in the order that they give, and what is printed
 -- of it

@@ -5,9 +5,10 @@ ghost use Rattle.task_sheet.specs.Orders.{IsOrder, IsPassingOrder};
 ghost use Rattle.ceilings.specs.IsTableOf.{IsTableOf};
 ghost use Rattle.assignment.specs.Placings.{tasks_of_places};
 ghost use Rattle.judge.specs.Judgements.{AllJudged, judged_of, order_judged};
+ghost use Rattle.judge.specs.Lines.{judged_lines};
 ghost use Rattle.limit_lines.specs.Lines.{HasPassing, places_in, order_in};
 ghost use Rattle.desk_cli.specs.Limits.{AreLines};
-ghost use Rattle.desk_cli.specs.LimitsAt.{AreLimitsIn, AreLimitsOf, IsLimitsText, LimitsText, PassesWith};
+ghost use Rattle.desk_cli.specs.LimitsAt.{AreLimitsIn, AreLimitsOf, IsLimitsText, LimitsText};
 
 use crate::in_order::{InOrder, judge_asked};
 use crate::refusal::CommandRefusal;
@@ -107,10 +108,11 @@ fn passing_text(
     asked: Option<usize>,
 ) -> Result<String, AllocError>
     requires within { All (λ j. j.task < TASK_LIMIT) node.now.judged.items }
-    requires passing { IsPassingOrder set.now (tasks_of_places places.items) }
+    requires order { IsOrder set.now (order_judged node.now.judged.items) }
+    requires judged { AllJudged set.now node.now.judged.items }
     requires same { node.now.judged.items ≡ judged_of places.items }
     requires asked { IfSome asked (λ task. task < length set.now) }
-    ensures { IfOk result (λ text. PassesWith set.now node.now asked (string_bytes text)) }
+    ensures { IfOk result (λ text. IsLimitsText set.now node.now asked (string_bytes text)) }
 {
     let lines = limits_in(alloc, set, places, asked)?;
     let mut text = first_text(alloc, set, &node.judged)?;
@@ -118,7 +120,16 @@ fn passing_text(
     Ok(text)
 }
 
-// That, or what becomes of each task, where some doesn't meet its deadline.
+// What becomes of each task of an order in which some doesn't meet its deadline.
+fn missed_text(alloc: Global, set: &TaskSet, node: &JudgedNode) -> Result<String, AllocError>
+    requires within { All (λ j. j.task < TASK_LIMIT) node.now.judged.items }
+    ensures { IfOk result (λ text. string_bytes text
+        ≡ judged_lines set.now node.now.judged.items node.now.numbers.items) }
+{
+    judged_text(alloc, set, &node.judged, &node.numbers)
+}
+
+// The one or the other.
 fn node_text(
     alloc: Global,
     set: &TaskSet,
@@ -131,9 +142,10 @@ fn node_text(
     requires asked { IfSome asked (λ task. task < length set.now) }
     ensures { IfOk result (λ text. IsLimitsText set.now node.now asked (string_bytes text)) }
 {
-    match places_of(alloc, &node.judged)? {
+    let found = places_of(alloc, &node.judged)?;
+    match found {
         Some(places) => passing_text(alloc, set, node, places, asked),
-        None => judged_text(alloc, set, &node.judged, &node.numbers),
+        None => missed_text(alloc, set, node),
     }
 }
 
