@@ -7,7 +7,7 @@ use Rattle.judge.proofs.PlaceLaws.{places_pass}
 use Rattle.desk_cli.specs.LimitsAt.{IsLimitsBy}
 use Rattle.desk_cli.proofs.limits_at.passing_text.Goals as goal
 
-pub limits_in-requires-clause-passing : goal.limits_in-lines-requires-clause-passing
+pub limits_in-requires-clause-passing : goal.limits_in-requires-clause-passing
 limits_in-requires-clause-passing c =
     places_pass c.args.set.now c.args.node.now.judged.items c.args.places.items c.requires.order c.requires.judged c.requires.same
 
