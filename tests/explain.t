@@ -61,3 +61,59 @@ The jitter of a task is a part of its own response; that of a task above brings 
     cost 3000
     jitter 1000
     above b 1 jobs 3000
+
+With `--at` the same of an order that settings give, passing or not. With c on top a comes after 5000, so that 3000 more are
+past its 7000, and b after all of both, with a second job of a:
+
+  $ printf 'thread b 10\nthread a 20\nthread c 30\n' > down
+  $ desk explain examples/three-tasks.toml --at down
+  misses a b
+  1 b misses 12000
+  2 a misses 7000
+  3 c 5000 of 20000
+    cost 5000
+  load 928572
+  [3]
+  $ desk explain examples/three-tasks.toml --at down --task c
+  misses a b
+  3 c 5000 of 20000
+    cost 5000
+  [3]
+  $ desk explain --task=a examples/three-tasks.toml --at=- < down
+  misses a b
+  2 a misses 7000
+  [3]
+
+With mid on top, which no section then blocks:
+
+  $ printf 'thread lo 1\nthread hi 2\nthread mid 3\n' > mid-on-top
+  $ desk explain examples/shared-lock.toml --at mid-on-top
+  meets 3
+  1 lo 27000 of 100000
+    cost 20000
+    above mid 2 jobs 4000
+    above hi 3 jobs 3000
+  2 hi 7000 of 10000
+    cost 1000
+    blocked 4000 by lo section 1 lock m
+    above mid 1 jobs 2000
+  3 mid 2000 of 20000
+    cost 2000
+  load 400000
+  $ printf 'thread watchdog 1\nthread log 2\nthread sensors 3\nthread motion 4\n' | desk explain examples/watchdog.toml --at - --task watchdog
+  misses watchdog
+  1 watchdog below sensors
+  [3]
+
+In the best order each level is as without settings:
+
+  $ for set in examples/shared-lock.toml examples/jitter.toml examples/watchdog.toml examples/robot-mended.toml; do desk explain $set | tail -n +2 > best; desk settings $set | desk explain $set --at - | tail -n +2 | cmp - best; done
+
+Settings are refused as by `judge`, before the name of a task:
+
+  $ echo 'thread c 1' | desk explain --at=- examples/three-tasks.toml --task d
+  refused: MissingTask a
+  [4]
+  $ desk explain --at=down examples/three-tasks.toml --task d
+  refused: NoSuchTask d
+  [4]

@@ -220,3 +220,66 @@ Names alone put a below b, where it has to wait for all of b: that order bears a
   all 1111 5555 b
   $ desk limits --prefer deadline named.toml | grep all
   all 5555 5555 b
+
+With `--at` how far each number may go in an order that settings give, beside some order. With mid on top a job of hi is done
+after 1000, 4000 of lo and 2000 of mid, so that its deadline leaves 3000, for mid too; a period of mid of 4500 has two jobs
+in these 9000:
+
+  $ printf 'thread lo 1\nthread hi 2\nthread mid 3\n' > mid-on-top
+  $ desk limits examples/shared-lock.toml --at mid-on-top
+  meets 3
+  lo cost 20000 80000 80000
+  lo period 100000 27000 27000
+  lo deadline 100000 27000 27000
+  lo jitter 0 73000 73000
+  lo section 1 len 4000 7000 9000
+  lo slack 73000
+  mid cost 2000 5000 14000
+  mid period 20000 4500 4500
+  mid deadline 20000 2000 2000
+  mid jitter 0 18000 18000
+  mid slack 18000
+  hi cost 1000 4000 6000
+  hi period 10000 7000 5000
+  hi deadline 10000 7000 5000
+  hi jitter 0 3000 5000
+  hi section 1 len 200 1000 1000
+  hi slack 3000
+  all 1428 2000 hi
+  $ desk limits --at=- examples/shared-lock.toml --task=hi < mid-on-top
+  meets 3
+  hi cost 1000 4000 6000
+  hi period 10000 7000 5000
+  hi deadline 10000 7000 5000
+  hi jitter 0 3000 5000
+  hi section 1 len 200 1000 1000
+  hi slack 3000
+
+An order that doesn't pass has no limits: it is judged, whichever task is asked about:
+
+  $ printf 'thread b 10\nthread a 20\nthread c 30\n' > down
+  $ desk limits examples/three-tasks.toml --at down --task c
+  misses a b
+  1 b misses 12000 at 10
+  2 a misses 7000 at 20
+  3 c 5000 of 20000 at 30
+  [3]
+  $ desk judge examples/three-tasks.toml down > judged
+  [3]
+  $ desk limits examples/three-tasks.toml --at down | cmp - judged
+
+In the best order the numbers are as without settings; the empty set has none:
+
+  $ desk limits examples/shared-lock.toml | tail -n +2 > best
+  $ desk settings examples/shared-lock.toml | desk limits examples/shared-lock.toml --at - | tail -n +2 | cmp - best
+  $ desk limits examples/empty-set.toml --at - < /dev/null
+  meets 0
+
+Settings are refused as by `judge`, before the name of a task:
+
+  $ echo 'thread c 1' | desk limits --at=- examples/three-tasks.toml --task d
+  refused: MissingTask a
+  [4]
+  $ desk limits --at=down examples/three-tasks.toml --task d
+  refused: NoSuchTask d
+  [4]

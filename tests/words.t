@@ -51,7 +51,9 @@ Help names each command, and of a command its inputs, an example and its statuse
   2
   $ desk releases --help | grep -c '<SET> <UNTIL>$'
   1
-  $ desk worst --help | grep -c -e '<SET>$' -e '^ *--task <NAME>  *[A-Z]' -e '^ *--at <SETTINGS>  *[A-Z]'
+  $ for command in explain limits worst; do desk $command --help | grep -c -e '<SET>$' -e '^ *--task <NAME>  *[A-Z]' -e '^ *--at <SETTINGS>  *[A-Z]'; done
+  3
+  3
   3
   $ desk rush --help | grep -c '<SCRIPT> <WORKERS>$'
   1

@@ -85,7 +85,7 @@ def of_set(rng, subject):
         others = make_sets.changed(rng, sheets) if rng.random() < 0.7 else sheets
         inputs.append(make_lines.settings_of(rng, sets.by_rank(others)))
         return called(rng, subject, inputs, options, by="keep")
-    if subject == "worst" and rng.random() < 0.4:
+    if subject in ("explain", "limits", "worst") and rng.random() < 0.4:
         tasks = sets.by_limits(sheets) if (prefer or own) == "deadline" else sets.by_rank(sheets)
         inputs.append(make_lines.settings_of(rng, tasks))
         return called(rng, subject, inputs, options, by="at")

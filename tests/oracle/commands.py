@@ -82,7 +82,7 @@ def at_settings(command):
     """A command that speaks of an order which settings give, of one task or of all."""
 
     def on_rows(tasks, rows, task=None):
-        return of_task(command)(tasks, settings.node_order(tasks, rows), task=task)
+        return of_task(command)(tasks, settings.node_order(tasks, rows), rows, task=task)
 
     return on_rows
 
@@ -92,12 +92,7 @@ def explain(tasks, task):
     order = analysis.best_order(tasks)
     text = [admitted(tasks, order)]
     if order is not None:
-        for level, i, above in analysis.levels_of(order):
-            if task not in (None, i):
-                continue
-            time = analysis.response_of(tasks, i, above)
-            text.append(f"{level} {tasks[i].name} {time} of {tasks[i].deadline}{tasks.beside(tasks[i].name)}\n")
-            text += parts(tasks, i, [k for k in reversed(order) if k in above], time - tasks[i].jitter)
+        text += accounts(tasks, order, task)
     else:
         conflict = analysis.least_conflict(tasks, analysis.greatest_obstruction(tasks, range(len(tasks))))
         text.append(" ".join(["conflict", *(tasks[i].name for i in sorted(conflict))]) + "\n")
@@ -111,11 +106,33 @@ def explain(tasks, task):
     return "".join(text), 0 if order is not None else INFEASIBLE
 
 
+def explain_at(tasks, order, rows, task):
+    """The same of an order that is given, passing or not."""
+    first, status = settings.first_judged(tasks, order)
+    load = [f"load {analysis.load(tasks)}\n"] if task is None else []
+    return "".join([first, *accounts(tasks, order, task), *load]), status
+
+
+def accounts(tasks, order, task):
+    """What becomes of each task of an order, or of one, with the parts of its response where it has one."""
+    for level, i, words in settings.judged_levels(tasks, order):
+        if task not in (None, i):
+            continue
+        yield level_line(tasks, level, i, words)
+        if not words.startswith(("below ", "misses ")):
+            above = order[level:]
+            yield from parts(tasks, i, above[::-1], analysis.response_of(tasks, i, set(above)) - tasks[i].jitter)
+
+
+def level_line(tasks, level, i, words):
+    """What becomes of a task, with its team; `below` speaks of two, so that no team stands there."""
+    return f"{level} {tasks[i].name} {words}{'' if words.startswith('below ') else tasks.beside(tasks[i].name)}\n"
+
+
 def decided(tasks):
-    """What becomes of each task in an order that decides; `below` speaks of two, so that no team stands there."""
+    """What becomes of each task in an order that decides."""
     for level, i, words in settings.judged_levels(tasks, worst.order_for(tasks, None)):
-        team = "" if words.startswith("below ") else tasks.beside(tasks[i].name)
-        yield f"{level} {tasks[i].name} {words}{team}\n"
+        yield level_line(tasks, level, i, words)
 
 
 def needs(tasks, i, above):
@@ -144,7 +161,19 @@ def parts(tasks, i, above, window):
 @of_task
 def limits_of(tasks, task):
     order = analysis.best_order(tasks)
-    text = [admitted(tasks, order)]
+    return admitted(tasks, order) + limits_in(tasks, order, task), 0 if order is not None else INFEASIBLE
+
+
+def limits_at(tasks, order, rows, task):
+    """The same of an order that is given, where that passes; else what `judge` says of it."""
+    if not analysis.is_passing_order(tasks, order):
+        return settings.judge(tasks, order, rows)
+    return settings.first_judged(tasks, order)[0] + limits_in(tasks, order, task), 0
+
+
+def limits_in(tasks, order, task):
+    """How far the numbers of a task may go, or of all, in an order that passes, if any, and in some order."""
+    text = []
     in_order = lambda other: order is not None and analysis.is_passing_order(other, order)
     bounds = {} if order is None else bounds_of(tasks, order)
     for i, sheet in enumerate(tasks):
@@ -157,14 +186,14 @@ def limits_of(tasks, task):
                 text.append(f"{sheet.name} {number.words()} {number.value(sheet)} {own} {most}\n")
         if order is not None:
             text.append(f"{sheet.name} slack {sheet.deadline - bounds[i]}\n")
-    if order is None and task is None and len(text) == 1:
+    if order is None and task is None and not text:
         text.append("no single change\n")
     if tasks and task is None:
         greatest = limits.factor(tasks)
         fails = "" if greatest is None else f" {tasks[limits.first_to_fail(tasks, greatest + 1)].name}"
         own = None if order is None else limits.factor(tasks, in_order)
         text.append(f"all {or_dash(own)} {or_dash(greatest)}{fails}\n")
-    return "".join(text), 0 if order is not None else INFEASIBLE
+    return "".join(text)
 
 
 def or_dash(number):
@@ -271,21 +300,25 @@ def on_set(run, *readers, number=(), options=PREFERS, by_file=()):
 
 
 KEEP = on_set(keep, settings.read_settings)
-WORST_AT = on_set(at_settings(worst.worst_at), settings.read_settings, options=OF_TASK)
+WORST_AT, EXPLAIN_AT, LIMITS_AT = IN_ORDER = [
+    on_set(at_settings(command), settings.read_settings, options=OF_TASK)
+    for command in (worst.worst_at, explain_at, limits_at)
+]
+AT = {**OF_TASK, "at": calls.any_word}
 
 
 COMMANDS = {
     "admit": on_set(admit),
     "certify": on_set(certify),
     "check": on_set(check, certificate.read),
-    "explain": on_set(explain, options=OF_TASK),
-    "limits": on_set(limits_of, options=OF_TASK),
+    "explain": on_set(explain, options=AT, by_file=("at", EXPLAIN_AT)),
+    "limits": on_set(limits_of, options=AT, by_file=("at", LIMITS_AT)),
     "settings": on_set(settings_of, options={**PREFERS, "keep": calls.any_word, "base": calls.number_within(1, settings.NUMBER_MOST)}, by_file=("keep", KEEP)),
     "judge": on_set(judge, settings.read_settings, options={**PREFERS, "lower-is-higher": calls.FLAG}),
     "diff": on_set(diff, read_change),
     "simulate": on_set(simulate, kernel.read_releases, options={**PREFERS, "tasks": calls.FLAG}),
     "releases": on_set(releases, number=(0, kernel.HORIZON), options={**PREFERS, "seed": calls.number_within(0, 2**32 - 1)}),
-    "worst": on_set(of_task(worst.worst), options={**OF_TASK, "at": calls.any_word}, by_file=("at", WORST_AT)),
+    "worst": on_set(of_task(worst.worst), options=AT, by_file=("at", WORST_AT)),
     "draw": on_set(draw, kernel.read_releases),
     "observe": on_set(
         observe, observed.read_trace, options={**PREFERS, "tolerance": calls.number_within(0, observed.TOLERANCE_MOST)}
@@ -315,7 +348,7 @@ def answer(words, files, stdin=b""):
     except Refused as refusal:
         return Answer(refusal.line, refusal.status, SAID)
     # (of two inputs nothing is noted beside a refusal)
-    is_refused = call.command is WORST_AT and status == 4
+    is_refused = call.command in IN_ORDER and status == 4
     if call.command.readers[0] is not teams.read_set or is_refused:
         return Answer(text, status, "")
     told = choice_note(call, said[0]) + notes(call, said[0]) + no_note(call, said[0], status) + parted_note(call, text)

@@ -99,7 +99,7 @@ def worst(tasks, i=None):
     return worst_in(tasks, best, i, lambda tasks, order: ""), 0
 
 
-def worst_at(tasks, order, i=None):
+def worst_at(tasks, order, rows, i=None):
     """The same in an order that a node has."""
     passes = all(analysis.stands(tasks, i, above) for _, i, above in analysis.levels_of(order))
     return worst_in(tasks, order, i, settings.settings), 0 if passes else 3

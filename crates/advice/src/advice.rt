@@ -58,7 +58,7 @@ fn is_run(call: Call<'_>) -> bool {
         Call::Two { command, .. } => match command {
             OfTwo::Simulate | OfTwo::Draw => true,
             OfTwo::Check | OfTwo::Diff | OfTwo::Judge | OfTwo::Observe => false,
-            OfTwo::Keep | OfTwo::WorstAt => false,
+            OfTwo::Keep | OfTwo::WorstAt | OfTwo::ExplainAt | OfTwo::LimitsAt => false,
         },
         _ => false,
     }
@@ -70,7 +70,8 @@ fn is_diff(call: Call<'_>) -> bool {
         Call::Two { command, .. } => match command {
             OfTwo::Diff => true,
             OfTwo::Simulate | OfTwo::Draw => false,
-            OfTwo::Check | OfTwo::Judge | OfTwo::Observe | OfTwo::Keep | OfTwo::WorstAt => false,
+            OfTwo::Check | OfTwo::Judge | OfTwo::Observe => false,
+            OfTwo::Keep | OfTwo::WorstAt | OfTwo::ExplainAt | OfTwo::LimitsAt => false,
         },
         _ => false,
     }

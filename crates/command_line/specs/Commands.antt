@@ -23,8 +23,8 @@ use Rattle.command_line.specs.declared.calls.TheConstants.{MOST_WORKERS, MOST_TE
 abbrev pub commands : List (Text × Verb × List Choice)
 commands =
     (codes "admit", One Admit, Prefer ∷ [])
-    ∷ (codes "explain", One Explain, Prefer ∷ Task ∷ [])
-    ∷ (codes "limits", One Limits, Prefer ∷ Task ∷ [])
+    ∷ (codes "explain", One Explain, Prefer ∷ Task ∷ At ∷ [])
+    ∷ (codes "limits", One Limits, Prefer ∷ Task ∷ At ∷ [])
     ∷ (codes "settings", One Settings, Prefer ∷ Base ∷ Keep ∷ [])
     ∷ (codes "judge", Two Judge, Prefer ∷ LowerIsHigher ∷ [])
     ∷ (codes "diff", Two Diff, Prefer ∷ [])
@@ -58,12 +58,16 @@ second_of Diff = codes "NEW"
 second_of Observe = codes "TRACE"
 second_of of_two.Keep = codes "SETTINGS"
 second_of of_two.WorstAt = codes "SETTINGS"
+second_of of_two.ExplainAt = codes "SETTINGS"
+second_of of_two.LimitsAt = codes "SETTINGS"
 second_of _ = codes "RELEASES"
 
 -- the option that names a second input to a command of one, and the command of two that it then is
 abbrev pub by_file : OfOne → Option (Choice × OfTwo)
 by_file Settings = Some (Keep, of_two.Keep)
 by_file Worst = Some (At, of_two.WorstAt)
+by_file Explain = Some (At, of_two.ExplainAt)
+by_file Limits = Some (At, of_two.LimitsAt)
 by_file _ = None
 
 -- the name of the number of a command that takes one

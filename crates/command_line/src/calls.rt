@@ -69,6 +69,10 @@ pub enum OfTwo {
     Keep,
     /// `worst SET --at SETTINGS`
     WorstAt,
+    /// `explain SET --at SETTINGS`
+    ExplainAt,
+    /// `limits SET --at SETTINGS`
+    LimitsAt,
 }
 
 /// A command of an input and a number.
@@ -197,6 +201,8 @@ impl OfOne {
         match self {
             OfOne::Settings => Some((Choice::Keep, OfTwo::Keep)),
             OfOne::Worst => Some((Choice::At, OfTwo::WorstAt)),
+            OfOne::Explain => Some((Choice::At, OfTwo::ExplainAt)),
+            OfOne::Limits => Some((Choice::At, OfTwo::LimitsAt)),
             _ => None,
         }
     }
@@ -209,7 +215,8 @@ impl OfTwo {
     {
         match self {
             OfTwo::Check => "CERT",
-            OfTwo::Judge | OfTwo::Keep | OfTwo::WorstAt => "SETTINGS",
+            OfTwo::Judge | OfTwo::Keep => "SETTINGS",
+            OfTwo::WorstAt | OfTwo::ExplainAt | OfTwo::LimitsAt => "SETTINGS",
             OfTwo::Diff => "NEW",
             OfTwo::Simulate | OfTwo::Draw => "RELEASES",
             OfTwo::Observe => "TRACE",
@@ -314,7 +321,7 @@ impl Choice {
                 "By how many microseconds a time may be past what is promised, up to 60000000"
             }
             Choice::Keep => "Settings of a node whose order stays, as far as both have its tasks",
-            Choice::At => "Settings whose order it is said of, in place of the best one",
+            Choice::At => "Settings that give the order, in place of the best one",
         }
     }
 }

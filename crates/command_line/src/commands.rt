@@ -55,7 +55,7 @@ const COMMANDS: [Listed; 16] = [
     Listed {
         verb: Verb::One(OfOne::Explain),
         word: "explain",
-        options: &[Choice::Prefer, Choice::Task],
+        options: &[Choice::Prefer, Choice::Task, Choice::At],
         about: "Prints what each response is made of, or a minimal set of tasks that collide and how one order fails",
         example: example!(
             "explain examples/shared-lock.toml",
@@ -65,7 +65,7 @@ const COMMANDS: [Listed; 16] = [
     Listed {
         verb: Verb::One(OfOne::Limits),
         word: "limits",
-        options: &[Choice::Prefer, Choice::Task],
+        options: &[Choice::Prefer, Choice::Task, Choice::At],
         about: "Prints how far each number of a set may go with some order passing, all else equal",
         example: example!(
             "limits examples/robot.toml",

@@ -17,7 +17,7 @@ use Rattle.desk_cli.specs.Owning.{HaveOwned}
 use Rattle.desk_cli.specs.Sets.{HaveBoth}
 use Rattle.desk_cli.specs.Simulate.{SaysSimulation}
 use Rattle.desk_cli.specs.declared.of_two.Found.{Found}
-use Rattle.desk_cli.specs.declared.of_two.Found.TheVariants.{Shown, Compared, Judged, Simulated, Reached, Drawn, Observed, Keeping, WorstAt}
+use Rattle.desk_cli.specs.declared.of_two.Found.TheVariants.{Shown, Compared, Judged, Simulated, Reached, Drawn, Observed, Keeping, WorstAt, ExplainedAt, LimitedAt}
 use Rattle.desk_cli.specs.declared.refusal.CommandRefusal.{CommandRefusal}
 use Rattle.desk_cli.specs.declared.refusal.CommandRefusal.TheVariants as refusal
 use Rattle.desk_cli.specs.declared.status.Status.{Status}
@@ -33,6 +33,8 @@ never_unread command.Draw options U text never = never
 never_unread command.Observe options U text never = never
 never_unread command.Keep options U text never = never
 never_unread command.WorstAt options U text never = never
+never_unread command.LimitsAt options U text never = never
+never_unread command.ExplainAt options U text never = never
 
 module _ (options : Options) (owners : List Owner) (U : List Task) (text : List ℕ) (before after : Option (List ℕ)) (s : Status) where
   both : (set other : Option (List ℕ)) → HaveOwned (preference_of options) set other U owners text → HaveBoth (preference_of options) set other U text
@@ -52,6 +54,8 @@ module _ (options : Options) (owners : List Owner) (U : List Task) (text : List 
   refused_in command.Observe r why wrote is = λ set other has. (Err r, inr (U, text, both set other has, why), wrote, is)
   refused_in command.Keep r why wrote is = λ set other has. (Err r, inr (U, text, both set other has, why), wrote, is)
   refused_in command.WorstAt r why wrote is = λ set other has. (Err r, inr (U, text, both set other has, why), wrote, is)
+  refused_in command.LimitsAt r why wrote is = λ set other has. (Err r, inr (U, text, both set other has, why), wrote, is)
+  refused_in command.ExplainAt r why wrote is = λ set other has. (Err r, inr (U, text, both set other has, why), wrote, is)
 
   -- what was found was printed
   said_in : (c : OfTwo) (found : Found) → FindsIn c options U text (Ok found) → Appends before after (found_said owners U found) → s ≡ found_status found → SaysOfBoth c options owners U text before after s
@@ -64,6 +68,8 @@ module _ (options : Options) (owners : List Owner) (U : List Task) (text : List 
   said_in command.Observe (Observed tolerance sight) finds wrote is = λ set other has. rw (← finds.0) (Ok (U, sight), (text, both set other has, finds.1), wrote, is)
   said_in command.Keep (Keeping keeping base) finds wrote is = λ set other has. (Ok (U, keeping), (text, both set other has, finds.1), subst (λ (b : ℕ). Appends before after (keeping_lines U b keeping)) finds.0 wrote, is)
   said_in command.WorstAt (WorstAt worst) finds wrote is = λ set other has. (Ok (U, worst), (text, both set other has, finds), wrote, is)
+  said_in command.LimitsAt (LimitedAt found) finds wrote is = λ set other has. (Ok (U, found), (text, both set other has, finds), wrote, is)
+  said_in command.ExplainAt (ExplainedAt found) finds wrote is = λ set other has. (Ok (record { set = U; owners = owners; found = found }), (text, has, finds), wrote, is)
   said_in _ _ finds wrote is = absurd finds
 
   -- the same; or that memory was wanting for it, which is an answer of its own

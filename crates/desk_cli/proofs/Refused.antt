@@ -4,7 +4,7 @@ use Rattle.std.specs.Io.KnownBytes.{Appends}
 use Rattle.command_line.specs.declared.calls.OfOne.{OfOne}
 use Rattle.command_line.specs.declared.calls.OfOne.TheVariants.{Admit, Certify, Limits, Settings, Explain, Worst, Play}
 use Rattle.command_line.specs.declared.calls.OfTwo.{OfTwo}
-use Rattle.command_line.specs.declared.calls.OfTwo.TheVariants.{Check, Judge, Diff, Simulate, Draw, Observe, Keep, WorstAt}
+use Rattle.command_line.specs.declared.calls.OfTwo.TheVariants.{Check, Judge, Diff, Simulate, Draw, Observe, Keep, WorstAt, ExplainAt, LimitsAt}
 use Rattle.command_line.specs.declared.calls.Options.{Options}
 use Rattle.task_sheet.specs.declared.prefer.Preference.{Preference}
 use Rattle.desk_cli.specs.Commands.{OneSays, TwoSay, preference_of, task_of}
@@ -68,3 +68,5 @@ module _ (before after : Option (List ℕ)) (s : Status) (r : CommandRefusal) (w
   two_refused Observe options first second why = (Err r, inl why, wrote, is)
   two_refused Keep options first second why = (Err r, inl why, wrote, is)
   two_refused WorstAt options first second why = (Err r, inl why, wrote, is)
+  two_refused LimitsAt options first second why = (Err r, inl why, wrote, is)
+  two_refused ExplainAt options first second why = (Err r, inl why, wrote, is)

@@ -9,13 +9,15 @@ use Rattle.command_line.specs.declared.calls.Preferred.TheVariants as preferred
 use Rattle.command_line.specs.declared.calls.OfOne.{OfOne}
 use Rattle.command_line.specs.declared.calls.OfOne.TheVariants.{Admit, Certify, Limits, Settings, Explain, Worst, Play}
 use Rattle.command_line.specs.declared.calls.OfTwo.{OfTwo}
-use Rattle.command_line.specs.declared.calls.OfTwo.TheVariants.{Check, Judge, Diff, Simulate, Draw, Observe, Keep, WorstAt}
+use Rattle.command_line.specs.declared.calls.OfTwo.TheVariants.{Check, Judge, Diff, Simulate, Draw, Observe, Keep, WorstAt, ExplainAt, LimitsAt}
 use Rattle.desk_cli.specs.Admit.{Says, admit_lines}
 use Rattle.desk_cli.specs.Certify.{certificate_lines}
 use Rattle.desk_cli.specs.Check.{SaysChecked}
 use Rattle.desk_cli.specs.Diff.{SaysCompared}
 use Rattle.desk_cli.specs.Draw.{SaysDrawn}
+use Rattle.desk_cli.specs.ExplainAt.{SaysExplainedAt}
 use Rattle.desk_cli.specs.Judge.{SaysJudged}
+use Rattle.desk_cli.specs.LimitsAt.{SaysLimitsAt}
 use Rattle.desk_cli.specs.Observe.{SaysObserved, tolerance_of}
 use Rattle.desk_cli.specs.Keep.{SaysKeeping}
 use Rattle.desk_cli.specs.OneTask.{SaysLimitsOf, SaysReasonsOf, SaysWorstOf}
@@ -86,3 +88,7 @@ TwoSay Keep options first second before after s =
     SaysKeeping (base_of options) (preference_of options) first second before after s
 TwoSay WorstAt options first second before after s =
     SaysWorstAt (task_of options) (preference_of options) first second before after s
+TwoSay LimitsAt options first second before after s =
+    SaysLimitsAt (task_of options) (preference_of options) first second before after s
+TwoSay ExplainAt options first second before after s =
+    SaysExplainedAt (task_of options) (preference_of options) first second before after s

@@ -13,12 +13,14 @@ use Rattle.desk_cli.specs.Admit.{placing_status}
 use Rattle.desk_cli.specs.Commands.{base_of, preference_of, task_of}
 use Rattle.desk_cli.specs.Diff.{ComparesText, compared_lines}
 use Rattle.desk_cli.specs.Draw.{drawing_said}
+use Rattle.desk_cli.specs.ExplainAt.{ExplainsText, explained_at_lines}
 use Rattle.desk_cli.specs.Judge.{JudgesText, judged_status}
+use Rattle.desk_cli.specs.LimitsAt.{LimitsText}
 use Rattle.desk_cli.specs.Observe.{ObservesText, sight_said, sight_status, tolerance_of}
 use Rattle.desk_cli.specs.Printed.{IsPrinted}
 use Rattle.desk_cli.specs.Simulate.{IsInOrder, SimulatesText, reached_said, simulation_said, simulation_status}
 use Rattle.desk_cli.specs.declared.of_two.Found.{Found}
-use Rattle.desk_cli.specs.declared.of_two.Found.TheVariants.{Shown, Compared, Judged, Simulated, Reached, Drawn, Observed, Keeping, WorstAt}
+use Rattle.desk_cli.specs.declared.of_two.Found.TheVariants.{Shown, Compared, Judged, Simulated, Reached, Drawn, Observed, Keeping, WorstAt, ExplainedAt, LimitedAt}
 use Rattle.desk_cli.specs.Keep.{IsKeptIn, KeepsText, keeping_lines, keeping_status}
 use Rattle.desk_cli.specs.WorstAt.{WorstsText}
 use Rattle.desk_cli.specs.declared.refusal.CommandRefusal.{CommandRefusal}
@@ -49,6 +51,11 @@ FindsIn command.Keep options U text (Ok (Keeping keeping base)) =
 FindsIn command.Keep options U text (Err r) = KeepsText U text (Err r)
 FindsIn command.WorstAt options U text (Ok (WorstAt found)) = WorstsText (task_of options) U text (Ok found)
 FindsIn command.WorstAt options U text (Err r) = WorstsText (task_of options) U text (Err r)
+FindsIn command.LimitsAt options U text (Ok (LimitedAt found)) = LimitsText (task_of options) U text (Ok found)
+FindsIn command.LimitsAt options U text (Err r) = LimitsText (task_of options) U text (Err r)
+FindsIn command.ExplainAt options U text (Ok (ExplainedAt found)) =
+    ExplainsText (task_of options) U text (Ok found)
+FindsIn command.ExplainAt options U text (Err r) = ExplainsText (task_of options) U text (Err r)
 FindsIn _ options U text _ = ⊥
 
 -- what was found speaks of tasks that a set may have, and of a run in an order of the set
@@ -58,6 +65,7 @@ IsFoundOf U (Compared c) = IsPlacingOf U c.was × IsPlacingOf c.set c.is
 IsFoundOf U (Reached answer) = IsInOrder U answer
 IsFoundOf U (Drawn answer) = IsInOrder U answer
 IsFoundOf U (Keeping keeping base) = IsKeptIn U keeping
+IsFoundOf U (ExplainedAt found) = All (λ j. j.task < TASK_LIMIT) found.node.judged.items
 IsFoundOf U _ = Unit {0}
 
 -- what is printed of what was found of a set whose tasks these have
@@ -71,6 +79,8 @@ found_said owners U (Drawn answer) = drawing_said U answer
 found_said owners U (Observed tolerance sight) = sight_said tolerance U sight
 found_said owners U (Keeping keeping base) = keeping_lines U base keeping
 found_said owners U (WorstAt found) = string_bytes found.text
+found_said owners U (LimitedAt found) = string_bytes found.text
+found_said owners U (ExplainedAt found) = explained_at_lines owners U found
 
 -- the exit status of what was found
 abbrev pub found_status : Found → Status
@@ -83,6 +93,8 @@ found_status (Drawn answer) = simulation_status answer
 found_status (Observed tolerance sight) = sight_status tolerance sight
 found_status (Keeping keeping base) = keeping_status keeping
 found_status (WorstAt found) = judged_status found.node.judged.items
+found_status (LimitedAt found) = judged_status found.node.judged.items
+found_status (ExplainedAt found) = judged_status found.node.judged.items
 
 -- that is printed after what the writer held, with its status; or that there was no memory for it
 abbrev pub PrintsFound : List Owner → List Task → Found → (before after : Option (List ℕ)) → Status → Type 0

@@ -31,4 +31,7 @@ pub mod Statuses
 pub mod TextFaults
 pub mod WordsFaults
 pub mod Worst
+pub mod InOrder
 pub mod WorstAt
+pub mod ExplainAt
+pub mod LimitsAt

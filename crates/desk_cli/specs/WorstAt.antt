@@ -1,38 +1,23 @@
 -- What `desk worst SET --at SETTINGS` answers and prints.
-use Rattle.std.specs.Prelude.{◌≡◌, ℕ, false, List, Option, Some, None, Result, Ok, Err, string_bytes}
+use Rattle.std.specs.Prelude.{ℕ, List, Option, Result, Ok, Err, string_bytes}
 use Rattle.task_sheet.specs.declared.prefer.Preference.{Preference}
 use Rattle.task_sheet.specs.Sheet.{Task}
-use Rattle.lines.specs.Words.{name_in}
-use Rattle.judge.specs.Faults.{IsSettingsFault, settings_fault}
 use Rattle.worst_lines.specs.Lines.{AreWorstLinesIn}
-use Rattle.desk_cli.specs.Judge.{IsJudgement, judged_status}
-use Rattle.desk_cli.specs.OneTask.{asked_task}
+use Rattle.desk_cli.specs.InOrder.{AsksIn}
+use Rattle.desk_cli.specs.Judge.{judged_status}
 use Rattle.desk_cli.specs.Printed.{Prints}
 use Rattle.desk_cli.specs.Sets.{HaveBoth, OnBoth}
+use Rattle.desk_cli.specs.declared.in_order.InOrder.{InOrder}
 use Rattle.desk_cli.specs.declared.refusal.CommandRefusal.{CommandRefusal}
-use Rattle.desk_cli.specs.declared.refusal.CommandRefusal.TheVariants as refusal
 use Rattle.desk_cli.specs.declared.status.Status.{Status}
-use Rattle.desk_cli.specs.declared.worst_at.InOrder.{InOrder}
-
--- the task that is asked about: the one that has the name that a word is, where there is a word; or that there is none
-abbrev pub AsksTask : List Task → Option (List ℕ) → Result (Option ℕ) CommandRefusal → Type 0
-AsksTask U None (Ok asked) = asked ≡ None
-AsksTask U (Some word) (Ok asked) = (task : ℕ) × (asked_task U word ≡ Some task) × (asked ≡ Some task)
-AsksTask U (Some word) (Err (refusal.NoSuchTask name)) = (asked_task U word ≡ None) × (name ≡ name_in word)
-AsksTask U _ _ = ⊥
 
 -- the answer on a set and the text of settings: what becomes of each task in the order that they give, and the lines of the
 -- worst case there
 abbrev pub WorstsText : Option (List ℕ) → List Task → List ℕ → Result InOrder CommandRefusal → Type 0
 WorstsText word U text (Ok found) =
-    IsJudgement false U text found.node
-    × ((asked : Option ℕ) × AsksTask U word (Ok asked)
-    × AreWorstLinesIn U found.node.judged.items asked (string_bytes found.text))
-WorstsText word U text (Err (refusal.Settings fault)) = IsSettingsFault fault (settings_fault U text)
-WorstsText word U text (Err (refusal.NoSuchTask name)) =
-    (settings_fault U text ≡ None) × AsksTask U word (Err (refusal.NoSuchTask name))
-WorstsText word U text (Err refusal.OutOfMemory) = Unit {0}
-WorstsText word U text _ = ⊥
+    (asked : Option ℕ) × AsksIn word U text (Ok (found.node, asked))
+    × AreWorstLinesIn U found.node.judged.items asked (string_bytes found.text)
+WorstsText word U text (Err r) = AsksIn word U text (Err r)
 
 -- the answer on what the readers have of a set and of settings, with the set
 abbrev pub WorstsAt : Option (List ℕ) → Option Preference → (set settings : Option (List ℕ))

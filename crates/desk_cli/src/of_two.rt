@@ -11,15 +11,18 @@ use crate::audience::{Audience, Which};
 use crate::check::{check_text, line_of};
 use crate::diff_lines::{Compared, compare_text, compared_text};
 use crate::draw::{draw_best, draw_ordered};
+use crate::explain_at::{explain_at, explained_at_text};
+use crate::in_order::InOrder;
 use crate::judge_lines::{judge_text, judged_status};
 use crate::keep_lines::{keep_text, keeping_status, keeping_text};
+use crate::limits_at::limits_at;
 use crate::observe_lines::{observed_status, sight_of, tolerance_of};
 use crate::output::{print, print_bytes, print_made, refuse};
 use crate::refusal::CommandRefusal;
 use crate::sets::{base_of, preference_of, read_two, tell};
 use crate::simulate::{Simulated, ordered_text, reached_text, simulate_text};
 use crate::status::Status;
-use crate::worst_at::{InOrder, worst_at};
+use crate::worst_at::worst_at;
 use cert_checker::Checked;
 use command_line::{OfTwo, Options};
 use judge::{JudgedNode, judged_text};
@@ -54,6 +57,10 @@ pub enum Found {
     Keeping { keeping: Keeping, base: u32 },
     /// The worst case of a task in the order that settings give.
     WorstAt(InOrder),
+    /// What explains the order that settings give, without the teams of its tasks.
+    ExplainedAt(InOrder),
+    /// How far the numbers of a set may go in the order that settings give.
+    LimitedAt(InOrder),
 }
 
 // What a command finds of a set and a text.
@@ -94,6 +101,8 @@ fn find(
             base: base_of(options),
         }),
         OfTwo::WorstAt => Ok(Found::WorstAt(worst_at(alloc, options.task, tasks, text)?)),
+        OfTwo::LimitsAt => Ok(Found::LimitedAt(limits_at(alloc, options.task, tasks, text)?)),
+        OfTwo::ExplainAt => Ok(Found::ExplainedAt(explain_at(alloc, options.task, tasks, text)?)),
     }
 }
 
@@ -156,6 +165,16 @@ fn print_found<W: Write + Drop>(
         ),
         Found::WorstAt(found) => print(
             found.text.as_bytes(),
+            judged_status(&found.node.judged),
+            output,
+        ),
+        Found::LimitedAt(found) => print(
+            found.text.as_bytes(),
+            judged_status(&found.node.judged),
+            output,
+        ),
+        Found::ExplainedAt(found) => print_bytes(
+            explained_at_text(alloc, owners, tasks, found),
             judged_status(&found.node.judged),
             output,
         ),

@@ -28,7 +28,7 @@ const BY_WEIGHT: Options<'static> = Options {
 };
 
 // Words, and the call that they name.
-const CALLS: [(&[&str], Call<'static>); 22] = [
+const CALLS: [(&[&str], Call<'static>); 24] = [
     (
         &[],
         Call::One {
@@ -210,6 +210,24 @@ const CALLS: [(&[&str], Call<'static>); 22] = [
                 task: Some("a"),
                 ..PLAIN
             },
+        },
+    ),
+    (
+        &["explain", "--at=-", "s"],
+        Call::Two {
+            command: OfTwo::ExplainAt,
+            first: Input::File("s"),
+            second: Input::Standard,
+            options: PLAIN,
+        },
+    ),
+    (
+        &["limits", "s", "--at", "n"],
+        Call::Two {
+            command: OfTwo::LimitsAt,
+            first: Input::File("s"),
+            second: Input::File("n"),
+            options: PLAIN,
         },
     ),
     (

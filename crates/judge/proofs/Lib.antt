@@ -1,4 +1,7 @@
 pub mod JudgedLaws
+pub mod TaskLaws
+pub mod ExplainedLaws
+pub mod PlaceLaws
 pub mod FaultLaws
 pub mod NumberLaws
 pub mod TextLaws

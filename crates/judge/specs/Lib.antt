@@ -5,3 +5,4 @@ pub mod Lines
 pub mod Node
 pub mod Kept
 pub mod Front
+pub mod Explained

@@ -30,7 +30,7 @@ pub struct JudgedTask {
 }
 
 // The tasks of a list.
-fn members_of(order: &[usize]) -> Members
+pub(crate) fn members_of(order: &[usize]) -> Members
     requires { All (λ index. index < TASK_LIMIT) order.now }
     ensures { indexes_of result ≡ among order.now }
 {

@@ -1,7 +1,8 @@
-//! An order that a node has already: what the numbers of its threads and mutexes say, and whether each task meets its
-//! deadline there.
+//! An order that a node has already: what the numbers of its threads and mutexes say, whether each task meets its deadline
+//! there, and why.
 #![tactic(auto)]
 
+mod explained;
 mod fault;
 mod front;
 mod judging;
@@ -10,16 +11,19 @@ pub mod laws;
 mod node;
 mod numbers;
 mod order;
+mod places;
 mod reading;
 mod rows;
 mod settings_fault;
 mod text;
 
+pub use crate::explained::explained_text;
 pub use crate::fault::SettingsFault;
 pub use crate::front::{Front, read_front};
 pub use crate::judging::{JudgedTask, Judgement, all_meet, judge_order};
 pub use crate::kept::read_kept;
 pub use crate::node::{JudgedNode, judge_settings};
+pub use crate::places::places_of;
 pub use crate::reading::{order_of_rows, read_settings, read_settings_by};
 pub use crate::rows::{NUMBER_LIMIT, Setting, SettingRow};
-pub use crate::text::{judged_text, levels_text};
+pub use crate::text::{first_text, judged_text, levels_text};

@@ -96,7 +96,7 @@ fn push_number(text: &mut String, number: Option<u64>) -> Result<(), AllocError>
 }
 
 // The line of a level after its number: the task, what becomes of it, and the number of its thread.
-fn push_judged(
+pub(crate) fn push_judged(
     text: &mut String,
     set: &TaskSet,
     judged: &JudgedTask,
@@ -144,6 +144,16 @@ pub fn judged_text(
     let mut text = String::new(alloc);
     push_first(&mut text, set, judged)?;
     push_levels(&mut text, set, judged, numbers)?;
+    Ok(text)
+}
+
+/// The first of them alone: whether all meet their deadlines. The error is want of memory.
+pub fn first_text(alloc: Global, set: &TaskSet, judged: &[JudgedTask]) -> Result<String, AllocError>
+    requires { All (λ j. j.task < TASK_LIMIT) judged.now }
+    ensures { IfOk result (λ text. string_bytes text ≡ meets_line set.now judged.now) }
+{
+    let mut text = String::new(alloc);
+    push_first(&mut text, set, judged)?;
     Ok(text)
 }
 

@@ -24,7 +24,8 @@ fn name_of_one(command: OfOne) -> &'static str {
 fn name_of_second(command: OfTwo) -> &'static str {
     match command {
         OfTwo::Check => "certificate",
-        OfTwo::Judge | OfTwo::Keep | OfTwo::WorstAt => "settings",
+        OfTwo::Judge | OfTwo::Keep => "settings",
+        OfTwo::WorstAt | OfTwo::ExplainAt | OfTwo::LimitsAt => "settings",
         OfTwo::Diff => "changed",
         OfTwo::Simulate | OfTwo::Draw => "releases",
         OfTwo::Observe => "trace",

@@ -3,10 +3,17 @@ use Rattle.std.proofs.Common.{◌≡◌, ℕ, zero, suc, ◌+◌, ◌<◌, ◌++
 use Rattle.task_sheet.specs.Sheet.{Task}
 use Rattle.task_sheet.specs.Orders.{IsFeasible}
 use Rattle.assignment.specs.Places.{PlaceData}
-use Rattle.assignment.specs.Placings.{tasks_of_places}
+use Rattle.assignment.specs.Placings.{IsPlacingOf, tasks_of_places}
+use Rattle.assignment.specs.declared.placing.Placing.{Placing}
+use Rattle.assignment.specs.declared.placing.Placing.TheVariants.{Best, Stuck}
 use Rattle.limits.specs.declared.number.Number.{Number}
 use Rattle.limits.specs.Numbers.{HasNumber, MayHave, numbered}
-use Rattle.limit_lines.specs.Lines.{number_at, AnswersIn, IsNumberLine, AreNumberLines}
+use Rattle.limit_lines.specs.Lines.{HasPassing, number_at, AnswersIn, IsNumberLine, AreNumberLines}
+
+-- the best order passes
+pub best_passes : (U : List Task) (placing : Placing) → IsPlacingOf U placing → HasPassing U placing
+best_passes U (Best places) is = is.best.passing
+best_passes U (Stuck members) is = tt
 
 -- one line more
 pub lines_more : (U : List Task) (places : Option (List PlaceData)) (i k : ℕ) (front line : List ℕ) → AreNumberLines U places i k front → IsNumberLine U places i (number_at k) line

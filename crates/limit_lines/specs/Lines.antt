@@ -2,6 +2,7 @@
 use Rattle.std.specs.Prelude.{◌≡◌, ◌⊎◌, ℕ, zero, suc, ◌+◌, ◌-◌, ◌<◌, ◌==◌, List, [], ◌∷◌, ◌++◌, length, codes, Option, Some, None, if◌then◌else◌}
 use Rattle.std.specs.Fmt.{decimal}
 use Rattle.task_sheet.specs.Sheet.{Task, task_at}
+use Rattle.task_sheet.specs.Orders.{IsPassingOrder}
 use Rattle.lines.specs.Naming.{name_at}
 use Rattle.assignment.specs.Places.{PlaceData}
 use Rattle.assignment.specs.Placings.{tasks_of_places}
@@ -23,6 +24,11 @@ places_in (Stuck members) = None
 abbrev pub order_in : Placing → List ℕ
 order_in (Best places) = tasks_of_places places.items
 order_in (Stuck members) = []
+
+-- the order of a placing, where it has one, passes, whether it is the best or not
+abbrev pub HasPassing : List Task → Placing → Type 0
+HasPassing U (Best places) = IsPassingOrder U (tasks_of_places places.items)
+HasPassing U (Stuck members) = Unit {0}
 
 -- ---- a number
 -- the numbers of a task, one after the other: cost, period, deadline, jitter, and the lengths of its sections

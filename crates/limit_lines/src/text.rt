@@ -5,10 +5,9 @@ ghost use Rattle.task_sheet.specs.Orders.{IsFeasible};
 ghost use Rattle.task_sheet.specs.declared.sheet.TheConstants.{SECTION_LIMIT};
 ghost use Rattle.task_sheet.specs.TaskSet.{IsTaskSet};
 ghost use Rattle.ceilings.specs.IsTableOf.{IsTableOf};
-ghost use Rattle.assignment.specs.Placings.{IsPlacingOf};
 ghost use Rattle.factor.specs.Factors.{AnswersFactor};
 ghost use Rattle.limits.specs.Numbers.{AnswersFurthest, HasNumber, MayHave, numbered};
-ghost use Rattle.limit_lines.specs.Lines.{AnswersFactorIn, AnswersIn, AreTaskLines, IsFactorLine, IsLast, IsNumberLine, label_of, number_at, number_line, order_in, places_in, slack_in, slack_line, slack_of, some_words};
+ghost use Rattle.limit_lines.specs.Lines.{AnswersFactorIn, AnswersIn, AreTaskLines, HasPassing, IsFactorLine, IsLast, IsNumberLine, label_of, number_at, number_line, order_in, places_in, slack_in, slack_line, slack_of, some_words};
 
 use assignment::{Place, Placing};
 use ceilings::LockTable;
@@ -94,7 +93,7 @@ fn in_order(
     number: Number,
 ) -> Result<Option<u64>, AllocError>
     requires table { IsTableOf set.now table.now }
-    requires placing { IsPlacingOf set.now placing.now }
+    requires placing { HasPassing set.now placing.now }
     requires order { order.now ≡ order_in placing.now }
     requires task { task < length set.now }
     requires has { HasNumber (task_at set.now task) number }
@@ -146,7 +145,7 @@ fn number_text(
     number: Number,
 ) -> Result<String, AllocError>
     requires table { IsTableOf set.now table.now }
-    requires placing { IsPlacingOf set.now placing.now }
+    requires placing { HasPassing set.now placing.now }
     requires order { order.now ≡ order_in placing.now }
     requires task { task < length set.now }
     requires has { HasNumber (task_at set.now task) number }
@@ -203,8 +202,8 @@ fn push_slack(
 }
 
 /// The lines of a task of a placed set: for each of its numbers that may help its value, the furthest with which the
-/// order passes, and the furthest with which some order does; and after a yes its slack. `order` is that of the placing,
-/// the lowest first. The table is that of the set. The error is want of memory.
+/// order passes, and the furthest with which some order does; and where there is an order, its slack. That is any one which
+/// passes, the best or another; `order` is the same, the lowest first. The table is that of the set. The error is want of memory.
 pub fn task_text(
     alloc: Global,
     set: &TaskSet,
@@ -214,7 +213,7 @@ pub fn task_text(
     task: usize,
 ) -> Result<String, AllocError>
     requires table { IsTableOf set.now table.now }
-    requires placing { IsPlacingOf set.now placing.now }
+    requires placing { HasPassing set.now placing.now }
     requires order { order.now ≡ order_in placing.now }
     requires task { task < length set.now }
     ensures { IfOk result (λ text. AreTaskLines set.now (places_in placing.now) task
@@ -240,7 +239,7 @@ fn factor_in(
 ) -> Result<Option<u64>, AllocError>
     requires kept { IsTaskSet set.now }
     requires some { 0 < length set.now }
-    requires placing { IsPlacingOf set.now placing.now }
+    requires placing { HasPassing set.now placing.now }
     requires order { order.now ≡ order_in placing.now }
     ensures { IfOk result (λ own. AnswersFactorIn set.now (places_in placing.now) own) }
 {
@@ -289,7 +288,7 @@ pub fn last_text(
     placing: &Placing,
     order: &[usize],
 ) -> Result<String, AllocError>
-    requires placing { IsPlacingOf set.now placing.now }
+    requires placing { HasPassing set.now placing.now }
     requires order { order.now ≡ order_in placing.now }
     ensures { IfOk result (λ text. IsLast set.now (places_in placing.now) (string_bytes text)) }
 {

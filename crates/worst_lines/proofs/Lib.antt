@@ -1,4 +1,3 @@
 pub mod DecidingLaws
 pub mod PassLaws
-pub mod JudgedLaws
 pub mod BelowLaws

@@ -1,6 +1,6 @@
 use Rattle.std.proofs.Common.{◌∙◌, ◌<◌, ℕ, List, length, All, sym, subst}
 use Rattle.worst_lines.specs.Deciding.{IsDeciding}
-use Rattle.worst_lines.proofs.JudgedLaws.{in_set}
+use Rattle.judge.proofs.TaskLaws.{in_set}
 use Rattle.worst_lines.proofs.deciding.judge_deciding.Goals as goal
 
 pub judge_order-requires-clause-within : goal.judge_order-requires-clause-within

@@ -1,7 +1,7 @@
 use Rattle.std.proofs.Common.{◌∙◌, ◌<◌, ℕ, List, length, All, sym, subst}
 use Rattle.task_sheet.specs.Orders.{IsOrder}
 use Rattle.judge.specs.declared.judging.JudgedTask.{JudgedTask}
-use Rattle.worst_lines.proofs.JudgedLaws.{in_set, judged_in_set}
+use Rattle.judge.proofs.TaskLaws.{in_set, judged_in_set}
 use Rattle.worst_lines.proofs.text.worst_text.Goals as goal
 
 pub judge_order-requires-clause-within : goal.judge_order-requires-clause-within

@@ -1,4 +1,4 @@
-use Rattle.worst_lines.proofs.JudgedLaws.{judged_in_set}
+use Rattle.judge.proofs.TaskLaws.{judged_in_set}
 use Rattle.worst_lines.proofs.text.worst_text_in.Goals as goal
 
 pub chosen_in-chosen-requires : goal.chosen_in-chosen-requires

@@ -1,0 +1,46 @@
+-- The lines of an order's levels, one after the other.
+use Rattle.std.proofs.Common.{◌≡◌, ◌∙◌, ℕ, suc, ◌+◌, ◌<◌, ◌≤◌, List, [], ◌∷◌, ◌++◌, length, All, Option, append-nil, append_assoc, codes, refl, sym, ap, subst, arith}
+use Rattle.std.proofs.lemmas.Bool.{eq-eqb}
+use Rattle.std.proofs.lemmas.Fmt.{decimal_digit}
+use Rattle.std.proofs.lemmas.List.{get_or-map, length-map}
+use Rattle.task_sheet.specs.Sheet.{Task}
+use Rattle.explain.specs.Lines.{account_lines}
+use Rattle.explain.specs.TaskLines.{level_lines_of, response_lines_of}
+use Rattle.explain.specs.declared.accounts.Account.{Account}
+use Rattle.judge.specs.Explained.{AreAskedLines, AreLevels, is_asked}
+use Rattle.judge.specs.Judgements.{order_judged}
+use Rattle.judge.specs.declared.judging.JudgedTask.{JudgedTask}
+use Rattle.judge.proofs.TextLaws.{no_judged}
+
+-- one level more
+pub levels_next : (U : List Task) (asked : Option ℕ) (number next : ℕ) (judged rest above : List JudgedTask) (j : JudgedTask) (before level now : List ℕ) → rest ≡ j ∷ above → next ≡ number + 1 → now ≡ before ++ level
+    → AreAskedLines (is_asked asked j.task) U (order_judged above) number j level
+    → ((more : List ℕ) → AreLevels U asked number rest more → AreLevels U asked 1 judged (before ++ more))
+    → (more : List ℕ) → AreLevels U asked next above more → AreLevels U asked 1 judged (now ++ more)
+levels_next U asked number next judged rest above j before level now split counted pushed is whole more are =
+    let are' = subst (λ (n : ℕ). AreLevels U asked n above more) counted are in
+    let here : AreLevels U asked number (j ∷ above) (level ++ more) = (level, more, is, are', refl) in
+    let all = whole (level ++ more) (subst (λ (js : List JudgedTask). AreLevels U asked number js (level ++ more)) (sym split) here) in
+    subst (λ (text : List ℕ). AreLevels U asked 1 judged text) (sym (ap (λ (t : List ℕ). t ++ more) pushed ∙ append_assoc before level more)) all
+
+pub none_left : (U : List Task) (asked : Option ℕ) (number : ℕ) (judged : List JudgedTask) → length judged ≡ 0 → AreLevels U asked number judged []
+none_left U asked number [] none = refl
+none_left U asked number (j ∷ judged) none = absurd (omega (arith, none))
+
+-- all but the first
+pub all_behind : (P : JudgedTask → Type 0) (j : JudgedTask) (judged : List JudgedTask) → All P (j ∷ judged) → All P judged
+all_behind P j judged all k d lt = all (suc k) d (omega (arith, lt))
+
+-- the tasks of an order, where those that were judged are so
+pub order_within : (n m : ℕ) (judged : List JudgedTask) → n ≤ m → All (λ (j : JudgedTask). j.task < n) judged → All (λ k. k < m) (order_judged judged)
+order_within n m judged le all k d lt =
+    let inside : k < length judged = omega (arith, lt, length-map judged (λ (j : JudgedTask). j.task)) in
+    omega (arith, le, all k no_judged inside, get_or-map (λ (j : JudgedTask). j.task) judged k no_judged d inside)
+
+-- an order of one level has the number 1
+level_is : (U : List Task) (a : Account) → level_lines_of U a.task 1 a ≡ 49 ∷ 32 ∷ account_lines U a
+level_is U a = rw (eq-eqb a.task a.task refl) (ap (λ (d : List ℕ). d ++ codes " " ++ account_lines U a) (decimal_digit 1 (omega arith)))
+
+pub alone_is : (U : List Task) (a : Account) (accounts : List Account) → accounts ≡ a ∷ [] → response_lines_of U a.task 1 accounts ≡ 49 ∷ 32 ∷ account_lines U a
+alone_is U a accounts is =
+    ap (λ (one : List Account). response_lines_of U a.task 1 one) is ∙ append-nil (level_lines_of U a.task 1 a) ∙ level_is U a

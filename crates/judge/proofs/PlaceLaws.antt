@@ -1,0 +1,20 @@
+-- The places of an order whose tasks all meet their deadlines.
+use Rattle.std.proofs.Common.{◌≡◌, ◌∙◌, ℕ, List, sym, ap, subst}
+use Rattle.std.specs.Prelude.{IsTrue}
+use Rattle.task_sheet.specs.Sheet.{Task}
+use Rattle.task_sheet.specs.Orders.{AllStand, IsOrder, IsPassingOrder}
+use Rattle.assignment.specs.Places.{PlaceData}
+use Rattle.assignment.specs.Placings.{tasks_of_places}
+use Rattle.judge.specs.Judgements.{AllJudged, all_meet, judged_of, order_judged}
+use Rattle.judge.specs.declared.judging.JudgedTask.{JudgedTask}
+use Rattle.judge.proofs.OrderLaws.{judged_meet, judged_passing, judged_tasks}
+
+-- their order passes
+pub places_pass : (U : List Task) (judged : List JudgedTask) (places : List PlaceData) → IsOrder U (order_judged judged) → AllJudged U judged → judged ≡ judged_of places → IsPassingOrder U (tasks_of_places places)
+places_pass U judged places each are is =
+    let same : order_judged judged ≡ tasks_of_places places = ap (λ (js : List JudgedTask). order_judged js) is ∙ judged_tasks places in
+    let meets = subst (λ (js : List JudgedTask). IsTrue (all_meet js)) (sym is) (judged_meet places) in
+    record {
+      each_once = subst (λ (order : List ℕ). IsOrder U order) same each;
+      each_stands = subst (λ (order : List ℕ). AllStand U order) same (judged_passing U judged are meets);
+    }

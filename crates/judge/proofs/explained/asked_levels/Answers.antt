@@ -1,0 +1,32 @@
+use Rattle.std.proofs.Common.{◌≡◌, ◌∙◌, ◌<◌, ◌+◌, ℕ, List, [], ◌∷◌, ◌++◌, length, All, append-nil, ap, refl, subst, arith, string_bytes}
+use Rattle.judge.specs.Explained.{AreLevels}
+use Rattle.judge.specs.Judgements.{AllJudged}
+use Rattle.judge.specs.declared.judging.JudgedTask.{JudgedTask}
+use Rattle.judge.proofs.ExplainedLaws.{all_behind, levels_next, none_left}
+use Rattle.judge.proofs.explained.asked_levels.Goals as goal
+
+pub loop-entry-preserved : goal.loop-entry-preserved
+loop-entry-preserved c =
+    let U = c.args.set.now in
+    let asked = c.args.asked in
+    let number = c.loop-entry.number in
+    let rest = c.loop-entry.rest.now in
+    let above = c.in-Some.above.now in
+    let entry = c.in-Some.entry.now in
+    let before : List ℕ = string_bytes c.loop-entry.text in
+    let level : List ℕ = string_bytes c.in_ok-level.level in
+    let split : rest ≡ entry ∷ above = c.in-Some.ensures.cases.0 in
+    let is = c.loop-entry.invariant in
+    let said : string_bytes c.push_str.new.self ≡ before ++ level = c.in_ok-push_str.ensures.bytes ∙ ap (λ (t : List ℕ). before ++ t) c.as_str.ensures.value in
+    record {
+      each = (subst (λ (js : List JudgedTask). AllJudged U js) split is.each).1;
+      within = all_behind (λ (j : JudgedTask). j.task < length U) entry above (subst (λ (js : List JudgedTask). All (λ (j : JudgedTask). j.task < length U) js) split is.within);
+      counted = omega (arith, is.counted, ap (λ (js : List JudgedTask). length js) split);
+      whole = levels_next U asked number (number + 1) c.args.judged.now rest above entry before level (string_bytes c.push_str.new.self) split refl said c.in_ok-level.ensures is.whole;
+    }
+
+pub returns : goal.returns
+returns c =
+    let U = c.args.set.now in
+    let whole = c.loop-entry.invariant.whole [] (none_left U c.args.asked c.loop-entry.number c.loop-entry.rest.now c.in_default.ensures.cases) in
+    subst (λ (text : List ℕ). AreLevels U c.args.asked 1 c.args.judged.now text) (append-nil (string_bytes c.loop-entry.text)) whole

@@ -1,0 +1,224 @@
+//! The lines that explain what becomes of the tasks of an order.
+ghost use Rattle.std.specs.Prelude.{◌≡◌, ◌++◌, ◌<◌, ◌≤◌, length, codes, All, IfOk, OnOk, string_bytes};
+ghost use Rattle.task_sheet.specs.Sheet.{task_at};
+ghost use Rattle.task_sheet.specs.Indexes.{among};
+ghost use Rattle.task_sheet.specs.Demand.{IsResponseOf};
+ghost use Rattle.task_sheet.specs.Orders.{IsOrder};
+ghost use Rattle.ceilings.specs.IsTableOf.{IsTableOf};
+ghost use Rattle.explain.specs.Accounts.{IsResponseAccount};
+ghost use Rattle.explain.specs.Lines.{account_lines, level_account_lines};
+ghost use Rattle.judge.specs.Explained.{AreAskedLines, AreExplained, AreLevelLines, AreLevels, failed_line, is_asked, load_asked};
+ghost use Rattle.judge.specs.Judgements.{AllJudged, IsJudgementOf, order_judged};
+
+use crate::judging::{JudgedTask, Judgement, members_of};
+use crate::text::push_judged;
+use ceilings::LockTable;
+use explain::{Account, Explanation, load, parts_of, task_text};
+use std::alloc::{AllocError, Global};
+use task_sheet::TaskSet;
+
+// The tasks of an order that was judged, the lowest first.
+fn order_of(alloc: Global, judged: &[JudgedTask]) -> Result<Vec<usize>, AllocError>
+    ensures { IfOk result (λ order. order.items ≡ order_judged judged.now) }
+{
+    let mut order = Vec::with_capacity(alloc, judged.len())?;
+    for entry in judged {
+        order.push(entry.task)?;
+    }
+    Ok(order)
+}
+
+// The response of a task below these, with what it is made of.
+fn account_of(
+    alloc: Global,
+    set: &TaskSet,
+    table: &LockTable,
+    task: usize,
+    response: u64,
+    above: &[JudgedTask],
+) -> Result<Account, AllocError>
+    requires table { IsTableOf set.now table.now }
+    requires task { task < length set.now }
+    requires above { All (λ j. j.task < length set.now) above.now }
+    requires response { IsResponseOf set.now task (among (order_judged above.now)) response }
+    requires in_time { response ≤ (task_at set.now task).deadline }
+    ensures { IfOk result (IsResponseAccount set.now (order_judged above.now)
+        (record { task = task; response = response })) }
+{
+    let mut order = order_of(alloc, above)?;
+    let members = members_of(&order);
+    order.reverse();
+    let sheet = &set.sheets()[task];
+    let window = response - sheet.jitter();
+    let parts = parts_of(alloc, set, table, task, members, &order, window)?;
+    Ok(Account {
+        task,
+        time: response,
+        deadline: sheet.deadline(),
+        parts,
+    })
+}
+
+// The lines of a response as those of an order of this level alone, whose number is 1.
+fn alone_text(alloc: Global, set: &TaskSet, account: Account) -> Result<String, AllocError>
+    ensures { IfOk result (λ text. string_bytes text
+        ≡ codes "1" ++ codes " " ++ account_lines set.now account) }
+{
+    let task = account.task;
+    let mut accounts = Vec::with_capacity(alloc, 1)?;
+    accounts.push(account)?;
+    task_text(alloc, set, &Explanation::Responses(accounts), task)
+}
+
+// The lines of a response at a level, which has a number.
+fn account_text(
+    alloc: Global,
+    set: &TaskSet,
+    number: usize,
+    account: Account,
+) -> Result<String, AllocError>
+    ensures { IfOk result (λ text. string_bytes text
+        ≡ level_account_lines set.now number account) }
+{
+    let alone = alone_text(alloc, set, account)?;
+    let mut text = format!(in alloc; "{number}")?;
+    match alone.as_str().strip_prefix('1') {
+        Some(lines) => text.push_str(lines)?,
+        None => unreachable!(),
+    }
+    Ok(text)
+}
+
+// The line of a level, which has a number, where its task doesn't meet its deadline.
+fn failed_text(
+    alloc: Global,
+    set: &TaskSet,
+    number: usize,
+    entry: JudgedTask,
+) -> Result<String, AllocError>
+    ensures { IfOk result (λ text. string_bytes text ≡ failed_line set.now number entry) }
+{
+    let mut text = format!(in alloc; "{number} ")?;
+    push_judged(&mut text, set, &entry, None)?;
+    Ok(text)
+}
+
+// The lines of a level, which has a number.
+fn level_text(
+    alloc: Global,
+    set: &TaskSet,
+    table: &LockTable,
+    number: usize,
+    entry: JudgedTask,
+    above: &[JudgedTask],
+) -> Result<String, AllocError>
+    requires table { IsTableOf set.now table.now }
+    requires task { entry.task < length set.now }
+    requires above { All (λ j. j.task < length set.now) above.now }
+    requires judged { IsJudgementOf set.now entry.task (among (order_judged above.now))
+        entry.judgement }
+    ensures { IfOk result (λ text. AreLevelLines set.now (order_judged above.now) number entry.task
+        entry.judgement (string_bytes text)) }
+{
+    match entry.judgement {
+        Judgement::Meets { response } => {
+            let account = account_of(alloc, set, table, entry.task, response, above)?;
+            account_text(alloc, set, number, account)
+        }
+        Judgement::Misses => failed_text(alloc, set, number, entry),
+        Judgement::Below { .. } => failed_text(alloc, set, number, entry),
+    }
+}
+
+// It is asked about this task.
+fn is_asked(asked: Option<usize>, task: usize) -> bool
+    ensures { result ≡ is_asked asked task }
+{
+    match asked {
+        Some(asked) => asked == task,
+        None => true,
+    }
+}
+
+// The lines of a level, where it is asked about its task.
+fn asked_text(
+    alloc: Global,
+    set: &TaskSet,
+    table: &LockTable,
+    asked: Option<usize>,
+    number: usize,
+    entry: JudgedTask,
+    above: &[JudgedTask],
+) -> Result<String, AllocError>
+    requires table { IsTableOf set.now table.now }
+    requires task { entry.task < length set.now }
+    requires above { All (λ j. j.task < length set.now) above.now }
+    requires judged { IsJudgementOf set.now entry.task (among (order_judged above.now))
+        entry.judgement }
+    ensures { IfOk result (λ text. AreAskedLines (is_asked asked entry.task) set.now
+        (order_judged above.now) number entry (string_bytes text)) }
+{
+    if !is_asked(asked, entry.task) {
+        return Ok(String::new(alloc));
+    }
+    level_text(alloc, set, table, number, entry, above)
+}
+
+// The lines of each level of an order, the lowest first.
+fn asked_levels(
+    alloc: Global,
+    set: &TaskSet,
+    table: &LockTable,
+    asked: Option<usize>,
+    judged: &[JudgedTask],
+) -> Result<String, AllocError>
+    requires table { IsTableOf set.now table.now }
+    requires within { All (λ j. j.task < length set.now) judged.now }
+    requires judged { AllJudged set.now judged.now }
+    ensures { IfOk result (λ text. AreLevels set.now asked 1 judged.now (string_bytes text)) }
+{
+    let mut text = String::new(alloc);
+    let mut number = 1;
+    let mut rest = judged;
+    while let Some((entry, above)) = rest.split_first() {
+        let level = asked_text(alloc, set, table, asked, number, *entry, above)?;
+        text.push_str(level.as_str())?;
+        number += 1;
+        rest = above;
+    }
+    Ok(text)
+}
+
+// The load of a set, where no task is named.
+fn push_load(text: &mut String, set: &TaskSet, asked: Option<usize>) -> Result<(), AllocError>
+    ensures { OnOk result (string_bytes text.new ≡ string_bytes text.old
+        ++ load_asked set.now asked) }
+{
+    match asked {
+        Some(_) => Ok(()),
+        None => {
+            let load = load(set);
+            writeln!(text, "load {load}")
+        }
+    }
+}
+
+/// The lines that explain an order that was judged: each level, the lowest first, with the parts of its response, or that its
+/// task doesn't meet its deadline, and then the load of the set; or those of one task alone. The error is want of memory. The
+/// table is that of the set.
+pub fn explained_text(
+    alloc: Global,
+    set: &TaskSet,
+    table: &LockTable,
+    judged: &[JudgedTask],
+    asked: Option<usize>,
+) -> Result<String, AllocError>
+    requires table { IsTableOf set.now table.now }
+    requires order { IsOrder set.now (order_judged judged.now) }
+    requires judged { AllJudged set.now judged.now }
+    ensures { IfOk result (λ text. AreExplained set.now asked judged.now (string_bytes text)) }
+{
+    let mut text = asked_levels(alloc, set, table, asked, judged)?;
+    push_load(&mut text, set, asked)?;
+    Ok(text)
+}
