@@ -1,16 +1,18 @@
 //! Jobs, from their arrivals up to their bounds.
-ghost use Rattle.std.specs.Prelude.{◌≡◌, ◌+◌};
+ghost use Rattle.std.specs.Prelude.{◌≡◌, ◌+◌, ◌≤◌};
 ghost use Rattle.picture.specs.Puts.{Puts};
-ghost use Rattle.picture.specs.Rows.{on_row};
-ghost use Rattle.picture.specs.Elements.{limit_of, job_box, arrival_words, done_words, limit_words, on_text, job_words, job_text};
+ghost use Rattle.task_sheet.specs.declared.set.TheConstants.{TASK_LIMIT};
+ghost use Rattle.picture.specs.Rows.{on_spot};
+ghost use Rattle.picture.specs.Elements.{limit_of, job_box, arrival_words, done_words, limit_words, back_text, on_sign, on_text, job_words, seen_job, job_text};
 ghost use Rattle.picture.specs.Document.{jobs_text};
 
 use crate::boxes::bar_of;
 use crate::chart::{Chart, Lane};
-use crate::frame::{end_of, top_of, x_after, x_of};
+use crate::frame::{Frame, end_of, sees_from, start_of, top_of, x_after, x_of};
+use crate::misses::ended;
 use crate::numbers::Known;
 use crate::page::Page;
-use crate::rows::{TaskRow, find_row};
+use crate::rows::TaskRow;
 use ceiling_kernel::JobRecord;
 use std::io::Write;
 use streams::WriteFailed;
@@ -26,11 +28,11 @@ impl<W: Write + Drop> Page<'_, W> {
     // The box of a job.
     fn put_box(&mut self, lane: &Lane<'_>, job: &JobRecord) -> Result<(), WriteFailed>
         ensures { Puts W.contents self.old self.new result
-            (job_box lane.now.frame lane.now.k lane.now.row.now job.now) }
+            (job_box lane.now.frame lane.now.spot.k lane.now.row.now job.now) }
     {
         let x = x_of(lane.frame, job.release);
         let right = x_after(lane.frame, job.release, limit_of(lane.row));
-        let bar = bar_of(x, right, lane.k);
+        let bar = bar_of(x, right, lane.spot.k);
         write!(self.out, "<path class=\"w\" d=\"{bar}\"><title>")
     }
 
@@ -68,21 +70,50 @@ impl<W: Write + Drop> Page<'_, W> {
         )
     }
 
-    // A sign at the end where a job goes on.
+    // A sign at the beginning, before which a job goes on.
+    fn put_back(&mut self, lane: &Lane<'_>, job: &JobRecord) -> Result<(), WriteFailed>
+        ensures { Puts W.contents self.old self.new result
+            (back_text lane.now.frame lane.now.spot.k job.now) }
+    {
+        let from = lane.frame.from;
+        if job.release >= from || ended(lane.frame, job) <= from {
+            return Ok(());
+        }
+        let left = start_of(lane.frame);
+        let y = top_of(lane.spot.k) + 195;
+        write!(
+            self.out,
+            "<path class=\"a\" d=\"M{left} {y}m-20 0l-60 60 60 60m-60-120l-60 60 60 60\"/>\n"
+        )
+    }
+
+    // A sign at the end.
+    fn put_on_sign(&mut self, frame: Frame, k: usize) -> Result<(), WriteFailed>
+        requires { k ≤ TASK_LIMIT }
+        ensures { Puts W.contents self.old self.new result (on_sign frame k) }
+    {
+        let end = end_of(frame);
+        let y = top_of(k) + 195;
+        write!(
+            self.out,
+            "<path class=\"a\" d=\"M{end} {y}m20 0l60 60-60 60m60-120l60 60-60 60\"/>\n"
+        )
+    }
+
+    // The same of a job that goes on behind it.
     fn put_on(&mut self, lane: &Lane<'_>, job: &JobRecord) -> Result<(), WriteFailed>
         ensures { Puts W.contents self.old self.new result
-            (on_text lane.now.frame lane.now.k job.now.finish) }
+            (on_text lane.now.frame lane.now.spot.k job.now.finish) }
     {
         match job.finish {
-            Some(_) => Ok(()),
-            None => {
-                let end = end_of(lane.frame);
-                let y = top_of(lane.k) + 195;
-                write!(
-                    self.out,
-                    "<path class=\"a\" d=\"M{end} {y}m20 0l60 60-60 60m60-120l60 60-60 60\"/>\n"
-                )
+            Some(finish) => {
+                if lane.frame.to < finish {
+                    self.put_on_sign(lane.frame, lane.spot.k)
+                } else {
+                    Ok(())
+                }
             }
+            None => self.put_on_sign(lane.frame, lane.spot.k),
         }
     }
 
@@ -95,31 +126,45 @@ impl<W: Write + Drop> Page<'_, W> {
         self.put_limit_words(row)
     }
 
-    // A job in a row.
-    fn put_job_in(&mut self, lane: &Lane<'_>, job: &JobRecord) -> Result<(), WriteFailed>
+    // A job whose box is in the window.
+    fn put_seen_job(&mut self, lane: &Lane<'_>, job: &JobRecord) -> Result<(), WriteFailed>
         ensures { Puts W.contents self.old self.new result
-            (job_text lane.now.frame job.now lane.now.k lane.now.row.now) }
+            (seen_job lane.now.frame job.now lane.now.spot.k lane.now.row.now) }
     {
         self.put_box(lane, job)?;
         self.put_job_words(lane.row, job)?;
+        self.put_back(lane, job)?;
         self.put_on(lane, job)
+    }
+
+    // A job in a row.
+    fn put_job_in(&mut self, lane: &Lane<'_>, job: &JobRecord) -> Result<(), WriteFailed>
+        ensures { Puts W.contents self.old self.new result
+            (job_text lane.now.frame job.now lane.now.spot.k lane.now.row.now) }
+    {
+        if sees_from(lane.frame, job.release, limit_of(lane.row)) {
+            self.put_seen_job(lane, job)
+        } else {
+            Ok(())
+        }
     }
 
     // A job in the row of its task.
     fn put_job(&mut self, chart: &Chart<'_>, job: &JobRecord) -> Result<(), WriteFailed>
         ensures { Puts W.contents self.old self.new result
-            (on_row chart.now.rows.now job.now.name (job_text chart.now.frame job.now)) }
+            (on_spot chart.now.rows.now chart.now.shown.now job.now.name
+            (λ s row. job_text chart.now.frame job.now s.k row)) }
     {
-        match find_row(chart.rows, job.name) {
+        match chart.spot_of(job.name) {
             None => Ok(()),
-            Some(k) => self.put_job_in(&chart.lane(k), job),
+            Some(spot) => self.put_job_in(&chart.lane(spot), job),
         }
     }
 
     // Each job.
     pub(crate) fn put_jobs(&mut self, chart: &Chart<'_>) -> Result<(), WriteFailed>
         ensures { Puts W.contents self.old self.new result
-            (jobs_text chart.now.frame chart.now.rows.now chart.now.jobs.now) }
+            (jobs_text chart.now.frame chart.now.rows.now chart.now.shown.now chart.now.jobs.now) }
     {
         for job in chart.jobs {
             self.put_job(chart, job)?;

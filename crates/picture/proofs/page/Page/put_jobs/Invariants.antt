@@ -2,9 +2,9 @@ use Rattle.std.specs.Prelude.{Ok}
 use Rattle.picture.specs.Rows.{each}
 use Rattle.picture.specs.Puts.{Puts}
 use Rattle.picture.specs.Elements.{job_text}
-use Rattle.picture.specs.Rows.{on_row}
+use Rattle.picture.specs.Rows.{on_spot}
 use Rattle.picture.specs.Rows.{record_at}
 use Rattle.picture.proofs.page.Page.put_jobs.Given as goal
 
 abbrev pub invariant-loop-job : goal.invariant-loop-job
-invariant-loop-job g l = Puts g.W.Write.contents l.fn.self l.self (Ok tt) (each l.job-index (λ i. on_row l.fn.chart.rows.now (record_at l.fn.chart.jobs.now i).name (job_text l.fn.chart.frame (record_at l.fn.chart.jobs.now i))))
+invariant-loop-job g l = Puts g.W.Write.contents l.fn.self l.self (Ok tt) (each l.job-index (λ i. on_spot l.fn.chart.rows.now l.fn.chart.shown.now (record_at l.fn.chart.jobs.now i).name (λ s. job_text l.fn.chart.frame (record_at l.fn.chart.jobs.now i) s.k)))
