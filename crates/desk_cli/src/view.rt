@@ -6,7 +6,7 @@ ghost use Rattle.desk_cli.specs.View.{AsksRows, IsViewOf, Notes, is_unseen, know
 use crate::refusal::CommandRefusal;
 use crate::simulate::Simulated;
 use command_line::Options;
-use lines::name_of;
+use lines::{cut, name_of};
 use picture::View;
 use std::alloc::{AllocError, Global};
 use task_sheet::{Name, TaskSet};
@@ -37,16 +37,26 @@ fn note_name(names: &mut Vec<Name>, tasks: &TaskSet, part: &[u8]) -> Result<(), 
     }
 }
 
-// The names of the tasks that a word names, or that there is none of a name.
-fn names_in(alloc: Global, tasks: &TaskSet, word: &str) -> Result<Vec<Name>, CommandRefusal>
-    ensures { MatchResult result (λ names. AsksRows tasks.now (Some word.now) (Ok names.items))
-        (λ r. AsksRows tasks.now (Some word.now) (Err r)) }
+// The names of the tasks that the parts of a text name, or that there is none of a name.
+fn names_in(alloc: Global, tasks: &TaskSet, text: &[u8]) -> Result<Vec<Name>, CommandRefusal>
+    ensures { MatchResult result (λ names. AsksRows tasks.now (Some text.now) (Ok names.items))
+        (λ r. AsksRows tasks.now (Some text.now) (Err r)) }
 {
     let mut names = Vec::new(alloc);
-    for part in word.as_bytes().split(|byte| *byte == b',') {
-        note_name(&mut names, tasks, part)?;
+    let mut rest = text;
+    for _ in 0..text.len() + 1 {
+        match cut(rest, b',') {
+            None => {
+                note_name(&mut names, tasks, rest)?;
+                return Ok(names);
+            }
+            Some((part, after)) => {
+                note_name(&mut names, tasks, part)?;
+                rest = after;
+            }
+        }
     }
-    Ok(names)
+    unreachable!()
 }
 
 // The same, where there is a word.
@@ -61,7 +71,7 @@ fn rows_of(
 {
     match word {
         None => Ok(Vec::new(alloc)),
-        Some(word) => names_in(alloc, tasks, word),
+        Some(word) => names_in(alloc, tasks, word.as_bytes()),
     }
 }
 
