@@ -3,4 +3,5 @@ pub mod Counts
 pub mod Darker
 pub mod Widths
 mod Lanes
+mod Shown
 pub mod LockLaws

@@ -110,12 +110,13 @@ pub(crate) fn frame_of(rows: &[TaskRow], view: &View, until: u64) -> Frame
 {
     let left = left_of(longest_name(rows));
     let least = least_period(rows).max(1);
+    let end = end_of_run(until);
     let from = frame_from(view, until);
     let to = frame_to(view, until);
     let span = span_of(view.width, left, least, to - from);
     let count = rows.len() as u64;
     Frame {
-        until: end_of_run(until),
+        until: end,
         from,
         to,
         left,

@@ -12,12 +12,16 @@ impl<W: Write + Drop> Page<'_, W> {
     fn put_byte(&mut self, byte: u8) -> Result<(), WriteFailed>
         ensures { Puts W.contents self.old self.new result (shown_byte byte) }
     {
-        match byte {
-            b'&' => self.out.put(b"&amp;"),
-            b'<' => self.out.put(b"&lt;"),
-            b'>' => self.out.put(b"&gt;"),
-            0..32 => self.out.put(b" "),
-            _ => self.out.put(&[byte]),
+        if byte == b'&' {
+            self.out.put(b"&amp;")
+        } else if byte == b'<' {
+            self.out.put(b"&lt;")
+        } else if byte == b'>' {
+            self.out.put(b"&gt;")
+        } else if byte < 32 {
+            self.out.put(b" ")
+        } else {
+            self.out.put(&[byte])
         }
     }
 
