@@ -43,14 +43,23 @@ is_nameless (Some name) = false
 abbrev pub first_unknown : List Task → List (List ℕ) → Option (List ℕ)
 first_unknown U words = find (λ word. is_nameless (known_name U word)) words
 
--- the tasks that have rows: those that the parts of a word name, where there is a word; or that there is none of a name
-abbrev pub AsksRows : List Task → Option (List ℕ) → Result (List (List ℕ)) CommandRefusal → Type 0
-AsksRows U None (Ok names) = names ≡ []
-AsksRows U (Some word) (Ok names) = (first_unknown U (parts_of word) ≡ None) × (names ≡ parts_of word)
-AsksRows U (Some word) (Err (refusal.NoSuchTask name)) =
+-- the tasks that have rows: those that the parts of a word name, where there is a word
+abbrev pub AreRowsOf : List Task → Option (List ℕ) → List (List ℕ) → Type 0
+AreRowsOf U None names = names ≡ []
+AreRowsOf U (Some word) names = (first_unknown U (parts_of word) ≡ None) × (names ≡ parts_of word)
+
+-- there is none of a name: the first part that names none
+abbrev pub IsNoRow : List Task → Option (List ℕ) → Option (List ℕ) → Type 0
+IsNoRow U None name = ⊥
+IsNoRow U (Some word) name =
     (part : List ℕ) × (first_unknown U (parts_of word) ≡ Some part) × (name ≡ name_in part)
-AsksRows U _ (Err refusal.OutOfMemory) = Unit {0}
-AsksRows U _ _ = ⊥
+
+-- the tasks that have rows, or that there is none of a name
+abbrev pub AsksRows : List Task → Option (List ℕ) → Result (List (List ℕ)) CommandRefusal → Type 0
+AsksRows U word (Ok names) = AreRowsOf U word names
+AsksRows U word (Err (refusal.NoSuchTask name)) = IsNoRow U word name
+AsksRows U word (Err refusal.OutOfMemory) = Unit {0}
+AsksRows U word (Err _) = ⊥
 
 -- the word that names them
 abbrev pub rows_word : Options → Option (List ℕ)

@@ -10,13 +10,13 @@ ghost use Rattle.desk_cli.specs.Draw.{DrawsText, picture_of, drawing_said, drawn
 ghost use Rattle.desk_cli.specs.Outcomes.{IsSaidOn};
 ghost use Rattle.desk_cli.specs.Simulate.{IsInOrder, bounds_judged, simulation_status};
 
+use crate::answer::print_stuck;
 use crate::output::refuse;
 use crate::refusal::CommandRefusal;
-use crate::answer::print_stuck;
 use crate::simulate::{OrderedRun, Run, Simulated, bounds_judged, simulate_text};
 use crate::status::Status;
-use ceiling_kernel::{Release, Trace};
 use crate::view::{is_unseen, view_of};
+use ceiling_kernel::{Release, Trace};
 use command_line::Options;
 use picture::{DrawFault, TaskRow, View, draw};
 use run_lines::{TaskBound, bounds_of};

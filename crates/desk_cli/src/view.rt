@@ -60,11 +60,7 @@ fn names_in(alloc: Global, tasks: &TaskSet, text: &[u8]) -> Result<Vec<Name>, Co
 }
 
 // The same, where there is a word.
-fn rows_of(
-    alloc: Global,
-    tasks: &TaskSet,
-    word: Option<&str>,
-) -> Result<Vec<Name>, CommandRefusal>
+fn rows_of(alloc: Global, tasks: &TaskSet, word: Option<&str>) -> Result<Vec<Name>, CommandRefusal>
     ensures { MatchResult result
         (λ names. AsksRows tasks.now (option_map (λ w. w.now) word.entry) (Ok names.items))
         (λ r. AsksRows tasks.now (option_map (λ w. w.now) word.entry) (Err r)) }
@@ -86,6 +82,16 @@ fn title_of(alloc: Global, word: Option<&str>) -> Result<Vec<u8>, AllocError>
     Ok(title)
 }
 
+// A number that words say.
+fn number_said(number: Option<usize>) -> Option<u64>
+    ensures { result ≡ number }
+{
+    match number {
+        Some(number) => Some(number as u64),
+        None => None,
+    }
+}
+
 // The view that words choose.
 pub(crate) fn view_of(
     alloc: Global,
@@ -99,8 +105,8 @@ pub(crate) fn view_of(
     let title = title_of(alloc, options.title)?;
     Ok(View {
         from: options.from.unwrap_or(0) as u64,
-        to: options.to.map(|to| to as u64),
-        width: options.width.map(|width| width as u64),
+        to: number_said(options.to),
+        width: number_said(options.width),
         title,
         tasks,
     })

@@ -184,8 +184,8 @@ const CALLS: [(&[&str], Call<'static>); 23] = [
     ),
     (
         &[
-            "draw", "s", "r", "--from=0", "--to", "60000000", "--width", "960", "--title", "a: b", "--tasks",
-            "a,b",
+            "draw", "s", "r", "--from=0", "--to", "60000000", "--width", "960", "--title", "a: b",
+            "--tasks", "a,b",
         ],
         Call::Two {
             command: OfTwo::Draw,

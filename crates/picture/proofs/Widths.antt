@@ -39,8 +39,7 @@ some_said left least time given width small is least_wide most = rw is (said lef
 
 pub width_law : HasWidth
 width_law rows v until =
-    let small = left_small (longest_name 0 rows) in
-    (
+    let small = left_small (longest_name 0 rows) in (
       λ none. none_said _ _ _ v.width small none,
       λ width is least most. some_said _ _ _ v.width width small is least most,
     )

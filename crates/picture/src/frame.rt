@@ -95,7 +95,9 @@ fn span_of(width: Option<u64>, left: u64, least: u64, time: u64) -> u64
     ensures narrow { left + result ≤ RIGHTMOST }
 {
     match width {
-        None => (240 * time / least).min(WIDEST - left).max(NARROWEST - left),
+        None => (240 * time / least)
+            .min(WIDEST - left)
+            .max(NARROWEST - left),
         Some(width) => {
             let right = 10 * width.min(RIGHTMOST);
             right.saturating_sub(200).min(RIGHTMOST).max(NARROWEST) - left

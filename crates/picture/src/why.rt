@@ -167,7 +167,10 @@ impl<W: Write + Drop> Page<'_, W> {
         let x = x_of(frame, wait.stop);
         let y = top_of(k) + 255;
         let bar = top_of(m) + 165;
-        write!(self.out, "<path class=\"wj d{tone}\" d=\"M{x} {y}V{bar}\"/>\n")
+        write!(
+            self.out,
+            "<path class=\"wj d{tone}\" d=\"M{x} {y}V{bar}\"/>\n"
+        )
     }
 
     // The same, if the row of the task below is shown.
@@ -289,9 +292,7 @@ impl<W: Write + Drop> Page<'_, W> {
             chart.now.jobs.now chart.now.slices.now stay spot n wait) }
     {
         if is_below(spot, wait) {
-            let lock = blocking_lock(
-                chart.rows, chart.slices, spot.rank, n, wait.start, wait.row,
-            );
+            let lock = blocking_lock(chart.rows, chart.slices, spot.rank, n, wait.start, wait.row);
             self.put_blocked(chart, spot, wait, &lock)
         } else {
             let gathered = is_gathered(chart, stay, spot.rank, n);
