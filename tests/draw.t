@@ -59,7 +59,7 @@ of the run. Its scale begins in it:
   lo 0 to 4100 us
   lo holds m 100 to 4100 us
   hi 4100 to 5100 us
-  hi holds m 4100 to 4200 us
+  hi holds m 4100 to 4300 us
   mid 5100 to 7100 us
   $ grep -o 'm-20 0l-60\|m20 0l60' run.svg | sort | uniq -c | sed 's/  *//'
   3 m-20 0l-60
