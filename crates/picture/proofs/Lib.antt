@@ -4,4 +4,5 @@ pub mod Darker
 pub mod Widths
 mod Lanes
 mod Shown
+mod Documents
 pub mod LockLaws

@@ -1,5 +1,5 @@
 -- The elements of the picture, as text.
-use Rattle.std.specs.Prelude.{ℕ, ◌+◌, ◌-◌, ◌/◌, ◌&&◌, nat_le, nat_lt, if◌then◌else◌, Option, Some, None, List, [], ◌∷◌, ◌++◌, length, slice_index_or, codes}
+use Rattle.std.specs.Prelude.{ℕ, ◌+◌, ◌-◌, ◌/◌, Bool, true, ◌&&◌, nat_lt, if◌then◌else◌, Option, Some, None, List, [], ◌∷◌, ◌++◌, length, slice_index_or, codes}
 use Rattle.std.specs.Option.{unwrap_or}
 use Rattle.std.specs.Fmt.{decimal}
 use Rattle.std.specs.List.{concat}
@@ -79,10 +79,14 @@ on_sign f k =
     ∷ decimal (top_of k + 195)
     ∷ codes "m20 0l60 60-60 60m60-120l60 60-60 60\"/>\n" ∷ [])
 
--- the same of a job that goes on behind it
+-- a job goes on behind it
+abbrev pub goes_on : Frame → Option ℕ → Bool
+goes_on f (Some finish) = nat_lt f.to finish
+goes_on f None = true
+
+-- the same of such a job
 abbrev pub on_text : Frame → ℕ → Option ℕ → List ℕ
-on_text f k (Some finish) = if nat_lt f.to finish then on_sign f k else []
-on_text f k None = on_sign f k
+on_text f k finish = if goes_on f finish then on_sign f k else []
 
 -- what is told of a job
 abbrev pub job_words : TaskRow → JobRecord → List ℕ

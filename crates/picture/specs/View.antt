@@ -22,16 +22,23 @@ abbrev pub is_empty : View → (until : ℕ) → Bool
 is_empty v until = nat_le (window_end v until) v.from
 
 -- ---- the rows
+-- some names have one among them
+abbrev pub is_among : List (List ℕ) → List ℕ → Bool
+is_among names name = list_any (λ n. same_bytes n name) names
+
 -- a task has a row: it is named, or none is
 abbrev pub is_chosen : List (List ℕ) → List ℕ → Bool
-is_chosen names name = (length names == 0) || list_any (same_bytes name) names
+is_chosen names name = (length names == 0) || is_among names name
+
+-- some ranks, and one more where its row is shown
+abbrev pub noted_rank : List ℕ → (rank : ℕ) → Bool → List ℕ
+noted_rank ranks rank shown = if shown then ranks ++ rank ∷ [] else ranks
 
 -- of the first n rows those that are shown, by their ranks from 0
 unfoldable pub shown_below : List (List ℕ) → List TaskRow → ℕ → List ℕ
 shown_below names rows zero = []
 shown_below names rows (suc n) =
-    if is_chosen names (name_in rows n) then shown_below names rows n ++ n ∷ []
-    else shown_below names rows n
+    noted_rank (shown_below names rows n) n (is_chosen names (name_in rows n))
 
 -- of all rows
 abbrev pub shown_of : List (List ℕ) → List TaskRow → List ℕ

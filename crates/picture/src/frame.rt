@@ -1,6 +1,7 @@
 //! How time and rows lie in the picture.
 ghost use Rattle.std.specs.Prelude.{◌≡◌, ◌+◌, ◌*◌, ◌<◌, ◌≤◌, length, nat_le};
-ghost use Rattle.picture.specs.declared.frame.TheConstants.{LONGEST_PERIOD, RIGHTMOST, LOWEST_TOP, WIDEST_MARGIN, WIDEST_STEP, WIDEST_DECADE};
+ghost use Rattle.picture.specs.declared.frame.TheConstants.{LONGEST_PERIOD, NARROWEST, RIGHTMOST, LOWEST_TOP, WIDEST_MARGIN, WIDEST_STEP, WIDEST_DECADE};
+ghost use Rattle.ceiling_kernel.specs.declared.accept.TheConstants.{HORIZON};
 ghost use Rattle.task_sheet.specs.declared.set.TheConstants.{TASK_LIMIT};
 ghost use Rattle.picture.specs.Frame.{frame_of, least_period, longest_name, left_of, span_of, x_of, is_in, sees, steps_before, frame_end, right_of, top_of, level_of, tone_of, is_wide, decade_of, step_in, step_of, unit_of, unit_name, Frame, IsFrame};
 

@@ -3,7 +3,7 @@ ghost use Rattle.std.specs.Prelude.{◌≡◌, ◌+◌, ◌≤◌};
 ghost use Rattle.picture.specs.Puts.{Puts};
 ghost use Rattle.task_sheet.specs.declared.set.TheConstants.{TASK_LIMIT};
 ghost use Rattle.picture.specs.Rows.{on_spot};
-ghost use Rattle.picture.specs.Elements.{limit_of, job_box, arrival_words, done_words, limit_words, back_text, on_sign, on_text, job_words, seen_job, job_text};
+ghost use Rattle.picture.specs.Elements.{limit_of, job_box, arrival_words, done_words, limit_words, back_text, on_sign, goes_on, on_text, job_words, seen_job, job_text};
 ghost use Rattle.picture.specs.Document.{jobs_text};
 
 use crate::boxes::bar_of;
@@ -22,6 +22,16 @@ fn limit_of(row: &TaskRow) -> u64
     ensures { result ≡ limit_of row.now }
 {
     row.bound.unwrap_or(row.sheet.deadline())
+}
+
+// Whether a job goes on behind the window.
+fn goes_on(frame: Frame, finish: Option<u64>) -> bool
+    ensures { result ≡ goes_on frame finish }
+{
+    match finish {
+        Some(finish) => frame.to < finish,
+        None => true,
+    }
 }
 
 impl<W: Write + Drop> Page<'_, W> {
@@ -100,20 +110,15 @@ impl<W: Write + Drop> Page<'_, W> {
         )
     }
 
-    // The same of a job that goes on behind it.
+    // The same of a job that goes on behind the window.
     fn put_on(&mut self, lane: &Lane<'_>, job: &JobRecord) -> Result<(), WriteFailed>
         ensures { Puts W.contents self.old self.new result
             (on_text lane.now.frame lane.now.spot.k job.now.finish) }
     {
-        match job.finish {
-            Some(finish) => {
-                if lane.frame.to < finish {
-                    self.put_on_sign(lane.frame, lane.spot.k)
-                } else {
-                    Ok(())
-                }
-            }
-            None => self.put_on_sign(lane.frame, lane.spot.k),
+        if goes_on(lane.frame, job.finish) {
+            self.put_on_sign(lane.frame, lane.spot.k)
+        } else {
+            Ok(())
         }
     }
 

@@ -126,7 +126,7 @@ fn lock_upper(frame: Frame, bottom: u64, i: usize) -> u64
     requires place { i ≤ LOCKS_LIMIT }
     requires row { bottom ≤ 2 * RIGHTMOST }
     ensures value { result ≡ lock_upper frame bottom i }
-    ensures within { result ≤ 300_000 }
+    ensures within { result ≤ 600_000 }
 {
     bottom + 250 * (i as u64 / per_line(frame))
 }

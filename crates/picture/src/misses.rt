@@ -1,5 +1,5 @@
 //! Jobs that miss their deadlines.
-ghost use Rattle.std.specs.Prelude.{◌≡◌, ◌+◌, ◌≤◌, ◌<◌, max, length};
+ghost use Rattle.std.specs.Prelude.{◌≡◌, ◌+◌, ◌≤◌, ◌<◌, max, length, nat_le};
 ghost use Rattle.picture.specs.declared.frame.TheConstants.{RIGHTMOST};
 ghost use Rattle.task_sheet.specs.declared.set.TheConstants.{TASK_LIMIT};
 ghost use Rattle.picture.specs.Puts.{Puts};
@@ -78,6 +78,13 @@ pub(crate) fn all_missed(frame: Frame, rows: &[TaskRow], jobs: &[JobRecord]) -> 
     count
 }
 
+// Whether the deadline of a job isn't before the window.
+fn is_due_from_start(frame: Frame, row: &TaskRow, job: &JobRecord) -> bool
+    ensures { result ≡ nat_le frame.from (job.now.release + row.now.sheet.deadline) }
+{
+    is_from_start(frame, job.release, row.sheet.deadline())
+}
+
 // Whether a job of a row's task misses its deadline in the window.
 fn is_seen_late(frame: Frame, row: &TaskRow, job: &JobRecord) -> bool
     ensures { result ≡ is_seen_late frame row.now job.now }
@@ -121,17 +128,26 @@ impl<W: Write + Drop> Page<'_, W> {
         write!(self.out, "deadline {deadline} us missed</title></path>\n")
     }
 
-    // A badge at the deadline, where that isn't before the window.
+    // A badge at the deadline.
+    fn put_badge_at(&mut self, lane: &Lane<'_>, job: &JobRecord) -> Result<(), WriteFailed>
+        ensures { Puts W.contents self.old self.new result
+            (badge_text (x_of lane.now.frame (job.now.release + lane.now.row.now.sheet.deadline))
+            (top_of lane.now.spot.k + 85)) }
+    {
+        let x = x_after(lane.frame, job.release, lane.row.sheet.deadline());
+        self.put_badge(x, top_of(lane.spot.k) + 85)
+    }
+
+    // The same, where that isn't before the window.
     fn put_due_badge(&mut self, lane: &Lane<'_>, job: &JobRecord) -> Result<(), WriteFailed>
         ensures { Puts W.contents self.old self.new result
             (due_badge lane.now.frame lane.now.spot.k (job.now.release + lane.now.row.now.sheet.deadline)) }
     {
-        let deadline = lane.row.sheet.deadline();
-        if !is_from_start(lane.frame, job.release, deadline) {
-            return Ok(());
+        if is_due_from_start(lane.frame, lane.row, job) {
+            self.put_badge_at(lane, job)
+        } else {
+            Ok(())
         }
-        let x = x_after(lane.frame, job.release, deadline);
-        self.put_badge(x, top_of(lane.spot.k) + 85)
     }
 
     // That, with what is told of it, and a badge at the deadline.

@@ -1,8 +1,8 @@
 //! What part of a run is drawn, and how.
-ghost use Rattle.std.specs.Prelude.{◌≡◌, ◌≤◌, ◌<◌, ◌-◌, [], All, IfOk, None, length};
+ghost use Rattle.std.specs.Prelude.{◌≡◌, ◌≤◌, ◌<◌, ◌-◌, [], All, IfOk, OnOk, None, length};
 ghost use Rattle.task_sheet.specs.declared.set.TheConstants.{TASK_LIMIT};
 ghost use Rattle.ceiling_kernel.specs.declared.accept.TheConstants.{HORIZON};
-ghost use Rattle.picture.specs.View.{end_of_run, window_end, is_empty, is_chosen, shown_of};
+ghost use Rattle.picture.specs.View.{end_of_run, window_end, is_empty, is_among, is_chosen, noted_rank, shown_of};
 ghost use Rattle.picture.specs.Frame.{frame_to, frame_from};
 
 use crate::rows::{TaskRow, name_in};
@@ -86,11 +86,28 @@ pub(crate) fn frame_from(view: &View, until: u64) -> u64
     view.from.min(frame_to(view, until) - 1)
 }
 
+// Whether some names have one among them.
+fn is_among(names: &[Name], name: Name) -> bool
+    ensures { result ≡ is_among names.now name }
+{
+    names.iter().any(|other| *other == name)
+}
+
 // Whether a task has a row.
 fn is_chosen(names: &[Name], name: Name) -> bool
     ensures { result ≡ is_chosen names.now name }
 {
-    names.is_empty() || names.iter().any(|other| name == *other)
+    names.is_empty() || is_among(names, name)
+}
+
+// Notes a row that is shown.
+fn note(shown: &mut Vec<usize>, rank: usize, is_shown: bool) -> Result<(), AllocError>
+    ensures { OnOk result (shown.new.items ≡ noted_rank shown.old.items rank is_shown) }
+{
+    if is_shown {
+        shown.push(rank)?;
+    }
+    Ok(())
 }
 
 // The rows that are shown, by their ranks.
@@ -105,9 +122,7 @@ pub(crate) fn shown_of(
 {
     let mut shown = Vec::new(alloc);
     for rank in 0..rows.len() {
-        if is_chosen(names, name_in(rows, rank)) {
-            shown.push(rank)?;
-        }
+        note(&mut shown, rank, is_chosen(names, name_in(rows, rank)))?;
     }
     Ok(shown)
 }

@@ -1,4 +1,4 @@
-use Rattle.std.proofs.Common.{ℕ, List, sym, subst}
+use Rattle.std.proofs.Common.{ℕ, List}
 use Rattle.picture.specs.Margin.{margin_text}
 use Rattle.picture.specs.Rows.{row_at, spot_in}
 use Rattle.picture.specs.Frame.{Frame}
