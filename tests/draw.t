@@ -42,6 +42,92 @@ The pictures of README.md and docs/FORMATS.md are those of the commands beside t
   $ desk draw examples/jitter.toml examples/late.releases | cmp - docs/picture-2.svg
   $ desk worst examples/robot.toml | desk draw examples/robot.toml - | cmp - docs/picture-3.svg
 
+A window: what lies in it is drawn, and cut at its edges, where two chevrons show what goes on; the margin's figures are those
+of the run. Its scale begins in it:
+
+  $ wide() { desk draw examples/shared-lock.toml examples/shared-lock.releases "$@"; }
+  $ wide --from 1000 --to 6000 > run.svg
+  $ sed -nE 's/.*<title>(.* to .* us)<.title>.*/\1/p' run.svg
+  lo executes 0 to 4100 us
+  hi executes 4100 to 5100 us
+  mid executes 5100 to 7100 us
+  lo waits for hi 4100 to 5100 us
+  lo waits for mid 5100 to 7100 us
+  mid is blocked by lo with m 200 to 4100 us
+  mid waits for hi 4100 to 5100 us
+  hi is blocked by lo with m 300 to 4100 us
+  lo 0 to 4100 us
+  lo holds m 100 to 4100 us
+  hi 4100 to 5100 us
+  hi holds m 4100 to 4300 us
+  mid 5100 to 7100 us
+  $ grep -o 'm-20 0l-60\|m20 0l60' run.svg | sort | uniq -c | sed 's/  *//'
+  3 m-20 0l-60
+  2 m20 0l60
+  $ grep -o '>[0-9]* ms<' run.svg | head -3
+  >1 ms<
+  >2 ms<
+  >3 ms<
+  $ grep -c 'busy 23.0 %' run.svg
+  1
+
+The whole window is the picture without one:
+
+  $ wide > run.svg
+  $ wide --from 0 --to 100000 | cmp - run.svg
+  $ wide --to 60000000 --title '' | cmp - run.svg
+  $ wide --tasks lo,mid,hi | cmp - run.svg
+
+Where nothing of the run lies in it:
+
+  $ wide --from 5000 --to 5000
+  refused: EmptyWindow
+  [4]
+  $ wide --from 100000
+  refused: EmptyWindow
+  [4]
+  $ wide --to 0
+  refused: EmptyWindow
+  [4]
+
+Rows that are chosen keep their order, their levels and their tones; the lane stays whole, and the link needs both rows:
+
+  $ wide --tasks lo,hi > run.svg
+  $ grep -o '<text class="v".*class="f[0-9]"' run.svg
+  <text class="v" x="300" y="1920">3</text><rect class="f0"
+  <text class="v" x="300" y="2400">1</text><rect class="f2"
+  $ lane run.svg
+  4
+  $ slices run.svg
+  3
+  $ grep -c 'class="wj' run.svg
+  1
+  $ wide --tasks mid | grep -c 'class="wj'
+  0
+  [1]
+  $ wide --tasks hi,low
+  refused: NoSuchTask low
+  [4]
+  $ wide --tasks hi,
+  refused: NoSuchTask
+  [4]
+  $ wide --from 100000 --tasks low
+  refused: NoSuchTask low
+  [4]
+  $ desk draw examples/blocked-out.toml examples/shared-lock.releases --tasks low
+  refused: NoSuchTask low
+  [4]
+
+A width and a title, of which each byte stands for itself:
+
+  $ wide --width 2000 | sed -n 2p
+  <svg xmlns="http://www.w3.org/2000/svg" version="1.1" width="2000" height="360" viewBox="0 0 20000 3600">
+  $ wide --title 'R&D <hi> é' | sed -nE '3p;s/^(<text class="t".*)/\1/p'
+  <title>R&amp;D &lt;hi&gt; é: tasks: 3, jobs: 3, until 100000 us</title>
+  <text class="t" x="100" y="200">R&amp;D &lt;hi&gt; é: no deadline missed</text>
+  $ desk worst examples/robot.toml | desk draw examples/robot.toml - --title 'at rest' | grep 'class="t q"'
+  <text class="t q" x="320" y="200">at rest: deadlines missed: 1</text>
+
 What the title of a row's name says is what `desk simulate --tasks` prints:
 
   $ desk draw examples/jitter.toml examples/late.releases | sed -nE 's/.*<title>done: (.*), greatest response: (.*), bound: (.*) us<.title>(.*)<.text>/task \4 \1 \2 \3/p' | sort

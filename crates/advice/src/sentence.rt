@@ -75,6 +75,7 @@ pub(crate) fn sentence_of(
         CommandRefusal::Text(TextFault::OutOfMemory)
         | CommandRefusal::Rush(_)
         | CommandRefusal::NoSuchTask { .. }
+        | CommandRefusal::EmptyWindow
         | CommandRefusal::OutOfMemory => None,
     }
 }

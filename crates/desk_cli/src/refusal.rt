@@ -46,6 +46,8 @@ pub enum CommandRefusal {
     Rush(RushFault),
     /// No task of the set has the name that was asked about; none where the word is no name.
     NoSuchTask { name: Option<Name> },
+    /// Nothing of the run lies in the window that was asked for.
+    EmptyWindow,
     /// Memory ran out after the inputs were read.
     OutOfMemory,
 }
@@ -86,6 +88,7 @@ impl CommandRefusal {
             CommandRefusal::Script(_) => Status::BadInput,
             CommandRefusal::Rush(_) => Status::OutOfMemory,
             CommandRefusal::NoSuchTask { .. } => Status::BadInput,
+            CommandRefusal::EmptyWindow => Status::BadInput,
             CommandRefusal::OutOfMemory => Status::OutOfMemory,
         }
     }
@@ -386,6 +389,7 @@ fn write_words<W: fmt::Write>(refusal: CommandRefusal, f: &mut fmt::Formatter<W>
         CommandRefusal::Rush(fault) => write_rush_fault(fault, f),
         CommandRefusal::NoSuchTask { name: Some(name) } => write!(f, "NoSuchTask {name}"),
         CommandRefusal::NoSuchTask { name: None } => f.write_str("NoSuchTask"),
+        CommandRefusal::EmptyWindow => f.write_str("EmptyWindow"),
         CommandRefusal::OutOfMemory => f.write_str("OutOfMemory"),
     }
 }

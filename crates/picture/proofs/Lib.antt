@@ -3,5 +3,7 @@ pub mod Counts
 pub mod Darker
 pub mod Widths
 mod Lanes
+mod Shown
+mod Documents
 pub mod LockLaws
 mod BandLaws

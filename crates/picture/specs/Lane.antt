@@ -4,7 +4,7 @@ use Rattle.std.specs.Fmt.{decimal}
 use Rattle.std.specs.List.{concat}
 use Rattle.ceiling_kernel.specs.declared.trace.Slice.{Slice}
 use Rattle.picture.specs.declared.rows.TaskRow.{TaskRow}
-use Rattle.picture.specs.Frame.{Frame, x_of, frame_end, level_of, tone_of}
+use Rattle.picture.specs.Frame.{Frame, x_of, sees, frame_end, level_of, tone_of}
 use Rattle.picture.specs.Sections.{ticks_of}
 use Rattle.picture.specs.Boxes.{box_path}
 
@@ -64,7 +64,11 @@ lane_label x right level row =
     if nat_le (66 * length row.sheet.name + 60) (right - x) then lane_word x right row.sheet.name
     else if nat_le (level_room level) (right - x) then lane_word x right (decimal level) else []
 
--- a slice of a row's task
-abbrev pub lane_text : Frame → Slice → ℕ → TaskRow → List ℕ
-lane_text f s k row =
+-- a slice of a row's task, in the window
+abbrev pub seen_lane : Frame → Slice → ℕ → TaskRow → List ℕ
+seen_lane f s k row =
     lane_bar f s k row ++ lane_label (x_of f s.start) (lane_right f s) (level_of f k) row
+
+-- the same of any slice
+abbrev pub lane_text : Frame → Slice → ℕ → TaskRow → List ℕ
+lane_text f s k row = if sees f s.start s.stop then seen_lane f s k row else []

@@ -69,12 +69,21 @@ abbrev pub due_words : TaskRow → List ℕ
 due_words row =
     concat (codes "deadline " ∷ decimal row.sheet.deadline ∷ codes " us missed</title></path>\n" ∷ [])
 
+-- a badge at a deadline that isn't before the window
+abbrev pub due_badge : Frame → (k due : ℕ) → List ℕ
+due_badge f k due = if nat_le f.from due then badge_text (x_of f due) (top_of k + 85) else []
+
 -- with a badge at the deadline
 abbrev pub missed_text : Frame → (k : ℕ) → TaskRow → JobRecord → List ℕ
 missed_text f k row job =
     hatch_text f k row job ++ arrival_words job ++ done_words job job.finish ++ due_words row
-    ++ badge_text (x_of f (job.release + row.sheet.deadline)) (top_of k + 85)
+    ++ due_badge f k (job.release + row.sheet.deadline)
 
--- of a job that misses its deadline
+-- of a job that misses its deadline, where that is in the window
+abbrev pub is_seen_late : Frame → TaskRow → JobRecord → Bool
+is_seen_late f row job =
+    is_late f row job && nat_le (job.release + row.sheet.deadline) f.to && nat_lt f.from (ended f job)
+
+-- how it is drawn
 abbrev pub miss_text : Frame → JobRecord → ℕ → TaskRow → List ℕ
-miss_text f job k row = if is_late f row job then missed_text f k row job else []
+miss_text f job k row = if is_seen_late f row job then missed_text f k row job else []

@@ -7,10 +7,12 @@ ghost use Rattle.picture.specs.Puts.{Puts};
 ghost use Rattle.picture.specs.Elements.{tick_text, line_text};
 ghost use Rattle.picture.specs.declared.style.TheConstants.{STYLE};
 ghost use Rattle.picture.specs.declared.legend.TheConstants.{LEGEND};
-ghost use Rattle.picture.specs.Document.{measures_text, title_text, high_of, document_head, ticks_text, lines_text, missed_verdict, verdict_text, what_text, top_text, rows_text, ground_text};
+ghost use Rattle.picture.specs.Document.{measures_text, title_words, title_text, high_of, document_head, ticks_text, lines_text, missed_verdict, no_missed, verdict_text, what_text, top_text, rows_text, ground_text};
 
-use crate::chart::{Chart, Lane};
-use crate::frame::{Frame, end_of, start_of, step_of, top_of, unit_name, unit_of, x_of};
+use crate::chart::Chart;
+use crate::frame::{
+    Frame, end_of, start_of, step_of, steps_before, top_of, unit_name, unit_of, x_of,
+};
 use crate::legend::LEGEND;
 use crate::locks::locks_high;
 use crate::misses::all_missed;
@@ -43,29 +45,40 @@ impl<W: Write + Drop> Page<'_, W> {
         )
     }
 
-    // The title.
-    fn put_title(&mut self, rows: usize, jobs: usize, until: u64) -> Result<(), WriteFailed>
-        ensures { Puts W.contents self.old self.new result (title_text rows jobs until) }
+    // What a pointer shows.
+    fn put_title_words(&mut self, rows: usize, jobs: usize, until: u64) -> Result<(), WriteFailed>
+        ensures { Puts W.contents self.old self.new result (title_words rows jobs until) }
     {
         write!(
             self.out,
-            "<title>tasks: {rows}, jobs: {jobs}, until {until} us</title>\n"
+            "tasks: {rows}, jobs: {jobs}, until {until} us</title>\n"
         )
+    }
+
+    // That, with what was given as a title before it.
+    fn put_title(&mut self, chart: &Chart<'_>) -> Result<(), WriteFailed>
+        ensures { Puts W.contents self.old self.new result
+            (title_text chart.now.title.now (length chart.now.rows.now)
+            (length chart.now.jobs.now) chart.now.until) }
+    {
+        self.out.put(b"<title>")?;
+        self.put_title_head(chart.title)?;
+        self.put_title_words(chart.rows.len(), chart.jobs.len(), chart.until)
     }
 
     // The first lines.
     fn put_head(&mut self, chart: &Chart<'_>) -> Result<(), WriteFailed>
         ensures { Puts W.contents self.old self.new result
-            (document_head chart.now.frame (length chart.now.locks.now) (length chart.now.rows.now)
+            (document_head chart.now.frame chart.now.title.now (length chart.now.locks.now)
+            (length chart.now.shown.now) (length chart.now.rows.now)
             (length chart.now.jobs.now) chart.now.until) }
     {
         self.out.put(
             b"<?xml version=\"1.0\" encoding=\"UTF-8\"?>\n<svg xmlns=\"http://www.w3.org/2000/svg\" ",
         )?;
-        let rows = chart.rows.len();
-        let high = high_of(chart.frame, rows, chart.locks.len());
+        let high = high_of(chart.frame, chart.shown.len(), chart.locks.len());
         self.put_measures(chart.frame, high)?;
-        self.put_title(rows, chart.jobs.len(), chart.until)
+        self.put_title(chart)
     }
 
     // A line down through the rows, and its time.
@@ -93,22 +106,23 @@ impl<W: Write + Drop> Page<'_, W> {
         requires within { step ≤ WIDEST_STEP }
         ensures { Puts W.contents self.old self.new result (ticks_text frame bottom step) }
     {
-        let count = frame.until / step + 1;
+        let first = steps_before(frame, step);
+        let count = (frame.to / step + 1).saturating_sub(first);
         for i in 0..count {
-            self.put_tick(frame, bottom, step, i * step)?;
+            self.put_tick(frame, bottom, step, (first + i) * step)?;
         }
         Ok(())
     }
 
     // The line between rows, and the line of a row, below its bars.
-    fn put_line(&mut self, lane: &Lane<'_>) -> Result<(), WriteFailed>
-        ensures { Puts W.contents self.old self.new result
-            (line_text lane.now.frame lane.now.k) }
+    fn put_line(&mut self, frame: Frame, k: usize) -> Result<(), WriteFailed>
+        requires { k ≤ TASK_LIMIT }
+        ensures { Puts W.contents self.old self.new result (line_text frame k) }
     {
-        let top = top_of(lane.k);
+        let top = top_of(k);
         let y = top + 345;
-        let left = start_of(lane.frame);
-        let end = end_of(lane.frame);
+        let left = start_of(frame);
+        let end = end_of(frame);
         write!(
             self.out,
             "<path class=\"g\" d=\"M100 {top}H{end}\"/><path class=\"l\" d=\"M{left} {y}H{end}\"/>\n"
@@ -118,10 +132,10 @@ impl<W: Write + Drop> Page<'_, W> {
     // The lines of the rows.
     fn put_lines(&mut self, chart: &Chart<'_>) -> Result<(), WriteFailed>
         ensures { Puts W.contents self.old self.new result
-            (lines_text chart.now.frame chart.now.rows.now) }
+            (lines_text chart.now.frame (length chart.now.shown.now)) }
     {
-        for k in 0..chart.rows.len() {
-            self.put_line(&chart.lane(k))?;
+        for k in 0..chart.shown.len() {
+            self.put_line(chart.frame, k)?;
         }
         Ok(())
     }
@@ -129,11 +143,11 @@ impl<W: Write + Drop> Page<'_, W> {
     // The scale, the lines of the lane and of the rows, the margin, and the locks.
     fn put_rows(&mut self, chart: &Chart<'_>) -> Result<(), WriteFailed>
         ensures { Puts W.contents self.old self.new result
-            (rows_text chart.now.frame chart.now.locks.now chart.now.rows.now chart.now.jobs.now
-            chart.now.slices.now) }
+            (rows_text chart.now.frame chart.now.locks.now chart.now.rows.now chart.now.shown.now
+            chart.now.jobs.now chart.now.slices.now) }
     {
         let frame = chart.frame;
-        self.put_ticks(frame, top_of(chart.rows.len()), step_of(frame))?;
+        self.put_ticks(frame, top_of(chart.shown.len()), step_of(frame))?;
         self.put_lane_line(frame)?;
         self.put_lines(chart)?;
         self.put_group(chart)?;
@@ -155,24 +169,32 @@ impl<W: Write + Drop> Page<'_, W> {
     }
 
     // How many deadlines are missed.
-    fn put_missed_verdict(&mut self, missed: usize) -> Result<(), WriteFailed>
-        ensures { Puts W.contents self.old self.new result (missed_verdict missed) }
+    fn put_missed_verdict(&mut self, title: &[u8], missed: usize) -> Result<(), WriteFailed>
+        ensures { Puts W.contents self.old self.new result (missed_verdict title.now missed) }
     {
         self.put_badge(190, 150)?;
-        write!(
-            self.out,
-            "<text class=\"t q\" x=\"320\" y=\"200\">deadlines missed: {missed}</text>\n"
-        )
+        self.out.put(b"<text class=\"t q\" x=\"320\" y=\"200\">")?;
+        self.put_title_head(title)?;
+        write!(self.out, "deadlines missed: {missed}</text>\n")
+    }
+
+    // That none is.
+    fn put_no_missed(&mut self, title: &[u8]) -> Result<(), WriteFailed>
+        ensures { Puts W.contents self.old self.new result (no_missed title.now) }
+    {
+        self.out.put(b"<text class=\"t\" x=\"100\" y=\"200\">")?;
+        self.put_title_head(title)?;
+        self.out.put(b"no deadline missed</text>\n")
     }
 
     // Whether a deadline is missed.
-    fn put_verdict(&mut self, missed: usize) -> Result<(), WriteFailed>
-        ensures { Puts W.contents self.old self.new result (verdict_text missed) }
+    fn put_verdict(&mut self, title: &[u8], missed: usize) -> Result<(), WriteFailed>
+        ensures { Puts W.contents self.old self.new result (verdict_text title.now missed) }
     {
         if missed == 0 {
-            self.out.put(b"<text class=\"t\" x=\"100\" y=\"200\">no deadline missed</text>\n")
+            self.put_no_missed(title)
         } else {
-            self.put_missed_verdict(missed)
+            self.put_missed_verdict(title, missed)
         }
     }
 
@@ -190,10 +212,11 @@ impl<W: Write + Drop> Page<'_, W> {
     // How the elements look, whether a deadline is missed, what is drawn, and what the signs mean.
     fn put_top(&mut self, chart: &Chart<'_>) -> Result<(), WriteFailed>
         ensures { Puts W.contents self.old self.new result
-            (top_text chart.now.frame chart.now.rows.now chart.now.jobs.now chart.now.until) }
+            (top_text chart.now.frame chart.now.title.now chart.now.rows.now chart.now.jobs.now
+            chart.now.until) }
     {
         self.put_style()?;
-        self.put_verdict(all_missed(chart.frame, chart.rows, chart.jobs))?;
+        self.put_verdict(chart.title, all_missed(chart.frame, chart.rows, chart.jobs))?;
         self.put_what(chart.rows.len(), chart.jobs.len(), chart.until)?;
         self.put_legend()
     }
@@ -201,8 +224,8 @@ impl<W: Write + Drop> Page<'_, W> {
     // What stands still.
     pub(crate) fn put_ground(&mut self, chart: &Chart<'_>) -> Result<(), WriteFailed>
         ensures { Puts W.contents self.old self.new result
-            (ground_text chart.now.frame chart.now.locks.now chart.now.rows.now chart.now.jobs.now
-            chart.now.slices.now chart.now.until) }
+            (ground_text chart.now.frame chart.now.title.now chart.now.locks.now chart.now.rows.now
+            chart.now.shown.now chart.now.jobs.now chart.now.slices.now chart.now.until) }
     {
         self.put_head(chart)?;
         self.put_top(chart)?;

@@ -1,16 +1,16 @@
 //! Jobs that miss their deadlines.
-ghost use Rattle.std.specs.Prelude.{◌≡◌, ◌+◌, ◌≤◌, ◌<◌, max, length};
+ghost use Rattle.std.specs.Prelude.{◌≡◌, ◌+◌, ◌≤◌, ◌<◌, max, length, nat_le};
 ghost use Rattle.picture.specs.declared.frame.TheConstants.{RIGHTMOST};
 ghost use Rattle.task_sheet.specs.declared.set.TheConstants.{TASK_LIMIT};
 ghost use Rattle.picture.specs.Puts.{Puts};
-ghost use Rattle.picture.specs.Rows.{on_row};
+ghost use Rattle.picture.specs.Rows.{on_spot};
 ghost use Rattle.picture.specs.Frame.{x_of, top_of};
-ghost use Rattle.picture.specs.Misses.{is_late, ended, misses_in, missed_in, misses, all_missed, badge_text, hatch_text, due_words, missed_text, miss_text};
+ghost use Rattle.picture.specs.Misses.{is_late, ended, misses_in, missed_in, misses, all_missed, badge_text, hatch_text, due_words, due_badge, missed_text, is_seen_late, miss_text};
 ghost use Rattle.picture.specs.Document.{misses_text};
 
 use crate::boxes::Bar;
 use crate::chart::{Chart, Lane};
-use crate::frame::{Frame, top_of, x_after, x_of};
+use crate::frame::{Frame, is_by_end, is_from_start, top_of, x_after, x_of};
 use crate::page::Page;
 use crate::rows::{TaskRow, find_row};
 use ceiling_kernel::JobRecord;
@@ -78,6 +78,22 @@ pub(crate) fn all_missed(frame: Frame, rows: &[TaskRow], jobs: &[JobRecord]) -> 
     count
 }
 
+// Whether the deadline of a job isn't before the window.
+fn is_due_from_start(frame: Frame, row: &TaskRow, job: &JobRecord) -> bool
+    ensures { result ≡ nat_le frame.from (job.now.release + row.now.sheet.deadline) }
+{
+    is_from_start(frame, job.release, row.sheet.deadline())
+}
+
+// Whether a job of a row's task misses its deadline in the window.
+fn is_seen_late(frame: Frame, row: &TaskRow, job: &JobRecord) -> bool
+    ensures { result ≡ is_seen_late frame row.now job.now }
+{
+    is_late(frame, row, job)
+        && is_by_end(frame, job.release, row.sheet.deadline())
+        && frame.from < ended(frame, job)
+}
+
 impl<W: Write + Drop> Page<'_, W> {
     // A disc with a cross.
     pub(crate) fn put_badge(&mut self, x: u64, y: u64) -> Result<(), WriteFailed>
@@ -92,13 +108,13 @@ impl<W: Write + Drop> Page<'_, W> {
     // From the deadline up to the finish, or to the end.
     fn put_hatch(&mut self, lane: &Lane<'_>, job: &JobRecord) -> Result<(), WriteFailed>
         ensures { Puts W.contents self.old self.new result
-            (hatch_text lane.now.frame lane.now.k lane.now.row.now job.now) }
+            (hatch_text lane.now.frame lane.now.spot.k lane.now.row.now job.now) }
     {
         let x = x_after(lane.frame, job.release, lane.row.sheet.deadline());
         let hatch = Bar {
             x,
             right: x_of(lane.frame, ended(lane.frame, job)).max(x + 20),
-            y: top_of(lane.k) + 145,
+            y: top_of(lane.spot.k) + 145,
             high: 220,
         };
         write!(self.out, "<path class=\"z\" d=\"{hatch}\"><title>")
@@ -112,25 +128,46 @@ impl<W: Write + Drop> Page<'_, W> {
         write!(self.out, "deadline {deadline} us missed</title></path>\n")
     }
 
+    // A badge at the deadline.
+    fn put_badge_at(&mut self, lane: &Lane<'_>, job: &JobRecord) -> Result<(), WriteFailed>
+        ensures { Puts W.contents self.old self.new result
+            (badge_text (x_of lane.now.frame (job.now.release + lane.now.row.now.sheet.deadline))
+            (top_of lane.now.spot.k + 85)) }
+    {
+        let x = x_after(lane.frame, job.release, lane.row.sheet.deadline());
+        self.put_badge(x, top_of(lane.spot.k) + 85)
+    }
+
+    // The same, where that isn't before the window.
+    fn put_due_badge(&mut self, lane: &Lane<'_>, job: &JobRecord) -> Result<(), WriteFailed>
+        ensures { Puts W.contents self.old self.new result
+            (due_badge lane.now.frame lane.now.spot.k (job.now.release + lane.now.row.now.sheet.deadline)) }
+    {
+        if is_due_from_start(lane.frame, lane.row, job) {
+            self.put_badge_at(lane, job)
+        } else {
+            Ok(())
+        }
+    }
+
     // That, with what is told of it, and a badge at the deadline.
     fn put_missed(&mut self, lane: &Lane<'_>, job: &JobRecord) -> Result<(), WriteFailed>
         ensures { Puts W.contents self.old self.new result
-            (missed_text lane.now.frame lane.now.k lane.now.row.now job.now) }
+            (missed_text lane.now.frame lane.now.spot.k lane.now.row.now job.now) }
     {
         self.put_hatch(lane, job)?;
         self.put_arrival_words(job)?;
         self.put_finish_words(job)?;
         self.put_due_words(lane.row)?;
-        let x = x_after(lane.frame, job.release, lane.row.sheet.deadline());
-        self.put_badge(x, top_of(lane.k) + 85)
+        self.put_due_badge(lane, job)
     }
 
     // Of a job in its row, if it misses its deadline.
     fn put_miss_in(&mut self, lane: &Lane<'_>, job: &JobRecord) -> Result<(), WriteFailed>
         ensures { Puts W.contents self.old self.new result
-            (miss_text lane.now.frame job.now lane.now.k lane.now.row.now) }
+            (miss_text lane.now.frame job.now lane.now.spot.k lane.now.row.now) }
     {
-        if is_late(lane.frame, lane.row, job) {
+        if is_seen_late(lane.frame, lane.row, job) {
             self.put_missed(lane, job)
         } else {
             Ok(())
@@ -140,18 +177,20 @@ impl<W: Write + Drop> Page<'_, W> {
     // Of a job, if it misses its deadline.
     fn put_miss(&mut self, chart: &Chart<'_>, job: &JobRecord) -> Result<(), WriteFailed>
         ensures { Puts W.contents self.old self.new result
-            (on_row chart.now.rows.now job.now.name (miss_text chart.now.frame job.now)) }
+            (on_spot chart.now.rows.now chart.now.shown.now job.now.name
+            (λ s row. miss_text chart.now.frame job.now s.k row)) }
     {
-        match find_row(chart.rows, job.name) {
+        match chart.spot_of(job.name) {
             None => Ok(()),
-            Some(k) => self.put_miss_in(&chart.lane(k), job),
+            Some(spot) => self.put_miss_in(&chart.lane(spot), job),
         }
     }
 
     // Each job that misses its deadline.
     pub(crate) fn put_misses(&mut self, chart: &Chart<'_>) -> Result<(), WriteFailed>
         ensures { Puts W.contents self.old self.new result
-            (misses_text chart.now.frame chart.now.rows.now chart.now.jobs.now) }
+            (misses_text chart.now.frame chart.now.rows.now chart.now.shown.now
+            chart.now.jobs.now) }
     {
         for job in chart.jobs {
             self.put_miss(chart, job)?;

@@ -5,11 +5,11 @@ ghost use Rattle.task_sheet.specs.declared.set.TheConstants.{TASK_LIMIT};
 ghost use Rattle.picture.specs.Puts.{Puts};
 ghost use Rattle.picture.specs.Sections.{fits};
 ghost use Rattle.picture.specs.Locks.{stripes_text};
-ghost use Rattle.picture.specs.Elements.{names_text, label_head, label_text, part_head, part_end, part_text, dark_text};
+ghost use Rattle.picture.specs.Elements.{names_text, label_head, label_text, part_head, part_end, seen_part, part_text, dark_text};
 
 use crate::boxes::bar_of;
 use crate::chart::Lane;
-use crate::frame::{top_of, x_of};
+use crate::frame::{sees, top_of, x_of};
 use crate::page::Page;
 use crate::ticks::{dark_from, dark_to, fits};
 use ceiling_kernel::Slice;
@@ -90,17 +90,17 @@ impl<W: Write + Drop> Page<'_, W> {
         section: &Section,
     ) -> Result<(), WriteFailed>
         ensures { Puts W.contents self.old self.new result
-            (stripes_text lane.now.locks.now x right lane.now.k section.now.locks) }
+            (stripes_text lane.now.locks.now x right lane.now.spot.k section.now.locks) }
     {
-        self.put_stripes(lane.locks, x, right, lane.k, &section.locks)
+        self.put_stripes(lane.locks, x, right, lane.spot.k, &section.locks)
     }
 
     // The box of a part, up to the names of its locks.
     fn put_part_head(&mut self, lane: &Lane<'_>, start: u64, stop: u64) -> Result<(), WriteFailed>
         ensures { Puts W.contents self.old self.new result
-            (part_head lane.now.frame lane.now.k lane.now.row.now start stop) }
+            (part_head lane.now.frame lane.now.spot.k lane.now.row.now start stop) }
     {
-        let bar = bar_of(x_of(lane.frame, start), x_of(lane.frame, stop), lane.k);
+        let bar = bar_of(x_of(lane.frame, start), x_of(lane.frame, stop), lane.spot.k);
         let name = lane.row.sheet.name();
         write!(
             self.out,
@@ -115,7 +115,29 @@ impl<W: Write + Drop> Page<'_, W> {
         write!(self.out, " {start} to {stop} us</title></path>\n")
     }
 
-    // A part of a slice in which its job holds locks.
+    // A part of a slice in which its job holds locks, in the window.
+    fn put_seen_part(
+        &mut self,
+        lane: &Lane<'_>,
+        section: &Section,
+        start: u64,
+        stop: u64,
+    ) -> Result<(), WriteFailed>
+        ensures { Puts W.contents self.old self.new result
+            (seen_part lane.now.frame lane.now.locks.now lane.now.spot.k lane.now.row.now
+            section.now.locks start stop) }
+    {
+        self.put_part_head(lane, start, stop)?;
+        self.put_locks(section)?;
+        self.put_part_end(start, stop)?;
+        let x = x_of(lane.frame, start);
+        let end = x_of(lane.frame, stop);
+        let right = bar_of(x, end, lane.spot.k).right;
+        self.put_stripes_of(lane, x, right, section)?;
+        self.put_label(x, end, lane.spot.k, section)
+    }
+
+    // The same of any part.
     fn put_part(
         &mut self,
         lane: &Lane<'_>,
@@ -124,17 +146,14 @@ impl<W: Write + Drop> Page<'_, W> {
         stop: u64,
     ) -> Result<(), WriteFailed>
         ensures { Puts W.contents self.old self.new result
-            (part_text lane.now.frame lane.now.locks.now lane.now.k lane.now.row.now
+            (part_text lane.now.frame lane.now.locks.now lane.now.spot.k lane.now.row.now
             section.now.locks start stop) }
     {
-        self.put_part_head(lane, start, stop)?;
-        self.put_locks(section)?;
-        self.put_part_end(start, stop)?;
-        let x = x_of(lane.frame, start);
-        let end = x_of(lane.frame, stop);
-        let right = bar_of(x, end, lane.k).right;
-        self.put_stripes_of(lane, x, right, section)?;
-        self.put_label(x, end, lane.k, section)
+        if sees(lane.frame, start, stop) {
+            self.put_seen_part(lane, section, start, stop)
+        } else {
+            Ok(())
+        }
     }
 
     // The darker part of a slice for a section, if there is one.
@@ -146,7 +165,7 @@ impl<W: Write + Drop> Page<'_, W> {
         section: &Section,
     ) -> Result<(), WriteFailed>
         ensures { Puts W.contents self.old self.new result
-            (dark_text lane.now.frame lane.now.locks.now executed slice lane.now.k lane.now.row.now
+            (dark_text lane.now.frame lane.now.locks.now executed slice lane.now.spot.k lane.now.row.now
             section.now) }
     {
         let from = dark_from(section, executed);

@@ -1,7 +1,7 @@
 //! Pictures of runs.
 use ceiling_kernel::{Kernel, Release, RunFault, Trace};
 use example_sets::{again, name, set_of};
-use picture::{DrawFault, TaskRow, draw};
+use picture::{DrawFault, TaskRow, View, draw};
 use std::alloc::Global;
 use std::test::Fail;
 use streams::Watched;
@@ -272,7 +272,15 @@ fn picture_of(
     let mut out = Watched::new(&mut text);
     if rows.len() <= TASK_LIMIT {
         again!(
-            draw(alloc, rows, until, releases, trace, &mut out),
+            draw(
+                alloc,
+                rows,
+                &View::whole(alloc),
+                until,
+                releases,
+                trace,
+                &mut out
+            ),
             DrawFault::OutOfMemory
         )
         .ok()

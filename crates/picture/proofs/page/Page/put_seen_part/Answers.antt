@@ -3,13 +3,13 @@ use Rattle.streams.proofs.Puts.{puts_both}
 use Rattle.picture.specs.Frame.{x_of, right_of}
 use Rattle.picture.specs.Locks.{stripes_text}
 use Rattle.picture.proofs.Lanes.{puts_same}
-use Rattle.picture.proofs.page.Page.put_part.Goals as goal
+use Rattle.picture.proofs.page.Page.put_seen_part.Goals as goal
 
 pub returns : goal.returns
 returns g c =
     let f = c.args.lane.now.frame in
     let locks = c.args.lane.now.locks.now in
-    let k = c.args.lane.now.k in
+    let k = c.args.lane.now.spot.k in
     let names = c.args.section.now.locks in
     let start = c.args.start in
     let stop = c.args.stop in

@@ -1,0 +1,10 @@
+use Rattle.std.specs.Prelude.{slice_index}
+use Rattle.picture.specs.Titles.{shown_byte}
+use Rattle.picture.proofs.Puts.{puts_none, puts_one_more}
+use Rattle.picture.proofs.page.Page.put_bytes.Goals as goal
+
+pub loop-i-init : goal.loop-i-init
+loop-i-init g c = puts_none g.W.Write.contents c.args.self.now.out (λ i. shown_byte (slice_index c.args.bytes.now i))
+
+pub loop-i-preserved : goal.loop-i-preserved
+loop-i-preserved g c = puts_one_more (λ i. shown_byte (slice_index c.args.bytes.now i)) c.loop-i.i c.loop-i.invariant c.in_ok-put_byte.ensures
