@@ -12,6 +12,7 @@ use crate::check::{check_text, line_of};
 use crate::diff_lines::{Compared, compare_text, compared_text};
 use crate::draw::{Drawing, draw_text, print_drawing};
 use crate::explain_at::{explain_at, explained_at_text};
+use crate::in_order::InOrder;
 use crate::judge_lines::{judge_text, judged_status};
 use crate::keep_lines::{keep_text, keeping_status, keeping_text};
 use crate::limits_at::limits_at;
