@@ -349,6 +349,24 @@ A band goes on while each job comes close behind the one before it, and others s
   <text x="15677" y="2145">3</text>
   <path class="a" d="M15800 1885m20 0l60 60-60 60m60-120l60 60-60 60"/>
 
+In a window a band is that of the run, cut at both edges; where its jobs have room, each stands alone:
+
+  $ part() { desk releases many.toml 200000 | desk draw many.toml - "$@"; }
+  $ part --from 50000 --to 150000 | grep -A 3 'class="l w"'
+  <path class="l w" d="M1960 1855H15800v180H1960z"><title>a: 200 jobs, arrivals 0 to 199000, done 200, longest response 100, bound 100, deadline 400 us</title></path>
+  <text x="1980" y="2145">200 jobs, longest 0.1 ms</text>
+  <path class="a" d="M1960 1885m-20 0l-60 60 60 60m-60-120l-60 60 60 60"/>
+  <path class="a" d="M15800 1885m20 0l60 60-60 60m60-120l60 60-60 60"/>
+  $ part --from 50000 --to 60000 > many.svg
+  $ grep -c 'class="l w"' many.svg
+  0
+  [1]
+  $ grep -c '^<path class="w".*<title>a: arrival 5' many.svg
+  10
+  $ printf 'until 200000\n0 a\n1000 a\n2000 a\n100000 a\n101000 a\n' | desk draw many.toml - --from 99000 > many.svg
+  $ sed -nE 's/.*<title>(a: .*(jobs|arrival).*)<.title>.*/\1/p' many.svg
+  a: 2 jobs, arrivals 100000 to 101000, done 2, longest response 100, bound 100, deadline 400 us
+
 A deadline that is missed in one is shown as ever:
 
   $ printf 'thread a 1\nthread b 2\nuntil 200000\n0 a\n0 b\n1000 a\n2000 a\n' | desk draw many.toml - > many.svg

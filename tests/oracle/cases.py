@@ -73,6 +73,8 @@ def of_set(rng, subject):
         number = make_lines.until_of(rng, sets.by_rank(sheets), seed)
     if subject == "simulate" and rng.random() < 0.3:
         options.append(("tasks", None))
+    if subject == "draw":
+        options += view_of(rng, sheets)
     if subject == "observe" and rng.random() < 0.3:
         options.append(("tolerance", rng.choice(["0", "1", "5", str(rng.randint(0, 5000)), "60000000", "60000001", "", "-1"])))
     if subject == "judge" and rng.random() < 0.3:
@@ -90,6 +92,23 @@ def of_set(rng, subject):
         inputs.append(make_lines.settings_of(rng, tasks))
         return called(rng, subject, inputs, options, by="at")
     return called(rng, subject, inputs, options, number)
+
+
+def view_of(rng, sheets):
+    """Options of a picture: often none, else some of them."""
+    if rng.random() < 0.3:
+        return []
+    time = lambda: str(rng.choice([0, 60_000_000, 60_000_001] if rng.random() < 0.05 else [int(10 ** rng.uniform(0, 7))]))
+    names = [sheet.name for sheet in sheets]
+    some = rng.sample(names, rng.randint(0, len(names))) + rng.choice([[]] * 12 + [["none"], ["0"], [""], names[:1]])
+    drawn = {
+        "from": time(),
+        "to": time(),
+        "width": str(rng.choice([959, 960, 16_000, 16_001] if rng.random() < 0.2 else [rng.randint(960, 16_000)])),
+        "title": rng.choice(["", "x", "R&D <hi>", "a  b\t\r\n", '"\u00e9\u20ac\x7f', "]]>"]),
+        "tasks": ",".join(some),
+    }
+    return [option for option in drawn.items() if rng.random() < 0.4]
 
 
 def sheets_for(rng, subject):
@@ -161,7 +180,7 @@ def called(rng, subject, inputs, options=(), number=None, by=None):
 
 
 WORDS = ["-", "--", "set", "set", "none", "folder", "--prefer", "deadline", "--prefer=deadline", "--prefer=weight", "--prefer=name", "--prefer=",
-         "--task", "--task=a", "--task=", "--seed", "--seed=8", "--seed=4294967296", "--tasks", "--tasks=", "--tolerance", "--tolerance=8", "--base=1", "--base=0", "--base", "--lower-is-higher", "--lower-is-higher=1", "--keep", "--keep=set", "--keep=-", "--at", "--at=set", "--at=-", "-x", "--x",
+         "--task", "--task=a", "--task=", "--seed", "--seed=8", "--seed=4294967296", "--tasks", "--tasks=", "--tasks=a,a", "--from", "--from=8", "--to=60000001", "--width=959", "--width=960", "--title", "--title=x", "--tolerance", "--tolerance=8", "--base=1", "--base=0", "--base", "--lower-is-higher", "--lower-is-higher=1", "--keep", "--keep=set", "--keep=-", "--at", "--at=set", "--at=-", "-x", "--x",
          "", "0", "1", "8", "9", "+8", "007", "+", "++8", "0x8", "-8", " 8", "8_0", "60000000", "60000001", "1" * 25]  # fmt: skip
 
 
@@ -201,7 +220,8 @@ def fault_of(case, stdout, stderr, status):
         return None if printed else "no help"
     if wanted.text is commands.DRAWN:
         tasks, said = inputs_of(case)
-        return picture.fault(stdout, tasks, *said)
+        call = calls.call_of(case.words, commands.COMMANDS)
+        return picture.fault(stdout, picture.View(**commands.keywords(call)), tasks, *said)
     return None if printed == wanted.text else "other bytes"
 
 

@@ -11,6 +11,7 @@ import differences
 import kernel
 import limits
 import observed
+import picture
 import scripts
 import settings
 import teams
@@ -64,6 +65,11 @@ def check(tasks, said):
     return certificate.check(tasks, *said), 0
 
 
+def no_such_task(word):
+    """The answer where a word names no task."""
+    return " ".join(["refused: NoSuchTask", *[word] * is_name(word)]) + "\n", 4
+
+
 def of_task(command):
     """A command that with the name of a task says that task's lines alone."""
 
@@ -72,7 +78,7 @@ def of_task(command):
             return command(tasks, *more, None)
         index = next((i for i, sheet in enumerate(tasks) if sheet.name == task), None)
         if index is None:
-            return " ".join(["refused: NoSuchTask", *[task] * is_name(task)]) + "\n", 4
+            return no_such_task(task)
         return command(tasks, *more, index)
 
     return on_set
@@ -238,24 +244,24 @@ def judge(tasks, rows, lower_is_higher=False):
     return settings.judge(tasks, settings.node_order(tasks, heights), rows)
 
 
-def simulate(tasks, said, by_task=False):
+def simulate(tasks, said, of_tasks=False):
     rows, until, releases = said
     if rows:
-        return simulate_in(tasks, settings.node_order(tasks, rows), until, releases, by_task), 0
-    return simulate_best(tasks, until, releases, by_task)
+        return simulate_in(tasks, settings.node_order(tasks, rows), until, releases, of_tasks), 0
+    return simulate_best(tasks, until, releases, of_tasks)
 
 
 @with_order
-def simulate_best(tasks, order, until, releases, by_task):
-    return simulate_in(tasks, order, until, releases, by_task)
+def simulate_best(tasks, order, until, releases, of_tasks):
+    return simulate_in(tasks, order, until, releases, of_tasks)
 
 
-def simulate_in(tasks, order, until, releases, by_task):
+def simulate_in(tasks, order, until, releases, of_tasks):
     """What is printed of a run in an order, passing or not."""
     kernel.check_releases(tasks, until, releases)
     slices, jobs = kernel.run(tasks, order, analysis.ceilings(tasks, order), until, releases)
     kernel.check_overruns(jobs)
-    if not by_task:
+    if not of_tasks:
         return kernel.simulated(slices, jobs)
     return "".join(kernel.came_to(tasks[i], bound, jobs) for i, bound in settings.bounds_in(tasks, order).items())
 
@@ -277,10 +283,18 @@ def observe(tasks, said, tolerance=0):
     return observed.observe(tasks, order, *said, tolerance)
 
 
-def draw(tasks, said):
-    """Refusals as those of `simulate`; what a picture has to show is another module's."""
+def draw(tasks, said, **options):
+    """Refusals as those of `simulate`, then those of a view; what a picture has to show is another module's."""
     text, status = simulate(tasks, said)
-    return (DRAWN if status == 0 else text), status
+    view = picture.View(**options)
+    names = {task.name for task in tasks}
+    for word in view.named():
+        if word not in names:
+            return no_such_task(word)
+    if status != 0:
+        return text, status
+    start, stop = view.window(said[1])
+    return (DRAWN, 0) if start < stop else ("refused: EmptyWindow\n", 4)
 
 
 def play(rows):
@@ -305,6 +319,8 @@ WORST_AT, EXPLAIN_AT, LIMITS_AT = IN_ORDER = [
     for command in (worst.worst_at, explain_at, limits_at)
 ]
 AT = {**OF_TASK, "at": calls.any_word}
+TIME = calls.number_within(0, kernel.HORIZON)
+VIEW = {"from": TIME, "to": TIME, "width": calls.number_within(960, 16_000), "title": calls.any_word, "tasks": calls.any_word}
 
 
 COMMANDS = {
@@ -319,7 +335,7 @@ COMMANDS = {
     "simulate": on_set(simulate, kernel.read_releases, options={**PREFERS, "tasks": calls.FLAG}),
     "releases": on_set(releases, number=(0, kernel.HORIZON), options={**PREFERS, "seed": calls.number_within(0, 2**32 - 1)}),
     "worst": on_set(of_task(worst.worst), options=AT, by_file=("at", WORST_AT)),
-    "draw": on_set(draw, kernel.read_releases),
+    "draw": on_set(draw, kernel.read_releases, options={**PREFERS, **VIEW}),
     "observe": on_set(
         observe, observed.read_trace, options={**PREFERS, "tolerance": calls.number_within(0, observed.TOLERANCE_MOST)}
     ),
@@ -327,7 +343,7 @@ COMMANDS = {
     "play": calls.Command(play, (scripts.read_script,)),
     "rush": calls.Command(rush, (scripts.read_script,), (1, scripts.TEAMS)),
 }
-KEYWORDS = {"tasks": "by_task", "lower-is-higher": "lower_is_higher"}  # options by another name
+KEYWORDS = {"tasks": "of_tasks", "lower-is-higher": "lower_is_higher", "from": "start", "to": "stop"}  # options by another name
 OF_THE_ORDER = ("admit", "explain", "limits", "settings", "worst")  # commands whose answer speaks of the order alone
 OF_A_PREFERENCE = (teams.read_set, read_change)  # readers that are told it
 HELP = {(word,) for word in ("help", "-h", "--help", "-V", "--version")}
@@ -341,18 +357,22 @@ def answer(words, files, stdin=b""):
     try:
         call = calls.call_of(words, COMMANDS)
         said = read_inputs(call, files, stdin)
-        options = {KEYWORDS.get(name, name): value for name, value in call.options.items() if name != "prefer"}
-        text, status = call.command.run(*said, *call.numbers, **options)
+        text, status = call.command.run(*said, *call.numbers, **keywords(call))
     except calls.Wrong:
         return Answer("", 2, SAID)
     except Refused as refusal:
         return Answer(refusal.line, refusal.status, SAID)
     # (of two inputs nothing is noted beside a refusal)
-    is_refused = call.command in IN_ORDER and status == 4
+    is_refused = call.command in (*IN_ORDER, COMMANDS["draw"]) and status == 4
     if call.command.readers[0] is not teams.read_set or is_refused:
         return Answer(text, status, "")
     told = choice_note(call, said[0]) + notes(call, said[0]) + no_note(call, said[0], status) + parted_note(call, text)
     return Answer(text, status, told)
+
+
+def keywords(call):
+    """The options of a call but for what it prefers, by the names that functions know."""
+    return {KEYWORDS.get(name, name): value for name, value in call.options.items() if name != "prefer"}
 
 
 def choice_note(call, tasks):

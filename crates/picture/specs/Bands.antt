@@ -12,7 +12,7 @@ use Rattle.picture.specs.Frame.{Frame, x_of, is_in, sees, right_of, top_of}
 use Rattle.picture.specs.Rows.{record_at}
 use Rattle.picture.specs.Boxes.{span_text}
 use Rattle.picture.specs.Numbers.{millis_text}
-use Rattle.picture.specs.Elements.{limit_of, limit_words, goes_back, back_sign, goes_on, on_sign, job_text}
+use Rattle.picture.specs.Elements.{limit_of, limit_words, back_sign, goes_on, on_sign, job_text}
 
 -- how many microseconds 20 pixels are: arrivals of a task that are less apart are too close
 abbrev pub gap_of : Frame → ℕ
@@ -79,19 +79,15 @@ abbrev pub last_bound : Frame → (k latest : ℕ) → Option ℕ → List ℕ
 last_bound f k latest None = []
 last_bound f k latest (Some bound) = bracket_text f k latest bound
 
--- of some jobs one of the task with a name goes on before the window
-abbrev pub any_back : Frame → List ℕ → List JobRecord → Bool
-any_back f name jobs = list_any (λ job. is_of name job && goes_back f job) jobs
-
--- or behind it
+-- of some jobs one of the task with a name goes on behind the window
 abbrev pub any_on : Frame → List ℕ → List JobRecord → Bool
 any_on f name jobs = list_any (λ job. is_of name job && goes_on f job.finish) jobs
 
--- a sign at the beginning where some job of a band does
-abbrev pub band_back : Frame → (k : ℕ) → List ℕ → List JobRecord → List ℕ
-band_back f k name jobs = if any_back f name jobs then back_sign f k else []
+-- a sign at the beginning, before which the first job of a band arrives
+abbrev pub band_back : Frame → (k first : ℕ) → List ℕ
+band_back f k first = if nat_lt first f.from then back_sign f k else []
 
--- and at the end
+-- one at the end, behind which some job of it goes on
 abbrev pub band_on : Frame → (k : ℕ) → List ℕ → List JobRecord → List ℕ
 band_on f k name jobs = if any_on f name jobs then on_sign f k else []
 
@@ -106,7 +102,7 @@ abbrev pub seen_band : Frame → (k : ℕ) → TaskRow → JobRecord → List Jo
 seen_band f k row first jobs count latest done greatest =
     band_box f k row first.release latest ++ band_title row first count latest done greatest
     ++ label_of f k row first count latest done greatest ++ last_bound f k latest row.bound
-    ++ band_back f k first.name jobs ++ band_on f k first.name jobs
+    ++ band_back f k first.release ++ band_on f k first.name jobs
 
 -- the same of any band
 abbrev pub band_with : Frame → (k : ℕ) → TaskRow → JobRecord → List JobRecord → (count latest done greatest : ℕ) → List ℕ

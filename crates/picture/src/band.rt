@@ -4,12 +4,12 @@ ghost use Rattle.picture.specs.declared.frame.TheConstants.{RIGHTMOST};
 ghost use Rattle.task_sheet.specs.declared.set.TheConstants.{TASK_LIMIT};
 ghost use Rattle.picture.specs.Puts.{Puts};
 ghost use Rattle.picture.specs.Rows.{record_at};
-ghost use Rattle.picture.specs.Bands.{gap_of, band_box, band_words, reached_words, band_title, longest_words, wide_words, count_word, band_label, bracket_at, bracket_text, last_bound, any_back, any_on, band_back, band_on, label_of, seen_band, band_with, stand_text, place_text};
+ghost use Rattle.picture.specs.Bands.{gap_of, band_box, band_words, reached_words, band_title, longest_words, wide_words, count_word, band_label, bracket_at, bracket_text, last_bound, any_on, band_back, band_on, label_of, seen_band, band_with, stand_text, place_text};
 
 use crate::boxes::bar_of;
 use crate::chart::Lane;
 use crate::frame::{Frame, sees_up_to, top_of, x_after, x_of};
-use crate::jobs::{goes_back, goes_on, limit_of};
+use crate::jobs::{goes_on, limit_of};
 use crate::marks::is_shown;
 use crate::numbers::Millis;
 use crate::page::Page;
@@ -35,15 +35,7 @@ fn job_at(jobs: &[JobRecord], i: usize) -> JobRecord
     jobs[i]
 }
 
-// Whether of some jobs one of the task with a name goes on before the window.
-fn any_back(frame: Frame, name: Name, jobs: &[JobRecord]) -> bool
-    ensures { result ≡ any_back frame name jobs.now }
-{
-    jobs.iter()
-        .any(|job| job.name == name && goes_back(frame, job))
-}
-
-// Or behind it.
+// Whether of some jobs one of the task with a name goes on behind the window.
 fn any_on(frame: Frame, name: Name, jobs: &[JobRecord]) -> bool
     ensures { result ≡ any_on frame name jobs.now }
 {
@@ -220,24 +212,19 @@ impl<W: Write + Drop> Page<'_, W> {
         }
     }
 
-    // A sign at the beginning where some job of a band goes on.
-    fn put_band_back(
-        &mut self,
-        lane: &Lane<'_>,
-        name: Name,
-        jobs: &[JobRecord],
-    ) -> Result<(), WriteFailed>
+    // A sign at the beginning, before which the first job of a band arrives.
+    fn put_band_back(&mut self, lane: &Lane<'_>, first: u64) -> Result<(), WriteFailed>
         ensures { Puts W.contents self.old self.new result
-            (band_back lane.now.frame lane.now.spot.k name jobs.now) }
+            (band_back lane.now.frame lane.now.spot.k first) }
     {
-        if any_back(lane.frame, name, jobs) {
+        if first < lane.frame.from {
             self.put_back_sign(lane.frame, lane.spot.k)
         } else {
             Ok(())
         }
     }
 
-    // And at the end.
+    // One at the end, behind which some job of it goes on.
     fn put_band_on(
         &mut self,
         lane: &Lane<'_>,
@@ -271,7 +258,7 @@ impl<W: Write + Drop> Page<'_, W> {
         self.put_band_title(lane, first, band, outcome)?;
         self.put_label_of(lane, first, band, outcome)?;
         self.put_last_bound(lane, band.latest)?;
-        self.put_band_back(lane, first.name, jobs)?;
+        self.put_band_back(lane, first.release)?;
         self.put_band_on(lane, first.name, jobs)
     }
 

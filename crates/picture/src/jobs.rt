@@ -26,7 +26,7 @@ pub(crate) fn limit_of(row: &TaskRow) -> u64
 }
 
 // Whether a job goes on before the window.
-pub(crate) fn goes_back(frame: Frame, job: &JobRecord) -> bool
+fn goes_back(frame: Frame, job: &JobRecord) -> bool
     ensures { result ≡ goes_back frame job.now }
 {
     job.release < frame.from && frame.from < ended(frame, job)
