@@ -8,7 +8,7 @@ ghost use Rattle.picture.specs.Bands.{gap_of, band_box, band_words, reached_word
 
 use crate::boxes::bar_of;
 use crate::chart::Lane;
-use crate::frame::{Frame, sees_up_to, top_of, x_after, x_of};
+use crate::frame::{Frame, is_before, sees_up_to, top_of, x_after, x_of};
 use crate::jobs::{goes_on, limit_of};
 use crate::marks::is_shown;
 use crate::numbers::Millis;
@@ -217,7 +217,7 @@ impl<W: Write + Drop> Page<'_, W> {
         ensures { Puts W.contents self.old self.new result
             (band_back lane.now.frame lane.now.spot.k first) }
     {
-        if first < lane.frame.from {
+        if is_before(lane.frame, first) {
             self.put_back_sign(lane.frame, lane.spot.k)
         } else {
             Ok(())

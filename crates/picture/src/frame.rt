@@ -1,5 +1,5 @@
 //! How time and rows lie in the picture.
-ghost use Rattle.std.specs.Prelude.{◌≡◌, ◌+◌, ◌*◌, ◌<◌, ◌≤◌, length, nat_le};
+ghost use Rattle.std.specs.Prelude.{◌≡◌, ◌+◌, ◌*◌, ◌<◌, ◌≤◌, length, nat_le, nat_lt};
 ghost use Rattle.picture.specs.declared.frame.TheConstants.{LONGEST_PERIOD, NARROWEST, RIGHTMOST, LOWEST_TOP, WIDEST_MARGIN, WIDEST_STEP, WIDEST_DECADE};
 ghost use Rattle.ceiling_kernel.specs.declared.accept.TheConstants.{HORIZON};
 ghost use Rattle.task_sheet.specs.declared.set.TheConstants.{TASK_LIMIT};
@@ -143,6 +143,13 @@ pub(crate) fn is_in(frame: Frame, time: u64) -> bool
     ensures { result ≡ is_in frame time }
 {
     frame.from <= time && time <= frame.to
+}
+
+// Whether it is before it.
+pub(crate) fn is_before(frame: Frame, time: u64) -> bool
+    ensures { result ≡ nat_lt time frame.from }
+{
+    time < frame.from
 }
 
 // Whether a span of time that has a tick is partly in it.
