@@ -1,6 +1,6 @@
 -- The names of tasks that have rows in a picture.
 use Rattle.std.proofs.Common.{◌≡◌, ◌∙◌, ℕ, List, [], ◌∷◌, ◌++◌, Option, Some, None, ap, refl, sym}
-use Rattle.std.specs.Prelude.{option_or}
+use Rattle.std.specs.Option.{option_or}
 use Rattle.std.proofs.lemmas.List.Folds.{find-append}
 use Rattle.task_sheet.specs.Sheet.{Task}
 use Rattle.std.specs.Prelude.{Err}
