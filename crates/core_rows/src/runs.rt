@@ -7,7 +7,7 @@ use example_sets::{again, name};
 use std::alloc::Global;
 use std::process::Abort;
 use std::test::Fail;
-use task_sheet::Sheet;
+use task_sheet::{Outranks, Sheet};
 
 // A task without sections, whose deadline is its period.
 fn sheet(alloc: Global, text: &str, period: u64, cost: u64) -> Result<Sheet, Fail> {
