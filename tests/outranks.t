@@ -158,7 +158,7 @@ All others are outranked by a word, but for those that say it, too. It is no nam
   admitted 3
   was admitted 3
   changed a level 3 3 bound 3000 3000 slack 4000 4000 keys outranks
-  $ desk script 3 both-over-all.toml | tee both.script
+  $ desk script both-over-all.toml 3 | tee both.script
   open 3
   put 1 a 0 7000 7000 3000 over=*
   put 1 b 0 12000 12000 3000 over=*

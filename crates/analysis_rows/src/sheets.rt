@@ -3,8 +3,8 @@ use example_sets::{again, name, set_of};
 use std::alloc::{AllocError, Global};
 use std::test::Fail;
 use task_sheet::{
-    Key, Name, Outranks, OutranksCause, Section, SetCause, SetFault, Sheet, SheetCause, SheetsFault, TaskSet,
-    WithCause, WithFault, WithoutFault, read_set,
+    Key, Name, Outranks, OutranksCause, Section, SetCause, SetFault, Sheet, SheetCause,
+    SheetsFault, TaskSet, WithCause, WithFault, WithoutFault, read_set,
 };
 
 // Why these values are no sheet.

@@ -38,7 +38,7 @@ fn names_of(alloc: Global, text: &[u8]) -> Result<Vec<Name>, RowFault>
 fn is_all(text: &[u8]) -> bool
     ensures { result ≡ bytes_eq text.now all_sign }
 {
-    text == b"*"
+    text == b"*".as_slice()
 }
 
 // Above which tasks one must stand, as a text says.

@@ -21,11 +21,13 @@ outranks_equiv = record { refl = itself; symm = turned; congr = alike }
     itself : (x : OutranksData) → same_outranks x x ≡ true
     itself (Named xs) = names_equiv.refl xs
     itself AllOthers = refl
+
     turned : (x y : OutranksData) → same_outranks x y ≡ same_outranks y x
     turned (Named xs) (Named ys) = names_equiv.symm xs ys
     turned (Named xs) AllOthers = refl
     turned AllOthers (Named ys) = refl
     turned AllOthers AllOthers = refl
+
     alike : (x y z : OutranksData) → same_outranks x y ≡ true → same_outranks x z ≡ same_outranks y z
     alike (Named xs) (Named ys) (Named zs) same = names_equiv.congr xs ys zs same
     alike (Named xs) (Named ys) AllOthers same = refl

@@ -110,10 +110,14 @@ strings_at k ms = option_and_then strings_of (value_at k ms)
 abbrev pub all_word : List ℕ
 all_word = codes "all"
 
--- above which tasks one must stand: the word of all others, or an array of strings
+-- above which tasks one must stand, by a string, else by an array of strings
+abbrev pub said_by : Option (List ℕ) → Option (List (List ℕ)) → Option OutranksData
+said_by (Some word) strings = if same_bytes all_word word then Some AllOthers else None
+said_by None strings = option_map Named strings
+
+-- the same of a value
 abbrev pub outranks_in : Data → Option OutranksData
-outranks_in (string s) = if same_bytes all_word s then Some AllOthers else None
-outranks_in d = option_map Named (strings_of d)
+outranks_in d = said_by (as_str d) (strings_of d)
 
 -- the same where it may be absent, and is no name then
 abbrev pub outranks_or_none : Option Data → Option OutranksData
