@@ -299,7 +299,7 @@ def put_words(rng, name, sheet, names, share):
     if sheet.jitter or rng.random() < 0.03:
         words.append(f"j={sheet.jitter}")
     if sheet.outranks == ALL or rng.random() < 0.02:
-        words.append(rng.choice(["over=*"] * 9 + ["over=**", "over=*+a", "over=all"]))
+        words.append(rng.choice(["over=*", "over=*", "over=*", "over=all"]))
     elif sheet.outranks:
         others = [other for other in [*names, "absent"] if other != name]
         words.append("over=" + "+".join(rng.sample(others, min(len(others), rng.choice([1, 1, 2])))))
