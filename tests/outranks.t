@@ -147,9 +147,8 @@ All others are outranked by a word, but for those that say it, too. It is no nam
   $ three "outranks = ['all']" | desk certify - 2> notes | cmp - examples/three-tasks.cert
   $ cat notes
   note: a outranks all, which is no task of the set: that binds nothing
-  $ three "outranks = 'b'" | desk admit - 2>&1
+  $ three "outranks = 'b'" | desk admit -
   refused: WrongKind 1 0 outranks
-  standard input: line 1, task 1 (a): outranks has to be an array of strings, as ["a", "b"], or the string "all"; it is the string "b"
   [4]
   $ three "outranks = ['all', 'b', 'all']" | desk admit -
   refused: OutranksTwice 1
