@@ -1,5 +1,5 @@
 -- Equality of sections and of sheets as a test: an equivalence that holds of equal values alone.
-use Rattle.std.specs.Prelude.{◌≡◌, Bool, true, false}
+use Rattle.std.specs.Prelude.{◌≡◌, Bool, true}
 use Rattle.std.proofs.Common.{refl, ap, subst, Decides}
 use Rattle.std.specs.Cmp.{IsPartialEquivalence, IsEquivalence, and_equiv, on_equiv, partial_equiv_from_equiv, nat_eq_equiv}
 use Rattle.std.specs.Cmp.Lexicographic.{pointwise, lists_equiv, nat_list_eq_equiv}
