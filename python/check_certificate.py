@@ -51,7 +51,11 @@ def are_names(words, most):
 def task_of(table):
     """A task, if its sheet is valid. Its limit is the longest time that serves it, counted from the
     latest instant at which it may become ready; its locks are those of all sections."""
+    is_above_all = table.get("outranks") == "all"
+    if is_above_all:
+        table = {**table, "outranks": []}
     it = values(table, TASK, weight=0, jitter=0, section=[], outranks=[])
+    it.is_above_all = is_above_all
     it.section = [values(section, SECTION) for section in it.section]
     it.limit = it.deadline - it.jitter
     it.locks = {lock for section in it.section for lock in section.locks}
@@ -134,11 +138,16 @@ def demand(tasks, task, above, time):
     return task.cost + blocking + sum(-(-(time + it.jitter) // it.period) * it.cost for it in above)
 
 
+def must_outrank(task, other):
+    """Whether the task must stand above the other one: that it names, or any that isn't above all, too."""
+    return not other.is_above_all if task.is_above_all else other.name in task.outranks
+
+
 def refutes(tasks, task, above, reason):
     """Whether a reason shows that the task can't stand below these: one of them that it must
     outrank, or a chain."""
     if isinstance(reason, str):
-        return reason in task.outranks and reason in [it.name for it in above]
+        return any(it.name == reason and must_outrank(task, it) for it in above)
     rises = all(a < b <= demand(tasks, task, above, a) for a, b in zip(reason, reason[1:]))
     return reason[0] == 1 and rises and max([0, *reason[:-1]]) <= task.limit < reason[-1]
 
@@ -147,7 +156,8 @@ def check(tasks, version, claim, rows):
     """What the certificate shows. Each rule goes over all of it before the next one."""
     named = {it.name: it for it in tasks}
     order = [named.get(row[0]) for row in rows]
-    if version == 1 and any(it.jitter or named.keys() & {*it.outranks} for it in tasks):
+    is_bound = any(must_outrank(it, other) for it in tasks for other in tasks)
+    if version == 1 and (is_bound or any(it.jitter for it in tasks)):
         raise Refused("WrongVersion")
     is_short = claim == "best" and len(rows) < len(tasks)
     if None in order or len({it.name for it in order}) < len(rows) or is_short:
@@ -174,7 +184,7 @@ def check(tasks, version, claim, rows):
     for level, (_, time, _) in enumerate(rows, 1):
         task, above = order[level - 1], order[level:]
         if not 1 <= time <= task.limit or demand(tasks, task, above, time) > time \
-                or {*task.outranks} & {it.name for it in above}:
+                or any(must_outrank(task, it) for it in above):
             raise Refused(f"BadPass {level}")
     for level, (_, _, reasons) in enumerate(rows, 1):
         refuse_wrong(level, order[level - 1 :], reasons)

@@ -87,7 +87,7 @@ class Task:
     weight: int = 0
     jitter: int = 0
     sections: Sequence[Section] = ()
-    outranks: Sequence[str] = ()
+    outranks: Sequence[str] = ()  # names, or "all"
 
 
 @dataclass(frozen=True, kw_only=True)
@@ -420,7 +420,9 @@ def toml(tasks: Iterable[Task], prefer: str | None = None) -> str:
                 f"{{ locks = {words(s.locks)}, at = {s.at}, len = {s.len} }}" for s in it.sections
             )
             yield f"section = [{', '.join(rows)}]"
-        if it.outranks:
+        if it.outranks == "all":
+            yield 'outranks = "all"'
+        elif it.outranks:
             yield f"outranks = {words(it.outranks)}"
 
     head = [f"prefer = {word(prefer)}"] if prefer else []

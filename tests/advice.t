@@ -151,7 +151,7 @@ Kinds
   standard input: task 1 (a): section has to be an array of tables, each headed by [[task.section]]; it is a single table
   [4]
   $ more 'outranks = "b"'
-  standard input: task 1 (a): outranks has to be an array of strings, as ["a", "b"]; it is the string "b"
+  standard input: task 1 (a): outranks has to be an array of strings, as ["a", "b"], or the string "all"; it is the string "b"
   [4]
   $ sections '{ locks = ["m", 2], at = 0, len = 10 }'
   standard input: task 1 (a), section 1: locks has to be an array of strings, as ["a", "b"]; it is an array with 2
@@ -415,7 +415,7 @@ Scripts
   standard input: line 1, "open 9" has to be open TEAM, with TEAM from 1 to 8
   [4]
   $ script 'open 1\nput 2 a 0 1000 1000 1\n'
-  standard input: line 2, "put 2 a 0 1000 1000 1" has to be put DRAFT NAME WEIGHT PERIOD DEADLINE COST, then j=JITTER, over=NAME+NAME and LOCK+LOCK@AT:LEN where there are such; DRAFT is the number of an open line above it
+  standard input: line 2, "put 2 a 0 1000 1000 1" has to be put DRAFT NAME WEIGHT PERIOD DEADLINE COST, then j=JITTER, over=NAME+NAME or over=* and LOCK+LOCK@AT:LEN where there are such; DRAFT is the number of an open line above it
   [4]
   $ script 'open 1\nremove 1\n'
   standard input: line 2, "remove 1" has to be remove DRAFT NAME; DRAFT is the number of an open line above it

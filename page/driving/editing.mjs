@@ -206,6 +206,10 @@ export async function sections() {
   seen = await look();
   expect(seen.set.includes('outranks = ["upload"]'), 'outranks');
   compare_set('two sections', seen.set, seen);
+  await browser.write('#over-6', '*');
+  seen = await look();
+  expect(seen.set.includes('outranks = "all"'), 'outranks all others');
+  compare_set('above all others', seen.set, seen);
   await browser.write('#editor-6 .line[aria-label="section 2"] input:nth-of-type(2)', '350');
   seen = await look();
   const why = 'section 2: it begins before the end of the one before it: at 350, ';

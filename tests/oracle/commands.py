@@ -379,7 +379,7 @@ def notes(call, tasks):
             lines.append(f"note: lock {lock} has one user, {users[0]}\n")
     names = {task.name for task in tasks}
     for task in tasks:
-        for name in task.outranks:
+        for name in task.named:
             if name not in names:
                 lines.append(f"note: {task.name} outranks {name}, which is no task of the set: that binds nothing\n")
     if not tasks and call.command is not COMMANDS["diff"]:

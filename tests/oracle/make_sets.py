@@ -4,7 +4,7 @@ import copy
 
 import analysis
 import limits
-from sets import Section, Sheet, by_rank, sheet_fault
+from sets import ALL, Section, Sheet, by_rank, sheet_fault
 
 NAMES = [*"abcdefgh", "B", "Z9", "a-1", "a_1", "a1", "hi", "lo", "mid", "x" * 24, "until", "over", "thread", "end"]
 LOCKS = ["m", "n", "bus", "L-2", "a", "k" * 24]
@@ -31,7 +31,8 @@ def some_sheets(rng, most=12):
             sheet = sheet._replace(jitter=rng.randint(0, min(most_late, deadline - 1)))
         if bound and rng.random() < 0.4:
             others = [other for other in names if other != name] + ["absent"]
-            sheet = sheet._replace(outranks=tuple(rng.sample(others, min(len(others), rng.choice([1, 1, 2, 8])))))
+            named = tuple(rng.sample(others, min(len(others), rng.choice([1, 1, 2, 8]))))
+            sheet = sheet._replace(outranks=ALL if rng.random() < 0.25 else named)
         assert not sheet_fault(sheet)
         out.append(sheet)
     if out and rng.random() < 0.5:
@@ -127,7 +128,8 @@ def changed(rng, sheets):
 def without_order(rng, sheet):
     """The same locks and names to outrank in another order."""
     parts = [part._replace(locks=tuple(rng.sample(part.locks, len(part.locks)))) for part in sheet.sections]
-    return sheet._replace(sections=tuple(parts), outranks=tuple(rng.sample(sheet.outranks, len(sheet.outranks))))
+    named = ALL if sheet.outranks == ALL else tuple(rng.sample(sheet.outranks, len(sheet.outranks)))
+    return sheet._replace(sections=tuple(parts), outranks=named)
 
 
 # Documents of several teams
@@ -197,7 +199,7 @@ def folder(rng, parts, node=None):
 def table_of(sheet):
     table = {key: getattr(sheet, key) for key in ("name", "weight", "period", "deadline", "cost", "jitter")}
     table["section"] = [{"locks": list(s.locks), "at": s.at, "len": s.len} for s in sheet.sections]
-    table["outranks"] = list(sheet.outranks)
+    table["outranks"] = ALL if sheet.outranks == ALL else list(sheet.outranks)
     for key in ("weight", "jitter", "section", "outranks"):
         if not table[key]:
             del table[key]
@@ -232,7 +234,8 @@ def past_limit(rng, task, whole):
         ("deadline", number("period") + 1), ("cost", 0), ("cost", number("period")), ("cost", number("period") + 1),
         ("jitter", number("deadline") - 1), ("jitter", number("deadline")), ("name", rng.choice(whole).get("name", "a")),
         ("name", "x" * 25), ("outranks", [f"z{k}" for k in range(rng.choice([8, 9]))]), ("outranks", ["z", "y", "z"]),
-        ("outranks", [task.get("name", "a")]), ("outranks", ["1z"]), *[("section", None)] * 6,
+        ("outranks", [task.get("name", "a")]), ("outranks", ["1z"]), ("outranks", rng.choice(["all", "all", "All", ["all"], "*"])),
+        *[("section", None)] * 6,
     ])  # fmt: skip
     task[key] = value if key != "section" else sections_past_limit(rng, number("cost"))
 

@@ -25,6 +25,10 @@ class Section(NamedTuple):
         return self.at + self.len
 
 
+# What a sheet says that outranks all others but those that say so, too.
+ALL = "all"
+
+
 class Sheet(NamedTuple):
     name: str
     weight: int
@@ -33,7 +37,7 @@ class Sheet(NamedTuple):
     cost: int
     sections: tuple = ()
     jitter: int = 0
-    outranks: tuple = ()
+    outranks: tuple = ()  # of names, or ALL
 
     @property
     def rank(self):
@@ -47,6 +51,14 @@ class Sheet(NamedTuple):
     @property
     def last_end(self):
         return self.sections[-1].end if self.sections else 0
+
+    @property
+    def named(self):
+        """The names of tasks that it outranks."""
+        return () if self.outranks == ALL else self.outranks
+
+    def must_outrank(self, other):
+        return other.outranks != ALL if self.outranks == ALL else other.name in self.outranks
 
 
 def sheet_fault(sheet):
@@ -82,11 +94,11 @@ def sheet_fault(sheet):
         end = section.end
     if sheet.jitter >= sheet.deadline:
         return ("BadJitter",)
-    if len(sheet.outranks) > 8:
+    if len(sheet.named) > 8:
         return ("TooManyOutranks",)
-    if len(set(sheet.outranks)) < len(sheet.outranks):
+    if len(set(sheet.named)) < len(sheet.named):
         return ("OutranksTwice",)
-    if sheet.name in sheet.outranks:
+    if sheet.name in sheet.named:
         return ("OutranksSelf",)
     return ()
 
@@ -145,7 +157,7 @@ KINDS = {
     "cost": is_number,
     "section": lambda value: are(value, dict),
     "jitter": is_number,
-    "outranks": lambda value: are(value, str),
+    "outranks": lambda value: value == ALL or are(value, str),
     "locks": lambda value: are(value, str),
     "at": is_number,
     "len": is_number,
@@ -176,14 +188,14 @@ def read_task(table, task):
         *(table.get(key, 0) for key in ("name", "weight", "period", "deadline", "cost")),
         sections,
         table.get("jitter", 0),
-        tuple(table.get("outranks", ())),
+        ALL if table.get("outranks") == ALL else tuple(table.get("outranks", ())),
     )
     if not is_name(sheet.name):
         raise Refused(4, "BadName", task, 0)
     for number, section in enumerate(sections, 1):
         if not all(map(is_name, section.locks)):
             raise Refused(4, "BadName", task, number)
-    if not all(map(is_name, sheet.outranks)):
+    if not all(map(is_name, sheet.named)):
         raise Refused(4, "BadName", task, 0)
     fault = sheet_fault(sheet)
     if fault:

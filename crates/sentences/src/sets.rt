@@ -181,7 +181,8 @@ fn kind_of(key: Key) -> &'static str {
         Key::Section => "an array of tables, each headed by [[task.section]]",
         Key::Name => "a string, in quotes",
         Key::Prefer => "\"deadline\" or \"weight\"",
-        Key::Locks | Key::Outranks => "an array of strings, as [\"a\", \"b\"]",
+        Key::Locks => "an array of strings, as [\"a\", \"b\"]",
+        Key::Outranks => "an array of strings, as [\"a\", \"b\"], or the string \"all\"",
         Key::Weight => "a whole number from 0",
         Key::Period | Key::Deadline | Key::Cost | Key::Jitter | Key::At | Key::Len => {
             "a whole number of microseconds from 0, without quotes"

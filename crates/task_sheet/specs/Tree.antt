@@ -1,12 +1,15 @@
 -- What a document's tree says of tasks.
-use Rattle.std.specs.Prelude.{◌≡◌, ℕ, Bool, true, false, ◌&&◌, List, [], ◌∷◌, map, Option, Some, None, option_and_then, unwrap_or, is_some, codes, pos, if◌then◌else◌}
+use Rattle.std.specs.Prelude.{◌≡◌, ℕ, Bool, true, false, ◌&&◌, List, [], ◌∷◌, map, Option, Some, None, option_map, option_and_then, unwrap_or, is_some, codes, pos, if◌then◌else◌}
 use Rattle.std.specs.List.{list_any}
 use Rattle.toml.specs.Data.{Data, string, integer, array, table, Items, no_items, item, Members, no_members, member, get_member, as_str}
-use Rattle.task_sheet.specs.Sheet.{CriticalSection, Task, same_bytes}
+use Rattle.toml.specs.View.{items_view}
+use Rattle.task_sheet.specs.Sheet.{CriticalSection, OutranksData, Named, AllOthers, Task, same_bytes}
 use Rattle.task_sheet.specs.Prefer.{preference_of}
 use Rattle.task_sheet.specs.declared.prefer.Preference.{Preference}
 use Rattle.task_sheet.specs.declared.keys.Key.{Key}
 use Rattle.task_sheet.specs.declared.keys.Key.TheVariants as key
+use Rattle.task_sheet.specs.declared.values.Said.{Said}
+use Rattle.task_sheet.specs.declared.values.Said.TheVariants.{Strings, All}
 
 -- ---- keys
 
@@ -103,10 +106,28 @@ strings_of _ = None
 abbrev pub strings_at : Key → Members → Option (List (List ℕ))
 strings_at k ms = option_and_then strings_of (value_at k ms)
 
--- an array of strings, which may be absent, and is empty then
-abbrev pub strings_or_none : Option Data → Option (List (List ℕ))
-strings_or_none None = Some []
-strings_or_none (Some d) = strings_of d
+-- how all others are written
+abbrev pub all_word : List ℕ
+all_word = codes "all"
+
+-- above which tasks one must stand, by a string, else by an array of strings
+abbrev pub said_by : Option (List ℕ) → Option (List (List ℕ)) → Option OutranksData
+said_by (Some word) strings = if same_bytes all_word word then Some AllOthers else None
+said_by None strings = option_map Named strings
+
+-- the same of a value
+abbrev pub outranks_in : Data → Option OutranksData
+outranks_in d = said_by (as_str d) (strings_of d)
+
+-- the same where it may be absent, and is no name then
+abbrev pub outranks_or_none : Option Data → Option OutranksData
+outranks_or_none None = Some (Named [])
+outranks_or_none (Some d) = outranks_in d
+
+-- what is told of it
+abbrev pub said_of : Said → OutranksData
+said_of (Strings items) = Named (strings_in (items_view items.now))
+said_of All = AllOthers
 
 -- all of the items are tables
 abbrev pub all_tables : Items → Bool
@@ -150,7 +171,7 @@ sheet_at ms = record {
   cost = unwrap_or (number_at key.Cost ms) 0;
   sections = map section_at (unwrap_or (tables_at key.Section ms) []);
   jitter = unwrap_or (number_or_zero (value_at key.Jitter ms)) 0;
-  outranks = unwrap_or (strings_or_none (value_at key.Outranks ms)) [];
+  outranks = unwrap_or (outranks_or_none (value_at key.Outranks ms)) (Named []);
 }
 
 -- the sheets of a document, in its order
@@ -162,7 +183,7 @@ abbrev pub tree_prefers : Members → Option Preference
 tree_prefers ms = option_and_then preference_of (text_at key.Prefer ms)
 
 -- a task's own values, each of the right kind
-pub record AreFields (ms : Members) (text : List ℕ) (w p d c : ℕ) (tables : List Members) (j : ℕ) (names : List (List ℕ)) : Type 0 where
+pub record AreFields (ms : Members) (text : List ℕ) (w p d c : ℕ) (tables : List Members) (j : ℕ) (said : OutranksData) : Type 0 where
   pub name : text_at key.Name ms ≡ Some text
   pub weight : number_or_zero (value_at key.Weight ms) ≡ Some w
   pub period : number_at key.Period ms ≡ Some p
@@ -170,4 +191,4 @@ pub record AreFields (ms : Members) (text : List ℕ) (w p d c : ℕ) (tables : 
   pub cost : number_at key.Cost ms ≡ Some c
   pub sections : tables_at key.Section ms ≡ Some tables
   pub jitter : number_or_zero (value_at key.Jitter ms) ≡ Some j
-  pub outranks : strings_or_none (value_at key.Outranks ms) ≡ Some names
+  pub outranks : outranks_or_none (value_at key.Outranks ms) ≡ Some said

@@ -4,11 +4,11 @@ use Rattle.std.specs.Option.{option_or}
 use Rattle.std.specs.List.{list_all}
 use Rattle.toml.specs.Data.{Data, Members, as_str}
 use Rattle.task_sheet.specs.Name.{is_name}
-use Rattle.task_sheet.specs.Sheet.{CriticalSection, Task}
+use Rattle.task_sheet.specs.Sheet.{CriticalSection, Task, names_said}
 use Rattle.task_sheet.specs.SheetFault.{sheet_fault, outranks_fault}
 use Rattle.task_sheet.specs.SheetsFault.{sheets_fault}
 use Rattle.task_sheet.specs.Prefer.{preference_of}
-use Rattle.task_sheet.specs.Tree.{root_keys, task_keys, needed_keys, section_keys, only_keys, first_missing, value_at, number_at, number_or_zero, text_at, strings_at, strings_or_none, tables_at, sheet_at, tree_sheets}
+use Rattle.task_sheet.specs.Tree.{root_keys, task_keys, needed_keys, section_keys, only_keys, first_missing, value_at, number_at, number_or_zero, text_at, strings_at, outranks_or_none, tables_at, sheet_at, tree_sheets}
 use Rattle.task_sheet.specs.declared.set.SetCause.{SetCause}
 use Rattle.task_sheet.specs.declared.set.SetCause.TheVariants as cause
 use Rattle.task_sheet.specs.declared.keys.Key.{Key}
@@ -57,7 +57,7 @@ bad_section place (x ∷ xs) =
 abbrev pub bad_name : Task → Option ℕ
 bad_name s =
     if is_name s.name then option_or (bad_section 1 s.sections)
-    (if list_all is_name s.outranks then None else Some 0)
+    (if list_all is_name (names_said s.outranks) then None else Some 0)
     else Some 0
 
 -- the kinds of a task's own values
@@ -70,7 +70,7 @@ kinds_fault task ms = first (
     ∷ unless (is_some (number_at key.Cost ms)) (fault.WrongKind task 0 key.Cost)
     ∷ unless (is_some (tables_at key.Section ms)) (fault.WrongKind task 0 key.Section)
     ∷ unless (is_some (number_or_zero (value_at key.Jitter ms))) (fault.WrongKind task 0 key.Jitter)
-    ∷ unless (is_some (strings_or_none (value_at key.Outranks ms)))
+    ∷ unless (is_some (outranks_or_none (value_at key.Outranks ms)))
     (fault.WrongKind task 0 key.Outranks)
     ∷ [])
 

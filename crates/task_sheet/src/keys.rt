@@ -26,7 +26,7 @@ pub enum Key {
     Section,
     /// `jitter` of a task: a number of microseconds, 0 where it is absent.
     Jitter,
-    /// `outranks` of a task: an array of strings, none where it is absent.
+    /// `outranks` of a task: an array of strings, none where it is absent, or the string `all`.
     Outranks,
     /// `locks` of a section: an array of strings.
     Locks,
