@@ -11,7 +11,6 @@ use Rattle.task_sheet.specs.Prefer.{preference_of}
 use Rattle.task_sheet.specs.Tree.{root_keys, node_keys, task_keys, needed_keys, section_keys, only_keys, first_missing, value_at, number_at, number_or_zero, text_at, strings_at, strings_or_none, tables_at, sheet_at, tree_sheets}
 use Rattle.task_sheet.specs.declared.set.SetCause.{SetCause}
 use Rattle.task_sheet.specs.declared.set.SetCause.TheVariants as cause
-use Rattle.task_sheet.specs.declared.node.TheConstants.{OVERHEAD_LIMIT}
 use Rattle.task_sheet.specs.declared.keys.Key.{Key}
 use Rattle.task_sheet.specs.declared.keys.Key.TheVariants as key
 use Rattle.task_sheet.specs.declared.read.SetFault.{SetFault}
@@ -109,18 +108,13 @@ abbrev pub prefer_fault : Option Data → Option SetFault
 prefer_fault None = None
 prefer_fault (Some d) = word_fault (as_str d)
 
--- the fault of a number of the node's table: a value of another kind, or too great a one
-abbrev pub overhead_fault : Key → Option ℕ → Option SetFault
-overhead_fault k None = Some (fault.WrongKind 0 0 k)
-overhead_fault k (Some n) = if nat_lt OVERHEAD_LIMIT n then Some (fault.BadOverhead k) else None
-
--- the node's keys, and then its numbers
+-- the node's keys, and then the kinds of its numbers
 abbrev pub node_fault : Members → Option SetFault
 node_fault ms = first (
     unless (only_keys node_keys ms) fault.UnknownOverhead
-    ∷ overhead_fault key.Job (number_or_zero (value_at key.Job ms))
-    ∷ overhead_fault key.Lock (number_or_zero (value_at key.Lock ms))
-    ∷ overhead_fault key.Late (number_or_zero (value_at key.Late ms))
+    ∷ unless (is_some (number_or_zero (value_at key.Job ms))) (fault.WrongKind 0 0 key.Job)
+    ∷ unless (is_some (number_or_zero (value_at key.Lock ms))) (fault.WrongKind 0 0 key.Lock)
+    ∷ unless (is_some (number_or_zero (value_at key.Late ms))) (fault.WrongKind 0 0 key.Late)
     ∷ [])
 
 -- the fault of the value at `node`, which may be absent

@@ -1,8 +1,5 @@
 //! What the node itself takes, as a document says it.
 
-/// The most that a node may take of a kind, in microseconds.
-pub const OVERHEAD_LIMIT: u64 = 10_000_000;
-
 /// What the node itself takes beside the tasks' own work; times in microseconds.
 #[derive(Clone, Copy, Debug, PartialEq, Eq)]
 pub struct Node {
