@@ -96,5 +96,5 @@ ReadsThenPads text answer = (u : Document) × ReadsWritten text (Ok u) × Pads u
 -- the answer on a set's text
 abbrev pub ReadsText : List ℕ → Result Document TeamsFault → Type 0
 ReadsText text (Ok d) = ReadsThenPads text (Ok d)
-ReadsText text (Err (Padded e)) = ReadsThenPads text (Err (Padded e))
-ReadsText text (Err e) = ReadsWritten text (Err e)
+ReadsText text (Err OutOfMemory) = Unit {0}
+ReadsText text (Err e) = ReadsWritten text (Err e) ⊎ ReadsThenPads text (Err e)
