@@ -165,5 +165,5 @@ a document says, here 50 thousandths and no more.
   refused: OtherNode two base
   [4]
   $ desk admit teams 2>&1 > /dev/null
-  two.toml: another [node] than base.toml; one team says it for all
+  teams: two.toml: another [node] than base.toml; one team says it for all
   [4]

@@ -13,8 +13,8 @@ use Rattle.task_sheet.specs.declared.read.SetFault.TheVariants as fault
 use Rattle.teams.specs.NodeDocument.{quantity_word}
 use Rattle.teams.specs.declared.node.NodeFault.{NodeFault}
 use Rattle.teams.specs.declared.node.NodeFault.TheVariants as node
-use Rattle.overheads.specs.declared.pad.PadFault.{PadFault}
-use Rattle.overheads.specs.declared.pad.PadFault.TheVariants as pad
+use Rattle.overheads.specs.declared.padding.PadFault.{PadFault}
+use Rattle.overheads.specs.declared.padding.PadFault.TheVariants as pad
 use Rattle.teams.specs.declared.fault.TeamsFault.{TeamsFault}
 use Rattle.teams.specs.declared.fault.TeamsFault.TheVariants as teams
 use Rattle.certificate.specs.declared.fault.CertFault.{CertFault}

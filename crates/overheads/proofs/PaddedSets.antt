@@ -13,7 +13,7 @@ use Rattle.task_sheet.specs.SheetsFault.{sheets_fault}
 use Rattle.task_sheet.specs.declared.node.Node.{Node}
 use Rattle.task_sheet.proofs.SetLaws.{by_rank_one, no_fault}
 use Rattle.overheads.specs.Padding.{no_overhead, padded_task, padded, task_fault, padding_fault, IsLighter}
-use Rattle.overheads.specs.declared.pad.PadFault.{PadFault}
+use Rattle.overheads.specs.declared.padding.PadFault.{PadFault}
 use Rattle.overheads.proofs.PaddedTasks.{room_of, valid-padded, room-lighter, task-none, room-none}
 
 -- ---- ranks

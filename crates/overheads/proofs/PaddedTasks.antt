@@ -4,8 +4,8 @@ use Rattle.std.proofs.lemmas.Bool.{cases_Bool, ltb-false, ltb-true, le-ltb, lt-l
 use Rattle.task_sheet.specs.Sheet.{CriticalSection, Task, IsValidSheet}
 use Rattle.task_sheet.specs.declared.node.Node.{Node}
 use Rattle.overheads.specs.Padding.{no_overhead, calls_in, padded_sections, padded_cost, padded_task, task_fault, IsLighter}
-use Rattle.overheads.specs.declared.pad.PadFault.{PadFault}
-use Rattle.overheads.specs.declared.pad.PadFault.TheVariants.{CostPastPeriod, JitterPastDeadline}
+use Rattle.overheads.specs.declared.padding.PadFault.{PadFault}
+use Rattle.overheads.specs.declared.padding.PadFault.TheVariants.{CostPastPeriod, JitterPastDeadline}
 use Rattle.overheads.proofs.PaddedSections.{calls_in-mono, calls_in-none, sections-are, count-sections, sections-none}
 
 -- there is room for what the node takes of a task

@@ -4,8 +4,8 @@ use Rattle.std.specs.Prelude.{◌≡◌, ℕ, ◌+◌, ◌*◌, ◌≤◌, nat_l
 use Rattle.std.specs.Option.{option_or}
 use Rattle.task_sheet.specs.Sheet.{CriticalSection, Task}
 use Rattle.task_sheet.specs.declared.node.Node.{Node}
-use Rattle.overheads.specs.declared.pad.PadFault.{PadFault}
-use Rattle.overheads.specs.declared.pad.PadFault.TheVariants.{CostPastPeriod, JitterPastDeadline}
+use Rattle.overheads.specs.declared.padding.PadFault.{PadFault}
+use Rattle.overheads.specs.declared.padding.PadFault.TheVariants.{CostPastPeriod, JitterPastDeadline}
 
 -- a node that takes nothing
 abbrev pub no_overhead : Node

@@ -2,7 +2,7 @@
 #![tactic(auto)]
 
 pub mod laws;
-mod pad;
+mod padding;
 
-pub use pad::{PadFault, pad};
+pub use padding::{PadFault, pad};
 pub use task_sheet::Node;

@@ -5,8 +5,8 @@ use Rattle.task_sheet.specs.declared.node.Node.{Node}
 use Rattle.task_sheet.specs.declared.prefer.Preference.{Preference}
 use Rattle.task_sheet.specs.declared.read.Document.{Document}
 use Rattle.overheads.specs.Padding.{padded, padding_fault, IsPadded}
-use Rattle.overheads.specs.declared.pad.PadFault.{PadFault}
-use Rattle.overheads.specs.declared.pad.PadFault.TheVariants as pad
+use Rattle.overheads.specs.declared.padding.PadFault.{PadFault}
+use Rattle.overheads.specs.declared.padding.PadFault.TheVariants as pad
 use Rattle.teams.specs.ReadsText.{Pads, ReadsText, ReadsWritten}
 use Rattle.teams.specs.declared.fault.TeamsFault.{TeamsFault}
 use Rattle.teams.specs.declared.fault.TeamsFault.TheVariants.{Padded, OutOfMemory}

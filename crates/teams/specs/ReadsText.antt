@@ -16,8 +16,8 @@ use Rattle.teams.specs.declared.node.NodeFault.TheVariants as node
 use Rattle.teams.specs.declared.fault.TeamsFault.{TeamsFault}
 use Rattle.teams.specs.declared.fault.TeamsFault.TheVariants.{Alone, Node, Padded, OutOfMemory}
 use Rattle.overheads.specs.Padding.{IsPadded, padding_fault}
-use Rattle.overheads.specs.declared.pad.PadFault.{PadFault}
-use Rattle.overheads.specs.declared.pad.PadFault.TheVariants as pad
+use Rattle.overheads.specs.declared.padding.PadFault.{PadFault}
+use Rattle.overheads.specs.declared.padding.PadFault.TheVariants as pad
 
 -- the answer on a text that is one document; want of memory is one fault, whoever saw it
 abbrev pub ReadsAlone : List ℕ → Result Document TeamsFault → Type 0

@@ -4,7 +4,7 @@ use Rattle.task_sheet.specs.Sheet.{Task}
 use Rattle.task_sheet.specs.TaskSet.{IsByRank}
 use Rattle.task_sheet.specs.SheetsFault.{sheets_fault}
 use Rattle.overheads.proofs.PaddedSets.{IsByRank-padded, no_fault-padded}
-use Rattle.overheads.proofs.pad.pad.Goals as goal
+use Rattle.overheads.proofs.padding.pad.Goals as goal
 
 pub returns-in-Ok-clause-ok : goal.returns-in-Ok-clause-ok
 returns-in-Ok-clause-ok c = (

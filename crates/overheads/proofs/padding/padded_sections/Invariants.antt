@@ -1,6 +1,6 @@
 use Rattle.std.proofs.Common.{◌≡◌, ◌+◌, take}
 use Rattle.overheads.specs.Padding.{calls_in, padded_sections}
-use Rattle.overheads.proofs.pad.padded_sections.Given as goal
+use Rattle.overheads.proofs.padding.padded_sections.Given as goal
 
 abbrev pub invariant-loop-section : goal.invariant-loop-section
 invariant-loop-section l = record {

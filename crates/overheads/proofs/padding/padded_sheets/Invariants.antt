@@ -1,6 +1,6 @@
 use Rattle.std.proofs.Common.{◌≡◌, take, drop, map}
 use Rattle.overheads.specs.Padding.{padded_task, padding_fault}
-use Rattle.overheads.proofs.pad.padded_sheets.Given as goal
+use Rattle.overheads.proofs.padding.padded_sheets.Given as goal
 
 abbrev pub invariant-loop-sheet : goal.invariant-loop-sheet
 invariant-loop-sheet l = record {

@@ -3,7 +3,7 @@ ghost use Rattle.std.specs.Prelude.{◌≡◌, ◌≢◌, ◌+◌, ◌<◌, ◌�
 ghost use Rattle.task_sheet.specs.Sheet.{IsValidSheet};
 ghost use Rattle.task_sheet.specs.TaskSet.{IsTaskSet};
 ghost use Rattle.overheads.specs.Padding.{calls, padded_cost, padded_sections, padded_task, padded, task_fault, padding_fault};
-ghost use Rattle.overheads.specs.declared.pad.PadFault.TheVariants.{OutOfMemory};
+ghost use Rattle.overheads.specs.declared.padding.PadFault.TheVariants.{OutOfMemory};
 
 use std::alloc::{AllocError, Global};
 use task_sheet::{Name, Node, Section, SetCause, Sheet, TaskSet};
