@@ -47,6 +47,12 @@ valid-padded node t valid cost jitter = record {
   outranked = valid.outranked;
 }
 
+-- a sheet made with these numbers
+pub valid-made : (node : Node) (t : Task) (cost jitter : ℕ) (sections : List CriticalSection) → IsValidSheet t → cost ≡ padded_cost node t → cost ≤ t.period → jitter ≡ t.jitter + node.late
+    → jitter < t.deadline → sections ≡ padded_sections node node.job t.sections → IsValidSheet (record t { cost = cost; sections = sections; jitter = jitter })
+valid-made node t cost jitter sections valid is within late below are =
+    rw (is, late, are) (valid-padded node t valid (omega (arith, is, within)) (omega (arith, late, below)))
+
 -- ---- less of it
 pub cost-mono : (light heavy : Node) (t : Task) → IsLighter light heavy → padded_cost light t ≤ padded_cost heavy t
 cost-mono light heavy t is = omega (arith, is.job, calls_in-mono light heavy t.sections is.lock)
