@@ -1,10 +1,9 @@
 -- Tasks with what the node takes: valid where there is room for it, and as they were where it takes nothing.
-use Rattle.std.proofs.Common.{◌≡◌, ℕ, ◌+◌, ◌<◌, ◌≤◌, inl, inr, nat_lt, true, false, List, Option, Some, None, refl, sym, ◌∙◌, ap, arith}
+use Rattle.std.proofs.Common.{◌≡◌, ℕ, ◌+◌, ◌<◌, ◌≤◌, inl, inr, nat_lt, List, Some, None, refl, ◌∙◌, ap, arith}
 use Rattle.std.proofs.lemmas.Bool.{cases_Bool, ltb-false, ltb-true, le-ltb, lt-ltb}
 use Rattle.task_sheet.specs.Sheet.{CriticalSection, Task, IsValidSheet}
 use Rattle.task_sheet.specs.declared.node.Node.{Node}
-use Rattle.overheads.specs.Padding.{no_overhead, calls_in, padded_sections, padded_cost, padded_task, task_fault, IsLighter}
-use Rattle.overheads.specs.declared.padding.PadFault.{PadFault}
+use Rattle.overheads.specs.Padding.{no_overhead, padded_sections, padded_cost, padded_task, task_fault, IsLighter}
 use Rattle.overheads.specs.declared.padding.PadFault.TheVariants.{CostPastPeriod, JitterPastDeadline}
 use Rattle.overheads.proofs.PaddedSections.{calls_in-mono, calls_in-none, sections-are, count-sections, sections-none}
 

@@ -61,7 +61,11 @@ fn padded_jitter(sheet: &Sheet, node: Node) -> Option<u64>
 {
     let deadline = sheet.deadline();
     let jitter = sheet.jitter().checked_add(node.late)?;
-    if jitter < deadline { Some(jitter) } else { None }
+    if jitter < deadline {
+        Some(jitter)
+    } else {
+        None
+    }
 }
 
 // ---- a task

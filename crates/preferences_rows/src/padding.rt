@@ -57,7 +57,10 @@ fn room_fault(alloc: Global, document: &str) -> Option<(Name, bool)> {
 fn without_room(rt: HostRuntime) -> Result<(), Fail> {
     let a = Name::read(b"a")?;
     for (document, want) in [
-        ("[node]\njob = 993\n[[task]]\nname = 'a'\nperiod = 1000\ndeadline = 1000\ncost = 7", None),
+        (
+            "[node]\njob = 993\n[[task]]\nname = 'a'\nperiod = 1000\ndeadline = 1000\ncost = 7",
+            None,
+        ),
         (
             "[node]\njob = 994\n[[task]]\nname = 'a'\nperiod = 1000\ndeadline = 1000\ncost = 7",
             Some((a, true)),
@@ -66,7 +69,10 @@ fn without_room(rt: HostRuntime) -> Result<(), Fail> {
             "[node]\njob = 9223372036854775807\n[[task]]\nname = 'a'\nperiod = 1000\ndeadline = 1000\ncost = 7",
             Some((a, true)),
         ),
-        ("[node]\nlate = 99\n[[task]]\nname = 'a'\nperiod = 1000\ndeadline = 100\ncost = 7", None),
+        (
+            "[node]\nlate = 99\n[[task]]\nname = 'a'\nperiod = 1000\ndeadline = 100\ncost = 7",
+            None,
+        ),
         (
             "[node]\nlate = 100\n[[task]]\nname = 'a'\nperiod = 1000\ndeadline = 100\ncost = 7",
             Some((a, false)),

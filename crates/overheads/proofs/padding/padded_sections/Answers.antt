@@ -7,14 +7,14 @@ use Rattle.overheads.proofs.padding.padded_sections.Goals as goal
 pub overflow_add-at : goal.overflow_add-at
 overflow_add-at c =
     let fits = section-fits c.args.node c.args.sheet.now c.sections-sections.result.now c.loop-section.section-index c.section-item.result c.loop-section.before c.requires.valid c.requires.within
-        c.sections-sections.ensures c.loop-section-test.true c.section-item.is c.loop-section.invariant.before in
+    c.sections-sections.ensures c.loop-section-test.true c.section-item.is c.loop-section.invariant.before in
     omega (arith, fits, ap (λ (s : CriticalSection). s.at) c.section.view_is)
 
 pub overflow_add-len : goal.overflow_add-len
 overflow_add-len c =
     let x = c.section-item.result in
     let fits = section-fits c.args.node c.args.sheet.now c.sections-sections.result.now c.loop-section.section-index x c.loop-section.before c.requires.valid c.requires.within
-        c.sections-sections.ensures c.loop-section-test.true c.section-item.is c.loop-section.invariant.before in
+    c.sections-sections.ensures c.loop-section-test.true c.section-item.is c.loop-section.invariant.before in
     let count : c.len.result ≡ length x.locks = search rules in
     let time : c.args.node.lock * c.len.result ≡ calls c.args.node x = ap (λ n. c.args.node.lock * n) count in
     omega (arith, fits, time, ap (λ (s : CriticalSection). s.len) c.section.view_is)
