@@ -23,10 +23,6 @@ pads_fault u n pad.OutOfMemory some never fails = absurd (never refl)
 pads_fault u n e some never fails = (n, some, fails)
 
 -- ---- the text
-pub refused_written : (text : List ℕ) (e : TeamsFault) → ReadsWritten text (Err e) → ReadsText text (Err e)
-refused_written text OutOfMemory why = tt
-refused_written text e why = inl why
-
 pub reads_padded : (text : List ℕ) (u : Document) (answer : Result Document TeamsFault) → ReadsWritten text (Ok u) → Pads u answer → ReadsText text answer
 reads_padded text u (Ok d) reads pads = (u, reads, pads)
 reads_padded text u (Err OutOfMemory) reads pads = tt
