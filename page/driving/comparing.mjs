@@ -127,7 +127,7 @@ export function compare_run(what, set, list, slices) {
   equal(simulated.status, 0, `${what}: simulate`);
   const run = [...simulated.text.matchAll(/^(\d+) (\d+) (\S+)$/gm)]
     .map(it => `${it[3]} ${it[1]} to ${it[2]} us`);
-  const is_long = native('draw', [set, list]).text.length > 250000;
+  const is_long = native('draw', [set, list]).text.length > 500000;
   expect(is_long || [...slices].sort().join() === run.sort().join(),
     `${what}: ${slices.length} slices of ${run.length}`);
 }

@@ -27,7 +27,7 @@ const titles_in = text => [...text.matchAll(/<title>([^<]*)<\/title>/g)].map(it 
 async function compare_drawn(what, set, list) {
   const { text, status } = native('draw', [set, list]), { titles } = await drawn();
   equal(status, 0, `${what}: draw`);
-  if (text.length > 250000)
+  if (text.length > 500000)
     return equal((await look()).shown.undrawn, 'The picture is long. Draw it', `${what}: is long`);
   equal(titles.join('|'), titles_in(text), `${what}: the titles`);
 }

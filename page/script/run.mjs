@@ -113,7 +113,7 @@ export function heard_of_worst({ id, name, text, status, told }, asked) {
   if (name === 'draw') return show_picture({ text, status });
   if (status === 6) trouble('worst: no memory for the whole answer.');
   // (a name that the set has no more)
-  if (text.startsWith('refused: NoSuchTask ')) return choose_run(null);
+  if (/^refused: NoSuchTask\b/.test(text)) return choose_run(null);
   const found = read_worst({ text, status });
   if (!found) return;
   state.answers.worst = { text, status, told };
