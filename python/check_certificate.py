@@ -25,7 +25,8 @@ from types import SimpleNamespace
 
 NAME = "[A-Za-z][A-Za-z0-9_-]{0,23}"
 NUMBER = "(?:0|[1-9][0-9]{0,9})"
-SET = {"task": list, "prefer": str}
+SET = {"task": list, "prefer": str, "node": dict}
+NODE = {"job": int, "lock": int, "late": int}
 TASK = {"name": str, "weight": int, "period": int, "deadline": int, "cost": int, "jitter": int,
         "section": list, "outranks": list}
 SECTION = {"locks": list, "at": int, "len": int}
@@ -48,17 +49,30 @@ def are_names(words, most):
     return len(set(words)) == len(words) <= most and all(re.fullmatch(NAME, it) for it in words)
 
 
-def task_of(table):
-    """A task, if its sheet is valid. Its limit is the longest time that serves it, counted from the
-    latest instant at which it may become ready; its locks are those of all sections."""
+def task_of(table, node):
+    """A task with what the node takes, if its sheet is valid before and after that is put in. Its
+    limit is the longest time that serves it, counted from the latest instant at which it may become
+    ready; its locks are those of all sections."""
     is_above_all = table.get("outranks") == "all"
     if is_above_all:
         table = {**table, "outranks": []}
     it = values(table, TASK, weight=0, jitter=0, section=[], outranks=[])
     it.is_above_all = is_above_all
     it.section = [values(section, SECTION) for section in it.section]
-    it.limit = it.deadline - it.jitter
     it.locks = {lock for section in it.section for lock in section.locks}
+    check_task(it)
+    before = node.job
+    for section in it.section:
+        calls = node.lock * len(section.locks)
+        section.at, section.len, before = section.at + before, section.len + calls, before + calls
+    it.cost, it.jitter = it.cost + before, it.jitter + node.late
+    it.limit = it.deadline - it.jitter
+    check_task(it)
+    return it
+
+
+def check_task(it):
+    """Refuses a task whose sheet isn't valid."""
     ends = [0, *(section.at + section.len for section in it.section)]
     is_valid = (
         are_names([it.name], 1) and 0 <= it.weight <= 1000 and 1000 <= it.period <= 10_000_000
@@ -70,14 +84,17 @@ def task_of(table):
     )  # fmt: skip
     if not is_valid:
         raise ValueError
-    return it
 
 
 def read_set(text):
-    """The tasks by rank, which is by weight and then by name. Where deadlines are preferred, a
-    task's weight is the number of tasks of a longer limit."""
-    root = values(tomllib.loads(text.decode("utf-8-sig")), SET, task=[], prefer="weight")
-    tasks = [task_of(table) for table in root.task]
+    """The tasks by rank, which is by weight and then by name, each with what the node takes, if the
+    set says it. Where deadlines are preferred, a task's weight is the number of tasks of a longer
+    limit."""
+    root = values(tomllib.loads(text.decode("utf-8-sig")), SET, task=[], prefer="weight", node={})
+    node = values(root.node, NODE, job=0, lock=0, late=0)
+    if min(node.job, node.lock, node.late) < 0:
+        raise ValueError
+    tasks = [task_of(table, node) for table in root.task]
     if text.startswith(b"#% ") or root.prefer not in ("weight", "deadline") \
             or not are_names([it.name for it in tasks], 32):
         raise ValueError

@@ -23,6 +23,12 @@ valid. By deadlines:
 >>> len(desk.admit(SET).levels)
 2
 
+With what the node itself takes of a job and of a lock, and how late a job may begin:
+
+>>> padded = desk.admit(desk.toml(SHEETS, node=desk.Node(job=20, lock=2, late=15)))
+>>> [(it.task, it.response) for it in padded.levels]
+[('lo', 23103), ('hi', 5039)]
+
 A no is a value, too, and is false where a yes is true. A refused input is an exception, with the
 line that `desk` prints and a sentence:
 
@@ -397,12 +403,21 @@ class Played(_Answer):
     levels: tuple[Place, ...]
 
 
+@dataclass(frozen=True)
+class Node:
+    """What the node itself takes of a job and of each lock, and how late a job may begin."""
+
+    job: int = 0
+    lock: int = 0
+    late: int = 0
+
+
 # A set is a document, or tasks.
 Sheets = Text | Iterable[Task]
 
 
-def toml(tasks: Iterable[Task], prefer: str | None = None) -> str:
-    """The tasks as a document that the other functions read, and what it prefers."""
+def toml(tasks: Iterable[Task], prefer: str | None = None, node: Node | None = None) -> str:
+    """The tasks as a document that the other functions read, what it prefers, and its node."""
 
     def word(name: str) -> str:
         return json.dumps(name, ensure_ascii=False)
@@ -426,6 +441,8 @@ def toml(tasks: Iterable[Task], prefer: str | None = None) -> str:
             yield f"outranks = {words(it.outranks)}"
 
     head = [f"prefer = {word(prefer)}"] if prefer else []
+    if node is not None:
+        head += ["[node]", *(f"{key} = {getattr(node, key)}" for key in ("job", "lock", "late"))]
     return "".join(line + "\n" for line in [*head, *(line for it in tasks for line in lines(it))])
 
 

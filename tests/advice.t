@@ -96,7 +96,7 @@ Keys
 ----
 
   $ document 'tasks = []'
-  standard input: unknown key tasks; a set has tasks alone, each headed by [[task]], and may have prefer in front of them
+  standard input: unknown key tasks; a set has tasks, each headed by [[task]], and may have prefer in front of them, and [node]
   [4]
   $ more 'deadlin = 3'
   standard input: task 1 (a): unknown key deadlin; a task has name, weight, period, deadline, cost, section, jitter, outranks

@@ -88,6 +88,29 @@ def at_edge(rng, out):
     return [changed if sheet.name == task.name else sheet for sheet in out]
 
 
+def overheads(rng, sheets):
+    """What a node takes: little, or as much as some task has room for, or one more."""
+    out = {}
+    for key in rng.sample(["job", "lock", "late"], rng.choice([0, 1, 2, 3, 3, 3])):
+        room = [rng.choice([0, 1, 3, 20, 100])]
+        if sheets and rng.random() < 0.3:
+            sheet = rng.choice(sheets)
+            locks = sum(len(part.locks) for part in sheet.sections)
+            spare = {"job": sheet.period - sheet.cost, "late": sheet.limit - 1, "lock": (sheet.period - sheet.cost) // max(1, locks)}
+            room += [min(other.limit for other in sheets) - 1, spare[key], spare[key] + 1, spare[key] // 2]
+        out[key] = rng.choice(room)
+    return out
+
+
+def wrong_overheads(rng, node):
+    """One fault or two in what a node says it takes."""
+    node = dict(node)
+    for _ in range(rng.choice([1, 1, 2])):
+        key = rng.choice(["job", "lock", "late", "release", "interrupt", "Job", ""])
+        node[key] = copy.deepcopy(rng.choice(VALUES))
+    return rng.choice([node, node, node, node, *VALUES])
+
+
 # Changes of sets
 
 
@@ -289,13 +312,23 @@ def toml(rng, root):
     text = "" if plain else rng.choice(["", "# a set\n", "\n", "\ufeff"])
     tables = root.get("task")
     blocks = isinstance(tables, list) and all(isinstance(t, dict) for t in tables) and rng.random() < 0.8
+    heads = []
     for key, value in root.items():
-        if key != "task" or not blocks:
+        if key == "node" and isinstance(value, dict) and all(value) and rng.random() < 0.8:
+            lines = [f"{spelled_key(rng, name, plain)} = {spelled(rng, part, plain)}\n" for name, part in value.items()]
+            if lines and rng.random() < 0.2:
+                text += "".join(f"node.{line}" for line in lines)
+            else:
+                heads.append("[node]\n" + "".join(lines))
+        elif key != "task" or not blocks:
             text += f"{spelled_key(rng, key, plain)} = {spelled(rng, value, plain)}\n"
+    last = rng.random() < 0.3
+    text += "" if last or not (blocks and tables) else "".join(heads)
     if blocks and tables:
         text += "\n".join(block(rng, table, plain) for table in tables)
     elif blocks and rng.random() < 0.5 and "task" in root:
         text += "task = []\n"
+    text += "".join(heads) if last or not (blocks and tables) else ""
     if not plain and rng.random() < 0.1:
         text = text.replace("\n", "\r\n")
     return text.encode()

@@ -115,12 +115,56 @@ def by_limits(tasks):
 
 
 PREFERENCES = ("weight", "deadline")
+NODE_KEYS = ("job", "lock", "late")
+
+
+class Node(NamedTuple):
+    """What the node takes of a job, of a lock, and how late a job may begin."""
+
+    job: int
+    lock: int
+    late: int
+
+
+def read_node(table):
+    if not isinstance(table, dict):
+        raise Refused(4, "WrongKind", 0, 0, "node")
+    if set(table) - set(NODE_KEYS):
+        raise Refused(4, "UnknownOverhead")
+    for key in NODE_KEYS:
+        if not is_number(table.get(key, 0)):
+            raise Refused(4, "WrongKind", 0, 0, key)
+    return Node(*(table.get(key, 0) for key in NODE_KEYS))
+
+
+def padded_sheet(sheet, node):
+    """A sheet with what the node takes, which may not be a valid one."""
+    calls = [node.lock * len(section.locks) for section in sheet.sections]
+    sections = tuple(
+        section._replace(at=section.at + node.job + sum(calls[:place]), len=section.len + calls[place])
+        for place, section in enumerate(sheet.sections)
+    )
+    return sheet._replace(cost=sheet.cost + node.job + sum(calls), jitter=sheet.jitter + node.late, sections=sections)
+
+
+def padded(sheets, node):
+    """The set with what the node takes, if there is one; or the first task, by rank, that has no room for it."""
+    if node is None:
+        return sheets
+    out = [padded_sheet(sheet, node) for sheet in by_rank(sheets)]
+    for sheet in out:
+        if sheet.cost > sheet.period:
+            raise Refused(4, "PaddedCost", sheet.name)
+        if sheet.jitter >= sheet.deadline:
+            raise Refused(4, "PaddedJitter", sheet.name)
+        assert not sheet_fault(sheet)
+    return out
 
 
 def read_document(data):
-    """What a document prefers, if it says so, and its sheets, as they stand; or the first refusal."""
+    """What a document prefers, and its node, if it says so, and its sheets, as they stand; or the first refusal."""
     tree = tree_of(data)
-    if set(tree) - {"task", "prefer"}:
+    if set(tree) - {"task", "prefer", "node"}:
         raise Refused(4, "UnknownKey", 0, 0)
     tables = tree.get("task", [])
     if not are(tables, dict):
@@ -130,6 +174,7 @@ def read_document(data):
         raise Refused(4, "WrongKind", 0, 0, "prefer")
     if prefer is not None and prefer not in PREFERENCES:
         raise Refused(4, "BadPreference")
+    node = read_node(tree["node"]) if "node" in tree else None
     sheets = [read_task(table, number) for number, table in enumerate(tables, 1)]
     names = [sheet.name for sheet in sheets]
     for number, name in enumerate(names, 1):
@@ -137,7 +182,7 @@ def read_document(data):
             raise Refused(4, "SameName", number)
     if len(sheets) > TASKS_MOST:
         raise Refused(4, "TooManyTasks")
-    return prefer, sheets
+    return prefer, node, sheets
 
 
 def are(value, kind):

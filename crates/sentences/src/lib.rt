@@ -10,6 +10,7 @@ mod lists;
 mod node;
 mod notes;
 mod overload;
+mod padding;
 mod puts;
 mod records;
 mod sets;

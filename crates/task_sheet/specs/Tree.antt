@@ -1,11 +1,12 @@
 -- What a document's tree says of tasks.
 use Rattle.std.specs.Prelude.{◌≡◌, ℕ, Bool, true, false, ◌&&◌, List, [], ◌∷◌, map, Option, Some, None, option_map, option_and_then, unwrap_or, is_some, codes, pos, if◌then◌else◌}
 use Rattle.std.specs.List.{list_any}
-use Rattle.toml.specs.Data.{Data, string, integer, array, table, Items, no_items, item, Members, no_members, member, get_member, as_str}
+use Rattle.toml.specs.Data.{Data, string, integer, array, table, Items, no_items, item, Members, no_members, member, get_member, as_str, as_table}
 use Rattle.toml.specs.View.{items_view}
 use Rattle.task_sheet.specs.Sheet.{CriticalSection, OutranksData, Named, AllOthers, Task, same_bytes}
 use Rattle.task_sheet.specs.Prefer.{preference_of}
 use Rattle.task_sheet.specs.declared.prefer.Preference.{Preference}
+use Rattle.task_sheet.specs.declared.node.Node.{Node}
 use Rattle.task_sheet.specs.declared.keys.Key.{Key}
 use Rattle.task_sheet.specs.declared.keys.Key.TheVariants as key
 use Rattle.task_sheet.specs.declared.values.Said.{Said}
@@ -17,6 +18,10 @@ use Rattle.task_sheet.specs.declared.values.Said.TheVariants.{Strings, All}
 abbrev pub word_of : Key → List ℕ
 word_of key.Task = codes "task"
 word_of key.Prefer = codes "prefer"
+word_of key.Node = codes "node"
+word_of key.Job = codes "job"
+word_of key.Lock = codes "lock"
+word_of key.Late = codes "late"
 word_of key.Name = codes "name"
 word_of key.Weight = codes "weight"
 word_of key.Period = codes "period"
@@ -31,7 +36,11 @@ word_of key.Len = codes "len"
 
 -- the keys that may stand in the root
 abbrev pub root_keys : List Key
-root_keys = key.Task ∷ key.Prefer ∷ []
+root_keys = key.Task ∷ key.Prefer ∷ key.Node ∷ []
+
+-- the keys of the node's table
+abbrev pub node_keys : List Key
+node_keys = key.Job ∷ key.Lock ∷ key.Late ∷ []
 
 -- the keys of a task's table
 abbrev pub task_keys : List Key
@@ -181,6 +190,22 @@ tree_sheets ms = map sheet_at (unwrap_or (tables_at key.Task ms) [])
 -- what a document prefers, where it says so
 abbrev pub tree_prefers : Members → Option Preference
 tree_prefers ms = option_and_then preference_of (text_at key.Prefer ms)
+
+-- a number of the node's table, in which it may be absent
+abbrev pub overhead_at : Key → Members → ℕ
+overhead_at k ms = unwrap_or (number_or_zero (value_at k ms)) 0
+
+-- what the node's table says
+abbrev pub node_at : Members → Node
+node_at ms = record {
+  job = overhead_at key.Job ms;
+  lock = overhead_at key.Lock ms;
+  late = overhead_at key.Late ms;
+}
+
+-- the node of a document, where it has one
+abbrev pub tree_node : Members → Option Node
+tree_node ms = option_map node_at (option_and_then as_table (value_at key.Node ms))
 
 -- a task's own values, each of the right kind
 pub record AreFields (ms : Members) (text : List ℕ) (w p d c : ℕ) (tables : List Members) (j : ℕ) (said : OutranksData) : Type 0 where
