@@ -1,4 +1,4 @@
-use Rattle.std.proofs.Common.{◌≡◌, ◌<◌, ℕ, List, [], length, sym, ◌∙◌, ap, arith}
+use Rattle.std.proofs.Common.{◌≡◌, ◌<◌, List, [], length, sym, ◌∙◌, ap, arith}
 use Rattle.task_sheet.specs.Sheet.{Named, Task, outranks_task, task_at}
 use Rattle.task_sheet.proofs.TaskLaws.{task_read}
 use Rattle.ceilings.proofs.OutrankedLaws.{AreRowsOf-none, AreRowsOf-row, AreRowsOf-skip}
