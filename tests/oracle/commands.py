@@ -347,11 +347,13 @@ def answer(words, files, stdin=b""):
         return Answer("", 2, SAID)
     except Refused as refusal:
         return Answer(refusal.line, refusal.status, SAID)
-    # (of two inputs nothing is noted beside a refusal)
-    is_refused = call.command in IN_ORDER and status == 4
-    if call.command.readers[0] is not teams.read_set or is_refused:
+    if call.command.readers[0] is not teams.read_set:
         return Answer(text, status, "")
-    told = choice_note(call, said[0]) + notes(call, said[0]) + no_note(call, said[0], status) + parted_note(call, text)
+    choice = choice_note(call, said[0])
+    # (of two inputs nothing odd is noted beside a refusal)
+    if call.command in IN_ORDER and status == 4:
+        return Answer(text, status, choice)
+    told = choice + notes(call, said[0]) + no_note(call, said[0], status) + parted_note(call, text)
     return Answer(text, status, told)
 
 
