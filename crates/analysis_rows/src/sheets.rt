@@ -3,8 +3,8 @@ use example_sets::{again, name, set_of};
 use std::alloc::{AllocError, Global};
 use std::test::Fail;
 use task_sheet::{
-    Key, Name, OutranksCause, Section, SetCause, SetFault, Sheet, SheetCause, SheetsFault, TaskSet,
-    WithCause, WithFault, WithoutFault, read_set,
+    Key, Name, Outranks, OutranksCause, Section, SetCause, SetFault, Sheet, SheetCause,
+    SheetsFault, TaskSet, WithCause, WithFault, WithoutFault, read_set,
 };
 
 // Why these values are no sheet.
@@ -157,7 +157,8 @@ const OUTRANKED: [(&[&str], Option<OutranksCause>); 6] = [
 fn outranks_fault(alloc: Global, words: &[&str]) -> Result<Option<OutranksCause>, Fail> {
     let sheet = Sheet::new(name("a")?, 0, 10000, 10000, 5000, Vec::new(alloc));
     let sheet = sheet.ok().ok_or("refused")?;
-    let found = match sheet.outranking(names_of(alloc, words)?) {
+    let named = Outranks::Named(names_of(alloc, words)?);
+    let found = match sheet.outranking(named) {
         Ok(_) => None,
         Err(fault) => Some(fault.cause),
     };
@@ -173,9 +174,17 @@ fn limits_of_outranked_names(rt: HostRuntime) -> Result<(), Fail> {
 }
 
 // What follows the cost of a task a, and why the document is no set.
-const LINES: [(&str, SetFault); 7] = [
+const LINES: [(&str, SetFault); 8] = [
     (
         "outranks = 'b'",
+        SetFault::WrongKind {
+            task: 1,
+            section: 0,
+            key: Key::Outranks,
+        },
+    ),
+    (
+        "outranks = ['all', 1]",
         SetFault::WrongKind {
             task: 1,
             section: 0,

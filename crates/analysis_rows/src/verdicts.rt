@@ -130,7 +130,7 @@ fn placing_at(alloc: Global, document: &str) -> Result<String, Fail> {
 }
 
 // A document, its placing and its verdict.
-const EXAMPLES: [(&str, &str, &str); 20] = [
+const EXAMPLES: [(&str, &str, &str); 22] = [
     ("", "", ""),
     (example_sets::FILLS_ITS_PERIOD, "x 1000;", "x 1000;"),
     (
@@ -205,6 +205,16 @@ const EXAMPLES: [(&str, &str, &str); 20] = [
         example_sets::A_OVER_Z,
         "c 20000;a 6000;b 3000;",
         "c 20000 a,1,11000 b,1,11000,14000;a 6000;b 3000;",
+    ),
+    (
+        example_sets::A_OVER_ALL,
+        "c 20000;b 6000;a 3000;",
+        "c 20000 a over b b,1,11000,14000;b 6000 a over b;a 3000;",
+    ),
+    (
+        example_sets::A_AND_B_OVER_ALL,
+        "c 20000;a 6000;b 3000;",
+        "c 20000 a over c b over c;a 6000;b 3000;",
     ),
     (
         example_sets::OWN_ORDER,

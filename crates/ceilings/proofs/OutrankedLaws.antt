@@ -4,7 +4,7 @@ use Rattle.std.specs.Ordering.{nat_cmp}
 use Rattle.std.specs.FinSet as members
 use Rattle.std.proofs.lemmas.Bool.{cases_eq, cases_lt, ne_eqb, eq-eqb}
 use Rattle.std.proofs.lemmas.List.{length-set, get_or-set_same, get_or-set_other, get_or-replicate, get_or_past, length-replicate}
-use Rattle.task_sheet.specs.Sheet.{Task, task_at}
+use Rattle.task_sheet.specs.Sheet.{Named, Task, task_at}
 use Rattle.task_sheet.specs.Indexes.{indexes_of, with_index}
 use Rattle.task_sheet.specs.Orders.{must_outrank}
 use Rattle.task_sheet.proofs.MembersIndexes.{indexes_of-empty, indexes_of-insert}
@@ -74,7 +74,7 @@ AreRowsOf-row U rows rows' n row so lt is right = record {
 }
 
 -- a task that names none
-pub AreRowsOf-skip : (U : List Task) (rows : List (members.FinSet nat_cmp)) (n : ℕ) → AreRowsOf U rows n → (task_at U n).outranks ≡ [] → AreRowsOf U rows (n + 1)
+pub AreRowsOf-skip : (U : List Task) (rows : List (members.FinSet nat_cmp)) (n : ℕ) → AreRowsOf U rows n → (task_at U n).outranks ≡ Named [] → AreRowsOf U rows (n + 1)
 AreRowsOf-skip U rows n so none = record {
   count = so.count;
   done = λ i k before within. elim (cases_eq i n) [

@@ -1,18 +1,9 @@
-//! The tasks above which a task must stand, by names alone.
+//! The tasks above which a task must stand, by sheets alone.
 ghost use Rattle.std.specs.Prelude.{◌≡◌, ◌<◌, length};
-ghost use Rattle.std.specs.List.{list_any};
-ghost use Rattle.task_sheet.specs.Sheet.{same_bytes};
 ghost use Rattle.task_sheet.specs.Indexes.{indexes_of};
 ghost use Rattle.task_sheet.specs.Orders.{must_outrank, is_bound};
 
-use task_sheet::{Members, Name, TaskSet};
-
-// Whether some name is this one.
-fn is_named(names: &[Name], name: Name) -> bool
-    ensures { result ≡ list_any (λ own. same_bytes own name) names.now }
-{
-    names.iter().any(|own| *own == name)
-}
+use task_sheet::{Members, TaskSet};
 
 /// Whether a task must stand above another one.
 pub fn must_outrank(set: &TaskSet, task: usize, other: usize) -> bool
@@ -21,7 +12,7 @@ pub fn must_outrank(set: &TaskSet, task: usize, other: usize) -> bool
     ensures { result ≡ must_outrank set.now task other }
 {
     let sheets = set.sheets();
-    is_named(sheets[task].outranks(), sheets[other].name())
+    sheets[task].must_outrank(&sheets[other])
 }
 
 /// Whether a task must stand above one of these.

@@ -6,7 +6,7 @@ use Rattle.std.proofs.lemmas.List.{length-map}
 use Rattle.std.proofs.lemmas.List.Elements.{All-from_recursion}
 use Rattle.std.specs.List.{list_any}
 use Rattle.std.proofs.lemmas.List.Folds.{list_any_at}
-use Rattle.task_sheet.specs.Sheet.{Task, no_task, task_at}
+use Rattle.task_sheet.specs.Sheet.{Task, no_task, outranks_task, task_at}
 use Rattle.task_sheet.specs.TaskSet.{IsTaskSet}
 use Rattle.task_sheet.specs.Indexes.{Indexes, IsPart, without_index, among, listed_below}
 use Rattle.task_sheet.specs.Responses.{ChainFrom}
@@ -22,7 +22,7 @@ use Rattle.task_sheet.proofs.VerdictLaws.{IsBestOrder-ready, IsStuck-ready}
 use Rattle.certificate.specs.declared.version.CertVersion.{CertVersion}
 use Rattle.certificate.specs.declared.version.CertVersion.TheVariants.{Second}
 use Rattle.certificate.specs.Body.{Over, IsShort, IsReasonText, IsFailText, IsLevelText, HasSpelling}
-use Rattle.certificate.specs.Versions.{names_task, some_bound, version_for}
+use Rattle.certificate.specs.Versions.{some_bound, version_for}
 use Rattle.certificate.specs.CertificateOf.{reason_named, fail_named, fails_named, level_named, levels_named, certificate_of, IsKnownReason, IsKnownFail, IsKnownLevel}
 
 -- ---- tasks of the set
@@ -59,7 +59,7 @@ module _ (U : List Task) (set : IsTaskSet U) where
   bound_shows : (i k : ℕ) → i < length U → k < length U → must_outrank U i k ≡ true → some_bound U ≡ true
   unfolding some_bound
   bound_shows i k lt within named =
-      list_any_at (λ (t : Task). list_any (names_task t) U) U i no_task lt (list_any_at (names_task (task_at U i)) U k no_task within named)
+      list_any_at (λ (t : Task). list_any (outranks_task t) U) U i no_task lt (list_any_at (outranks_task (task_at U i)) U k no_task within named)
 
   reason-text : (i : ℕ) (H : Indexes) (reason : ReasonData) → i < length U → Refutes U i H reason → IsReasonText (version_for U) (reason_named U reason)
   reason-text i H (verdict.Chain []) lt chain = absurd chain

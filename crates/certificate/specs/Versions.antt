@@ -1,17 +1,13 @@
 -- Which version the certificate of a set has.
 use Rattle.std.specs.Prelude.{nat_lt, Bool, ◌||◌, List, if◌then◌else◌}
 use Rattle.std.specs.List.{list_any}
-use Rattle.task_sheet.specs.Sheet.{Task, same_bytes}
+use Rattle.task_sheet.specs.Sheet.{Task, outranks_task}
 use Rattle.certificate.specs.declared.version.CertVersion.{CertVersion}
 use Rattle.certificate.specs.declared.version.CertVersion.TheVariants.{First, Second}
 
--- the task names the other one as one above which it must stand
-abbrev pub names_task : Task → Task → Bool
-names_task t other = list_any (λ name. same_bytes name other.name) t.outranks
-
 -- some task of the set must stand above another one of it
 unfoldable pub some_bound : List Task → Bool
-some_bound U = list_any (λ t. list_any (names_task t) U) U
+some_bound U = list_any (λ t. list_any (outranks_task t) U) U
 
 -- some task has jitter
 abbrev pub has_jitter : List Task → Bool

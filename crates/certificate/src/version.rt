@@ -1,7 +1,8 @@
 //! The versions of certificates.
 ghost use Rattle.std.specs.Prelude.{◌≡◌};
 ghost use Rattle.std.specs.List.{list_any};
-ghost use Rattle.certificate.specs.Versions.{names_task, some_bound, has_jitter, version_for};
+ghost use Rattle.task_sheet.specs.Sheet.{outranks_task};
+ghost use Rattle.certificate.specs.Versions.{some_bound, has_jitter, version_for};
 
 use task_sheet::{Sheet, TaskSet};
 
@@ -14,19 +15,11 @@ pub enum CertVersion {
     Second,
 }
 
-// Whether a task names another one as one above which it must stand.
-fn names_task(sheet: &Sheet, other: &Sheet) -> bool
-    ensures { result ≡ names_task sheet.now other.now }
-{
-    let name = other.name();
-    sheet.outranks().iter().any(|named| *named == name)
-}
-
 // Whether a task must stand above one of these.
-fn names_one(sheet: &Sheet, others: &[Sheet]) -> bool
-    ensures { result ≡ list_any (names_task sheet.now) others.now }
+fn outranks_one(sheet: &Sheet, others: &[Sheet]) -> bool
+    ensures { result ≡ list_any (outranks_task sheet.now) others.now }
 {
-    others.iter().any(|other| names_task(sheet, other))
+    others.iter().any(|other| sheet.must_outrank(other))
 }
 
 // Whether some task of the set must stand above another one of it.
@@ -35,7 +28,7 @@ fn some_bound(set: &TaskSet) -> bool
     ensures { result ≡ some_bound set.now }
 {
     let sheets = set.sheets();
-    sheets.iter().any(|sheet| names_one(sheet, sheets))
+    sheets.iter().any(|sheet| outranks_one(sheet, sheets))
 }
 
 // Whether some task has jitter.

@@ -131,13 +131,14 @@ pub fn certified(alloc: Global, document: &str) -> Result<String, Fail> {
 }
 
 // A document, the desk's own certificate of its set, and what the checker says of that.
-const OWN_CERTIFICATES: [(&str, &str, &str); 13] = [
+const OWN_CERTIFICATES: [(&str, &str, &str); 14] = [
     (example_sets::THREE_TASKS, THREE_TASKS, "best"),
     (example_sets::THREE_TASKS_LATE, THREE_TASKS_LATE, "best"),
     (example_sets::SHARED_LOCK, SHARED_LOCK, "best"),
     (example_sets::BLOCKED_OUT, BLOCKED_OUT, "no order"),
     (example_sets::A_OVER_B, A_OVER_B, "best"),
     (example_sets::A_LATE_OVER_B, A_OVER_B, "best"),
+    (example_sets::A_OVER_ALL, A_OVER_B, "best"),
     (example_sets::C_OVER_A, C_OVER_A, "no order"),
     (example_sets::A_OVER_B_OVER_A, A_OVER_B_OVER_A, "no order"),
     (

@@ -7,7 +7,7 @@ use example_sets::{again, name};
 use std::alloc::Global;
 use std::process::Abort;
 use std::test::Fail;
-use task_sheet::Sheet;
+use task_sheet::{Outranks, Sheet};
 
 // A task without sections, whose deadline is its period.
 fn sheet(alloc: Global, text: &str, period: u64, cost: u64) -> Result<Sheet, Fail> {
@@ -78,7 +78,7 @@ fn bound(alloc: Global, sheet: Sheet, jitter: u64, other: &str) -> Result<Sheet,
     let mut names = Vec::new(alloc);
     names.push(name(other)?)?;
     let late = sheet.jittered(jitter).ok().ok_or("jitter")?;
-    Ok(late.outranking(names).ok().ok_or("names")?)
+    Ok(late.outranking(Outranks::Named(names)).ok().ok_or("names")?)
 }
 
 // Team 1 commits a, which may be late by 1000 and must stand above b; then team 2 commits b, which isn't there before.

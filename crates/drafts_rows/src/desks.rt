@@ -8,7 +8,7 @@ use example_sets::{again, name};
 use std::alloc::{AllocError, Global};
 use std::sync::Arc;
 use std::test::Fail;
-use task_sheet::{Name, Sheet, TaskSet};
+use task_sheet::{Name, Outranks, Sheet, TaskSet};
 
 /// The team of a number.
 pub fn team(number: u64) -> Result<Team, Fail> {
@@ -73,7 +73,8 @@ impl Story {
         let sheet = Sheet::new(name("a")?, 0, 7000, 7000, 3000, Vec::new(self.alloc))?;
         let mut names = Vec::new(self.alloc);
         names.push(name("b")?)?;
-        self.open_put(number, sheet.jittered(jitter)?.outranking(names)?)
+        let outranks = Outranks::Named(names);
+        self.open_put(number, sheet.jittered(jitter)?.outranking(outranks)?)
     }
 
     /// A draft on the present state that puts b (12000, 12000, 3000).

@@ -81,6 +81,12 @@ pub const A_OVER_B_OVER_A: &str = three_tasks!(", outranks = ['b']", ", outranks
 /// The three tasks, where a names a task that isn't there.
 pub const A_OVER_Z: &str = three_tasks!(", outranks = ['z']", "", "");
 
+/// The three tasks, where a must stand above all others.
+pub const A_OVER_ALL: &str = three_tasks!(", outranks = 'all'", "", "");
+
+/// The three tasks, where a and b must stand above all others, so c is lowest.
+pub const A_AND_B_OVER_ALL: &str = three_tasks!(", outranks = 'all'", ", outranks = 'all'", "");
+
 /// An order of one's own: each task must stand above the next, and log meets its bound exactly.
 pub const OWN_ORDER: &str = own_order!(100000);
 

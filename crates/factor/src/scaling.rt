@@ -74,7 +74,7 @@ fn scaled_sheet(alloc: Global, sheet: &Sheet, factor: u64) -> Result<Sheet, Allo
 {
     let cost = scaled_cost(sheet, factor);
     let sections = scaled_sections(alloc, sheet, factor)?;
-    let outranks = Vec::from_slice(alloc, sheet.outranks())?;
+    let outranks = sheet.outranks().copy(alloc)?;
     let times = Times {
         cost,
         ..times_of(sheet)

@@ -21,7 +21,7 @@ AllPrompt-valid U set k d lt =
 -- ---- sets that are alike
 module _ (U V : List Task) (alike : AreAlike U V) where
   named : (i k : ℕ) → must_outrank V i k ≡ must_outrank U i k
-  named i k = rw (alike.names k, alike.outranks i) refl
+  named i k = rw (alike.names k, alike.outranks k, alike.outranks i) refl
 
   pub is_bound-alike : (i : ℕ) (H : Indexes) → is_bound V i H ≡ is_bound U i H
   unfolding is_bound

@@ -83,7 +83,7 @@ module _ (V U : List Task) (easy : AreEasier V U) where
   limit-easier i = omega (arith, (easy.each i).deadline, (easy.each i).jitter)
 
   names-easier : (i k : ℕ) → must_outrank V i k ≡ must_outrank U i k
-  names-easier i k = rw ((easy.each k).name, (easy.each i).outranks) refl
+  names-easier i k = rw ((easy.each k).name, (easy.each k).outranks, (easy.each i).outranks) refl
 
   is_bound-easier : (i : ℕ) (H : Indexes) → is_bound V i H ≡ is_bound U i H
   unfolding is_bound

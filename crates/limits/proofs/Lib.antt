@@ -3,3 +3,4 @@ pub mod NumberLaws
 pub mod SpanLaws
 pub mod TableLaws
 pub mod Steps
+pub mod NodeLaws

@@ -31,7 +31,9 @@ module _ (U : List Task) (i : ℕ) (x : Task) (name : x.name ≡ (task_at U i).n
   sections-placed k = same-placed (λ (t : Task). t.sections) x U i sections k
 
   outrank-placed : (j k : ℕ) → must_outrank (slice_set U i x) j k ≡ must_outrank U j k
-  outrank-placed j k = rw (same-placed (λ (t : Task). t.name) x U i name k, same-placed (λ (t : Task). t.outranks) x U i outranks j) refl
+  outrank-placed j k =
+      let said = same-placed (λ (t : Task). t.outranks) x U i outranks in
+      rw (same-placed (λ (t : Task). t.name) x U i name k, said k, said j) refl
 
   few-placed : length U ≤ 32 → length (slice_set U i x) ≤ 32
   few-placed few = omega (arith, few, length-set U i x)

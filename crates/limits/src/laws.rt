@@ -1,11 +1,13 @@
 //! Laws of numbers. Each is the clause of a function that does nothing, and its names are defined in `specs/`.
 
-ghost use Rattle.std.specs.Prelude.{◌≡◌, ◌≤◌, ◌<◌, ◌↔◌, ℕ, List, length};
+ghost use Rattle.std.specs.Prelude.{◌≡◌, ◌≤◌, ◌<◌, ◌↔◌, ℕ, List, length, None};
 ghost use Rattle.task_sheet.specs.Sheet.{Task, AllTasks, task_at};
 ghost use Rattle.task_sheet.specs.TaskSet.{IsTaskSet};
 ghost use Rattle.task_sheet.specs.Indexes.{Indexes};
 ghost use Rattle.task_sheet.specs.Demand.{limit_of, blocking_of, demand_of, Passes};
 ghost use Rattle.task_sheet.specs.Orders.{Stands, IsPassingOrder, IsFeasible};
+ghost use Rattle.task_sheet.specs.declared.node.Node.{Node};
+ghost use Rattle.overheads.specs.Padding.{IsLighter, padded, padding_fault};
 ghost use Rattle.limits.specs.Easier.{AreEasier};
 ghost use Rattle.limits.specs.declared.number.Number.{Number};
 ghost use Rattle.limits.specs.Numbers.{HasNumber, value_of, numbered, MayHave, IsNoFurther, IsFurthest, NoneHelps};
@@ -25,6 +27,22 @@ pub fn easier_keeps_feasible()
     ensures order { (V U : List Task) (order : List ℕ) → AllTasks U → AreEasier V U
         → IsPassingOrder U order → IsPassingOrder V order }
     ensures feasible { (V U : List Task) → AllTasks U → AreEasier V U → IsFeasible U → IsFeasible V }
+{}
+
+/// A node that takes less takes no order away: what passes with what a node takes passes with what one takes that takes no
+/// more, and so without a node.
+pub fn lighter_node_keeps_feasible()
+    ensures easier { (U : List Task) (light heavy : Node) → IsLighter light heavy
+        → AreEasier (padded light U) (padded heavy U) }
+    ensures feasible { (U : List Task) (light heavy : Node) → IsTaskSet U → IsLighter light heavy
+        → padding_fault heavy U ≡ None → IsFeasible (padded heavy U)
+        → IsFeasible (padded light U) }
+    ensures order { (U : List Task) (light heavy : Node) (order : List ℕ) → IsTaskSet U
+        → IsLighter light heavy → padding_fault heavy U ≡ None
+        → IsPassingOrder (padded heavy U) order
+        → IsPassingOrder (padded light U) order }
+    ensures plain { (U : List Task) (node : Node) → IsTaskSet U → padding_fault node U ≡ None
+        → IsFeasible (padded node U) → IsFeasible U }
 {}
 
 /// The answer says all of a number: with a value that its sheet may have some order passes exactly where it is no further

@@ -52,7 +52,7 @@ fn with_number(
         Number::Jitter => times.jitter = value,
         Number::Len(_) => {}
     }
-    let outranks = Vec::from_slice(alloc, sheet.outranks())?;
+    let outranks = sheet.outranks().copy(alloc)?;
     Ok(remade(sheet, times, sections, outranks))
 }
 

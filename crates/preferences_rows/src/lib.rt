@@ -4,6 +4,8 @@
 #[cfg(test)]
 mod choices;
 #[cfg(test)]
+mod padding;
+#[cfg(test)]
 mod refusals;
 #[cfg(test)]
 mod weights;

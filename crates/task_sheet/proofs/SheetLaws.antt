@@ -3,8 +3,8 @@ use Rattle.std.proofs.Common.{◌≡◌, refl, [], ◌∷◌, Some, None, ℕ, �
 use Rattle.std.proofs.lemmas.List.{drop_more, take_all, length-drop}
 use Rattle.std.specs.List.{list_any}
 use Rattle.std.proofs.lemmas.Bool.Decides.{nat_tests}
-use Rattle.task_sheet.specs.Sheet.{CriticalSection, Task, IsSection, AreSections, AreOutranked, IsValidSheet, repeats, same_bytes}
-use Rattle.task_sheet.specs.SheetFault.{section_fault, sections_fault, numbers_fault, list_fault, sheet_fault, outranks_fault}
+use Rattle.task_sheet.specs.Sheet.{CriticalSection, Task, IsSection, AreSections, OutranksData, Named, AllOthers, AreOutranked, MayOutrank, IsValidSheet, repeats, same_bytes}
+use Rattle.task_sheet.specs.SheetFault.{section_fault, sections_fault, numbers_fault, list_fault, sheet_fault, names_fault, outranks_fault}
 use Rattle.task_sheet.specs.declared.sheet.SheetCause.{SheetCause}
 use Rattle.task_sheet.specs.declared.sheet.OutranksCause.{OutranksCause}
 
@@ -37,8 +37,12 @@ sheet_valid s h = rw (numbers_valid s h, list_valid s h)
 pub never_valid : (s : Task) (c : SheetCause) → sheet_fault s ≡ Some c → IsValidSheet s → ⊥
 never_valid s c h valid = let none = sheet_valid s valid in cc
 
-outranks_valid : (own : List ℕ) (names : List (List ℕ)) → AreOutranked own names → outranks_fault own names ≡ None
-outranks_valid own names h = grind (arith, nat_tests, h.few, h.distinct, h.others)
+names_valid : (own : List ℕ) (names : List (List ℕ)) → AreOutranked own names → names_fault own names ≡ None
+names_valid own names h = grind (arith, nat_tests, h.few, h.distinct, h.others)
 
-pub never_outranked : (own : List ℕ) (names : List (List ℕ)) (c : OutranksCause) → outranks_fault own names ≡ Some c → AreOutranked own names → ⊥
-never_outranked own names c h valid = let none = outranks_valid own names valid in cc
+pub outranks_valid : (own : List ℕ) (outranks : OutranksData) → MayOutrank own outranks → outranks_fault own outranks ≡ None
+outranks_valid own (Named names) h = names_valid own names h
+outranks_valid own AllOthers h = refl
+
+pub never_outranked : (own : List ℕ) (outranks : OutranksData) (c : OutranksCause) → outranks_fault own outranks ≡ Some c → MayOutrank own outranks → ⊥
+never_outranked own outranks c h valid = let none = outranks_valid own outranks valid in cc

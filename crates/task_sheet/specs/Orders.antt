@@ -1,7 +1,6 @@
 -- Orders of a set's tasks, lowest first (Audsley 1991).
 use Rattle.std.specs.Prelude.{◌≡◌, ℕ, ◌<◌, ◌⊎◌, ◌==◌, Bool, ◌&&◌, List, [], ◌∷◌, length, count_by, IsFalse, if◌then◌else◌}
-use Rattle.std.specs.List.{list_any}
-use Rattle.task_sheet.specs.Sheet.{Task, same_bytes, task_at}
+use Rattle.task_sheet.specs.Sheet.{Task, task_at, outranks_task}
 use Rattle.task_sheet.specs.Indexes.{Indexes, below, among, some_below}
 use Rattle.task_sheet.specs.Demand.{Passes}
 
@@ -9,9 +8,9 @@ use Rattle.task_sheet.specs.Demand.{Passes}
 abbrev pub all_of : List Task → Indexes
 all_of U = below (length U)
 
--- task i names task k as one above which it must stand
+-- task i must stand above task k
 abbrev pub must_outrank : List Task → ℕ → ℕ → Bool
-must_outrank U i k = list_any (λ name. same_bytes name (task_at U k).name) (task_at U i).outranks
+must_outrank U i k = outranks_task (task_at U i) (task_at U k)
 
 -- task i is bound in H: it must stand above a task of H
 unfoldable pub is_bound : List Task → ℕ → Indexes → Bool

@@ -1,5 +1,5 @@
 -- What a task's sheet says, and which sheets are valid.
-use Rattle.std.specs.Prelude.{◌≡◌, ℕ, ◌+◌, ◌<◌, ◌≤◌, Bool, false, ◌||◌, ◌&&◌, nat_eq, List, [], ◌∷◌, length, slice_index_or, All}
+use Rattle.std.specs.Prelude.{◌≡◌, ℕ, ◌+◌, ◌<◌, ◌≤◌, Bool, true, false, not, ◌||◌, ◌&&◌, nat_eq, List, [], ◌∷◌, length, slice_index_or, All}
 use Rattle.std.specs.List.{list_any}
 use Rattle.std.specs.Cmp.Lexicographic.{pointwise}
 use Rattle.task_sheet.specs.Name.{IsName}
@@ -11,6 +11,11 @@ pub record CriticalSection : Type 0 where
   pub at : ℕ
   pub len : ℕ
 
+-- above which other tasks of its set a task must stand: those of these names, or all but those that say this, too
+pub data OutranksData : Type 0 where
+  Named : (names : List (List ℕ)) → OutranksData
+  AllOthers : OutranksData
+
 -- a task, as its sheet says; times in microseconds
 pub record Task : Type 0 where
   pub name : List ℕ
@@ -20,7 +25,7 @@ pub record Task : Type 0 where
   pub cost : ℕ
   pub sections : List CriticalSection
   pub jitter : ℕ
-  pub outranks : List (List ℕ)
+  pub outranks : OutranksData
 
 -- the task of these values, without jitter, which names no task above which it must stand
 abbrev pub task_of : (name : List ℕ) (weight period deadline cost : ℕ)
@@ -34,16 +39,16 @@ task_of name weight period deadline cost sections =
       cost = cost;
       sections = sections;
       jitter = 0;
-      outranks = [];
+      outranks = Named [];
     }
 
 -- the same task with this jitter
 abbrev pub with_jitter : Task → ℕ → Task
 with_jitter s jitter = record s { jitter = jitter }
 
--- the same task with these names of tasks above which it must stand
-abbrev pub outranking : Task → List (List ℕ) → Task
-outranking s names = record s { outranks = names }
+-- the same task, which must stand above these
+abbrev pub outranking : Task → OutranksData → Task
+outranking s outranks = record s { outranks = outranks }
 
 -- the same task with this weight
 abbrev pub weighing : Task → ℕ → Task
@@ -52,6 +57,25 @@ weighing s weight = record s { weight = weight }
 -- the bytes are the same, as a test
 abbrev pub same_bytes : List ℕ → List ℕ → Bool
 same_bytes = pointwise nat_eq
+
+-- all others are said
+abbrev pub is_all : OutranksData → Bool
+is_all (Named names) = false
+is_all AllOthers = true
+
+-- the names that are said
+abbrev pub names_said : OutranksData → List (List ℕ)
+names_said (Named names) = names
+names_said AllOthers = []
+
+-- who says the first must stand above the task of a name that says the second
+abbrev pub is_over : OutranksData → List ℕ → OutranksData → Bool
+is_over (Named names) own said = list_any (λ name. same_bytes name own) names
+is_over AllOthers own said = not (is_all said)
+
+-- in a set the first task must stand above the second
+abbrev pub outranks_task : Task → Task → Bool
+outranks_task t other = is_over t.outranks other.name other.outranks
 
 -- some name stands twice
 abbrev pub repeats : List (List ℕ) → Bool
@@ -80,6 +104,11 @@ pub record AreOutranked (own : List ℕ) (names : List (List ℕ)) : Type 0 wher
   pub distinct : repeats names ≡ false
   pub others : list_any (λ n. same_bytes n own) names ≡ false
 
+-- the task of a name may be one that must stand above these
+abbrev pub MayOutrank : (own : List ℕ) → OutranksData → Type 0
+MayOutrank own (Named names) = AreOutranked own names
+MayOutrank own AllOthers = Unit {0}
+
 -- a valid sheet: its names are names, and its numbers and sections are within the limits
 pub record IsValidSheet (s : Task) : Type 0 where
   pub named : IsName s.name
@@ -93,11 +122,18 @@ pub record IsValidSheet (s : Task) : Type 0 where
   pub few : length s.sections ≤ SECTION_LIMIT
   pub sections : AreSections 0 s.cost s.sections
   pub jitter : s.jitter < s.deadline
-  pub outranked : AreOutranked s.name s.outranks
+  pub outranked : MayOutrank s.name s.outranks
 
 -- the two sections say the same
 abbrev pub same_section : CriticalSection → CriticalSection → Bool
 same_section x y = pointwise same_bytes x.locks y.locks && (nat_eq x.at y.at && nat_eq x.len y.len)
+
+-- the same names in their order, or both times all others
+abbrev pub same_outranks : OutranksData → OutranksData → Bool
+same_outranks (Named names) (Named others) = pointwise same_bytes names others
+same_outranks (Named names) AllOthers = false
+same_outranks AllOthers (Named others) = false
+same_outranks AllOthers AllOthers = true
 
 -- what the laws of the analysis need of a task
 pub record IsTask (t : Task) : Type 0 where
@@ -128,4 +164,4 @@ same_sheet x y =
     && (nat_eq x.cost y.cost
     && (nat_eq x.jitter y.jitter
     && (pointwise same_section x.sections y.sections
-    && pointwise same_bytes x.outranks y.outranks))))))
+    && same_outranks x.outranks y.outranks))))))

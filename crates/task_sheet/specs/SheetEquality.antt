@@ -1,16 +1,39 @@
 -- Equality of sections and of sheets as a test: an equivalence that holds of equal values alone.
 use Rattle.std.specs.Prelude.{◌≡◌, Bool, true}
-use Rattle.std.proofs.Common.{refl, subst, Decides}
+use Rattle.std.proofs.Common.{refl, ap, subst, Decides}
 use Rattle.std.specs.Cmp.{IsPartialEquivalence, IsEquivalence, and_equiv, on_equiv, partial_equiv_from_equiv, nat_eq_equiv}
-use Rattle.std.specs.Cmp.Lexicographic.{lists_equiv, nat_list_eq_equiv}
-use Rattle.std.proofs.lemmas.Bool.{and_parts}
+use Rattle.std.specs.Cmp.Lexicographic.{pointwise, lists_equiv, nat_list_eq_equiv}
+use Rattle.std.proofs.lemmas.Bool.{and_parts, false≢true}
 use Rattle.std.proofs.lemmas.Bool.Decides.{Decides-eqb}
 use Rattle.std.proofs.lemmas.Slice.Eq.{slice_eq-Decides, bytes_eq-Decides}
-use Rattle.task_sheet.specs.Sheet.{CriticalSection, Task, same_section, same_sheet}
+use Rattle.task_sheet.specs.Sheet.{CriticalSection, OutranksData, Named, AllOthers, Task, same_bytes, same_section, same_outranks, same_sheet}
 
 section_equiv : IsEquivalence same_section
 section_equiv = and_equiv (on_equiv (λ s. s.locks) (lists_equiv nat_list_eq_equiv))
     (and_equiv (on_equiv (λ s. s.at) nat_eq_equiv) (on_equiv (λ s. s.len) nat_eq_equiv))
+
+names_equiv : IsEquivalence (pointwise same_bytes)
+names_equiv = lists_equiv nat_list_eq_equiv
+
+outranks_equiv : IsEquivalence same_outranks
+outranks_equiv = record { refl = itself; symm = turned; congr = alike }
+  where
+    itself : (x : OutranksData) → same_outranks x x ≡ true
+    itself (Named xs) = names_equiv.refl xs
+    itself AllOthers = refl
+
+    turned : (x y : OutranksData) → same_outranks x y ≡ same_outranks y x
+    turned (Named xs) (Named ys) = names_equiv.symm xs ys
+    turned (Named xs) AllOthers = refl
+    turned AllOthers (Named ys) = refl
+    turned AllOthers AllOthers = refl
+
+    alike : (x y z : OutranksData) → same_outranks x y ≡ true → same_outranks x z ≡ same_outranks y z
+    alike (Named xs) (Named ys) (Named zs) same = names_equiv.congr xs ys zs same
+    alike (Named xs) (Named ys) AllOthers same = refl
+    alike (Named xs) AllOthers z same = absurd (false≢true same)
+    alike AllOthers (Named ys) z same = absurd (false≢true same)
+    alike AllOthers AllOthers z same = refl
 
 sheet_equiv : IsEquivalence same_sheet
 sheet_equiv =
@@ -21,7 +44,7 @@ sheet_equiv =
     (and_equiv (on_equiv (λ s. s.cost) nat_eq_equiv)
     (and_equiv (on_equiv (λ s. s.jitter) nat_eq_equiv)
     (and_equiv (on_equiv (λ s. s.sections) (lists_equiv section_equiv))
-    (on_equiv (λ s. s.outranks) (lists_equiv nat_list_eq_equiv))))))))
+    (on_equiv (λ s. s.outranks) outranks_equiv)))))))
 
 pub same_section_laws : IsPartialEquivalence same_section
 same_section_laws = partial_equiv_from_equiv section_equiv
@@ -44,6 +67,15 @@ same_section-Decides x y = decides same_section section_equiv x y (λ h.
     let len : x.len ≡ y.len = (Decides-eqb x.len y.len).0 times.1 in
     λ i. record { locks = locks i; at = at i; len = len i })
 
+told : (x y : OutranksData) → same_outranks x y ≡ true → x ≡ y
+told (Named xs) (Named ys) same = ap Named ((slice_eq-Decides bytes_eq-Decides xs ys _ refl).0 same)
+told (Named xs) AllOthers same = absurd (false≢true same)
+told AllOthers (Named ys) same = absurd (false≢true same)
+told AllOthers AllOthers same = refl
+
+pub same_outranks-Decides : (x y : OutranksData) → Decides (same_outranks x y) (x ≡ y)
+same_outranks-Decides x y = decides same_outranks outranks_equiv x y (told x y)
+
 pub same_sheet-Decides : (x y : Task) → Decides (same_sheet x y) (x ≡ y)
 same_sheet-Decides x y = decides same_sheet sheet_equiv x y (λ h.
     let a = and_parts _ _ h in
@@ -61,7 +93,7 @@ same_sheet-Decides x y = decides same_sheet sheet_equiv x y (λ h.
     let sections : x.sections ≡ y.sections =
     (slice_eq-Decides same_section-Decides x.sections y.sections _ refl).0 g.0 in
     let jitter : x.jitter ≡ y.jitter = (Decides-eqb x.jitter y.jitter).0 f.0 in
-    let outranks : x.outranks ≡ y.outranks = (slice_eq-Decides bytes_eq-Decides x.outranks y.outranks _ refl).0 g.1 in
+    let outranks : x.outranks ≡ y.outranks = (same_outranks-Decides x.outranks y.outranks).0 g.1 in
     λ i. record {
       name = name i;
       weight = weight i;

@@ -2,7 +2,7 @@
 use Rattle.std.specs.Prelude.{ℕ, ◌+◌, ◌||◌, nat_lt, ◌==◌, List, [], ◌∷◌, length, Option, Some, None, if◌then◌else◌}
 use Rattle.std.specs.Option.{option_or}
 use Rattle.std.specs.List.{list_any}
-use Rattle.task_sheet.specs.Sheet.{CriticalSection, Task, repeats, same_bytes}
+use Rattle.task_sheet.specs.Sheet.{CriticalSection, OutranksData, Named, AllOthers, Task, repeats, same_bytes}
 use Rattle.task_sheet.specs.declared.sheet.TheConstants.{WEIGHT_LIMIT, PERIOD_FROM, PERIOD_TO, SECTION_LIMIT, LOCK_LIMIT, OUTRANKS_LIMIT}
 use Rattle.task_sheet.specs.declared.sheet.SheetCause.{SheetCause}
 use Rattle.task_sheet.specs.declared.sheet.SheetCause.TheVariants as cause
@@ -48,9 +48,14 @@ sheet_fault s =
     option_or (numbers_fault s.weight s.period s.deadline s.cost) (list_fault s.cost s.sections)
 
 -- the first reason why the task of a name can't be one that must stand above the tasks of these names
-abbrev pub outranks_fault : (own : List ℕ) → List (List ℕ) → Option OutranksCause
-outranks_fault own names =
+abbrev pub names_fault : (own : List ℕ) → List (List ℕ) → Option OutranksCause
+names_fault own names =
     if nat_lt OUTRANKS_LIMIT (length names) then Some outranks.TooManyOutranks
     else if repeats names then Some outranks.OutranksTwice
     else if list_any (λ n. same_bytes n own) names then Some outranks.OutranksSelf
     else None
+
+-- the same of what a sheet says: all others have no fault
+abbrev pub outranks_fault : (own : List ℕ) → OutranksData → Option OutranksCause
+outranks_fault own (Named names) = names_fault own names
+outranks_fault own AllOthers = None

@@ -1,6 +1,13 @@
 -- How a `Sheet` keeps its data.
-use Rattle.task_sheet.specs.Sheet.{Task, IsValidSheet}
+use Rattle.task_sheet.specs.Sheet.{OutranksData, Named, AllOthers, Task, IsValidSheet}
+use Rattle.task_sheet.specs.declared.outranks.Outranks.{Outranks}
+use Rattle.task_sheet.specs.declared.outranks.Outranks.TheVariants as outranks
 use Rattle.task_sheet.specs.declared.sheet.Sheet.TheInside.{Inside}
+
+-- what callers see of the tasks above which one must stand
+abbrev pub outranks_of : Outranks → OutranksData
+outranks_of (outranks.Named names) = Named names.items
+outranks_of outranks.AllOthers = AllOthers
 
 -- what callers see of a sheet
 abbrev pub sheet_of : Inside → Task
@@ -12,7 +19,7 @@ sheet_of a = record {
   cost = a.cost;
   sections = a.sections.items;
   jitter = a.jitter;
-  outranks = a.outranks.items;
+  outranks = outranks_of a.outranks;
 }
 
 -- it is a valid sheet

@@ -1,12 +1,16 @@
 -- What a document's tree says of tasks.
-use Rattle.std.specs.Prelude.{◌≡◌, ℕ, Bool, true, false, ◌&&◌, List, [], ◌∷◌, map, Option, Some, None, option_and_then, unwrap_or, is_some, codes, pos, if◌then◌else◌}
+use Rattle.std.specs.Prelude.{◌≡◌, ℕ, ◌+◌, ◌-◌, ◌^◌, min, Bool, true, false, ◌&&◌, List, [], ◌∷◌, map, Option, Some, None, option_map, option_and_then, unwrap_or, is_some, codes, pos, if◌then◌else◌}
 use Rattle.std.specs.List.{list_any}
-use Rattle.toml.specs.Data.{Data, string, integer, array, table, Items, no_items, item, Members, no_members, member, get_member, as_str}
-use Rattle.task_sheet.specs.Sheet.{CriticalSection, Task, same_bytes}
+use Rattle.toml.specs.Data.{Data, string, integer, array, table, Items, no_items, item, Members, no_members, member, get_member, as_str, as_table}
+use Rattle.toml.specs.View.{items_view}
+use Rattle.task_sheet.specs.Sheet.{CriticalSection, OutranksData, Named, AllOthers, Task, same_bytes}
 use Rattle.task_sheet.specs.Prefer.{preference_of}
 use Rattle.task_sheet.specs.declared.prefer.Preference.{Preference}
+use Rattle.task_sheet.specs.declared.node.Node.{Node}
 use Rattle.task_sheet.specs.declared.keys.Key.{Key}
 use Rattle.task_sheet.specs.declared.keys.Key.TheVariants as key
+use Rattle.task_sheet.specs.declared.values.Said.{Said}
+use Rattle.task_sheet.specs.declared.values.Said.TheVariants.{Strings, All}
 
 -- ---- keys
 
@@ -14,6 +18,10 @@ use Rattle.task_sheet.specs.declared.keys.Key.TheVariants as key
 abbrev pub word_of : Key → List ℕ
 word_of key.Task = codes "task"
 word_of key.Prefer = codes "prefer"
+word_of key.Node = codes "node"
+word_of key.Job = codes "job"
+word_of key.Lock = codes "lock"
+word_of key.Late = codes "late"
 word_of key.Name = codes "name"
 word_of key.Weight = codes "weight"
 word_of key.Period = codes "period"
@@ -28,7 +36,11 @@ word_of key.Len = codes "len"
 
 -- the keys that may stand in the root
 abbrev pub root_keys : List Key
-root_keys = key.Task ∷ key.Prefer ∷ []
+root_keys = key.Task ∷ key.Prefer ∷ key.Node ∷ []
+
+-- the keys of the node's table
+abbrev pub node_keys : List Key
+node_keys = key.Job ∷ key.Lock ∷ key.Late ∷ []
 
 -- the keys of a task's table
 abbrev pub task_keys : List Key
@@ -40,9 +52,13 @@ task_keys =
 abbrev pub needed_keys : List Key
 needed_keys = key.Name ∷ key.Period ∷ key.Deadline ∷ key.Cost ∷ []
 
--- the keys of a section's table, all of them needed
+-- the keys of a section's table
 abbrev pub section_keys : List Key
 section_keys = key.Locks ∷ key.At ∷ key.Len ∷ []
+
+-- those that it needs
+abbrev pub needed_section_keys : List Key
+needed_section_keys = key.Locks ∷ key.Len ∷ []
 
 -- the text is the word of one of these keys
 abbrev pub is_word_of : List Key → List ℕ → Bool
@@ -73,10 +89,14 @@ number_of _ = None
 abbrev pub number_at : Key → Members → Option ℕ
 number_at k ms = option_and_then number_of (value_at k ms)
 
--- the number of a key that may be absent, and is 0 then
+-- the number of a key that may be absent, and is this number then
+abbrev pub number_or : ℕ → Option Data → Option ℕ
+number_or n None = Some n
+number_or n (Some d) = number_of d
+
+-- the same, which is 0 where the key is absent
 abbrev pub number_or_zero : Option Data → Option ℕ
-number_or_zero None = Some 0
-number_or_zero (Some d) = number_of d
+number_or_zero = number_or 0
 
 -- the string at a key
 abbrev pub text_at : Key → Members → Option (List ℕ)
@@ -103,10 +123,28 @@ strings_of _ = None
 abbrev pub strings_at : Key → Members → Option (List (List ℕ))
 strings_at k ms = option_and_then strings_of (value_at k ms)
 
--- an array of strings, which may be absent, and is empty then
-abbrev pub strings_or_none : Option Data → Option (List (List ℕ))
-strings_or_none None = Some []
-strings_or_none (Some d) = strings_of d
+-- how all others are written
+abbrev pub all_word : List ℕ
+all_word = codes "all"
+
+-- above which tasks one must stand, by a string, else by an array of strings
+abbrev pub said_by : Option (List ℕ) → Option (List (List ℕ)) → Option OutranksData
+said_by (Some word) strings = if same_bytes all_word word then Some AllOthers else None
+said_by None strings = option_map Named strings
+
+-- the same of a value
+abbrev pub outranks_in : Data → Option OutranksData
+outranks_in d = said_by (as_str d) (strings_of d)
+
+-- the same where it may be absent, and is no name then
+abbrev pub outranks_or_none : Option Data → Option OutranksData
+outranks_or_none None = Some (Named [])
+outranks_or_none (Some d) = outranks_in d
+
+-- what is told of it
+abbrev pub said_of : Said → OutranksData
+said_of (Strings items) = Named (strings_in (items_view items.now))
+said_of All = AllOthers
 
 -- all of the items are tables
 abbrev pub all_tables : Items → Bool
@@ -132,13 +170,23 @@ tables_at k ms = tables_of (value_at k ms)
 
 -- ---- what tables of the right kinds say
 
--- the section of a table
-abbrev pub section_at : Members → CriticalSection
-section_at ms = record {
+-- the section of a table, which begins at `from` where it doesn't say where
+abbrev pub section_at : (from : ℕ) → Members → CriticalSection
+section_at from ms = record {
   locks = unwrap_or (strings_at key.Locks ms) [];
-  at = unwrap_or (number_at key.At ms) 0;
+  at = unwrap_or (number_or from (value_at key.At ms)) 0;
   len = unwrap_or (number_at key.Len ms) 0;
 }
+
+-- where a section ends, or the greatest number of 64 bits where it ends past that, as in no sheet
+abbrev pub capped_end : CriticalSection → ℕ
+capped_end x = min (x.at + x.len) (2 ^ 64 - 1)
+
+-- the sections of tables: one that doesn't say where it begins begins where the one before it ends, the first at `from`
+abbrev pub sections_from : (from : ℕ) → List Members → List CriticalSection
+sections_from from [] = []
+sections_from from (ms ∷ more) =
+    section_at from ms ∷ sections_from (capped_end (section_at from ms)) more
 
 -- the sheet of a task's table
 abbrev pub sheet_at : Members → Task
@@ -148,9 +196,9 @@ sheet_at ms = record {
   period = unwrap_or (number_at key.Period ms) 0;
   deadline = unwrap_or (number_at key.Deadline ms) 0;
   cost = unwrap_or (number_at key.Cost ms) 0;
-  sections = map section_at (unwrap_or (tables_at key.Section ms) []);
+  sections = sections_from 0 (unwrap_or (tables_at key.Section ms) []);
   jitter = unwrap_or (number_or_zero (value_at key.Jitter ms)) 0;
-  outranks = unwrap_or (strings_or_none (value_at key.Outranks ms)) [];
+  outranks = unwrap_or (outranks_or_none (value_at key.Outranks ms)) (Named []);
 }
 
 -- the sheets of a document, in its order
@@ -161,8 +209,24 @@ tree_sheets ms = map sheet_at (unwrap_or (tables_at key.Task ms) [])
 abbrev pub tree_prefers : Members → Option Preference
 tree_prefers ms = option_and_then preference_of (text_at key.Prefer ms)
 
+-- a number of the node's table, in which it may be absent
+abbrev pub overhead_at : Key → Members → ℕ
+overhead_at k ms = unwrap_or (number_or_zero (value_at k ms)) 0
+
+-- what the node's table says
+abbrev pub node_at : Members → Node
+node_at ms = record {
+  job = overhead_at key.Job ms;
+  lock = overhead_at key.Lock ms;
+  late = overhead_at key.Late ms;
+}
+
+-- the node of a document, where it has one
+abbrev pub tree_node : Members → Option Node
+tree_node ms = option_map node_at (option_and_then as_table (value_at key.Node ms))
+
 -- a task's own values, each of the right kind
-pub record AreFields (ms : Members) (text : List ℕ) (w p d c : ℕ) (tables : List Members) (j : ℕ) (names : List (List ℕ)) : Type 0 where
+pub record AreFields (ms : Members) (text : List ℕ) (w p d c : ℕ) (tables : List Members) (j : ℕ) (said : OutranksData) : Type 0 where
   pub name : text_at key.Name ms ≡ Some text
   pub weight : number_or_zero (value_at key.Weight ms) ≡ Some w
   pub period : number_at key.Period ms ≡ Some p
@@ -170,4 +234,4 @@ pub record AreFields (ms : Members) (text : List ℕ) (w p d c : ℕ) (tables : 
   pub cost : number_at key.Cost ms ≡ Some c
   pub sections : tables_at key.Section ms ≡ Some tables
   pub jitter : number_or_zero (value_at key.Jitter ms) ≡ Some j
-  pub outranks : strings_or_none (value_at key.Outranks ms) ≡ Some names
+  pub outranks : outranks_or_none (value_at key.Outranks ms) ≡ Some said

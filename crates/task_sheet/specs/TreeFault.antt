@@ -2,13 +2,13 @@
 use Rattle.std.specs.Prelude.{ℕ, ◌+◌, nat_lt, Bool, List, [], ◌∷◌, Option, Some, None, is_some, unwrap_or, option_map, if◌then◌else◌}
 use Rattle.std.specs.Option.{option_or}
 use Rattle.std.specs.List.{list_all}
-use Rattle.toml.specs.Data.{Data, Members, as_str}
+use Rattle.toml.specs.Data.{Data, Members, as_str, as_table}
 use Rattle.task_sheet.specs.Name.{is_name}
-use Rattle.task_sheet.specs.Sheet.{CriticalSection, Task}
+use Rattle.task_sheet.specs.Sheet.{CriticalSection, Task, names_said}
 use Rattle.task_sheet.specs.SheetFault.{sheet_fault, outranks_fault}
 use Rattle.task_sheet.specs.SheetsFault.{sheets_fault}
 use Rattle.task_sheet.specs.Prefer.{preference_of}
-use Rattle.task_sheet.specs.Tree.{root_keys, task_keys, needed_keys, section_keys, only_keys, first_missing, value_at, number_at, number_or_zero, text_at, strings_at, strings_or_none, tables_at, sheet_at, tree_sheets}
+use Rattle.task_sheet.specs.Tree.{root_keys, node_keys, task_keys, needed_keys, section_keys, needed_section_keys, only_keys, first_missing, value_at, number_at, number_or_zero, text_at, strings_at, outranks_or_none, tables_at, sheet_at, tree_sheets}
 use Rattle.task_sheet.specs.declared.set.SetCause.{SetCause}
 use Rattle.task_sheet.specs.declared.set.SetCause.TheVariants as cause
 use Rattle.task_sheet.specs.declared.keys.Key.{Key}
@@ -34,9 +34,9 @@ keys_fault task section known needed ms =
 -- a section's keys, and then the kinds of their values
 abbrev pub section_table_fault : (task section : ℕ) → Members → Option SetFault
 section_table_fault task section ms = first (
-    keys_fault task section section_keys section_keys ms
+    keys_fault task section section_keys needed_section_keys ms
     ∷ unless (is_some (strings_at key.Locks ms)) (fault.WrongKind task section key.Locks)
-    ∷ unless (is_some (number_at key.At ms)) (fault.WrongKind task section key.At)
+    ∷ unless (is_some (number_or_zero (value_at key.At ms))) (fault.WrongKind task section key.At)
     ∷ unless (is_some (number_at key.Len ms)) (fault.WrongKind task section key.Len)
     ∷ [])
 
@@ -57,7 +57,7 @@ bad_section place (x ∷ xs) =
 abbrev pub bad_name : Task → Option ℕ
 bad_name s =
     if is_name s.name then option_or (bad_section 1 s.sections)
-    (if list_all is_name s.outranks then None else Some 0)
+    (if list_all is_name (names_said s.outranks) then None else Some 0)
     else Some 0
 
 -- the kinds of a task's own values
@@ -70,7 +70,7 @@ kinds_fault task ms = first (
     ∷ unless (is_some (number_at key.Cost ms)) (fault.WrongKind task 0 key.Cost)
     ∷ unless (is_some (tables_at key.Section ms)) (fault.WrongKind task 0 key.Section)
     ∷ unless (is_some (number_or_zero (value_at key.Jitter ms))) (fault.WrongKind task 0 key.Jitter)
-    ∷ unless (is_some (strings_or_none (value_at key.Outranks ms)))
+    ∷ unless (is_some (outranks_or_none (value_at key.Outranks ms)))
     (fault.WrongKind task 0 key.Outranks)
     ∷ [])
 
@@ -108,12 +108,31 @@ abbrev pub prefer_fault : Option Data → Option SetFault
 prefer_fault None = None
 prefer_fault (Some d) = word_fault (as_str d)
 
--- the root's keys and the kind of `task`, its preference, each task, and then what `TaskSet::new` refuses
+-- the node's keys, and then the kinds of its numbers
+abbrev pub node_fault : Members → Option SetFault
+node_fault ms = first (
+    unless (only_keys node_keys ms) fault.UnknownOverhead
+    ∷ unless (is_some (number_or_zero (value_at key.Job ms))) (fault.WrongKind 0 0 key.Job)
+    ∷ unless (is_some (number_or_zero (value_at key.Lock ms))) (fault.WrongKind 0 0 key.Lock)
+    ∷ unless (is_some (number_or_zero (value_at key.Late ms))) (fault.WrongKind 0 0 key.Late)
+    ∷ [])
+
+-- the fault of the value at `node`, which may be absent
+abbrev pub table_fault : Option Members → Option SetFault
+table_fault None = Some (fault.WrongKind 0 0 key.Node)
+table_fault (Some ms) = node_fault ms
+
+abbrev pub overheads_fault : Option Data → Option SetFault
+overheads_fault None = None
+overheads_fault (Some d) = table_fault (as_table d)
+
+-- the root's keys and the kind of `task`, its preference, the node, each task, and then what `TaskSet::new` refuses
 abbrev pub tree_fault : Members → Option SetFault
 tree_fault ms = first (
     unless (only_keys root_keys ms) (fault.UnknownKey 0 0)
     ∷ unless (is_some (tables_at key.Task ms)) (fault.WrongKind 0 0 key.Task)
     ∷ prefer_fault (value_at key.Prefer ms)
+    ∷ overheads_fault (value_at key.Node ms)
     ∷ tasks_fault 1 (unwrap_or (tables_at key.Task ms) [])
     ∷ option_map of_set (sheets_fault (tree_sheets ms))
     ∷ [])

@@ -12,6 +12,14 @@ pub enum Key {
     Task,
     /// `prefer` of the root: a string, the word of a preference.
     Prefer,
+    /// `node` of the root: a table.
+    Node,
+    /// `job` of the node: a number of microseconds, 0 where it is absent.
+    Job,
+    /// `lock` of the node: a number of microseconds, 0 where it is absent.
+    Lock,
+    /// `late` of the node: a number of microseconds, 0 where it is absent.
+    Late,
     /// `name` of a task: a string.
     Name,
     /// `weight` of a task: a number, 0 where it is absent.
@@ -26,11 +34,11 @@ pub enum Key {
     Section,
     /// `jitter` of a task: a number of microseconds, 0 where it is absent.
     Jitter,
-    /// `outranks` of a task: an array of strings, none where it is absent.
+    /// `outranks` of a task: an array of strings, none where it is absent, or the string `all`.
     Outranks,
     /// `locks` of a section: an array of strings.
     Locks,
-    /// `at` of a section: a number of microseconds.
+    /// `at` of a section: a number of microseconds, the end of the section before it where it is absent.
     At,
     /// `len` of a section: a number of microseconds.
     Len,
@@ -44,6 +52,10 @@ impl Key {
         match self {
             Key::Task => "task",
             Key::Prefer => "prefer",
+            Key::Node => "node",
+            Key::Job => "job",
+            Key::Lock => "lock",
+            Key::Late => "late",
             Key::Name => "name",
             Key::Weight => "weight",
             Key::Period => "period",
@@ -60,7 +72,10 @@ impl Key {
 }
 
 /// The keys of the root.
-pub const ROOT_KEYS: [Key; 2] = [Key::Task, Key::Prefer];
+pub const ROOT_KEYS: [Key; 3] = [Key::Task, Key::Prefer, Key::Node];
+
+/// The keys of the node.
+pub const NODE_KEYS: [Key; 3] = [Key::Job, Key::Lock, Key::Late];
 
 /// The keys of a task.
 pub const TASK_KEYS: [Key; 8] = [
@@ -78,6 +93,8 @@ pub(crate) const NEEDED_KEYS: [Key; 4] = [Key::Name, Key::Period, Key::Deadline,
 
 /// The keys of a section.
 pub const SECTION_KEYS: [Key; 3] = [Key::Locks, Key::At, Key::Len];
+
+pub(crate) const NEEDED_SECTION_KEYS: [Key; 2] = [Key::Locks, Key::Len];
 
 // The text is the word of one of the keys.
 fn is_word_of(keys: &[Key], text: &str) -> bool

@@ -2,12 +2,14 @@
 ghost use Rattle.std.specs.Prelude.{◌≡◌, ◌↔◌, ℕ, ◌+◌, ◌<◌, ◌≤◌, length, All, IsTrue, Some, None, IfNone, IfOk, IfErr, OnOk, OnErr};
 ghost use Rattle.std.specs.Bool.{OnFalse};
 ghost use Rattle.task_sheet.specs.Name.{IsName};
-ghost use Rattle.task_sheet.specs.Sheet.{CriticalSection, Task, IsSection, AreSections, AreOutranked, IsValidSheet, task_of, with_jitter, outranking, weighing, repeats, same_section, same_sheet};
+ghost use Rattle.task_sheet.specs.Sheet.{CriticalSection, Task, IsSection, AreSections, AreOutranked, MayOutrank, IsValidSheet, task_of, with_jitter, outranking, outranks_task, weighing, repeats, same_section, same_sheet};
+ghost use Rattle.task_sheet.specs.SheetFields.{outranks_of};
 ghost use Rattle.task_sheet.specs.Demand.{limit_of};
 ghost use Rattle.task_sheet.specs.declared.sheet.TheConstants.{WEIGHT_LIMIT, SECTION_LIMIT};
-ghost use Rattle.task_sheet.specs.SheetFault.{section_fault, list_fault, numbers_fault, sheet_fault, outranks_fault};
+ghost use Rattle.task_sheet.specs.SheetFault.{section_fault, list_fault, numbers_fault, sheet_fault, names_fault, outranks_fault};
 
 use crate::name::Name;
+use crate::outranks::Outranks;
 use std::alloc::{AllocError, Global};
 use std::marker::Model;
 use thiserror::Error;
@@ -27,7 +29,7 @@ pub const SECTION_LIMIT: usize = 8;
 /// The most locks of a section.
 pub const LOCK_LIMIT: usize = 4;
 
-/// The most tasks above which a task must stand.
+/// The most names of tasks above which a task must stand.
 pub const OUTRANKS_LIMIT: usize = 8;
 
 /// Why values are no sheet. A section is named by its place, from 1.
@@ -92,7 +94,7 @@ pub struct BadJitter {
     pub sheet: Sheet,
 }
 
-/// Why a task can't be one that must stand above the tasks of these names.
+/// Why a task can't be one that must stand above these.
 #[derive(Clone, Copy, Debug, PartialEq, Eq, Error)]
 pub enum OutranksCause {
     /// There are more than 8 names.
@@ -106,7 +108,7 @@ pub enum OutranksCause {
     OutranksSelf,
 }
 
-/// The task can't be one that must stand above the tasks of these names. The sheet and the names are handed back.
+/// The task can't be one that must stand above these. The sheet and they are handed back.
 #[derive(Debug, Drop, Error)]
 #[error("{cause}")]
 pub struct OutranksFault {
@@ -114,8 +116,8 @@ pub struct OutranksFault {
     pub cause: OutranksCause,
     /// The sheet as it was.
     pub sheet: Sheet,
-    /// The names as they were given.
-    pub outranks: Vec<Name>,
+    /// The tasks above which it should stand, as they were given.
+    pub outranks: Outranks,
 }
 
 /// A critical section: a job takes the locks when it has executed `at` microseconds and executes on, and gives them
@@ -164,7 +166,7 @@ pub struct Sheet {
     cost: u64,
     sections: Vec<Section>,
     jitter: u64,
-    outranks: Vec<Name>,
+    outranks: Outranks,
 }
 
 impl Model for Sheet {
@@ -249,8 +251,8 @@ fn list_fault(sections: &[Section], cost: u64) -> Option<SheetCause>
 }
 
 // The first reason why the task of a name can't be one that must stand above the tasks of these names.
-fn outranks_fault(own: &Name, names: &[Name]) -> Option<OutranksCause>
-    ensures fault { result ≡ outranks_fault own.now names.now }
+fn names_fault(own: &Name, names: &[Name]) -> Option<OutranksCause>
+    ensures fault { result ≡ names_fault own.now names.now }
     ensures valid { IfNone result (AreOutranked own.now names.now) }
 {
     if names.len() > OUTRANKS_LIMIT {
@@ -263,6 +265,17 @@ fn outranks_fault(own: &Name, names: &[Name]) -> Option<OutranksCause>
         return Some(OutranksCause::OutranksSelf);
     }
     None
+}
+
+// The first reason why the task of a name can't be one that must stand above these.
+fn outranks_fault(own: &Name, outranks: &Outranks) -> Option<OutranksCause>
+    ensures fault { result ≡ outranks_fault own.now (outranks_of outranks.now) }
+    ensures valid { IfNone result (MayOutrank own.now (outranks_of outranks.now)) }
+{
+    match outranks {
+        Outranks::Named(names) => names_fault(own, names),
+        Outranks::AllOthers => None,
+    }
 }
 
 // The first fault of the numbers.
@@ -316,7 +329,7 @@ impl Sheet {
         if let Some(cause) = list_fault(&sections, cost) {
             return Err(SheetFault { cause, sections });
         }
-        let outranks = Vec::new(*sections.allocator());
+        let outranks = Outranks::Named(Vec::new(*sections.allocator()));
         Ok(Sheet {
             name,
             weight,
@@ -343,24 +356,24 @@ impl Sheet {
         Ok(sheet)
     }
 
-    /// The sheet of a task that must stand above the tasks of these names, which take the place of those that it had. A
-    /// name that no task of a set has binds nothing there. Refused in this order: `TooManyOutranks`, `OutranksTwice`,
-    /// `OutranksSelf`.
-    pub fn outranking(mut self, names: Vec<Name>) -> Result<Sheet, OutranksFault>
-        ensures ok { IfOk result (λ s. s ≡ outranking self names.items) }
-        ensures none { OnOk result (outranks_fault self.name names.items ≡ None) }
-        ensures err { IfErr result (λ e. outranks_fault self.name names.items ≡ Some e.cause) }
-        ensures refused { OnErr result (¬ IsValidSheet (outranking self names.items)) }
-        ensures back { IfErr result (λ e. (e.sheet ≡ self) × (e.outranks.items ≡ names.items)) }
+    /// The sheet of a task that must stand above these, which take the place of those that it had. Of names refused in
+    /// this order: `TooManyOutranks`, `OutranksTwice`, `OutranksSelf`.
+    pub fn outranking(mut self, outranks: Outranks) -> Result<Sheet, OutranksFault>
+        ensures ok { IfOk result (λ s. s ≡ outranking self (outranks_of outranks)) }
+        ensures none { OnOk result (outranks_fault self.name (outranks_of outranks) ≡ None) }
+        ensures err { IfErr result (λ e.
+            outranks_fault self.name (outranks_of outranks) ≡ Some e.cause) }
+        ensures refused { OnErr result (¬ IsValidSheet (outranking self (outranks_of outranks))) }
+        ensures back { IfErr result (λ e. (e.sheet ≡ self) × (e.outranks ≡ outranks)) }
     {
-        if let Some(cause) = outranks_fault(&self.name, &names) {
+        if let Some(cause) = outranks_fault(&self.name, &outranks) {
             return Err(OutranksFault {
                 cause,
                 sheet: self,
-                outranks: names,
+                outranks,
             });
         }
-        self.outranks = names;
+        self.outranks = outranks;
         Ok(self)
     }
 
@@ -433,11 +446,21 @@ impl Sheet {
         self.deadline - self.jitter
     }
 
-    /// The names of the tasks above which the task must stand: at most 8, distinct, and none its own.
-    pub fn outranks(&self) -> &[Name]
-        ensures { result.now ≡ self.now.outranks }
+    /// Above which other tasks of its set the task must stand.
+    pub fn outranks(&self) -> &Outranks
+        ensures { outranks_of result.now ≡ self.now.outranks }
     {
         &self.outranks
+    }
+
+    /// Whether in a set the task must stand above the other one.
+    pub fn must_outrank(&self, other: &Sheet) -> bool
+        ensures { result ≡ outranks_task self.now other.now }
+    {
+        match &self.outranks {
+            Outranks::Named(names) => other.name.is_among(names),
+            Outranks::AllOthers => !other.outranks.is_all(),
+        }
     }
 
     /// A sheet that says the same.
@@ -445,7 +468,7 @@ impl Sheet {
         ensures { IfOk result (λ s. s ≡ self.now) }
     {
         let sections = copy_sections(alloc, &self.sections)?;
-        let outranks = Vec::from_slice(alloc, &self.outranks)?;
+        let outranks = self.outranks.copy(alloc)?;
         Ok(Sheet {
             name: self.name,
             weight: self.weight,
@@ -496,6 +519,6 @@ impl PartialEq for Sheet {
             && self.cost == other.cost
             && self.jitter == other.jitter
             && self.sections.as_slice() == other.sections.as_slice()
-            && self.outranks.as_slice() == other.outranks.as_slice()
+            && self.outranks.is_same(&other.outranks)
     }
 }

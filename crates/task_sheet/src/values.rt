@@ -1,7 +1,8 @@
 //! The values at a table's keys, where they are of the right kind.
-ghost use Rattle.std.specs.Prelude.{◌≡◌, None, Some, true, MatchOption, option_map};
+ghost use Rattle.std.specs.Prelude.{◌≡◌, None, Some, true, MatchOption, option_map, is_some, if◌then◌else◌};
 ghost use Rattle.toml.specs.View.{view, table_view, items_view};
-ghost use Rattle.task_sheet.specs.Tree.{value_at, number_of, number_at, number_or_zero, text_at, all_strings, strings_in, strings_of, strings_at, strings_or_none, all_tables, tables_in, tables_at};
+ghost use Rattle.task_sheet.specs.Sheet.{AllOthers, same_bytes};
+ghost use Rattle.task_sheet.specs.Tree.{value_at, number_of, number_at, number_or, number_or_zero, text_at, all_strings, strings_in, strings_of, strings_at, all_word, outranks_in, outranks_or_none, said_of, all_tables, tables_in, tables_at};
 
 use crate::keys::{Key, value_at};
 use toml::{Table, Value};
@@ -26,14 +27,22 @@ pub(crate) fn number_at(key: Key, table: &Table) -> Option<u64>
     }
 }
 
+// The number at a key, which is this one where it is absent.
+pub(crate) fn number_or(absent: u64, key: Key, table: &Table) -> Option<u64>
+    ensures value { result ≡ number_or absent (value_at key (table_view table.now)) }
+    ensures kind { is_some result ≡ is_some (number_or_zero (value_at key (table_view table.now))) }
+{
+    match value_at(key, table) {
+        Some(value) => number_of(value),
+        None => Some(absent),
+    }
+}
+
 // The number at a key, which is 0 where it is absent.
 pub(crate) fn number_or_zero(key: Key, table: &Table) -> Option<u64>
     ensures { result ≡ number_or_zero (value_at key (table_view table.now)) }
 {
-    match value_at(key, table) {
-        Some(value) => number_of(value),
-        None => Some(0),
-    }
+    number_or(0, key, table)
 }
 
 // The text at a key.
@@ -91,15 +100,54 @@ pub(crate) fn strings_at<'a>(key: Key, table: &'a Table) -> Option<&'a [Value]>
     strings_of(value_at(key, table)?)
 }
 
-// The array of strings at a key, which is empty where it is absent.
-pub(crate) fn strings_or_none<'a>(key: Key, table: &'a Table) -> Option<&'a [Value]>
-    ensures { MatchOption result (strings_or_none (value_at key (table_view table.now)) ≡ None)
-        (λ s. strings_or_none (value_at key (table_view table.now))
-        ≡ Some (strings_in (items_view s.now))) }
+/// Above which tasks a document says that one must stand.
+#[derive(Clone, Copy)]
+pub(crate) enum Said<'a> {
+    /// Those that these strings name.
+    Strings(&'a [Value]),
+    /// All others.
+    All,
+}
+
+// How all others are written.
+fn all_word() -> &'static str
+    ensures { result.now ≡ all_word }
+{
+    "all"
+}
+
+// What a string says: all others.
+fn word_said<'a>(word: &str) -> Option<Said<'a>>
+    ensures { option_map said_of result
+        ≡ (if same_bytes all_word word.now then Some AllOthers else None) }
+{
+    if all_word() == word {
+        Some(Said::All)
+    } else {
+        None
+    }
+}
+
+// What a value says: the word of all others, or an array of strings.
+fn said_in<'a>(value: &'a Value) -> Option<Said<'a>>
+    ensures { option_map said_of result ≡ outranks_in (view value.now) }
+{
+    match value.as_str() {
+        Some(word) => word_said(word),
+        None => match strings_of(value) {
+            Some(items) => Some(Said::Strings(items)),
+            None => None,
+        },
+    }
+}
+
+// What the value at a key says, which is no name where it is absent.
+pub(crate) fn said_or_none<'a>(key: Key, table: &'a Table) -> Option<Said<'a>>
+    ensures { option_map said_of result ≡ outranks_or_none (value_at key (table_view table.now)) }
 {
     match value_at(key, table) {
-        Some(value) => strings_of(value),
-        None => Some(&[]),
+        Some(value) => said_in(value),
+        None => Some(Said::Strings(&[])),
     }
 }
 

@@ -1,8 +1,5 @@
-use Rattle.std.proofs.Common.{◌≡◌, ◌<◌, ℕ, List, [], length, sym, ◌∙◌, ap, arith}
-use Rattle.std.proofs.lemmas.List.{nil_from_length}
-use Rattle.std.proofs.lemmas.Bool.{eqb-true}
-use Rattle.std.specs.List.{list_any}
-use Rattle.task_sheet.specs.Sheet.{Task, same_bytes, task_at}
+use Rattle.std.proofs.Common.{◌≡◌, ◌<◌, List, [], length, sym, ◌∙◌, ap, arith}
+use Rattle.task_sheet.specs.Sheet.{Named, Task, outranks_task, task_at}
 use Rattle.task_sheet.proofs.TaskLaws.{task_read}
 use Rattle.ceilings.proofs.OutrankedLaws.{AreRowsOf-none, AreRowsOf-row, AreRowsOf-skip}
 use Rattle.ceilings.proofs.outranked.outranked_of.Goals as goal
@@ -17,14 +14,14 @@ loop-index-preserved c =
     let n = c.loop-index.index in
     let within : n < length U = rw (c.sheets-sheet-items.ensures.same) at c.loop-index-test.true in
     let few : n < 32 = omega (arith, within, c.sheets-sheet-items.ensures.kept.few, ap (λ (V : List Task). length V) c.sheets-sheet-items.ensures.same) in
-    let is = ap (λ (t : Task). t.outranks) (task_read U c.sheets-sheet-items.result.now n c.sheet-item.result c.sheets-sheet-items.ensures.same within c.sheet-item.is) in
+    let is = task_read U c.sheets-sheet-items.result.now n c.sheet-item.result c.sheets-sheet-items.ensures.same within c.sheet-item.is in
     elim c.if-not-is_empty.branch [
       | then-not-is_empty w ↦
-          AreRowsOf-row U c.loop-index.rows c.if-not-is_empty.rows n w.named.result c.loop-index.invariant few w.rows-is
-          (λ k lt. w.named.ensures k lt ∙ ap (λ (names : List (List ℕ)). list_any (λ name. same_bytes name (task_at U k).name) names) (w.outranks-then-not-is_empty.ensures ∙ is))
+          AreRowsOf-row U c.loop-index.rows c.if-not-is_empty.rows n w.outranked.result c.loop-index.invariant few w.rows-is
+          (λ k lt. w.outranked.ensures k lt ∙ ap (λ (t : Task). outranks_task t (task_at U k)) is)
       | else-not-is_empty w ↦
-          let none : c.outranks.result.now ≡ [] = nil_from_length _ (eqb-true (length c.outranks.result.now) 0 (sym c.is_empty.ensures ∙ w.if-not-is_empty.false)) in
-          rw w.rows-is (AreRowsOf-skip U c.loop-index.rows n c.loop-index.invariant (sym (c.outranks.ensures ∙ is) ∙ none))
+          let none : (task_at U n).outranks ≡ Named [] = sym (c.outranks.ensures ∙ ap (λ (t : Task). t.outranks) is) ∙ c.is_empty.ensures.0 w.if-not-is_empty.false in
+          rw w.rows-is (AreRowsOf-skip U c.loop-index.rows n c.loop-index.invariant none)
     ]
 
 pub returns : goal.returns

@@ -1,0 +1,3 @@
+pub mod PaddedSections
+pub mod PaddedTasks
+pub mod PaddedSets

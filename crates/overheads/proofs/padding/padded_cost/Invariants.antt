@@ -1,0 +1,6 @@
+use Rattle.std.proofs.Common.{◌≡◌, ◌+◌, take}
+use Rattle.overheads.specs.Padding.{calls_in}
+use Rattle.overheads.proofs.padding.padded_cost.Given as goal
+
+abbrev pub invariant-loop-section : goal.invariant-loop-section
+invariant-loop-section l = l.cost ≡ l.sheet.cost + l.node.job + calls_in l.node (take l.section-index l.section-items)
