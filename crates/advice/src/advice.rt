@@ -5,13 +5,13 @@ use crate::causes::LastError;
 use crate::sentence::{Known, sentence_of};
 use assignment::Placing;
 use ceilings::LockTable;
-use command_line::{Call, Input, OfNumber, OfOne, OfTwo};
+use command_line::{Call, Input, OfNumber, OfOne, OfTwo, Options};
 use desk_cli::{Audience, CommandRefusal, Status, Which};
 use explain::least_conflict;
 use preferences::Choice;
 use sentences::{
-    greatest_until, push_clean, put_conflict, put_empty, put_names_decide, put_notes, put_overload,
-    put_override, put_parted, put_strangers, put_unrun,
+    greatest_until, of_task, of_tasks, push_clean, put_conflict, put_empty, put_names_decide,
+    put_notes, put_overload, put_override, put_parted, put_strangers, put_unrun,
 };
 use std::alloc::{AllocError, Global};
 use std::io::Write;
@@ -27,6 +27,8 @@ pub struct Advice<'a, W: Write + Drop> {
     last: &'a LastError,
     // Up to when the densest list of the set is short enough, where the call asks for that list.
     greatest_until: Option<u64>,
+    // That the set has no task of a name that the call's words say.
+    no_task: Option<String>,
     errors: Watched<W>,
 }
 
@@ -92,6 +94,36 @@ fn asks_densest(call: Call<'_>) -> bool {
     }
 }
 
+// What the words of a call choose.
+fn options_of(call: Call<'_>) -> Options<'_> {
+    match call {
+        Call::One { options, .. } => options,
+        Call::Two { options, .. } => options,
+        Call::Number { options, .. } => options,
+    }
+}
+
+// The tasks that a picture is to have rows for, as the words of a call say.
+fn rows_of<'a>(call: Call<'a>) -> Option<&'a str> {
+    match call {
+        Call::Two {
+            command: OfTwo::Draw,
+            options,
+            ..
+        } => options.rows,
+        _ => None,
+    }
+}
+
+// That the set has no task of a name that the words of a call say.
+fn no_task_of(alloc: Global, set: &TaskSet, call: Call<'_>) -> Option<String> {
+    match (options_of(call).task, rows_of(call)) {
+        (Some(word), _) => of_task(alloc, set, word),
+        (None, Some(words)) => of_tasks(alloc, set, words),
+        (None, None) => None,
+    }
+}
+
 // The input of a call that a refusal is of.
 fn input_of(call: Call<'_>, which: Which) -> Input<'_> {
     match call {
@@ -130,6 +162,7 @@ impl<'a, W: Write + Drop> Advice<'a, W> {
             call,
             last,
             greatest_until: None,
+            no_task: None,
             errors,
         }
     }
@@ -149,6 +182,24 @@ impl<'a, W: Write + Drop> Advice<'a, W> {
         put_overload(set, &mut self.errors)
     }
 
+    // Says what is wrong with an input.
+    fn put_line(&mut self, which: Which, sentence: &str) {
+        if let Ok(line) = line_of(self.alloc, input_of(self.call, which), sentence) {
+            let _ = self.errors.write(line.as_bytes());
+        }
+    }
+
+    // Says that the set has no task of a name that the words say, where that is so.
+    fn put_no_task(&mut self) -> bool {
+        match self.no_task.take() {
+            Some(sentence) => {
+                self.put_line(Which::First, sentence.as_str());
+                true
+            }
+            None => false,
+        }
+    }
+
     /// The call has ended.
     pub fn ended(&mut self, status: Status) {
         if status == Status::Infeasible && is_run(self.call) {
@@ -159,7 +210,10 @@ impl<'a, W: Write + Drop> Advice<'a, W> {
 
 impl<'a, W: Write + Drop> Audience for Advice<'a, W> {
     fn read(&mut self, set: &TaskSet) {
-        let _ = self.put_oddities(set);
+        // (of one input: what follows is that refusal)
+        if !self.put_no_task() {
+            let _ = self.put_oddities(set);
+        }
     }
 
     fn placed(&mut self, set: &TaskSet, placing: &Placing)
@@ -182,6 +236,7 @@ impl<'a, W: Write + Drop> Audience for Advice<'a, W> {
     }
 
     fn preferred(&mut self, set: &TaskSet, choice: Choice) {
+        self.no_task = no_task_of(self.alloc, set, self.call);
         if asks_densest(self.call) {
             self.greatest_until = Some(greatest_until(set));
         }
@@ -197,15 +252,17 @@ impl<'a, W: Write + Drop> Audience for Advice<'a, W> {
     }
 
     fn refused(&mut self, which: Which, bytes: &[u8], refusal: CommandRefusal) {
+        if let CommandRefusal::NoSuchTask { .. } = refusal {
+            self.put_no_task();
+            return;
+        }
         let known = Known {
             last: self.last,
+            options: options_of(self.call),
             greatest_until: self.greatest_until,
         };
-        let Some(sentence) = sentence_of(self.alloc, known, bytes, refusal) else {
-            return;
-        };
-        if let Ok(line) = line_of(self.alloc, input_of(self.call, which), sentence.as_str()) {
-            let _ = self.errors.write(line.as_bytes());
+        if let Some(sentence) = sentence_of(self.alloc, known, bytes, refusal) {
+            self.put_line(which, sentence.as_str());
         }
     }
 }

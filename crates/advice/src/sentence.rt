@@ -2,10 +2,11 @@
 
 use crate::causes::{LastError, push_last};
 use ceiling_kernel::RunFault;
+use command_line::Options;
 use desk_cli::{CommandRefusal, TextFault};
 use sentences::{
     of_certificate, of_check, of_density, of_release_line, of_run, of_script, of_set_text,
-    of_settings, of_trace,
+    of_settings, of_trace, of_window,
 };
 use std::alloc::{AllocError, Global};
 use streams::InputFault;
@@ -15,6 +16,8 @@ use streams::InputFault;
 pub(crate) struct Known<'a> {
     /// The error of the last call on the inputs.
     pub(crate) last: &'a LastError,
+    /// What the call's words choose.
+    pub(crate) options: Options<'a>,
     /// Up to when the densest list of the set is short enough, where the call asks for that list.
     pub(crate) greatest_until: Option<u64>,
 }
@@ -54,6 +57,11 @@ fn of_list(
     }
 }
 
+// That nothing of a list's run lies in the window that words choose.
+fn of_view(alloc: Global, bytes: &[u8], options: Options<'_>) -> Option<String> {
+    of_window(alloc, bytes, options.from.unwrap_or(0), options.to)
+}
+
 /// What is wrong with an input, from its bytes. None for want of memory, here or before, and for what is no fault of an
 /// input.
 pub(crate) fn sentence_of(
@@ -72,6 +80,7 @@ pub(crate) fn sentence_of(
         CommandRefusal::Settings(fault) => of_settings(alloc, bytes, fault),
         CommandRefusal::Trace(fault) => of_trace(alloc, bytes, fault),
         CommandRefusal::Script(fault) => of_script(alloc, bytes, fault),
+        CommandRefusal::EmptyWindow => of_view(alloc, bytes, known.options),
         CommandRefusal::Text(TextFault::OutOfMemory)
         | CommandRefusal::Rush(_)
         | CommandRefusal::NoSuchTask { .. }

@@ -1,7 +1,9 @@
 -- The lines of an explanation.
 use Rattle.std.specs.Prelude.{◌==◌, ℕ, ◌+◌, List, [], ◌∷◌, ◌++◌, length, codes, Option, Some, None, if◌then◌else◌}
 use Rattle.std.specs.Fmt.{decimal}
-use Rattle.task_sheet.specs.Sheet.{Task}
+use Rattle.std.specs.List.{find}
+use Rattle.task_sheet.specs.Sheet.{Task, task_at}
+use Rattle.task_sheet.specs.Locks.{uses}
 use Rattle.task_sheet.specs.Indexes.{indexes_of, listed_below}
 use Rattle.lines.specs.Naming.{name_at, named}
 use Rattle.explain.specs.Parts.{AboveData, BlockerData, PartsData}
@@ -21,17 +23,31 @@ cost_line cost = codes "  cost " ++ decimal cost ++ codes "\n"
 abbrev pub jitter_line : ℕ → List ℕ
 jitter_line jitter = if jitter == 0 then [] else codes "  jitter " ++ decimal jitter ++ codes "\n"
 
--- a section that blocks, whose place is counted from 1
-abbrev pub blocker_line : List Task → BlockerData → List ℕ
-blocker_line U b =
+-- of the tasks above, in their order, the first that uses a lock
+abbrev pub first_user : List Task → List ℕ → List AboveData → Option AboveData
+first_user U lock above = find (λ a. uses (task_at U a.task) lock) above
+
+abbrev pub user_words : List Task → Option AboveData → List ℕ
+user_words U None = []
+user_words U (Some a) = codes ", ceiling by " ++ name_at U a.task
+
+-- behind a lock by which a section blocks a task: nothing where the task uses it itself, else the first above that does,
+-- whose use takes the lock's ceiling above the task (Sha, Rajkumar, Lehoczky 1990)
+abbrev pub ceiling_words : List Task → ℕ → List AboveData → List ℕ → List ℕ
+ceiling_words U task above lock =
+    if uses (task_at U task) lock then [] else user_words U (first_user U lock above)
+
+-- a section that blocks a task below these, whose place is counted from 1
+abbrev pub blocker_line : List Task → ℕ → List AboveData → BlockerData → List ℕ
+blocker_line U task above b =
     codes "  blocked " ++ decimal b.len ++ codes " by " ++ name_at U b.task ++ codes " section "
     ++ decimal (b.place + 1)
-    ++ codes " lock " ++ b.lock ++ codes "\n"
+    ++ codes " lock " ++ b.lock ++ ceiling_words U task above b.lock ++ codes "\n"
 
 -- the section that blocks it; nothing where none does
-abbrev pub blocked_line : List Task → Option BlockerData → List ℕ
-blocked_line U None = []
-blocked_line U (Some b) = blocker_line U b
+abbrev pub blocked_line : List Task → ℕ → List AboveData → Option BlockerData → List ℕ
+blocked_line U task above None = []
+blocked_line U task above (Some b) = blocker_line U task above b
 
 -- the jobs of a task above
 abbrev pub above_line : List Task → AboveData → List ℕ
@@ -44,10 +60,10 @@ abbrev pub above_lines : List Task → List AboveData → List ℕ
 above_lines U [] = []
 above_lines U (a ∷ above) = above_line U a ++ above_lines U above
 
--- the parts of a time, each once and where it is above 0
-abbrev pub parts_lines : List Task → PartsData → List ℕ
-parts_lines U parts =
-    cost_line parts.cost ++ jitter_line parts.jitter ++ blocked_line U parts.blocker
+-- the parts of a time of a task, each once and where it is above 0
+abbrev pub parts_lines : List Task → ℕ → PartsData → List ℕ
+parts_lines U task parts =
+    cost_line parts.cost ++ jitter_line parts.jitter ++ blocked_line U task parts.above parts.blocker
     ++ above_lines U parts.above
 
 -- ---- times
@@ -56,7 +72,7 @@ abbrev pub account_lines : List Task → Account → List ℕ
 account_lines U a =
     name_at U a.task ++ codes " " ++ decimal a.time ++ codes " of " ++ decimal a.deadline
     ++ codes "\n"
-    ++ parts_lines U a.parts
+    ++ parts_lines U a.task a.parts
 
 -- those of a level, which has a number
 abbrev pub level_account_lines : List Task → ℕ → Account → List ℕ

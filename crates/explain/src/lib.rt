@@ -21,4 +21,4 @@ pub use crate::needs::Need;
 pub use crate::one_task::task_text;
 pub use crate::parts::{Above, Parts, parts_of};
 pub use crate::shares::load;
-pub use crate::text::explanation_text;
+pub use crate::text::{explanation_text, parts_text};

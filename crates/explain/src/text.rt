@@ -1,7 +1,9 @@
 //! The lines of an explanation.
 ghost use Rattle.std.specs.Prelude.{◌≡◌, ◌++◌, length, IfOk, OnOk, string_bytes};
+ghost use Rattle.task_sheet.specs.Sheet.{task_at};
+ghost use Rattle.task_sheet.specs.Locks.{names_lock, uses};
 ghost use Rattle.task_sheet.specs.Indexes.{indexes_of, listed_below};
-ghost use Rattle.explain.specs.Lines.{above_line, account_lines, blocked_line, blocker_line, conflict_line, explained_lines, explanation_lines, jitter_line, load_line, need_lines, needs_lines, parts_lines, response_lines};
+ghost use Rattle.explain.specs.Lines.{above_line, account_lines, blocked_line, blocker_line, ceiling_words, conflict_line, explained_lines, explanation_lines, first_user, jitter_line, load_line, need_lines, needs_lines, parts_lines, response_lines, user_words};
 
 use crate::accounts::Account;
 use crate::blocker::Blocker;
@@ -11,7 +13,7 @@ use crate::parts::{Above, Parts};
 use crate::shares::load;
 use lines::{push_name, push_names};
 use std::alloc::{AllocError, Global};
-use task_sheet::{Members, TaskSet};
+use task_sheet::{Members, Name, Section, Sheet, TaskSet};
 
 // The line of a jitter, unless it is 0.
 fn push_jitter(text: &mut String, jitter: u64) -> Result<(), AllocError>
@@ -23,30 +25,106 @@ fn push_jitter(text: &mut String, jitter: u64) -> Result<(), AllocError>
     writeln!(text, "  jitter {jitter}")
 }
 
-// The line of a section that blocks.
-fn push_blocker(text: &mut String, set: &TaskSet, blocker: &Blocker) -> Result<(), AllocError>
+// Whether a section names a lock.
+fn names(section: &Section, lock: Name) -> bool
+    ensures { result ≡ names_lock section.now lock }
+{
+    section.locks.iter().any(|name| *name == lock)
+}
+
+// Whether some section of a sheet names a lock.
+fn sheet_uses(sheet: &Sheet, lock: Name) -> bool
+    ensures { result ≡ uses sheet.now lock }
+{
+    sheet.sections().iter().any(|section| names(section, lock))
+}
+
+// The same of the task at an index.
+fn uses(set: &TaskSet, task: usize, lock: Name) -> bool
+    ensures { result ≡ uses (task_at set.now task) lock }
+{
+    match set.get(task) {
+        Some(sheet) => sheet_uses(sheet, lock),
+        None => false,
+    }
+}
+
+// Of the tasks above, in their order, the first that uses a lock.
+fn first_user(set: &TaskSet, lock: Name, above: &[Above]) -> Option<Above>
+    ensures { result ≡ first_user set.now lock above.now }
+{
+    for user in above {
+        if uses(set, user.task, lock) {
+            return Some(*user);
+        }
+    }
+    None
+}
+
+// That a lock has its ceiling by a task's use, if there is one.
+fn push_user(text: &mut String, set: &TaskSet, user: Option<Above>) -> Result<(), AllocError>
+    ensures { OnOk result (string_bytes text.new ≡ string_bytes text.old ++ user_words set.now user) }
+{
+    match user {
+        Some(user) => {
+            text.push_str(", ceiling by ")?;
+            push_name(text, set, user.task)
+        }
+        None => Ok(()),
+    }
+}
+
+// Behind a lock by which a section blocks a task that doesn't use it, the first of those above that does.
+fn push_ceiling(
+    text: &mut String,
+    set: &TaskSet,
+    task: usize,
+    above: &[Above],
+    lock: Name,
+) -> Result<(), AllocError>
     ensures { OnOk result (string_bytes text.new ≡ string_bytes text.old
-        ++ blocker_line set.now blocker.now) }
+        ++ ceiling_words set.now task above.now lock) }
+{
+    if uses(set, task, lock) {
+        return Ok(());
+    }
+    push_user(text, set, first_user(set, lock, above))
+}
+
+// The line of a section that blocks a task below these.
+fn push_blocker(
+    text: &mut String,
+    set: &TaskSet,
+    task: usize,
+    above: &[Above],
+    blocker: &Blocker,
+) -> Result<(), AllocError>
+    ensures { OnOk result (string_bytes text.new ≡ string_bytes text.old
+        ++ blocker_line set.now task above.now blocker.now) }
 {
     let len = blocker.len;
     let number = blocker.place as u64 + 1;
     let lock = blocker.lock;
     write!(text, "  blocked {len} by ")?;
     push_name(text, set, blocker.task)?;
-    writeln!(text, " section {number} lock {lock}")
+    write!(text, " section {number} lock {lock}")?;
+    push_ceiling(text, set, task, above, lock)?;
+    text.push_str("\n")
 }
 
 // The line of the section that blocks, if there is one.
 fn push_blocked(
     text: &mut String,
     set: &TaskSet,
+    task: usize,
+    above: &[Above],
     blocker: &Option<Blocker>,
 ) -> Result<(), AllocError>
     ensures { OnOk result (string_bytes text.new ≡ string_bytes text.old
-        ++ blocked_line set.now blocker.now) }
+        ++ blocked_line set.now task above.now blocker.now) }
 {
     match blocker {
-        Some(blocker) => push_blocker(text, set, blocker),
+        Some(blocker) => push_blocker(text, set, task, above, blocker),
         None => Ok(()),
     }
 }
@@ -63,19 +141,34 @@ fn push_above(text: &mut String, set: &TaskSet, above: &Above) -> Result<(), All
     writeln!(text, " {jobs} jobs {time}")
 }
 
-// The lines of the parts of a time.
-fn push_parts(text: &mut String, set: &TaskSet, parts: &Parts) -> Result<(), AllocError>
+// The lines of the parts of a task's time.
+fn push_parts(
+    text: &mut String,
+    set: &TaskSet,
+    task: usize,
+    parts: &Parts,
+) -> Result<(), AllocError>
     ensures { OnOk result (string_bytes text.new ≡ string_bytes text.old
-        ++ parts_lines set.now parts.now) }
+        ++ parts_lines set.now task parts.now) }
 {
     let cost = parts.cost;
     writeln!(text, "  cost {cost}")?;
     push_jitter(text, parts.jitter)?;
-    push_blocked(text, set, &parts.blocker)?;
+    push_blocked(text, set, task, &parts.above, &parts.blocker)?;
     for above in &parts.above {
         push_above(text, set, above)?;
     }
     Ok(())
+}
+
+/// The lines of the parts of a time, each once and where it is above 0. The error is want of memory.
+pub fn parts_text(alloc: Global, set: &TaskSet, account: &Account) -> Result<String, AllocError>
+    ensures { IfOk result (λ text. string_bytes text
+        ≡ parts_lines set.now account.now.task account.now.parts) }
+{
+    let mut text = String::new(alloc);
+    push_parts(&mut text, set, account.task, &account.parts)?;
+    Ok(text)
 }
 
 // The lines of a task's time.
@@ -91,7 +184,7 @@ pub(crate) fn push_account(
     let deadline = account.deadline;
     push_name(text, set, account.task)?;
     writeln!(text, " {time} of {deadline}")?;
-    push_parts(text, set, &account.parts)
+    push_parts(text, set, account.task, &account.parts)
 }
 
 // The lines of each level, the lowest first.

@@ -21,7 +21,7 @@ const FIRST_BLOCKER_LINES: &str = "1 a 3400 of 100000
   above b 1 jobs 1000
 2 b 1700 of 50000
   cost 1000
-  blocked 300 by a section 2 lock q
+  blocked 300 by a section 2 lock q, ceiling by top
   above top 1 jobs 400
 3 top 700 of 10000
   cost 400
@@ -55,7 +55,7 @@ const SHARED_LOCK_LINES: &str = "1 lo 27000 of 100000
   above mid 2 jobs 4000
 2 mid 7000 of 20000
   cost 2000
-  blocked 4000 by lo section 1 lock m
+  blocked 4000 by lo section 1 lock m, ceiling by hi
   above hi 1 jobs 1000
 3 hi 5000 of 10000
   cost 1000

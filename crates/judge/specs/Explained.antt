@@ -7,26 +7,38 @@ use Rattle.explain.specs.Lines.{level_account_lines, load_line}
 use Rattle.explain.specs.declared.accounts.Account.{Account}
 use Rattle.judge.specs.Judgements.{order_judged}
 use Rattle.judge.specs.Lines.{judged_words}
+use Rattle.judge.specs.Missed.{IsMissedBelow, missed_lines}
+use Rattle.judge.specs.declared.explained.Parted.{Parted}
+use Rattle.judge.specs.declared.explained.Parted.TheVariants.{Each, Missed}
 use Rattle.judge.specs.declared.judging.JudgedTask.{JudgedTask}
 use Rattle.judge.specs.declared.judging.Judgement.{Judgement}
 use Rattle.judge.specs.declared.judging.Judgement.TheVariants.{Meets, Misses, Below}
 
 -- ---- a level
--- the line of a level, which has a number, where its task doesn't meet its deadline
-abbrev pub failed_line : List Task → ℕ → JudgedTask → List ℕ
-failed_line U number j = decimal number ++ codes " " ++ judged_words U j None
+-- the line of a level, which has a number, as `judge` prints it, without the number of its thread
+abbrev pub judged_line : List Task → ℕ → JudgedTask → List ℕ
+judged_line U number j = decimal number ++ codes " " ++ judged_words U j None
 
--- the text is the lines of a task below these: where it meets its deadline, its response with the parts, those above from
--- the highest level down; else what becomes of it
-abbrev pub AreLevelLines :
-    List Task → (above : List ℕ) → (number task : ℕ) → Judgement → List ℕ → Type 0
-AreLevelLines U above number task (Meets response) text =
+-- the text is the lines of a task below these that meets its deadline: its response with the parts, those above from the
+-- highest level down; or its response alone
+abbrev pub AreMetLines :
+    Parted → List Task → (above : List ℕ) → (number task response : ℕ) → List ℕ → Type 0
+AreMetLines Each U above number task response text =
     (a : Account) × IsResponseAccount U above (record { task = task; response = response }) a
     × (text ≡ level_account_lines U number a)
-AreLevelLines U above number task Misses text =
-    text ≡ failed_line U number (record { task = task; judgement = Misses })
-AreLevelLines U above number task (Below other) text =
-    text ≡ failed_line U number (record { task = task; judgement = Below other })
+AreMetLines Missed U above number task response text =
+    text ≡ judged_line U number (record { task = task; judgement = Meets response })
+
+-- the text is the lines of a task below these: where it meets its deadline, those; where it misses it, what it needs at
+-- least, with the parts; or that it stands below one that it must outrank
+abbrev pub AreLevelLines :
+    Parted → List Task → (above : List ℕ) → (number task : ℕ) → Judgement → List ℕ → Type 0
+AreLevelLines parted U above number task (Meets response) text =
+    AreMetLines parted U above number task response text
+AreLevelLines parted U above number task Misses text =
+    (a : Account) × IsMissedBelow U above task a × (text ≡ missed_lines U number a)
+AreLevelLines parted U above number task (Below other) text =
+    text ≡ judged_line U number (record { task = task; judgement = Below other })
 
 -- ---- those that are asked about
 -- it is asked about this task: the one that is named, or any
@@ -35,17 +47,20 @@ is_asked None task = true
 is_asked (Some asked) task = asked == task
 
 -- the text is those lines, where it is asked about the task
-abbrev pub AreAskedLines : Bool → List Task → (above : List ℕ) → ℕ → JudgedTask → List ℕ → Type 0
-AreAskedLines true U above number j text = AreLevelLines U above number j.task j.judgement text
-AreAskedLines false U above number j text = text ≡ []
+abbrev pub AreAskedLines :
+    Bool → Parted → List Task → (above : List ℕ) → ℕ → JudgedTask → List ℕ → Type 0
+AreAskedLines true parted U above number j text =
+    AreLevelLines parted U above number j.task j.judgement text
+AreAskedLines false parted U above number j text = text ≡ []
 
 -- the text is those of each level, of which the first has a number, with those after it above it
-abbrev pub AreLevels : List Task → Option ℕ → (number : ℕ) → List JudgedTask → List ℕ → Type 0
-AreLevels U asked number [] text = text ≡ []
-AreLevels U asked number (j ∷ judged) text =
+abbrev pub AreLevels :
+    Parted → List Task → Option ℕ → (number : ℕ) → List JudgedTask → List ℕ → Type 0
+AreLevels parted U asked number [] text = text ≡ []
+AreLevels parted U asked number (j ∷ judged) text =
     (front : List ℕ) × (rest : List ℕ)
-    × AreAskedLines (is_asked asked j.task) U (order_judged judged) number j front
-    × AreLevels U asked (number + 1) judged rest
+    × AreAskedLines (is_asked asked j.task) parted U (order_judged judged) number j front
+    × AreLevels parted U asked (number + 1) judged rest
     × (text ≡ front ++ rest)
 
 -- the load of the set, where no task is named
@@ -53,7 +68,7 @@ abbrev pub load_asked : List Task → Option ℕ → List ℕ
 load_asked U None = load_line U
 load_asked U (Some asked) = []
 
--- the text explains an order: those of each level, the lowest first, and then the load
+-- the text explains an order: those of each level, the lowest first, each time with its parts, and then the load
 abbrev pub AreExplained : List Task → Option ℕ → List JudgedTask → List ℕ → Type 0
 AreExplained U asked judged text =
-    (levels : List ℕ) × AreLevels U asked 1 judged levels × (text ≡ levels ++ load_asked U asked)
+    (levels : List ℕ) × AreLevels Each U asked 1 judged levels × (text ≡ levels ++ load_asked U asked)

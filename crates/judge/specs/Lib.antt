@@ -5,4 +5,5 @@ pub mod Lines
 pub mod Node
 pub mod Kept
 pub mod Front
+pub mod Missed
 pub mod Explained

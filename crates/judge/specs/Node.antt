@@ -29,8 +29,12 @@ pub record IsNodeOrderBy (lower : Bool) (U : List Task) (text order : List ℕ) 
 abbrev pub IsNodeOrder : List Task → (text order : List ℕ) → Type 0
 IsNodeOrder = IsNodeOrderBy false
 
+-- these are the numbers that rows have of the threads of an order's tasks, one by one
+abbrev pub AreNumbersOf : List Task → List SettingRow → (order numbers : List ℕ) → Type 0
+AreNumbersOf U rows order numbers = numbers ≡ map (thread_number U (threads_of rows)) order
+
 -- these are the numbers that a text has of the threads of an order's tasks, one by one
 pub record AreNumbersIn (U : List Task) (text order numbers : List ℕ) : Type 0 where
   pub rows : List SettingRow
   pub read : rows_in text ≡ Ok rows
-  pub each : numbers ≡ map (thread_number U (threads_of rows)) order
+  pub each : AreNumbersOf U rows order numbers

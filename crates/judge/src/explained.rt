@@ -7,18 +7,28 @@ ghost use Rattle.task_sheet.specs.Orders.{IsOrder};
 ghost use Rattle.ceilings.specs.IsTableOf.{IsTableOf};
 ghost use Rattle.explain.specs.Accounts.{IsResponseAccount};
 ghost use Rattle.explain.specs.Lines.{account_lines, level_account_lines};
-ghost use Rattle.judge.specs.Explained.{AreAskedLines, AreExplained, AreLevelLines, AreLevels, failed_line, is_asked, load_asked};
+ghost use Rattle.judge.specs.Explained.{AreAskedLines, AreExplained, AreLevelLines, AreLevels, AreMetLines, is_asked, judged_line, load_asked};
 ghost use Rattle.judge.specs.Judgements.{AllJudged, IsJudgementOf, order_judged};
 
 use crate::judging::{JudgedTask, Judgement, members_of};
+use crate::missed::{missed_account, missed_text};
 use crate::text::push_judged;
 use ceilings::LockTable;
 use explain::{Account, Explanation, load, parts_of, task_text};
 use std::alloc::{AllocError, Global};
 use task_sheet::TaskSet;
 
+/// Of which levels of an order the parts are printed.
+#[derive(Clone, Copy)]
+pub enum Parted {
+    /// Of each whose task has a time: its response, or what it needs.
+    Each,
+    /// Of those alone whose task misses its deadline.
+    Missed,
+}
+
 // The tasks of an order that was judged, the lowest first.
-fn order_of(alloc: Global, judged: &[JudgedTask]) -> Result<Vec<usize>, AllocError>
+pub(crate) fn order_of(alloc: Global, judged: &[JudgedTask]) -> Result<Vec<usize>, AllocError>
     ensures { IfOk result (λ order. order.items ≡ order_judged judged.now) }
 {
     let mut order = Vec::with_capacity(alloc, judged.len())?;
@@ -60,7 +70,11 @@ fn account_of(
 }
 
 // The lines of a response as those of an order of this level alone, whose number is 1.
-fn alone_text(alloc: Global, set: &TaskSet, account: Account) -> Result<String, AllocError>
+pub(crate) fn alone_text(
+    alloc: Global,
+    set: &TaskSet,
+    account: Account,
+) -> Result<String, AllocError>
     ensures { IfOk result (λ text. string_bytes text
         ≡ codes "1" ++ codes " " ++ account_lines set.now account) }
 {
@@ -89,18 +103,49 @@ fn account_text(
     Ok(text)
 }
 
-// The line of a level, which has a number, where its task doesn't meet its deadline.
-fn failed_text(
+// The line of a level, which has a number, without parts.
+fn line_text(
     alloc: Global,
     set: &TaskSet,
     number: usize,
     entry: JudgedTask,
 ) -> Result<String, AllocError>
-    ensures { IfOk result (λ text. string_bytes text ≡ failed_line set.now number entry) }
+    ensures { IfOk result (λ text. string_bytes text ≡ judged_line set.now number entry) }
 {
     let mut text = format!(in alloc; "{number} ")?;
     push_judged(&mut text, set, &entry, None)?;
     Ok(text)
+}
+
+// The lines of a level, which has a number, where its task meets its deadline.
+fn met_text(
+    alloc: Global,
+    set: &TaskSet,
+    table: &LockTable,
+    parted: Parted,
+    number: usize,
+    task: usize,
+    response: u64,
+    above: &[JudgedTask],
+) -> Result<String, AllocError>
+    requires table { IsTableOf set.now table.now }
+    requires task { task < length set.now }
+    requires above { All (λ j. j.task < length set.now) above.now }
+    requires response { IsResponseOf set.now task (among (order_judged above.now)) response }
+    requires in_time { response ≤ (task_at set.now task).deadline }
+    ensures { IfOk result (λ text. AreMetLines parted set.now (order_judged above.now) number task
+        response (string_bytes text)) }
+{
+    match parted {
+        Parted::Each => {
+            let account = account_of(alloc, set, table, task, response, above)?;
+            account_text(alloc, set, number, account)
+        }
+        Parted::Missed => {
+            let judgement = Judgement::Meets { response };
+            line_text(alloc, set, number, JudgedTask { task, judgement })
+        }
+    }
 }
 
 // The lines of a level, which has a number.
@@ -108,6 +153,7 @@ fn level_text(
     alloc: Global,
     set: &TaskSet,
     table: &LockTable,
+    parted: Parted,
     number: usize,
     entry: JudgedTask,
     above: &[JudgedTask],
@@ -117,16 +163,20 @@ fn level_text(
     requires above { All (λ j. j.task < length set.now) above.now }
     requires judged { IsJudgementOf set.now entry.task (among (order_judged above.now))
         entry.judgement }
-    ensures { IfOk result (λ text. AreLevelLines set.now (order_judged above.now) number entry.task
-        entry.judgement (string_bytes text)) }
+    ensures { IfOk result (λ text. AreLevelLines parted set.now (order_judged above.now) number
+        entry.task entry.judgement (string_bytes text)) }
 {
     match entry.judgement {
         Judgement::Meets { response } => {
-            let account = account_of(alloc, set, table, entry.task, response, above)?;
-            account_text(alloc, set, number, account)
+            met_text(
+                alloc, set, table, parted, number, entry.task, response, above,
+            )
         }
-        Judgement::Misses => failed_text(alloc, set, number, entry),
-        Judgement::Below { .. } => failed_text(alloc, set, number, entry),
+        Judgement::Misses => {
+            let account = missed_account(alloc, set, table, entry.task, above)?;
+            missed_text(alloc, set, number, account)
+        }
+        Judgement::Below { .. } => line_text(alloc, set, number, entry),
     }
 }
 
@@ -145,6 +195,7 @@ fn asked_text(
     alloc: Global,
     set: &TaskSet,
     table: &LockTable,
+    parted: Parted,
     asked: Option<usize>,
     number: usize,
     entry: JudgedTask,
@@ -155,33 +206,36 @@ fn asked_text(
     requires above { All (λ j. j.task < length set.now) above.now }
     requires judged { IsJudgementOf set.now entry.task (among (order_judged above.now))
         entry.judgement }
-    ensures { IfOk result (λ text. AreAskedLines (is_asked asked entry.task) set.now
+    ensures { IfOk result (λ text. AreAskedLines (is_asked asked entry.task) parted set.now
         (order_judged above.now) number entry (string_bytes text)) }
 {
     if !is_asked(asked, entry.task) {
         return Ok(String::new(alloc));
     }
-    level_text(alloc, set, table, number, entry, above)
+    level_text(alloc, set, table, parted, number, entry, above)
 }
 
-// The lines of each level of an order, the lowest first.
-fn asked_levels(
+/// The lines of each level of an order that was judged, the lowest first, or those of one task alone: with the parts of its
+/// response, where they are printed, or of what it needs that misses its deadline. The error is want of memory. The table is
+/// that of the set.
+pub fn levels_text(
     alloc: Global,
     set: &TaskSet,
     table: &LockTable,
+    parted: Parted,
     asked: Option<usize>,
     judged: &[JudgedTask],
 ) -> Result<String, AllocError>
     requires table { IsTableOf set.now table.now }
-    requires within { All (λ j. j.task < length set.now) judged.now }
+    requires order { IsOrder set.now (order_judged judged.now) }
     requires judged { AllJudged set.now judged.now }
-    ensures { IfOk result (λ text. AreLevels set.now asked 1 judged.now (string_bytes text)) }
+    ensures { IfOk result (λ text. AreLevels parted set.now asked 1 judged.now (string_bytes text)) }
 {
     let mut text = String::new(alloc);
     let mut number = 1;
     let mut rest = judged;
     while let Some((entry, above)) = rest.split_first() {
-        let level = asked_text(alloc, set, table, asked, number, *entry, above)?;
+        let level = asked_text(alloc, set, table, parted, asked, number, *entry, above)?;
         text.push_str(level.as_str())?;
         number += 1;
         rest = above;
@@ -203,8 +257,8 @@ fn push_load(text: &mut String, set: &TaskSet, asked: Option<usize>) -> Result<(
     }
 }
 
-/// The lines that explain an order that was judged: each level, the lowest first, with the parts of its response, or that its
-/// task doesn't meet its deadline, and then the load of the set; or those of one task alone. The error is want of memory. The
+/// The lines that explain an order that was judged: each level, the lowest first, with the parts of its response, or of what
+/// its task needs, and then the load of the set; or those of one task alone. The error is want of memory. The
 /// table is that of the set.
 pub fn explained_text(
     alloc: Global,
@@ -218,7 +272,7 @@ pub fn explained_text(
     requires judged { AllJudged set.now judged.now }
     ensures { IfOk result (λ text. AreExplained set.now asked judged.now (string_bytes text)) }
 {
-    let mut text = asked_levels(alloc, set, table, asked, judged)?;
+    let mut text = levels_text(alloc, set, table, Parted::Each, asked, judged)?;
     push_load(&mut text, set, asked)?;
     Ok(text)
 }

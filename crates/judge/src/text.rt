@@ -156,17 +156,3 @@ pub fn first_text(alloc: Global, set: &TaskSet, judged: &[JudgedTask]) -> Result
     push_first(&mut text, set, judged)?;
     Ok(text)
 }
-
-/// Those of each task alone, with no numbers. The error is want of memory.
-pub fn levels_text(
-    alloc: Global,
-    set: &TaskSet,
-    judged: &[JudgedTask],
-) -> Result<String, AllocError>
-    ensures { IfOk result (λ text. string_bytes text
-        ≡ judged_level_lines set.now [] 0 judged.now) }
-{
-    let mut text = String::new(alloc);
-    push_levels(&mut text, set, judged, &[])?;
-    Ok(text)
-}

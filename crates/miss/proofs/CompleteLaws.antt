@@ -2,7 +2,7 @@
 use Rattle.std.proofs.Common.{◌≡◌, ◌≢◌, ℕ, ◌+◌, ◌-◌, ◌<◌, ◌≤◌, ◌⊎◌, inl, inr, true, ◌==◌, Some, None, Option, List, ◌∷◌, length, get_or, refl, sym, ◌∙◌, ap, subst, arith}
 use Rattle.std.specs.Prelude.{unwrap_or, Contains}
 use Rattle.std.proofs.lemmas.Option.{get_or_from_slice_get, slice_get_within}
-use Rattle.std.proofs.lemmas.Bool.{cases_lt, cases_eq, eq-eqb, lt-ltb}
+use Rattle.std.proofs.lemmas.Bool.{cases_lt, cases_eq, eq-eqb, lt-ltb, ltb-true}
 use Rattle.task_sheet.specs.Sheet.{Task, CriticalSection, IsValidSheet, no_task, task_at}
 use Rattle.task_sheet.specs.TaskSet.{IsTaskSet}
 use Rattle.task_sheet.specs.Indexes.{with_index, among}
@@ -11,7 +11,7 @@ use Rattle.task_sheet.specs.Demand.{limit_of, blocking_of, releases_within, Pass
 use Rattle.ceiling_kernel.specs.declared.trace.Release.{Release}
 use Rattle.ceiling_kernel.specs.Tick.{Node, Job, job_at, job_task, level_in_order, level_of_job, is_inside, executed_before}
 use Rattle.ceiling_kernel.specs.Behaviours.{cut_at}
-use Rattle.ceiling_kernel.specs.Waits.{IsNode, AreLegalJobs, lateness_of, NoOverrun}
+use Rattle.ceiling_kernel.specs.Waits.{IsNode, AreLegalJobs, lateness_of, Overruns, NoOverrun}
 use Rattle.ceiling_kernel.specs.Bounds.{above_of, after_of, ready_within, work_of, PassesBy, CoversBy, response_by}
 use Rattle.ceiling_kernel.specs.Readings.{IsFinishAt}
 use Rattle.ceiling_kernel.specs.Releases.{task_named, task_number, runs_of, job_of, jobs_of, release_at, ready_of, refusal_of}
@@ -27,9 +27,9 @@ use Rattle.release_list.proofs.TaskNumbers.{found}
 use Rattle.release_list.specs.declared.stream.Stream.{Stream}
 use Rattle.release_list.specs.Streams.{stream_at, late_at, list_of, arrival_of, job_release}
 use Rattle.miss.specs.Exact.{IsWhole, IsHeldUp, IsWorst, EndsLow, NoneCovers}
-use Rattle.miss.specs.Misses.{section_of, lead_of, instant_of, worst_streams, IsWorstCase, HasMiss, MustMiss, WorstCaseMisses}
+use Rattle.miss.specs.Misses.{section_of, lead_of, instant_of, worst_streams, IsWorstCase, IsRunOf, HasMiss, MustMiss, WorstCaseMisses}
 use Rattle.miss.specs.Shown.{AboveAllPass}
-use Rattle.miss.specs.Reached.{IsRunOf, IsLeastCover, WorstCaseReaches}
+use Rattle.miss.specs.Reached.{IsLeastCover, WorstCaseReaches}
 use Rattle.release_list.proofs.ArrivalLaws.{IsArrival, arrivals_apart, numbered}
 use Rattle.release_list.proofs.JobLaws.{IsIn, IsOf, before_from, before_order, arrived, before_end, job_in}
 use Rattle.release_list.proofs.FitLaws.{IsFit, AreFit, some_period, number_is, none_refused}
@@ -41,9 +41,16 @@ use Rattle.miss.proofs.WorstLaws.{misses_law}
 use Rattle.miss.proofs.ExactLaws.{exact_law}
 use Rattle.miss.proofs.CaseLaws.{tasks_of, IsMember, IsBlocker, member_at, blocker_at, streams_length, which, index_of, IsPlacedBlocker, placed, instant_small, member_late, fit}
 
+-- a job of the worst case of task i, which a kernel takes: its deadline is the end
+pub record IsCaseJob (node : Node) (i : ℕ) (rs : List Release) (until j : ℕ) : Type 0 where
+  pub accepted : refusal_of node.tasks rs until ≡ None
+  pub is_job : j < length rs
+  pub of_task : task_number node.tasks (release_at rs j) ≡ i
+  pub due : (release_at rs j).time + (task_at node.tasks i).deadline ≡ until
+
 module _ (node : Node) (ok : IsNode node) (i : ℕ) (lt : i < length node.tasks) (b : Option BlockerData) (is_b : IsBlockerOf node.tasks i (among (after_of node.order i)) b) (until : ℕ)
     (ends : until ≡ instant_of node.tasks (i ∷ after_of node.order i) b + limit_of (task_at node.tasks i))
-    (few : length (list_of (worst_streams node.tasks (i ∷ after_of node.order i) b until) until) ≤ 10000) (pass_above : AboveAllPass node i) where
+    (few : length (list_of (worst_streams node.tasks (i ∷ after_of node.order i) b until) until) ≤ 10000) where
   abbrev U : List Task
   U = node.tasks
 
@@ -344,21 +351,22 @@ module _ (node : Node) (ok : IsNode node) (i : ℕ) (lt : i < length node.tasks)
           let same : o.0 ≡ q = fits.distinct o.0 q o.1.is_of.in_set sq (sym (task_is p o.0 o.1) ∙ e) in
           subst (λ r. IsOf ss until (release_at rs p) r) same o.1.is_of
 
-  -- ---- no job overruns the one before it
-  no_overrun : NoOverrun node jobs
-  no_overrun k below over =
-      let j : ℕ = over.0 in
-      let kin : k < length rs = omega (arith, long) in
-      let a : Apart j k = apart_of j k over.1 kin over.2 in
+  -- ---- of which task there is a second job
+  -- of a task of which a second job comes, it is above; that comes a period later
+  pub record Second (j k : ℕ) : Type 0 where
+    pub in_set : (job_at jobs j).task < length U
+    pub above : above_of node i (job_at jobs j).task ≡ true
+    pub apart : (release_at rs j).time + (task_at U (job_at jobs j).task).period ≤ (release_at rs k).time
+
+  second_of : (j k : ℕ) → j < k → k < length rs → (job_at jobs j).task ≡ (job_at jobs k).task → Second j k
+  second_of j k less kin same_task =
+      let a : Apart j k = apart_of j k less kin same_task in
       let q : ℕ = a.stream in
-      let jin : j < length rs = a.first.in_list in
-      let rk : (job_at jobs k).ready ≡ ready_of (release_at rs k) = (arrival_is k kin).1 in
-      let aj : (job_at jobs j).arrival ≡ (release_at rs j).time = (arrival_is j jin).0 in
       let before : ready_of (release_at rs k) < until = ends_before k kin in
       elim (which U members start until b q a.first.is_of.in_set) [
         | inr m ↦
             let period_is : (stream_at ss q).period ≡ until + (task_at U m.blocker.task).period = ap (λ (s : Stream). s.period) m.stream in
-            omega (arith, a.apart, period_is, before)
+            absurd (omega (arith, a.apart, period_is, before))
         | inl m ↦
             let h : ℕ = get_or members q 0 in
             let f : MemberFacts q h = member_facts q m in
@@ -369,28 +377,58 @@ module _ (node : Node) (ok : IsNode node) (i : ℕ) (lt : i < length node.tasks)
                   let d : (task_at U h).deadline ≡ (task_at U i).deadline = ap (λ x. (task_at U x).deadline) same in
                   let l : lateness_of (task_at U h) ≡ lateness_of (task_at U i) = ap (λ x. lateness_of (task_at U x)) same in
                   let from : (stream_at ss q).first ≤ (release_at rs j).time = elim (times_of j q a.first) [ inl first ↦ omega (arith, first.0) | inr later ↦ omega (arith, later) ] in
-                  omega (arith, a.apart, f.period_is, f.first_is, from, before, ends, limits.1, d, l, v.deadline_to)
+                  absurd (omega (arith, a.apart, f.period_is, f.first_is, from, before, ends, limits.1, d, l, v.deadline_to))
               | inr other ↦
                   let s : IsSound node = sound node ok in
                   let on : above_of node i h ≡ true = lt-ltb (level_in_order node i) (level_in_order node h) (elim (cases_eq (level_in_order node i) (level_in_order node h)) [
                     | inl tied ↦ absurd (other (sym (s.levels_differ i h lt f.in_set tied)))
                     | inr differ ↦ omega (arith, f.up)
                   ]) in
-                  let pass : Passes U h (above_of node h) = pass_above h f.in_set on in
-                  let by : PassesBy node h pass.0 = record { from_one = omega (arith, pass.1); in_time = pass.2; enough = pass.3 } in
-                  let by' : PassesBy node (job_at jobs j).task pass.0 = subst (λ x. PassesBy node x pass.0) (sym task) by in
-                  let fin : (job_at jobs j).executes ≤ executed_before node jobs ((job_at jobs j).arrival + response_by (job_task node jobs j) pass.0) j = bound_law node jobs ok legal j pass.0 (omega (arith, jin, long)) by' in
-                  let late : lateness_of (job_task node jobs j) ≡ lateness_of (task_at U h) = ap (λ x. lateness_of (task_at U x)) task in
-                  let soon : (job_at jobs j).arrival + response_by (job_task node jobs j) pass.0 ≤ (job_at jobs k).ready = omega (arith, pass.2, late, aj, rk, a.apart, f.period_is, v.jitter, v.deadline_to) in
-                  let grown : executed_before node jobs ((job_at jobs j).arrival + response_by (job_task node jobs j) pass.0) j ≤ executed_before node jobs ((job_at jobs j).arrival + response_by (job_task node jobs j) pass.0 + ((job_at jobs k).ready - ((job_at jobs j).arrival + response_by (job_task node jobs j) pass.0))) j =
-                  grows_by node jobs j ((job_at jobs j).arrival + response_by (job_task node jobs j) pass.0) ((job_at jobs k).ready - ((job_at jobs j).arrival + response_by (job_task node jobs j) pass.0)) in
-                  let at : (job_at jobs j).arrival + response_by (job_task node jobs j) pass.0 + ((job_at jobs k).ready - ((job_at jobs j).arrival + response_by (job_task node jobs j) pass.0)) ≡ (job_at jobs k).ready = omega arith in
-                  let grown' : executed_before node jobs ((job_at jobs j).arrival + response_by (job_task node jobs j) pass.0) j ≤ executed_before node jobs (job_at jobs k).ready j = subst (λ x. executed_before node jobs ((job_at jobs j).arrival + response_by (job_task node jobs j) pass.0) j ≤ executed_before node jobs x j) at grown in
-                  omega (arith, over.3, fin, grown')
+                  let period : (task_at U (job_at jobs j).task).period ≡ (task_at U h).period = ap (λ x. (task_at U x).period) task in
+                  record {
+                    in_set = subst (λ x. x < length U) (sym task) f.in_set;
+                    above = subst (λ x. above_of node i x ≡ true) (sym task) on;
+                    apart = omega (arith, a.apart, f.period_is, period);
+                  }
             ]
       ]
 
-  -- ---- the miss
+  -- a job that overruns the one before it is of a task above
+  pub overrun_above : (k : ℕ) → k < length jobs → Overruns node jobs k → above_of node i (job_at jobs k).task ≡ true
+  overrun_above k below over =
+      let s : Second over.0 k = second_of over.0 k over.1 (omega (arith, below, long)) over.2 in
+      subst (λ x. above_of node i x ≡ true) over.2 s.above
+
+  -- the task has one job
+  not_second : (j k : ℕ) → j < k → k < length rs → (job_at jobs j).task ≡ i → (job_at jobs k).task ≡ i → ⊥
+  not_second j k less small first second =
+      let s : Second j k = second_of j k less small (first ∙ sym second) in
+      let up : level_in_order node i < level_in_order node i = ltb-true (level_in_order node i) (level_in_order node i) (subst (λ x. above_of node i x ≡ true) first s.above) in
+      omega arith
+
+  pub only_job : (j k : ℕ) → j < length rs → k < length rs → task_number U (release_at rs j) ≡ i → task_number U (release_at rs k) ≡ i → j ≡ k
+  only_job j k jin kin first second =
+      let task_j : (job_at jobs j).task ≡ i = ap (λ (x : Job). x.task) (job_is U rs j jin) ∙ first in
+      let task_k : (job_at jobs k).task ≡ i = ap (λ (x : Job). x.task) (job_is U rs k kin) ∙ second in
+      elim (cases_eq j k) [
+        | inl same ↦ same
+        | inr other ↦ absurd (elim (cases_lt j k) [
+          | inl less ↦ not_second j k less kin task_j task_k
+          | inr more ↦ not_second k j (omega arith) jin task_k task_j
+        ])
+      ]
+
+  -- it is taken, and has its deadline at the end
+  number_0 : task_number U (release_at rs j0) ≡ i
+  number_0 = (let number : (job_at jobs j0).task ≡ task_number U (release_at rs j0) = ap (λ (x : Job). x.task) (job_is U rs j0 the_job.1) in sym number ∙ task_0)
+
+  due_0 : (release_at rs j0).time + (task_at U i).deadline ≡ until
+  due_0 = (let arrives : (job_at jobs j0).arrival ≡ (release_at rs j0).time = (arrival_is j0 the_job.1).0 in omega (arith, arrival_0, arrives, limits.1, ends))
+
+  pub the_case_job : (j : ℕ) × IsCaseJob node i rs until j
+  the_case_job = (j0, record { accepted = accepted; is_job = the_job.1; of_task = number_0; due = due_0 })
+
+  -- ---- the worst case of the analysis
   worst : IsWorst node jobs j0 left
   worst = record {
     is_job = omega (arith, the_job.1, long);
@@ -405,48 +443,56 @@ module _ (node : Node) (ok : IsNode node) (i : ℕ) (lt : i < length node.tasks)
         (subst (λ s. (left ≡ 0) ⊎ IsHeldUp node jobs s (level_in_order node i) left) (sym ready_0) (held_up b refl));
   }
 
-  pub misses : MustMiss node i → HasMiss node rs until i
-  misses must =
-      let deadline_is : (job_task node jobs j0).deadline ≡ (task_at U i).deadline = ap (λ x. (task_at U x).deadline) task_0 in
-      let ends_low : EndsLow node (job_at jobs j0).task = subst (λ x. EndsLow node x) (sym task_0) must.ends_low in
-      let none : NoneCovers node (job_at jobs j0).task left (limit_of (job_task node jobs j0)) = subst (λ x. NoneCovers node x left (limit_of (task_at U x))) (sym task_0) must.none_covers in
-      let late : executed_before node jobs ((job_at jobs j0).arrival + (job_task node jobs j0).deadline) j0 < (job_at jobs j0).executes = misses_law node jobs ok legal j0 left worst ends_low none in
-      let due : (job_at jobs j0).arrival + (job_task node jobs j0).deadline ≡ until = omega (arith, arrival_0, deadline_is, limits.1, ends) in
-      let late' : executed_before node jobs until j0 < (job_at jobs j0).executes = subst (λ t. executed_before node jobs t j0 < (job_at jobs j0).executes) due late in
-      let arrives : (job_at jobs j0).arrival ≡ (release_at rs j0).time = (arrival_is j0 the_job.1).0 in
-      let number : (job_at jobs j0).task ≡ task_number U (release_at rs j0) = ap (λ (x : Job). x.task) (job_is U rs j0 the_job.1) in (
-        j0,
-        record {
-          accepted = accepted;
-          no_overrun = no_overrun;
-          is_job = the_job.1;
-          of_task = sym number ∙ task_0;
-          due = omega (arith, due, arrives, deadline_is);
-          late = late';
-        },
-      )
+  -- ---- below tasks that pass
+  module _ (pass_above : AboveAllPass node i) where
+    -- no job overruns the one before it
+    no_overrun : NoOverrun node jobs
+    no_overrun k below over =
+        let j : ℕ = over.0 in
+        let kin : k < length rs = omega (arith, long) in
+        let s : Second j k = second_of j k over.1 kin over.2 in
+        let h : ℕ = (job_at jobs j).task in
+        let rk : (job_at jobs k).ready ≡ ready_of (release_at rs k) = (arrival_is k kin).1 in
+        let aj : (job_at jobs j).arrival ≡ (release_at rs j).time = (arrival_is j (omega (arith, over.1, kin))).0 in
+        let v : IsValidSheet (task_at U h) = valid h s.in_set in
+        let pass : Passes U h (above_of node h) = pass_above h s.in_set s.above in
+        let by : PassesBy node h pass.0 = record { from_one = omega (arith, pass.1); in_time = pass.2; enough = pass.3 } in
+        let end : ℕ = (job_at jobs j).arrival + response_by (job_task node jobs j) pass.0 in
+        let fin : (job_at jobs j).executes ≤ executed_before node jobs end j = bound_law node jobs ok legal j pass.0 (omega (arith, over.1, below)) by in
+        let soon : end ≤ (job_at jobs k).ready = omega (arith, pass.2, aj, rk, s.apart, v.jitter, v.deadline_to) in
+        let grown : executed_before node jobs end j ≤ executed_before node jobs (end + ((job_at jobs k).ready - end)) j = grows_by node jobs j end ((job_at jobs k).ready - end) in
+        let at : end + ((job_at jobs k).ready - end) ≡ (job_at jobs k).ready = omega arith in
+        let grown' : executed_before node jobs end j ≤ executed_before node jobs (job_at jobs k).ready j = subst (λ x. executed_before node jobs end j ≤ executed_before node jobs x j) at grown in
+        omega (arith, over.3, fin, grown')
 
-  -- ---- the run
-  pub runs_case : (j : ℕ) × IsRunOf node rs until i j
-  runs_case =
-      let number : (job_at jobs j0).task ≡ task_number U (release_at rs j0) = ap (λ (x : Job). x.task) (job_is U rs j0 the_job.1) in
-      (j0, record { accepted = accepted; no_overrun = no_overrun; is_job = the_job.1; of_task = sym number ∙ task_0 })
+    pub misses : MustMiss node i → HasMiss node rs until i
+    misses must =
+        let deadline_is : (job_task node jobs j0).deadline ≡ (task_at U i).deadline = ap (λ x. (task_at U x).deadline) task_0 in
+        let ends_low : EndsLow node (job_at jobs j0).task = subst (λ x. EndsLow node x) (sym task_0) must.ends_low in
+        let none : NoneCovers node (job_at jobs j0).task left (limit_of (job_task node jobs j0)) = subst (λ x. NoneCovers node x left (limit_of (task_at U x))) (sym task_0) must.none_covers in
+        let late : executed_before node jobs ((job_at jobs j0).arrival + (job_task node jobs j0).deadline) j0 < (job_at jobs j0).executes = misses_law node jobs ok legal j0 left worst ends_low none in
+        let due : (job_at jobs j0).arrival + (job_task node jobs j0).deadline ≡ until = omega (arith, arrival_0, deadline_is, limits.1, ends) in
+        let late' : executed_before node jobs until j0 < (job_at jobs j0).executes = subst (λ t. executed_before node jobs t j0 < (job_at jobs j0).executes) due late in
+        (j0, record { accepted = accepted; no_overrun = no_overrun; is_job = the_job.1; of_task = number_0; due = due_0; late = late' })
 
-  -- ---- the finish
-  pub reaches_at : EndsLow node i → (r : ℕ) → IsLeastCover node i r → (j : ℕ) × IsRunOf node rs until i j × IsFinishAt node jobs j (ready_of (release_at rs j) + r)
-  reaches_at low r least =
-      let ends_low : EndsLow node (job_at jobs j0).task = subst (λ x. EndsLow node x) (sym task_0) low in
-      let covers : CoversBy node (job_at jobs j0).task r = subst (λ x. CoversBy node x r) (sym task_0) least.covers in
-      let none : (u : ℕ) → 0 < u → u < r → u < work_of node (job_at jobs j0).task (blocking_of U (job_at jobs j0).task (above_of node (job_at jobs j0).task) - 1) u =
-      subst (λ x. (u : ℕ) → 0 < u → u < r → u < work_of node x (blocking_of U x (above_of node x) - 1) u) (sym task_0) least.least in
-      let worst' : IsWorst node jobs j0 (blocking_of U (job_at jobs j0).task (above_of node (job_at jobs j0).task) - 1) = subst (λ x. IsWorst node jobs j0 (blocking_of U x (above_of node x) - 1)) (sym task_0) worst in
-      let done : IsFinishAt node jobs j0 ((job_at jobs j0).ready + r) = exact_law node jobs ok legal j0 r worst' ends_low covers none in
-      let ready : (job_at jobs j0).ready ≡ ready_of (release_at rs j0) = (arrival_is j0 the_job.1).1 in
-      let number : (job_at jobs j0).task ≡ task_number U (release_at rs j0) = ap (λ (x : Job). x.task) (job_is U rs j0 the_job.1) in (
-        j0,
-        record { accepted = accepted; no_overrun = no_overrun; is_job = the_job.1; of_task = sym number ∙ task_0 },
-        subst (λ t. IsFinishAt node jobs j0 (t + r)) ready done,
-      )
+    -- the run
+    pub runs_case : (j : ℕ) × IsRunOf node rs until i j
+    runs_case = (j0, record { accepted = accepted; no_overrun = no_overrun; is_job = the_job.1; of_task = number_0 })
+
+    -- the finish
+    pub reaches_at : EndsLow node i → (r : ℕ) → IsLeastCover node i r → (j : ℕ) × IsRunOf node rs until i j × IsFinishAt node jobs j (ready_of (release_at rs j) + r)
+    reaches_at low r least =
+        let ends_low : EndsLow node (job_at jobs j0).task = subst (λ x. EndsLow node x) (sym task_0) low in
+        let covers : CoversBy node (job_at jobs j0).task r = subst (λ x. CoversBy node x r) (sym task_0) least.covers in
+        let none : (u : ℕ) → 0 < u → u < r → u < work_of node (job_at jobs j0).task (blocking_of U (job_at jobs j0).task (above_of node (job_at jobs j0).task) - 1) u =
+        subst (λ x. (u : ℕ) → 0 < u → u < r → u < work_of node x (blocking_of U x (above_of node x) - 1) u) (sym task_0) least.least in
+        let worst' : IsWorst node jobs j0 (blocking_of U (job_at jobs j0).task (above_of node (job_at jobs j0).task) - 1) = subst (λ x. IsWorst node jobs j0 (blocking_of U x (above_of node x) - 1)) (sym task_0) worst in
+        let done : IsFinishAt node jobs j0 ((job_at jobs j0).ready + r) = exact_law node jobs ok legal j0 r worst' ends_low covers none in
+        let ready : (job_at jobs j0).ready ≡ ready_of (release_at rs j0) = (arrival_is j0 the_job.1).1 in (
+          j0,
+          record { accepted = accepted; no_overrun = no_overrun; is_job = the_job.1; of_task = number_0 },
+          subst (λ t. IsFinishAt node jobs j0 (t + r)) ready done,
+        )
 
 pub complete_law : (node : Node) → IsNode node → WorstCaseMisses node
 complete_law node ok i list until lt case few must =
@@ -466,3 +512,26 @@ pub runs_law : (node : Node) → IsNode node → (i : ℕ) (list : List Release)
 runs_law node ok i list until lt case few pass =
     let few' : length (list_of (worst_streams node.tasks (i ∷ after_of node.order i) case.blocker until) until) ≤ 10000 = subst (λ (x : List Release). length x ≤ 10000) case.listed few in
     subst (λ (x : List Release). (j : ℕ) × IsRunOf node x until i j) (sym case.listed) (runs_case node ok i lt case.blocker case.blocks until case.ends few' pass)
+
+-- the job of the worst case
+pub job_law : (node : Node) → IsNode node → (i : ℕ) (list : List Release) (until : ℕ) → i < length node.tasks → IsWorstCase node.tasks i (after_of node.order i) list until → length list ≤ 10000
+    → (j : ℕ) × IsCaseJob node i list until j
+job_law node ok i list until lt case few =
+    let few' : length (list_of (worst_streams node.tasks (i ∷ after_of node.order i) case.blocker until) until) ≤ 10000 = subst (λ (x : List Release). length x ≤ 10000) case.listed few in
+    subst (λ (x : List Release). (j : ℕ) × IsCaseJob node i x until j) (sym case.listed) (the_case_job node ok i lt case.blocker case.blocks until case.ends few')
+
+-- is the only one of the task
+pub only_law : (node : Node) → IsNode node → (i : ℕ) (list : List Release) (until : ℕ) → i < length node.tasks → IsWorstCase node.tasks i (after_of node.order i) list until → length list ≤ 10000
+    → (j k : ℕ) → j < length list → k < length list → task_number node.tasks (release_at list j) ≡ i → task_number node.tasks (release_at list k) ≡ i → j ≡ k
+only_law node ok i list until lt case few =
+    let few' : length (list_of (worst_streams node.tasks (i ∷ after_of node.order i) case.blocker until) until) ≤ 10000 = subst (λ (x : List Release). length x ≤ 10000) case.listed few in
+    subst (λ (x : List Release). (j k : ℕ) → j < length x → k < length x → task_number node.tasks (release_at x j) ≡ i → task_number node.tasks (release_at x k) ≡ i → j ≡ k) (sym case.listed)
+    (only_job node ok i lt case.blocker case.blocks until case.ends few')
+
+-- a job that overruns is of a task above
+pub overrun_law : (node : Node) → IsNode node → (i : ℕ) (list : List Release) (until : ℕ) → i < length node.tasks → IsWorstCase node.tasks i (after_of node.order i) list until → length list ≤ 10000
+    → (k : ℕ) → k < length (jobs_of node.tasks list) → Overruns node (jobs_of node.tasks list) k → above_of node i (job_at (jobs_of node.tasks list) k).task ≡ true
+overrun_law node ok i list until lt case few =
+    let few' : length (list_of (worst_streams node.tasks (i ∷ after_of node.order i) case.blocker until) until) ≤ 10000 = subst (λ (x : List Release). length x ≤ 10000) case.listed few in
+    subst (λ (x : List Release). (k : ℕ) → k < length (jobs_of node.tasks x) → Overruns node (jobs_of node.tasks x) k → above_of node i (job_at (jobs_of node.tasks x) k).task ≡ true) (sym case.listed)
+    (overrun_above node ok i lt case.blocker case.blocks until case.ends few')

@@ -1,4 +1,4 @@
--- Orders in which a task of a least conflict stands just below the others of it.
+-- Orders in which a task of a minimal conflict stands just below the others of it.
 use Rattle.std.proofs.Common.{◌≡◌, ℕ, zero, suc, ◌<◌, ◌≤◌, ◌⊎◌, inl, inr, true, false, ◌==◌, List, [], ◌∷◌, length, refl, sym, ◌∙◌, ap, subst, arith}
 use Rattle.std.proofs.Math.Path.{fun_ext}
 use Rattle.std.proofs.lemmas.Bool.{cases_Bool, cases_eq, true≢false, eq-eqb, ne_eqb, ltb-true, lt-ltb, eqb-true, or_cases, or_left, or_right}

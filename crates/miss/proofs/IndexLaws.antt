@@ -1,11 +1,11 @@
 -- Members by their indexes, and how late tasks may be.
-use Rattle.std.proofs.Common.{◌≡◌, ◌∙◌, ℕ, zero, suc, ◌+◌, ◌<◌, ◌≤◌, inl, inr, Option, Some, None, Bool, true, false, ◌||◌, ◌==◌, List, [], ◌∷◌, ◌++◌, length, get_or, take, drop, refl, sym, ap, subst, max, arith}
+use Rattle.std.proofs.Common.{◌≡◌, ◌∙◌, ℕ, zero, suc, ◌+◌, ◌<◌, ◌≤◌, inl, inr, Option, Some, None, Bool, true, false, ◌||◌, ◌==◌, List, [], ◌∷◌, ◌++◌, length, map, get_or, take, drop, refl, sym, ap, subst, max, arith}
 use Rattle.std.proofs.Math.Path.{fun_ext}
 use Rattle.std.proofs.lemmas.List.Folds.{list_any-append}
 use Rattle.std.specs.FinSet as set
 use Rattle.std.specs.Ordering.{nat_cmp}
 use Rattle.std.proofs.lemmas.Bool.{cases_eq, eq-eqb, ne_eqb}
-use Rattle.std.proofs.lemmas.List.{take_more, drop_more, get_or_default}
+use Rattle.std.proofs.lemmas.List.{take_more, drop_more, get_or_default, map-append}
 use Rattle.task_sheet.specs.Sheet.{Task, CriticalSection, IsSection, AreSections, IsValidSheet, no_task, task_at}
 use Rattle.task_sheet.specs.TaskSet.{IsTaskSet}
 use Rattle.task_sheet.specs.Demand.{greatest_of, limit_of}
@@ -14,7 +14,9 @@ use Rattle.task_sheet.proofs.MembersIndexes.{indexes_of-insert}
 use Rattle.ceiling_kernel.specs.Waits.{lateness_of}
 use Rattle.std.proofs.lemmas.Option.{slice_get_within}
 use Rattle.explain.specs.Parts.{BlockerData, BlocksAt, IsFirstBlocker, IsBlockerOf}
-use Rattle.miss.specs.Misses.{IsInSet}
+use Rattle.release_list.specs.Densest.{stream_of}
+use Rattle.release_list.specs.declared.stream.Stream.{Stream}
+use Rattle.miss.specs.Misses.{IsInSet, member_stream}
 
 or_turned : (b c : Bool) → (b || (c || false)) ≡ (c || b)
 or_turned true true = refl
@@ -59,6 +61,24 @@ instant_step U tasks sheets xs k instant instant' jitter all sheet same lt known
     let most : lateness_of (task_at U (get_or xs k 0)) ≤ 10000000 = late_most U tasks (get_or xs k 0) known in
     let more : greatest_of (λ i. lateness_of (task_at U i)) (drop k xs) ≡ max (lateness_of (task_at U (get_or xs k 0))) (greatest_of (λ i. lateness_of (task_at U i)) (drop (k + 1) xs)) = greatest_more (λ i. lateness_of (task_at U i)) xs k lt in
     (omega (arith, so.0), omega (arith, so.1))
+
+-- the streams after one member more
+pub streams_step : (U sheets : List Task) (task : ℕ) (xs : List ℕ) (k instant : ℕ) (streams more : List Stream)
+    (sheet : Task) (stream : Stream)
+    → sheets ≡ U → k < length xs → get_or xs k 0 < length U → sheet ≡ get_or sheets (get_or xs k 0) sheet
+    → stream ≡ stream_of instant sheet → more ≡ streams ++ stream ∷ []
+    → streams ≡ map (member_stream U instant) (task ∷ take k xs)
+    → more ≡ map (member_stream U instant) (task ∷ take (k + 1) xs)
+streams_step U sheets task xs k instant streams more sheet stream same lt known is own grown so =
+    let next : stream ≡ member_stream U instant (get_or xs k 0) =
+    own ∙ ap (stream_of instant) (read_sheet U sheets (get_or xs k 0) sheet same known is) in
+    let cut : take (k + 1) xs ≡ take k xs ++ get_or xs k 0 ∷ [] = take_more xs k 0 lt in
+    let apart : map (member_stream U instant) (task ∷ take (k + 1) xs)
+    ≡ map (member_stream U instant) (task ∷ take k xs) ++ member_stream U instant (get_or xs k 0) ∷ [] =
+    ap (λ ks. map (member_stream U instant) (task ∷ ks)) cut
+    ∙ map-append (member_stream U instant) (task ∷ take k xs) (get_or xs k 0 ∷ []) in
+    grown ∙ ap (λ s. s ++ stream ∷ []) so
+    ∙ ap (λ s. map (member_stream U instant) (task ∷ take k xs) ++ s ∷ []) next ∙ sym apart
 
 section_within : (from cost : ℕ) (ss : List CriticalSection) (p : ℕ) (s d : CriticalSection) → AreSections from cost ss → p < length ss → s ≡ get_or ss p d → s.at + 1 ≤ cost
 section_within from cost [] p s d h lt e = absurd (omega arith)

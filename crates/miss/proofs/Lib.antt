@@ -16,3 +16,4 @@ pub mod ExactLaws
 pub mod NoLaws
 pub mod ConflictOrders
 pub mod ReachedLaws
+pub mod NoneLaws

@@ -12,18 +12,17 @@ use Rattle.ceiling_kernel.specs.declared.trace.RunFault.{RunFault}
 use Rattle.ceiling_kernel.specs.declared.trace.RunFault.TheVariants as fault
 use Rattle.ceiling_kernel.specs.Tick.{Node, node_in}
 use Rattle.ceiling_kernel.specs.Waits.{IsNode, NoOverrun}
-use Rattle.ceiling_kernel.specs.Bounds.{after_of}
 use Rattle.ceiling_kernel.specs.Releases.{jobs_of, release_at, refusal_of, task_number}
 use Rattle.ceiling_kernel.specs.Runs.{IsTrace, IsOverrun, IsFirstOverrun, Runs}
 use Rattle.miss.specs.declared.reaching.Finish.{Finish}
-use Rattle.miss.specs.Misses.{IsWorstCase}
+use Rattle.miss.specs.Misses.{IsRunOf, IsWorstCase}
 use Rattle.miss.specs.Found.{record_at}
 use Rattle.miss.specs.Shown.{AboveAllPass}
-use Rattle.miss.specs.Reached.{IsRunOf, IsReadOf, IsFinishIn}
+use Rattle.miss.specs.Reached.{IsReadOf, IsFinishIn}
 use Rattle.miss.proofs.CompleteLaws.{runs_law}
 use Rattle.miss.proofs.FoundLaws.{finish_is}
 use Rattle.miss.proofs.OrderLaws.{place_known}
-use Rattle.miss.proofs.ShownLaws.{part_case}
+use Rattle.miss.proofs.NoneLaws.{case_there}
 
 module _ (node : Node) (tasks : IsTaskSet node.tasks) (rs : List Release) (until task : ℕ) (known : task < length node.tasks) where
   -- what is read of the trace
@@ -68,13 +67,10 @@ module _ (node : Node) (tasks : IsTaskSet node.tasks) (rs : List Release) (until
 
 -- ---- at a place of an order
 module _ (U : List Task) (order : List ℕ) (is : IsOrder U order) (tasks : IsTaskSet U) (p m : ℕ) (lt : p < length order) (em : m ≡ suc p) where
-  pub case_there : (rs : List Release) (until : ℕ) → IsWorstCase U (get_or order p 0) (take (length order - m) (drop m order)) rs until → IsWorstCase U (get_or order p 0) (after_of order (get_or order p 0)) rs until
-  case_there rs until case = subst (λ xs. IsWorstCase U (get_or order p 0) xs rs until) (part_case U order is tasks m p em lt) case
-
   -- where it isn't run to its end, some task above doesn't pass
   pub stopped_there : (made : Node) → made ≡ node_in U order → (rs : List Release) (until : ℕ) → IsWorstCase U (get_or order p 0) (take (length order - m) (drop m order)) rs until → length rs ≤ 10000
       → ((j : ℕ) → IsRunOf made rs until (get_or order p 0) j → ⊥) → AboveAllPass (node_in U order) (get_or order p 0) → ⊥
   stopped_there made same rs until case few none pass =
       let ok : IsNode (node_in U order) = record { tasks = tasks; order = is } in
-      let run : (j : ℕ) × IsRunOf (node_in U order) rs until (get_or order p 0) j = runs_law (node_in U order) ok (get_or order p 0) rs until (place_known U order is p lt) (case_there rs until case) few pass in
+      let run : (j : ℕ) × IsRunOf (node_in U order) rs until (get_or order p 0) j = runs_law (node_in U order) ok (get_or order p 0) rs until (place_known U order is p lt) (case_there U order is tasks p m lt em rs until case) few pass in
       none run.0 (subst (λ (x : Node). IsRunOf x rs until (get_or order p 0) run.0) (sym same) run.1)

@@ -1,6 +1,6 @@
 -- Why a task that doesn't pass has no run, and what is left open then.
 use Rattle.std.proofs.Common.{◌≡◌, ℕ, suc, ◌+◌, ◌-◌, ◌<◌, ◌≤◌, inl, inr, Bool, true, false, ◌||◌, List, length, get_or, take, drop, All, refl, sym, ◌∙◌, ap, subst, arith}
-use Rattle.std.proofs.lemmas.Bool.{cases_lt, cases_eq, cases_Bool, or_cases, true≢false, or_parts}
+use Rattle.std.proofs.lemmas.Bool.{cases_lt, cases_eq, cases_Bool, or_cases, true≢false, or_parts, ltb-true}
 use Rattle.std.proofs.lemmas.List.{get_or-drop, length-drop}
 use Rattle.task_sheet.specs.Sheet.{Task, task_at}
 use Rattle.task_sheet.specs.TaskSet.{IsTaskSet}
@@ -8,7 +8,7 @@ use Rattle.task_sheet.specs.Indexes.{Indexes, among}
 use Rattle.task_sheet.specs.Orders.{IsOrder}
 use Rattle.task_sheet.specs.Demand.{blocking_of, limit_of}
 use Rattle.task_sheet.proofs.ResponseLaws.{decide_covers}
-use Rattle.ceiling_kernel.specs.Tick.{Node, node_in}
+use Rattle.ceiling_kernel.specs.Tick.{Node, node_in, level_in_order}
 use Rattle.ceiling_kernel.specs.Waits.{IsNode}
 use Rattle.ceiling_kernel.specs.Bounds.{above_of, after_of, PassesBy, work_of, CoversBy}
 use Rattle.ceiling_kernel.proofs.NodeLaws.{after_is_above}
@@ -19,7 +19,7 @@ use Rattle.miss.specs.declared.shown.Shown.TheVariants as shown
 use Rattle.miss.specs.declared.shown.NoRun.TheVariants as why
 use Rattle.miss.specs.Exact.{EndsLow}
 use Rattle.miss.specs.Misses.{MustMiss}
-use Rattle.miss.specs.Shown.{PassesThere, IsTooLong, FailsAbove, AboveAllPass, IsShown, is_too_long, IsLeftOpen}
+use Rattle.miss.specs.Shown.{PassesThere, IsTooLong, IsLowestFailing, AboveAllPass, IsShown, is_too_long, IsLeftOpen}
 use Rattle.miss.proofs.MemberLaws.{among_at, among_place}
 use Rattle.miss.proofs.OrderLaws.{place_known, rest_known, place_of, rest_is, above_is}
 
@@ -39,9 +39,9 @@ module _ (node : Node) (i : ℕ) where
   need_not_miss (shown.Misses m) is none short must = none m refl
   need_not_miss (shown.NoRun (why.MustOutrank other)) is none short must = passes_not is.0 must
   need_not_miss (shown.NoRun why.TooMany) is none short must = true≢false short
-  need_not_miss (shown.NoRun (why.Below above)) is none short must = (let f : FailsAbove node i above = is.1 in f.fails (must.above_pass above f.in_set f.above))
-  need_not_miss (shown.NoRun why.EndsInside) is none short must = is.1 must.ends_low
-  need_not_miss (shown.NoRun why.WithinTick) is none short must = covered_not is.1.0 is.1.1 must
+  need_not_miss (shown.NoRun (why.Below above)) is none short must = (let f : IsLowestFailing node i above = is.2 in f.fails (must.above_pass above f.in_set f.above))
+  need_not_miss (shown.NoRun why.EndsInside) is none short must = is.3 must.ends_low
+  need_not_miss (shown.NoRun why.WithinTick) is none short must = covered_not is.4.0 is.4.1 must
 
   pub too_long : (s : Shown) → IsShown node i s → is_too_long s ≡ true → (PassesThere node i → ⊥) × IsTooLong node.tasks i (after_of node.order i)
   too_long shown.Stands is long = absurd (true≢false (sym long))
@@ -107,8 +107,32 @@ module _ (U : List Task) (order : List ℕ) (is : IsOrder U order) (tasks : IsTa
   pub part_case : (m p : ℕ) → m ≡ suc p → p < length order → take (length order - m) (drop m order) ≡ after_of order (get_or order p 0)
   part_case m p e lt = rest_is order m ∙ ap (λ k. drop k order) e ∙ sym (above_is U order is p lt)
 
-  pub fails_above_at : (p q : ℕ) → p < q → q < length order → (PassesThere node (get_or order q 0) → ⊥) → FailsAbove node (get_or order p 0) (get_or order q 0)
-  fails_above_at p q less lt fails = record { in_set = place_known U order is q lt; above = later_above p q less lt; fails = fails }
+  -- and those that stand above another come later
+  later_place : (p q : ℕ) → p < length order → q < length order → above_of node (get_or order p 0) (get_or order q 0) ≡ true → p < q
+  later_place p q lp lq on =
+      let up : level_in_order node (get_or order p 0) < level_in_order node (get_or order q 0) = ltb-true (level_in_order node (get_or order p 0)) (level_in_order node (get_or order q 0)) on in
+      elim (cases_lt p q) [
+        | inl less ↦ less
+        | inr not ↦ absurd (elim (cases_eq p q) [
+          | inl same ↦ (let e : level_in_order node (get_or order p 0) ≡ level_in_order node (get_or order q 0) = ap (λ k. level_in_order node (get_or order k 0)) same in omega arith)
+          | inr other ↦
+              let down : level_in_order node (get_or order q 0) < level_in_order node (get_or order p 0) = ltb-true (level_in_order node (get_or order q 0)) (level_in_order node (get_or order p 0)) (later_above q p (omega arith) lp) in
+              omega arith
+        ])
+      ]
+
+  -- the first that doesn't pass after a place is the lowest
+  pub fails_above_at : (p q : ℕ) → p < q → q < length order → ((r : ℕ) → p < r → r < q → PassesThere node (get_or order r 0)) → (PassesThere node (get_or order q 0) → ⊥) → IsLowestFailing node (get_or order p 0) (get_or order q 0)
+  fails_above_at p q less lt before fails = record {
+    in_set = place_known U order is q lt;
+    above = later_above p q less lt;
+    fails = fails;
+    lowest = λ k small on under.
+        let w : (r : ℕ) × (r < length order) × (get_or order r 0 ≡ k) = place_of U order is k small in
+        let on' : above_of node (get_or order p 0) (get_or order w.0 0) ≡ true = subst (λ x. above_of node (get_or order p 0) x ≡ true) (sym w.2) on in
+        let under' : above_of node (get_or order w.0 0) (get_or order q 0) ≡ true = subst (λ x. above_of node x (get_or order q 0) ≡ true) (sym w.2) under in
+        subst (λ x. PassesThere node x) w.2 (before w.0 (later_place p w.0 (omega arith) w.1 on') (later_place w.0 q w.1 lt under'));
+  }
 
   pub all_above : (p : ℕ) → p < length order → ((q : ℕ) → p < q → q < length order → PassesThere node (get_or order q 0)) → AboveAllPass node (get_or order p 0)
   all_above p lt each h small on =

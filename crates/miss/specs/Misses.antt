@@ -17,6 +17,14 @@ use Rattle.release_list.specs.Streams.{list_of}
 use Rattle.release_list.specs.Densest.{stream_of}
 use Rattle.miss.specs.Exact.{EndsLow, NoneCovers}
 
+-- ---- a run
+-- a kernel takes the releases and runs them to the end; release j is one of the task
+pub record IsRunOf (node : Node) (rs : List Release) (until task j : ℕ) : Type 0 where
+  pub accepted : refusal_of node.tasks rs until ≡ None
+  pub no_overrun : NoOverrun node (jobs_of node.tasks rs)
+  pub is_job : j < length rs
+  pub of_task : task_number node.tasks (release_at rs j) ≡ task
+
 -- ---- a miss
 -- A kernel takes the releases and runs them to the end, which is the deadline of release j, of the task: its job hasn't
 -- executed all that it executes then.
@@ -121,8 +129,8 @@ MissesAreRefused node =
     (rs : List Release) (until i : ℕ) → HasMiss node rs until i
     → ¬ Passes node.tasks i (above_of node i)
 
--- ---- of a least conflict
--- below the others of a least conflict, and above all other tasks, each of its tasks has an order in which those above it
+-- ---- of a minimal conflict
+-- below the others of a minimal conflict, and above all other tasks, each of its tasks has an order in which those above it
 -- pass
 abbrev pub ConflictHasOrders : List Task → Type 0
 ConflictHasOrders U =

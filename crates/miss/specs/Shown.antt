@@ -1,5 +1,5 @@
 -- What is shown of a task at its place in an order: a run in which it misses its deadline, or why there is none.
-use Rattle.std.specs.Prelude.{◌≡◌, ℕ, ◌-◌, ◌<◌, true, false, Bool, ◌&&◌, List, length}
+use Rattle.std.specs.Prelude.{◌≡◌, ℕ, ◌+◌, ◌-◌, ◌<◌, ◌≤◌, ◌⊎◌, true, false, Bool, ◌&&◌, List, length}
 use Rattle.std.specs.List.{list_any}
 use Rattle.task_sheet.specs.Sheet.{Task, task_at}
 use Rattle.task_sheet.specs.Indexes.{Indexes}
@@ -9,14 +9,16 @@ use Rattle.task_sheet.specs.Orders.{Stands}
 use Rattle.task_sheet.specs.Verdicts.{IsLeastOver}
 use Rattle.ceiling_kernel.specs.declared.accept.TheConstants.{RELEASE_LIMIT}
 use Rattle.ceiling_kernel.specs.declared.trace.Release.{Release}
-use Rattle.ceiling_kernel.specs.Tick.{Node, is_inside}
+use Rattle.ceiling_kernel.specs.Tick.{Node, job_at, is_inside, executed_before}
+use Rattle.ceiling_kernel.specs.Waits.{Overruns}
+use Rattle.ceiling_kernel.specs.Releases.{task_number, jobs_of, release_at}
 use Rattle.ceiling_kernel.specs.Bounds.{above_of, after_of, CoversBy}
 use Rattle.miss.specs.declared.shown.Shown.{Shown}
 use Rattle.miss.specs.declared.shown.Shown.TheVariants as shown
 use Rattle.miss.specs.declared.shown.NoRun.{NoRun}
 use Rattle.miss.specs.declared.shown.NoRun.TheVariants as why
 use Rattle.miss.specs.Exact.{EndsLow}
-use Rattle.miss.specs.Misses.{IsWorstCase, MustMiss}
+use Rattle.miss.specs.Misses.{IsRunOf, IsWorstCase, MustMiss}
 use Rattle.miss.specs.Found.{IsMiss}
 
 -- task i passes in its place
@@ -35,26 +37,59 @@ pub record IsTooLong (U : List Task) (i : ℕ) (above : List ℕ) : Type 0 where
   pub case : IsWorstCase U i above releases until
   pub many : RELEASE_LIMIT < length releases
 
--- task h stands above task i, and doesn't pass
-pub record FailsAbove (node : Node) (i h : ℕ) : Type 0 where
+-- task h is the lowest of those above task i that don't pass
+pub record IsLowestFailing (node : Node) (i h : ℕ) : Type 0 where
   pub in_set : h < length node.tasks
   pub above : above_of node i h ≡ true
   pub fails : ¬ PassesThere node h
+  pub lowest : (k : ℕ) → k < length node.tasks → above_of node i k ≡ true → above_of node k h ≡ true
+      → PassesThere node k
 
 -- each task above task i passes
 abbrev pub AboveAllPass : Node → ℕ → Type 0
 AboveAllPass node i =
     (h : ℕ) → h < length node.tasks → above_of node i h ≡ true → PassesThere node h
 
--- why there is no run
+-- the worst case of task i is stopped: a job of a task above overruns the one before it
+pub record IsStopped (node : Node) (i : ℕ) : Type 0 where
+  pub releases : List Release
+  pub until : ℕ
+  pub case : IsWorstCase node.tasks i (after_of node.order i) releases until
+  pub few : length releases ≤ RELEASE_LIMIT
+  pub place : ℕ
+  pub is_job : place < length releases
+  pub above : above_of node i (task_number node.tasks (release_at releases place)) ≡ true
+  pub overruns : Overruns node (jobs_of node.tasks releases) place
+
+-- the worst case of task i is run to its end, the deadline of the task's job, which is done then
+pub record IsDoneInTime (node : Node) (i : ℕ) : Type 0 where
+  pub releases : List Release
+  pub until : ℕ
+  pub case : IsWorstCase node.tasks i (after_of node.order i) releases until
+  pub few : length releases ≤ RELEASE_LIMIT
+  pub job : ℕ
+  pub ran : IsRunOf node releases until i job
+  pub due : (release_at releases job).time + (task_at node.tasks i).deadline ≡ until
+  pub done : (job_at (jobs_of node.tasks releases) job).executes
+      ≤ executed_before node (jobs_of node.tasks releases) until job
+
+-- the worst case of task i shows no miss
+abbrev pub ShowsNone : Node → ℕ → Type 0
+ShowsNone node i = IsStopped node i ⊎ IsDoneInTime node i
+
+-- why there is no run: the first reason of these
 abbrev pub IsNoRun : Node → ℕ → NoRun → Type 0
 IsNoRun node i (why.MustOutrank other) =
     PassesThere node i × IsLeastOver node.tasks i (above_of node i) other
 IsNoRun node i why.TooMany =
     (¬ PassesThere node i) × IsTooLong node.tasks i (after_of node.order i)
-IsNoRun node i (why.Below above) = (¬ PassesThere node i) × FailsAbove node i above
-IsNoRun node i why.EndsInside = (¬ PassesThere node i) × (¬ EndsLow node i)
-IsNoRun node i why.WithinTick = (¬ PassesThere node i) × ((t : ℕ) × CoversBy node i t)
+IsNoRun node i (why.Below above) =
+    (¬ PassesThere node i) × ShowsNone node i × IsLowestFailing node i above
+IsNoRun node i why.EndsInside =
+    (¬ PassesThere node i) × IsDoneInTime node i × AboveAllPass node i × (¬ EndsLow node i)
+IsNoRun node i why.WithinTick =
+    (¬ PassesThere node i) × IsDoneInTime node i × AboveAllPass node i × EndsLow node i
+    × ((t : ℕ) × CoversBy node i t)
 
 -- it may stand there, or it misses its deadline in a run, or there is none
 abbrev pub IsShown : Node → ℕ → Shown → Type 0

@@ -50,7 +50,7 @@ pub fn misses_are_refused()
     ensures { (node : Node) → IsNode node → MissesAreRefused node }
 {}
 
-/// Each task of a least conflict has an order in which it stands just below the others of it, and these pass.
+/// Each task of a minimal conflict has an order in which it stands just below the others of it, and these pass.
 pub fn conflicts_have_orders()
     ensures { (U : List Task) → IsTaskSet U → ConflictHasOrders U }
 {}

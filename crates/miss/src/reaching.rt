@@ -6,7 +6,8 @@ ghost use Rattle.ceiling_kernel.specs.Releases.{task_number, release_at};
 ghost use Rattle.task_sheet.specs.Orders.{IsOrder};
 ghost use Rattle.ceilings.specs.IsTableOf.{IsTableOf};
 ghost use Rattle.miss.specs.declared.fault.MissFault.TheVariants.{WrongOrder, TooMany, OutOfMemory};
-ghost use Rattle.miss.specs.Reached.{IsRunOf, IsReadOf, IsFinishIn, IsReachedOf};
+ghost use Rattle.miss.specs.Misses.{IsRunOf};
+ghost use Rattle.miss.specs.Reached.{IsReadOf, IsFinishIn, IsReachedOf};
 
 use crate::fault::MissFault;
 use crate::find::place_of;

@@ -8,7 +8,7 @@ ghost use Rattle.ceilings.specs.IsTableOf.{IsTableOf};
 ghost use Rattle.ceiling_kernel.specs.Tick.{node_in, is_inside};
 ghost use Rattle.ceiling_kernel.specs.Bounds.{above_of};
 ghost use Rattle.miss.specs.Misses.{MustMiss};
-ghost use Rattle.miss.specs.Shown.{PassesThere, ends_inside, FailsAbove, AboveAllPass, IsNoRun};
+ghost use Rattle.miss.specs.Shown.{PassesThere, ends_inside, IsLowestFailing, AboveAllPass, ShowsNone, IsNoRun};
 
 use crate::shown::NoRun;
 use crate::worst::members_of;
@@ -64,7 +64,7 @@ fn fails_above(set: &TaskSet, table: &LockTable, order: &[usize], place: usize) 
     requires table { IsTableOf set.now table.now }
     requires order { IsOrder set.now order.now }
     requires place { place < length order.now }
-    ensures some { IfSome result (FailsAbove (node_in set.now order.now)
+    ensures some { IfSome result (IsLowestFailing (node_in set.now order.now)
         (slice_index_or order.now place 0)) }
     ensures none { IfNone result (AboveAllPass (node_in set.now order.now)
         (slice_index_or order.now place 0)) }
@@ -82,13 +82,14 @@ fn fails_above(set: &TaskSet, table: &LockTable, order: &[usize], place: usize) 
     None
 }
 
-/// Why the task at a place of an order, which doesn't pass, need not miss its deadline.
+/// Why the task at a place of an order, which doesn't pass, need not miss its deadline: its worst case shows no miss.
 pub(crate) fn why_not(set: &TaskSet, table: &LockTable, order: &[usize], place: usize) -> NoRun
     requires table { IsTableOf set.now table.now }
     requires order { IsOrder set.now order.now }
     requires place { place < length order.now }
     requires fails { ¬ PassesThere (node_in set.now order.now) (slice_index_or order.now place 0) }
     requires need_not { ¬ MustMiss (node_in set.now order.now) (slice_index_or order.now place 0) }
+    requires none { ShowsNone (node_in set.now order.now) (slice_index_or order.now place 0) }
     ensures { IsNoRun (node_in set.now order.now) (slice_index_or order.now place 0) result }
 {
     // The set is valid: the proof has it from its sheets.

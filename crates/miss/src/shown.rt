@@ -18,10 +18,10 @@ pub enum NoRun {
     MustOutrank { other: usize },
     /// Its worst case has more than 10,000 releases.
     TooMany,
-    /// This one above it doesn't pass, so that the run may end with its overrun.
+    /// This one above it doesn't pass, the lowest such: in the worst case a job above overruns, or this one's is done in time.
     Below { above: usize },
-    /// A job's last tick is inside a section that a task above reaches, so that it may finish sooner than the analysis
-    /// says.
+    /// A job's last tick is inside a section that a task above reaches, so that it finishes sooner than the analysis says:
+    /// in time in the worst case.
     EndsInside,
     /// It would pass with a tick less of the section that blocks it, which has begun before.
     WithinTick,

@@ -1,56 +1,35 @@
-use Rattle.std.proofs.Common.{◌∙◌, ◌<◌, ℕ, List, length, map, All, sym, ap, subst, arith}
-use Rattle.std.proofs.lemmas.List.{get_or-map, length-map}
+use Rattle.std.proofs.Common.{◌≡◌, Bool, ℕ, List, Result, Ok, Err, sym, subst}
+use Rattle.std.specs.Prelude.{MatchResult, IfOk}
 use Rattle.task_sheet.specs.Sheet.{Task}
-use Rattle.task_sheet.specs.Orders.{IsOrder}
-use Rattle.ceiling_kernel.proofs.OrderLaws.{order_iff}
-use Rattle.judge.specs.Faults.{thread_number}
-use Rattle.judge.specs.Judgements.{order_judged}
-use Rattle.judge.specs.Node.{IsNodeOrderBy, IsOrderOfRows}
-use Rattle.judge.specs.Rows.{threads_of}
-use Rattle.judge.specs.declared.judging.JudgedTask.{JudgedTask}
+use Rattle.judge.specs.Faults.{IsSettingsFault, rows_fault, settings_fault_by}
+use Rattle.judge.specs.Judgements.{AllJudged, order_judged}
+use Rattle.judge.specs.Node.{AreNumbersIn, AreNumbersOf, IsNodeOrderBy, IsOrderOfRows}
+use Rattle.judge.specs.Rows.{rows_in}
+use Rattle.judge.specs.declared.fault.SettingsFault.{SettingsFault}
+use Rattle.judge.specs.declared.node.JudgedNode.{JudgedNode}
 use Rattle.judge.specs.declared.rows.SettingRow.{SettingRow}
 use Rattle.judge.proofs.OrderLaws.{node_order}
 use Rattle.judge.proofs.node.judge_settings.Goals as goal
 
-in_set : (U : List Task) (order : List ℕ) → IsOrder U order → All (λ i. i < length U) order
-in_set U order each = ((order_iff (length U) order).1 each).0
+-- what becomes of the rows of a text becomes of the text
+module _ (U : List Task) (text : List ℕ) (rows : List SettingRow) (read : rows_in text ≡ Ok rows) where
+  judged_of_text : (lower : Bool) (answer : Result JudgedNode SettingsFault)
+      → MatchResult answer (λ node. IsOrderOfRows lower U rows (order_judged node.judged.items) × AllJudged U node.judged.items) (λ e. IsSettingsFault e (rows_fault lower U (Ok rows)))
+      → MatchResult answer (λ node. IsNodeOrderBy lower U text (order_judged node.judged.items) × AllJudged U node.judged.items) (λ e. IsSettingsFault e (settings_fault_by lower U text))
+  judged_of_text lower (Ok node) is = (node_order lower U text rows (order_judged node.judged.items) read is.0, is.1)
+  judged_of_text lower (Err e) is = subst (λ found. IsSettingsFault e (rows_fault lower U found)) (sym read) is
 
-pub judge_order-requires-clause-within : goal.judge_order-requires-clause-within
-judge_order-requires-clause-within c =
-    subst (λ (order : List ℕ). All (λ i. i < length c.args.set.now) order) (sym c.deref-2.ensures.value) (in_set c.args.set.now c.in_ok-order.order.items c.in_ok-order.ensures.by_numbers.each_once)
-
-pub numbers_of-requires : goal.numbers_of-requires
-numbers_of-requires c =
-    subst (λ (order : List ℕ). All (λ i. i < length c.args.set.now) order) (sym c.deref-4.ensures.value) (in_set c.args.set.now c.in_ok-order.order.items c.in_ok-order.ensures.by_numbers.each_once)
+  numbers_of_text : (answer : Result JudgedNode SettingsFault) → IfOk answer (λ node. AreNumbersOf U rows (order_judged node.judged.items) node.numbers.items)
+      → IfOk answer (λ node. AreNumbersIn U text (order_judged node.judged.items) node.numbers.items)
+  numbers_of_text (Ok node) is = record { rows = rows; read = read; each = is }
+  numbers_of_text (Err e) is = tt
 
 pub returns-clause-judged : goal.returns-clause-judged
 returns-clause-judged c =
-    let U = c.args.set.now in
-    let lower = c.args.lower_is_higher in
-    let rows : List SettingRow = c.in_ok-rows.rows.items in
-    let order : List ℕ = c.in_ok-order.order.items in
-    let same = c.in_ok-judged.ensures.order ∙ c.deref-2.ensures.value in
-    let is = subst (λ (rs : List SettingRow). IsOrderOfRows lower U rs order) c.deref.ensures.value c.in_ok-order.ensures in (
-      subst (λ (os : List ℕ). IsNodeOrderBy lower U c.args.text.now os) (sym same) (node_order lower U c.args.text.now rows order c.in_ok-rows.ensures is),
-      c.in_ok-judged.ensures.judged,
-    )
+    let is = rw c.deref.ensures.value at c.judge_rows.ensures.judged in
+    judged_of_text c.args.set.now c.args.text.now c.in_ok-rows.rows.items c.in_ok-rows.ensures c.args.lower_is_higher c.judge_rows.result is
 
 pub returns-clause-numbers : goal.returns-clause-numbers
 returns-clause-numbers c =
-    let U = c.args.set.now in
-    let rows : List SettingRow = c.in_ok-rows.rows.items in
-    let same = c.in_ok-judged.ensures.order ∙ c.deref-2.ensures.value in
-    record {
-      rows = rows;
-      read = c.in_ok-rows.ensures;
-      each = c.in_ok-numbers.ensures
-          ∙ ap (λ (rs : List SettingRow). map (thread_number U (threads_of rs)) c.deref-4.result.now) c.deref-3.ensures.value
-          ∙ ap (λ (os : List ℕ). map (thread_number U (threads_of rows)) os) (c.deref-4.ensures.value ∙ sym same);
-    }
-
-pub returns-clause-within : goal.returns-clause-within
-returns-clause-within c = λ k d lt.
-    let judged : List JudgedTask = c.in_ok-judged.judged.items in
-    let same = c.in_ok-judged.ensures.order ∙ c.deref-2.ensures.value in
-    let each = subst (λ (order : List ℕ). IsOrder c.args.set.now order) (sym same) c.in_ok-order.ensures.by_numbers.each_once in
-    omega (arith, in_set c.args.set.now (order_judged judged) each k 0 (omega (arith, lt, length-map judged (λ (j : JudgedTask). j.task))), get_or-map (λ (j : JudgedTask). j.task) judged k d 0 lt, c.in_ok-table.ensures.few)
+    let is = rw c.deref.ensures.value at c.judge_rows.ensures.numbers in
+    numbers_of_text c.args.set.now c.args.text.now c.in_ok-rows.rows.items c.in_ok-rows.ensures c.judge_rows.result is

@@ -7,6 +7,7 @@ use Rattle.miss.specs.Shown.{IsTooLong}
 use Rattle.miss.proofs.OrderLaws.{place_known}
 use Rattle.miss.proofs.ShownLaws.{part_in}
 use Rattle.miss.proofs.PlaceLaws.{passes_there, fails_there, stands_there, least_there, long_there, need_not_there, run_is}
+use Rattle.miss.proofs.NoneLaws.{none_there}
 use Rattle.miss.proofs.find.shown_at.Goals as goal
 
 pub passes-requires-clause-task : goal.passes-requires-clause-task
@@ -49,5 +50,12 @@ pub why_not-requires-clause-need_not : goal.why_not-requires-clause-need_not
 why_not-requires-clause-need_not c =
     let case = run_is c.args.set.now (get_or c.args.order.now c.args.place 0) (take (length c.args.order.now - (c.args.place + 1)) (drop (c.args.place + 1) c.args.order.now)) c.in_ok-run.field-0 c.in-Some-2.run' c.in-Some-2.is c.in_ok-run.ensures.some in
     need_not_there c.args.set.now c.args.order.now c.requires.order c.sheets.ensures.kept c.args.place (c.args.place + 1) c.requires.place (omega arith)
+    c.args.kernel.now c.requires.kernel c.in-Some-2.run'.releases.items c.in-Some-2.run'.until case.0 case.1
+    (subst (λ o. IfNone o (HasMiss c.args.kernel.now c.in-Some-2.run'.releases.items c.in-Some-2.run'.until (get_or c.args.order.now c.args.place 0) → ⊥)) c.in_default-2.is c.in_ok-job.ensures.none)
+
+pub why_not-requires-clause-none : goal.why_not-requires-clause-none
+why_not-requires-clause-none c =
+    let case = run_is c.args.set.now (get_or c.args.order.now c.args.place 0) (take (length c.args.order.now - (c.args.place + 1)) (drop (c.args.place + 1) c.args.order.now)) c.in_ok-run.field-0 c.in-Some-2.run' c.in-Some-2.is c.in_ok-run.ensures.some in
+    none_there c.args.set.now c.args.order.now c.requires.order c.sheets.ensures.kept c.args.place (c.args.place + 1) c.requires.place (omega arith)
     c.args.kernel.now c.requires.kernel c.in-Some-2.run'.releases.items c.in-Some-2.run'.until case.0 case.1
     (subst (λ o. IfNone o (HasMiss c.args.kernel.now c.in-Some-2.run'.releases.items c.in-Some-2.run'.until (get_or c.args.order.now c.args.place 0) → ⊥)) c.in_default-2.is c.in_ok-job.ensures.none)

@@ -13,7 +13,7 @@ passes-holds-requires-clause-task c = place_known c.args.set.now c.args.order.no
 
 pub returns-then-not-holds-clause-some : goal.returns-then-not-holds-clause-some
 returns-then-not-holds-clause-some c =
-    fails_above_at c.args.set.now c.args.order.now c.requires.order c.sheets.ensures.kept c.args.place c.loop-higher.higher (omega arith) c.loop-higher-test.true
+    fails_above_at c.args.set.now c.args.order.now c.requires.order c.sheets.ensures.kept c.args.place c.loop-higher.higher (omega arith) c.loop-higher-test.true c.loop-higher.invariant
     (fails_there c.args.set.now c.args.order.now c.requires.order c.sheets.ensures.kept c.loop-higher.higher c.loop-higher-test.true (indexes_of c.members_above-above.result) c.members_above-above.ensures
     (λ p. both_ways _ c.if-not-holds.true (c.passes-holds.ensures.1 p)))
 

@@ -2,7 +2,7 @@ use Rattle.std.proofs.Common.{◌≡◌, ℕ, ◌+◌, ◌<◌, List, ◌++◌, 
 use Rattle.judge.specs.Explained.{AreLevels}
 use Rattle.judge.specs.Judgements.{AllJudged}
 use Rattle.judge.specs.declared.judging.JudgedTask.{JudgedTask}
-use Rattle.judge.proofs.explained.asked_levels.Given as goal
+use Rattle.judge.proofs.explained.levels_text.Given as goal
 
 -- with the lines of the levels that are left, those so far are the lines of all
 abbrev pub invariant-loop-entry : goal.invariant-loop-entry
@@ -10,7 +10,7 @@ invariant-loop-entry l = record {
   each : AllJudged l.set l.rest;
   within : All (λ (j : JudgedTask). j.task < length l.set) l.rest;
   counted : l.number + length l.rest ≡ 1 + length l.judged;
-  whole : (more : List ℕ) → AreLevels l.set l.asked l.number l.rest more → AreLevels l.set l.asked 1 l.judged (string_bytes l.text ++ more);
+  whole : (more : List ℕ) → AreLevels l.parted l.set l.asked l.number l.rest more → AreLevels l.parted l.set l.asked 1 l.judged (string_bytes l.text ++ more);
 }
 
 abbrev pub decreases-loop-entry : goal.decreases-loop-entry
