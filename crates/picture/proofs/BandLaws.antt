@@ -8,9 +8,10 @@ use Rattle.ceiling_kernel.specs.declared.trace.JobRecord.{JobRecord}
 use Rattle.ceiling_kernel.specs.declared.trace.Release.{Release}
 use Rattle.pieces.specs.Bands.{all_of, arrival_of, joins, stretch_of, is_banded}
 use Rattle.picture.specs.declared.rows.TaskRow.{TaskRow}
+use Rattle.picture.specs.declared.rows.Spot.{Spot}
 use Rattle.picture.specs.declared.marks.Mark.{Mark}
 use Rattle.picture.specs.Frame.{Frame}
-use Rattle.picture.specs.Rows.{record_at, on_row}
+use Rattle.picture.specs.Rows.{record_at, on_spot}
 use Rattle.picture.specs.Elements.{job_text, mark_text}
 use Rattle.picture.specs.Bands.{gap_of, band_with, band_text, stand_text, place_text}
 use Rattle.picture.specs.Document.{mark_alone}
@@ -19,14 +20,14 @@ use Rattle.picture.specs.Document.{mark_alone}
 pub stands_in_band : (f : Frame) (first : JobRecord) (jobs : List JobRecord) (k : ℕ) (row : TaskRow) (count latest done greatest : ℕ)
     → count ≡ length (all_of first.name jobs) → latest ≡ greatest_of arrival_of (all_of first.name jobs)
     → done ≡ length (done_of first.name jobs) → greatest ≡ greatest_of response_of (done_of first.name jobs) → 1 < count
-    → band_with f k row first count latest done greatest ≡ stand_text f first jobs k row
+    → band_with f k row first jobs count latest done greatest ≡ stand_text f first jobs k row
 stands_in_band f first jobs k row count latest done greatest is last are most lt =
     let all = all_of first.name jobs in
     let reached = done_of first.name jobs in
-    ap (λ (n : ℕ). band_with f k row first n latest done greatest) is
-    ∙ ap (λ (n : ℕ). band_with f k row first (length all) n done greatest) last
-    ∙ ap (λ (n : ℕ). band_with f k row first (length all) (greatest_of arrival_of all) n greatest) are
-    ∙ ap (λ (n : ℕ). band_with f k row first (length all) (greatest_of arrival_of all) (length reached) n) most
+    ap (λ (n : ℕ). band_with f k row first jobs n latest done greatest) is
+    ∙ ap (λ (n : ℕ). band_with f k row first jobs (length all) n done greatest) last
+    ∙ ap (λ (n : ℕ). band_with f k row first jobs (length all) (greatest_of arrival_of all) n greatest) are
+    ∙ ap (λ (n : ℕ). band_with f k row first jobs (length all) (greatest_of arrival_of all) (length reached) n) most
     ∙ sym (ap (λ (b : Bool). if b then band_text f first jobs k row else job_text f first k row) (ap (λ (n : ℕ). nat_lt 1 n) (sym is) ∙ lt-ltb 1 count lt))
 
 -- a job that joins none before it stands at its place
@@ -40,9 +41,9 @@ apart_text f jobs i k row gap joined first stretch gap_is joined_is apart first_
     (ap (λ (g : ℕ). joins g jobs i) (sym gap_is) ∙ sym joined_is ∙ apart))
 
 -- a job that stands alone has marks
-pub alone_mark : (f : Frame) (rows : List TaskRow) (jobs : List JobRecord) (mark : Mark) (i : ℕ) (r it : Release) (gap : ℕ) (banded : Bool) → gap ≡ gap_of f → banded ≡ is_banded gap jobs i → banded ≡ false → it ≡ r
-    → on_row rows it.name (mark_text f mark it) ≡ mark_alone f rows jobs mark i r
-alone_mark f rows jobs mark i r it gap banded gap_is banded_is alone is =
-    ap (λ (x : Release). on_row rows x.name (mark_text f mark x)) is
-    ∙ sym (ap (λ (b : Bool). if b then [] else on_row rows r.name (mark_text f mark r))
+pub alone_mark : (f : Frame) (rows : List TaskRow) (shown : List ℕ) (jobs : List JobRecord) (mark : Mark) (i : ℕ) (r it : Release) (gap : ℕ) (banded : Bool) → gap ≡ gap_of f → banded ≡ is_banded gap jobs i → banded ≡ false → it ≡ r
+    → on_spot rows shown it.name (λ (s : Spot). mark_text f mark it s.k) ≡ mark_alone f rows shown jobs mark i r
+alone_mark f rows shown jobs mark i r it gap banded gap_is banded_is alone is =
+    ap (λ (x : Release). on_spot rows shown x.name (λ (s : Spot). mark_text f mark x s.k)) is
+    ∙ sym (ap (λ (b : Bool). if b then [] else on_spot rows shown r.name (λ (s : Spot). mark_text f mark r s.k))
     (ap (λ (g : ℕ). is_banded g jobs i) (sym gap_is) ∙ sym banded_is ∙ alone))

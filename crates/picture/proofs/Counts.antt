@@ -9,7 +9,7 @@ use Rattle.ceiling_kernel.specs.declared.trace.Slice.{Slice}
 use Rattle.picture.specs.Frame.{Frame}
 use Rattle.picture.specs.declared.rows.TaskRow.{TaskRow}
 use Rattle.picture.specs.Sections.{slice_at, executed_in, executed_with, counted, ticks_of, AreUncounted}
-use Rattle.picture.specs.Rows.{on_row}
+use Rattle.picture.specs.Rows.{on_spot}
 use Rattle.picture.specs.Elements.{slice_text}
 use Rattle.picture.specs.Document.{slice_by, slice_in, of_job}
 
@@ -45,10 +45,10 @@ pub counted_at : (ticks : List ℕ) (s : Slice) (j : ℕ) → j < length ticks �
 counted_at ticks s j lt = at-cases ticks s j lt (cases_lt s.job (length ticks)) (cases_eq s.job j)
 
 -- a slice of no job has no text, whatever was executed before it
-pub slice_by_none : (f : Frame) (locks : List (List ℕ)) (rows : List TaskRow) (jobs : List JobRecord) (d e : ℕ) (s : Slice) → length jobs ≤ s.job → slice_by f locks rows jobs d s ≡ slice_by f locks rows jobs e s
-slice_by_none f locks rows jobs d e s past =
-    ap (of_job (λ job. on_row rows job.name (slice_text f locks d s))) (slice_get_past jobs s.job past)
-    ∙ sym (ap (of_job (λ job. on_row rows job.name (slice_text f locks e s))) (slice_get_past jobs s.job past))
+pub slice_by_none : (f : Frame) (locks : List (List ℕ)) (rows : List TaskRow) (shown : List ℕ) (jobs : List JobRecord) (d e : ℕ) (s : Slice) → length jobs ≤ s.job → slice_by f locks rows shown jobs d s ≡ slice_by f locks rows shown jobs e s
+slice_by_none f locks rows shown jobs d e s past =
+    ap (of_job (λ job. on_spot rows shown job.name (slice_text f locks d s))) (slice_get_past jobs s.job past)
+    ∙ sym (ap (of_job (λ job. on_spot rows shown job.name (slice_text f locks e s))) (slice_get_past jobs s.job past))
 
 -- the counts are those of the first n slices
 pub record AreCounts (ticks : List ℕ) (jobs : List JobRecord) (slices : List Slice) (n : ℕ) : Type 0 where
@@ -71,15 +71,15 @@ one_counted ticks jobs slices n s is counts = record {
       ∙ sym (executed_more slices n j);
 }
 
-text-cases : (f : Frame) (locks : List (List ℕ)) (rows : List TaskRow) (jobs : List JobRecord) (slices : List Slice) (ticks : List ℕ) (n : ℕ) → AreCounts ticks jobs slices n
+text-cases : (f : Frame) (locks : List (List ℕ)) (rows : List TaskRow) (shown : List ℕ) (jobs : List JobRecord) (slices : List Slice) (ticks : List ℕ) (n : ℕ) → AreCounts ticks jobs slices n
     → ((slice_at slices n).job < length jobs) ⊎ (length jobs ≤ (slice_at slices n).job)
-    → slice_by f locks rows jobs (slice_index ticks (slice_at slices n).job) (slice_at slices n) ≡ slice_in f locks rows jobs slices n
-text-cases f locks rows jobs slices ticks n counts (inl lt) = ap (λ (e : ℕ). slice_by f locks rows jobs e (slice_at slices n)) (counts.each_job (slice_at slices n).job lt)
-text-cases f locks rows jobs slices ticks n counts (inr past) = slice_by_none f locks rows jobs (slice_index ticks (slice_at slices n).job) (executed_in slices n (slice_at slices n).job) (slice_at slices n) past
+    → slice_by f locks rows shown jobs (slice_index ticks (slice_at slices n).job) (slice_at slices n) ≡ slice_in f locks rows shown jobs slices n
+text-cases f locks rows shown jobs slices ticks n counts (inl lt) = ap (λ (e : ℕ). slice_by f locks rows shown jobs e (slice_at slices n)) (counts.each_job (slice_at slices n).job lt)
+text-cases f locks rows shown jobs slices ticks n counts (inr past) = slice_by_none f locks rows shown jobs (slice_index ticks (slice_at slices n).job) (executed_in slices n (slice_at slices n).job) (slice_at slices n) past
 
 -- with these counts, a slice has its text
-pub counted_text : (f : Frame) (locks : List (List ℕ)) (rows : List TaskRow) (jobs : List JobRecord) (slices : List Slice) (ticks : List ℕ) (n : ℕ) (s : Slice) → s ≡ slice_at slices n → AreCounts ticks jobs slices n
-    → slice_by f locks rows jobs (slice_index ticks s.job) s ≡ slice_in f locks rows jobs slices n
-counted_text f locks rows jobs slices ticks n s is counts =
-    ap (λ (x : Slice). slice_by f locks rows jobs (slice_index ticks x.job) x) is
-    ∙ text-cases f locks rows jobs slices ticks n counts (cases_lt (slice_at slices n).job (length jobs))
+pub counted_text : (f : Frame) (locks : List (List ℕ)) (rows : List TaskRow) (shown : List ℕ) (jobs : List JobRecord) (slices : List Slice) (ticks : List ℕ) (n : ℕ) (s : Slice) → s ≡ slice_at slices n → AreCounts ticks jobs slices n
+    → slice_by f locks rows shown jobs (slice_index ticks s.job) s ≡ slice_in f locks rows shown jobs slices n
+counted_text f locks rows shown jobs slices ticks n s is counts =
+    ap (λ (x : Slice). slice_by f locks rows shown jobs (slice_index ticks x.job) x) is
+    ∙ text-cases f locks rows shown jobs slices ticks n counts (cases_lt (slice_at slices n).job (length jobs))

@@ -1,22 +1,22 @@
 -- Jobs of a task that are too close to be drawn apart: they are one band.
-use Rattle.std.specs.Prelude.{ℕ, ◌+◌, ◌-◌, ◌*◌, ◌/◌, nat_le, nat_lt, ◌==◌, if◌then◌else◌, Option, Some, None, List, [], ◌∷◌, ◌++◌, length, codes}
+use Rattle.std.specs.Prelude.{ℕ, ◌+◌, ◌-◌, ◌*◌, ◌/◌, Bool, ◌&&◌, nat_lt, ◌==◌, if◌then◌else◌, Option, Some, None, List, [], ◌∷◌, ◌++◌, length, codes}
 use Rattle.std.specs.Fmt.{decimal}
-use Rattle.std.specs.List.{concat}
+use Rattle.std.specs.List.{concat, list_any}
 use Rattle.task_sheet.specs.Demand.{greatest_of}
 use Rattle.run_lines.specs.Lines.{greatest_words}
 use Rattle.run_lines.specs.Reached.{done_of, response_of}
 use Rattle.ceiling_kernel.specs.declared.trace.JobRecord.{JobRecord}
-use Rattle.pieces.specs.Bands.{all_of, arrival_of, joins, stretch_of}
+use Rattle.pieces.specs.Bands.{is_of, all_of, arrival_of, joins, stretch_of}
 use Rattle.picture.specs.declared.rows.TaskRow.{TaskRow}
-use Rattle.picture.specs.Frame.{Frame, x_of, right_of, top_of}
+use Rattle.picture.specs.Frame.{Frame, x_of, is_in, sees, right_of, top_of}
 use Rattle.picture.specs.Rows.{record_at}
 use Rattle.picture.specs.Boxes.{span_text}
 use Rattle.picture.specs.Numbers.{millis_text}
-use Rattle.picture.specs.Elements.{limit_of, limit_words, goes_on, job_text}
+use Rattle.picture.specs.Elements.{limit_of, limit_words, back_sign, goes_on, on_sign, job_text}
 
 -- how many microseconds 20 pixels are: arrivals of a task that are less apart are too close
 abbrev pub gap_of : Frame → ℕ
-gap_of f = 200 * f.until / f.span
+gap_of f = 200 * (f.to - f.from) / f.span
 
 -- the box of a band of row k, from its first arrival up to the bound or deadline of the latest
 abbrev pub band_box : Frame → (k : ℕ) → TaskRow → (first latest : ℕ) → List ℕ
@@ -72,16 +72,24 @@ bracket_at x k =
 -- one at a bound behind the latest arrival, where that is in the picture
 abbrev pub bracket_text : Frame → (k latest bound : ℕ) → List ℕ
 bracket_text f k latest bound =
-    if nat_le (latest + bound) f.until then bracket_at (x_of f (latest + bound)) k else []
+    if is_in f (latest + bound) then bracket_at (x_of f (latest + bound)) k else []
 
 -- the same, if there is a bound
 abbrev pub last_bound : Frame → (k latest : ℕ) → Option ℕ → List ℕ
 last_bound f k latest None = []
 last_bound f k latest (Some bound) = bracket_text f k latest bound
 
--- a sign at the end where some job of a band goes on
-abbrev pub band_on : Frame → (k count done : ℕ) → List ℕ
-band_on f k count done = if nat_lt done count then goes_on f k else []
+-- of some jobs one of the task with a name goes on behind the window
+abbrev pub any_on : Frame → List ℕ → List JobRecord → Bool
+any_on f name jobs = list_any (λ job. is_of name job && goes_on f job.finish) jobs
+
+-- a sign at the beginning, before which the first job of a band arrives
+abbrev pub band_back : Frame → (k first : ℕ) → List ℕ
+band_back f k first = if nat_lt first f.from then back_sign f k else []
+
+-- one at the end, behind which some job of it goes on
+abbrev pub band_on : Frame → (k : ℕ) → List ℕ → List JobRecord → List ℕ
+band_on f k name jobs = if any_on f name jobs then on_sign f k else []
 
 -- what stands below a band, of a first job
 abbrev pub label_of : Frame → (k : ℕ) → TaskRow → JobRecord → (count latest done greatest : ℕ) → List ℕ
@@ -89,17 +97,24 @@ label_of f k row first count latest done greatest =
     band_label (x_of f first.release) (right_of f first.release (latest + limit_of row)) k count
     done greatest
 
--- a band in row k
-abbrev pub band_with : Frame → (k : ℕ) → TaskRow → JobRecord → (count latest done greatest : ℕ) → List ℕ
-band_with f k row first count latest done greatest =
+-- the band of those of some jobs that are of the first one's task, whose box is in the window
+abbrev pub seen_band : Frame → (k : ℕ) → TaskRow → JobRecord → List JobRecord → (count latest done greatest : ℕ) → List ℕ
+seen_band f k row first jobs count latest done greatest =
     band_box f k row first.release latest ++ band_title row first count latest done greatest
     ++ label_of f k row first count latest done greatest ++ last_bound f k latest row.bound
-    ++ band_on f k count done
+    ++ band_back f k first.release ++ band_on f k first.name jobs
 
--- the band of those of some jobs that are of the first one's task
+-- the same of any band
+abbrev pub band_with : Frame → (k : ℕ) → TaskRow → JobRecord → List JobRecord → (count latest done greatest : ℕ) → List ℕ
+band_with f k row first jobs count latest done greatest =
+    if sees f first.release (latest + limit_of row)
+    then seen_band f k row first jobs count latest done greatest
+    else []
+
+-- with what its jobs come to
 abbrev pub band_text : Frame → JobRecord → List JobRecord → ℕ → TaskRow → List ℕ
 band_text f first jobs k row =
-    band_with f k row first (length (all_of first.name jobs))
+    band_with f k row first jobs (length (all_of first.name jobs))
     (greatest_of arrival_of (all_of first.name jobs)) (length (done_of first.name jobs))
     (greatest_of response_of (done_of first.name jobs))
 

@@ -1,20 +1,27 @@
 -- How time and rows lie in the picture, in units of which ten are a pixel.
-use Rattle.std.specs.Prelude.{ℕ, ◌+◌, ◌-◌, ◌*◌, ◌/◌, ◌%◌, ◌<◌, ◌≤◌, min, max, Bool, nat_le, ◌==◌, if◌then◌else◌, List, [], ◌∷◌, length, codes}
+use Rattle.std.specs.Prelude.{ℕ, ◌+◌, ◌-◌, ◌*◌, ◌/◌, ◌%◌, ◌<◌, ◌≤◌, min, max, Bool, ◌&&◌, nat_le, nat_lt, ◌==◌, if◌then◌else◌, Option, Some, None, List, [], ◌∷◌, length, codes}
 use Rattle.ceiling_kernel.specs.declared.accept.TheConstants.{HORIZON}
 use Rattle.task_sheet.specs.declared.set.TheConstants.{TASK_LIMIT}
-use Rattle.picture.specs.declared.frame.TheConstants.{LONGEST_PERIOD, NARROWEST, RIGHTMOST, WIDEST_MARGIN, WIDEST_DECADE}
+use Rattle.picture.specs.declared.frame.TheConstants.{LONGEST_PERIOD, NARROWEST, WIDEST, RIGHTMOST, WIDEST_MARGIN, WIDEST_DECADE}
 use Rattle.picture.specs.declared.rows.TaskRow.{TaskRow}
+use Rattle.picture.specs.declared.view.View.{View}
+use Rattle.picture.specs.View.{end_of_run, window_end}
 
--- a span of time in microseconds, where it begins and how wide it is, and how many rows there are
+-- when a run ends, and the window of it, in microseconds; where the window begins and how wide it is, and how many
+-- tasks there are
 pub record Frame : Type 0 where
   pub until : ℕ
+  pub from : ℕ
+  pub to : ℕ
   pub left : ℕ
   pub span : ℕ
   pub count : ℕ
 
--- there is some time, within the horizon, and the picture's width is within its limits
+-- there is some time in the window, which ends with the run, within the horizon, and the picture's width is within its
+-- limits
 pub record IsFrame (f : Frame) : Type 0 where
-  pub some : 0 < f.until
+  pub some : f.from < f.to
+  pub inside : f.to ≤ f.until
   pub within : f.until ≤ HORIZON
   pub margin : f.left ≤ WIDEST_MARGIN
   pub wide : NARROWEST ≤ f.left + f.span
@@ -35,24 +42,48 @@ longest_name most (row ∷ rows) = longest_name (max most (length row.sheet.name
 abbrev pub left_of : ℕ → ℕ
 left_of letters = min (620 + max (78 * letters) 1340) WIDEST_MARGIN
 
--- the frame of a run up to a time: the shortest period is 24 pixels wide where the picture is from 960 to 1,600 then
-abbrev pub frame_until : (count left least until : ℕ) → Frame
-frame_until count left least until = record {
+-- how wide so much time is, to the right of a margin: so many pixels in all, where that is said; else the shortest period
+-- is 24 pixels wide where the picture is from 960 to 1,600 then
+abbrev pub span_of : (width : Option ℕ) → (left least time : ℕ) → ℕ
+span_of None left least time = max (min (240 * time / least) (WIDEST - left)) (NARROWEST - left)
+span_of (Some width) left least time = max (min (10 * width - 200) RIGHTMOST) NARROWEST - left
+
+-- the frame of a run up to a time, and of a window of it
+abbrev pub frame_in : (width : Option ℕ) → (count left least until from to : ℕ) → Frame
+frame_in width count left least until from to = record {
   until = until;
+  from = from;
+  to = to;
   left = left;
-  span = max (min (240 * until / least) (RIGHTMOST - left)) (NARROWEST - left);
+  span = span_of width left least (to - from);
   count = count;
 }
 
--- the frame of a run of these rows: at least a microsecond long, and within the horizon
-abbrev pub frame_of : List TaskRow → ℕ → Frame
-frame_of rows until =
-    frame_until (length rows) (left_of (longest_name 0 rows))
-    (max (least_period LONGEST_PERIOD rows) 1) (max (min until HORIZON) 1)
+-- where the window ends, and where it begins: there is some time between
+abbrev pub frame_to : View → (until : ℕ) → ℕ
+frame_to v until = max (window_end v until) 1
 
--- where a time lies; later ones lie at the end
+abbrev pub frame_from : View → (until : ℕ) → ℕ
+frame_from v until = min v.from (frame_to v until - 1)
+
+-- the frame of a view of a run of these rows
+abbrev pub frame_of : List TaskRow → View → (until : ℕ) → Frame
+frame_of rows v until =
+    frame_in v.width (length rows) (left_of (longest_name 0 rows))
+    (max (least_period LONGEST_PERIOD rows) 1) (end_of_run until) (frame_from v until)
+    (frame_to v until)
+
+-- where a time lies; those before the window lie at its beginning, and those behind it at its end
 abbrev pub x_of : Frame → ℕ → ℕ
-x_of f time = f.left + min time f.until * f.span / f.until
+x_of f time = f.left + (min (max time f.from) f.to - f.from) * f.span / (f.to - f.from)
+
+-- a time is in the window
+abbrev pub is_in : Frame → (time : ℕ) → Bool
+is_in f time = nat_le f.from time && nat_le time f.to
+
+-- a span of time that has a tick is partly in it
+abbrev pub sees : Frame → (start stop : ℕ) → Bool
+sees f start stop = nat_lt start f.to && nat_lt f.from stop
 
 -- where the end lies
 abbrev pub frame_end : Frame → ℕ
@@ -66,18 +97,18 @@ right_of f start stop = max (x_of f stop) (x_of f start + 5)
 abbrev pub top_of : ℕ → ℕ
 top_of k = 1690 + 480 * k
 
--- the level of a row, from the lowest row up
-abbrev pub level_of : Frame → ℕ → ℕ
-level_of f k = f.count - k
+-- the level of a task by its rank, from the highest level down
+abbrev pub level_of : Frame → (rank : ℕ) → ℕ
+level_of f rank = f.count - rank
 
--- the tone of a row's task, of ten
-abbrev pub tone_of : ℕ → ℕ
-tone_of k = k % 10
+-- its tone, of ten
+abbrev pub tone_of : (rank : ℕ) → ℕ
+tone_of rank = rank % 10
 
 -- ---- the scale
 -- a step is at least 80 pixels wide
 abbrev pub is_wide : Frame → ℕ → Bool
-is_wide f step = nat_le (800 * f.until) (step * f.span)
+is_wide f step = nat_le (800 * (f.to - f.from)) (step * f.span)
 
 -- the least power of ten of which five are wide enough; a second, where none is less
 abbrev pub decade_of : Frame → ℕ
@@ -98,6 +129,10 @@ step_in f power =
 -- the scale's step, in microseconds: the first of 1, 2, 5, 10, 20, 50 .. that is wide enough
 abbrev pub step_of : Frame → ℕ
 step_of f = step_in f (decade_of f)
+
+-- how many steps lie before the window
+abbrev pub steps_before : Frame → (step : ℕ) → ℕ
+steps_before f step = (f.from + step - 1) / step
 
 -- how many microseconds the scale's unit has: the step is a whole number of it
 abbrev pub unit_of : ℕ → ℕ

@@ -4,18 +4,23 @@ use Rattle.std.specs.Fmt.{decimal}
 use Rattle.std.specs.List.{concat}
 use Rattle.ceiling_kernel.specs.declared.trace.Slice.{Slice}
 use Rattle.picture.specs.declared.rows.TaskRow.{TaskRow}
-use Rattle.picture.specs.Frame.{Frame, x_of, frame_end, level_of, tone_of}
+use Rattle.picture.specs.Frame.{Frame, x_of, sees, frame_end, level_of, tone_of}
+use Rattle.pieces.specs.Pieces.{clipped}
 use Rattle.picture.specs.Sections.{ticks_of}
 use Rattle.picture.specs.Boxes.{box_path}
 
--- for how long slices execute, and what was before: no more than passed until then
-abbrev pub busy_from : ℕ → List Slice → ℕ
-busy_from before [] = before
-busy_from before (s ∷ slices) = busy_from (min before s.start + ticks_of s) slices
+-- for how long a slice executes in the window, and what was before: no more than passed until then
+abbrev pub busy_with : Frame → ℕ → Slice → ℕ
+busy_with f before s = min before s.start + ticks_of (clipped f.from f.to s)
 
--- for how much of the time slices execute, in thousandths
+-- the same of some slices
+abbrev pub busy_from : Frame → ℕ → List Slice → ℕ
+busy_from f before [] = before
+busy_from f before (s ∷ slices) = busy_from f (busy_with f before s) slices
+
+-- for how much of the window slices execute, in thousandths
 abbrev pub busy_of : Frame → List Slice → ℕ
-busy_of f slices = 1000 * min (busy_from 0 slices) f.until / f.until
+busy_of f slices = 1000 * min (busy_from f 0 slices) (f.to - f.from) / (f.to - f.from)
 
 -- the lane's name, how busy it is, and its line
 abbrev pub lane_head : Frame → List Slice → List ℕ
@@ -64,7 +69,11 @@ lane_label x right level row =
     if nat_le (66 * length row.sheet.name + 60) (right - x) then lane_word x right row.sheet.name
     else if nat_le (level_room level) (right - x) then lane_word x right (decimal level) else []
 
--- a slice of a row's task
-abbrev pub lane_text : Frame → Slice → ℕ → TaskRow → List ℕ
-lane_text f s k row =
+-- a slice of a row's task, in the window
+abbrev pub seen_lane : Frame → Slice → ℕ → TaskRow → List ℕ
+seen_lane f s k row =
     lane_bar f s k row ++ lane_label (x_of f s.start) (lane_right f s) (level_of f k) row
+
+-- the same of any slice
+abbrev pub lane_text : Frame → Slice → ℕ → TaskRow → List ℕ
+lane_text f s k row = if sees f s.start s.stop then seen_lane f s k row else []

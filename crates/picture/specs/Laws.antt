@@ -1,5 +1,5 @@
 -- What the darker ticks and the missed deadlines mean, how wide a picture is, and that names stand in it as they are.
-use Rattle.std.specs.Prelude.{◌≡◌, ℕ, ◌+◌, ◌<◌, ◌≤◌, ◌↔◌, Bool, false, Some, None, not, ◌&&◌, ◌==◌, nat_le, nat_lt, List, IsTrue}
+use Rattle.std.specs.Prelude.{◌≡◌, ℕ, ◌+◌, ◌*◌, ◌<◌, ◌≤◌, ◌↔◌, Bool, false, Some, None, not, ◌&&◌, ◌==◌, nat_le, nat_lt, List, IsTrue}
 use Rattle.std.specs.List.{list_all}
 use Rattle.task_sheet.specs.Sheet.{CriticalSection}
 use Rattle.task_sheet.specs.Name.{IsName}
@@ -7,6 +7,7 @@ use Rattle.ceiling_kernel.specs.Tick.{is_inside}
 use Rattle.ceiling_kernel.specs.declared.trace.Slice.{Slice}
 use Rattle.ceiling_kernel.specs.declared.trace.JobRecord.{JobRecord}
 use Rattle.picture.specs.declared.rows.TaskRow.{TaskRow}
+use Rattle.picture.specs.declared.view.View.{View}
 use Rattle.picture.specs.Frame.{Frame, frame_of}
 use Rattle.picture.specs.Sections.{ticks_of, dark_from, dark_to}
 use Rattle.picture.specs.Misses.{is_late}
@@ -38,11 +39,15 @@ AreMissesShown =
     → is_late f row job ≡ nat_lt (job.release + row.sheet.deadline) finish)
     × (job.finish ≡ None → is_late f row job ≡ nat_le (job.release + row.sheet.deadline) f.until)
 
--- a picture is from 960 to 1,600 pixels wide, of which each has ten units
+-- a picture is as wide as its view says, from 960 to 16,000 pixels, of which each has ten units; where it says nothing, from
+-- 960 to 1,600
 abbrev pub HasWidth : Type 0
 HasWidth =
-    (rows : List TaskRow) (until : ℕ) → (9600 ≤ width_of (frame_of rows until))
-    × (width_of (frame_of rows until) ≤ 16000)
+    (rows : List TaskRow) (v : View) (until : ℕ)
+    → (v.width ≡ None → (9600 ≤ width_of (frame_of rows v until))
+    × (width_of (frame_of rows v until) ≤ 16000))
+    × ((width : ℕ) → v.width ≡ Some width → 960 ≤ width → width ≤ 16000
+    → width_of (frame_of rows v until) ≡ 10 * width)
 
 -- a byte that stands for itself in text and between quotes: none of & < > " '
 abbrev pub is_plain : ℕ → Bool

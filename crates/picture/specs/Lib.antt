@@ -1,8 +1,10 @@
 pub mod Puts
+pub mod View
 pub mod Frame
 pub mod Rows
 pub mod Sections
 pub mod Numbers
+pub mod Titles
 pub mod Boxes
 pub mod Locks
 pub mod Misses

@@ -108,7 +108,7 @@ locks_head bottom n =
     else concat (codes "<text x=\"100\" y=\"" ∷ decimal (bottom + 128) ∷ codes "\">holds a lock:</text>\n" ∷ [])
 
 -- the legend of the locks, as a group
-abbrev pub locks_group : Frame → List TaskRow → List (List ℕ) → List ℕ
+abbrev pub locks_group : Frame → (rows : ℕ) → List (List ℕ) → List ℕ
 locks_group f rows locks =
-    codes "<g id=\"k\">\n" ++ locks_head (top_of (length rows) + 120) (length locks)
-    ++ lock_texts f (top_of (length rows) + 120) locks ++ codes "</g>\n"
+    codes "<g id=\"k\">\n" ++ locks_head (top_of rows + 120) (length locks)
+    ++ lock_texts f (top_of rows + 120) locks ++ codes "</g>\n"

@@ -7,17 +7,18 @@ use Rattle.run_lines.specs.Lines.{greatest_words}
 use Rattle.run_lines.specs.Reached.{done_of, response_of}
 use Rattle.ceiling_kernel.specs.declared.trace.JobRecord.{JobRecord}
 use Rattle.picture.specs.declared.rows.TaskRow.{TaskRow}
+use Rattle.picture.specs.declared.rows.Spot.{Spot}
 use Rattle.picture.specs.Frame.{Frame, top_of, level_of, tone_of}
 use Rattle.picture.specs.Numbers.{millis_text, known_text}
 use Rattle.picture.specs.Misses.{missed_in}
 
 -- a row's level, and the tone of its task
-abbrev pub level_text : Frame → ℕ → List ℕ
-level_text f k =
-    concat (codes "<text class=\"v\" x=\"300\" y=\"" ∷ decimal (top_of k + 230) ∷ codes "\">"
-    ∷ decimal (level_of f k)
-    ∷ codes "</text><rect class=\"f" ∷ decimal (tone_of k) ∷ codes "\" x=\"350\" y=\""
-    ∷ decimal (top_of k + 130)
+abbrev pub level_text : Frame → Spot → List ℕ
+level_text f spot =
+    concat (codes "<text class=\"v\" x=\"300\" y=\"" ∷ decimal (top_of spot.k + 230) ∷ codes "\">"
+    ∷ decimal (level_of f spot.rank)
+    ∷ codes "</text><rect class=\"f" ∷ decimal (tone_of spot.rank) ∷ codes "\" x=\"350\" y=\""
+    ∷ decimal (top_of spot.k + 130)
     ∷ codes "\" width=\"100\" height=\"100\" rx=\"20\"/>\n" ∷ [])
 
 -- what the jobs of a row's task came to: how many are done, the greatest response among them, and the row's bound
@@ -65,7 +66,7 @@ second_line missed k row =
     if missed == 0 then limits_text k row row.bound else missed_words k missed
 
 -- a row's part of the margin
-abbrev pub margin_text : Frame → List JobRecord → ℕ → TaskRow → List ℕ
-margin_text f jobs k row =
-    level_text f k ++ name_text (missed_in f row jobs) jobs k row
-    ++ second_line (missed_in f row jobs) k row
+abbrev pub margin_text : Frame → List JobRecord → Spot → TaskRow → List ℕ
+margin_text f jobs spot row =
+    level_text f spot ++ name_text (missed_in f row jobs) jobs spot.k row
+    ++ second_line (missed_in f row jobs) spot.k row

@@ -1,5 +1,5 @@
 -- Why a job doesn't execute while it is ready: a task above executes, or one below that blocks it.
-use Rattle.std.specs.Prelude.{ℕ, ◌+◌, ◌-◌, min, Bool, false, ◌&&◌, ◌||◌, ◌==◌, nat_le, nat_lt, if◌then◌else◌, Option, Some, None, List, slice_get}
+use Rattle.std.specs.Prelude.{ℕ, ◌+◌, ◌-◌, ◌<◌, ◌≤◌, min, Bool, true, false, ◌&&◌, ◌||◌, ◌==◌, nat_le, nat_lt, if◌then◌else◌, Option, Some, None, List, [], ◌∷◌, slice_get}
 use Rattle.ceiling_kernel.specs.declared.trace.Release.{Release}
 use Rattle.ceiling_kernel.specs.declared.trace.JobRecord.{JobRecord}
 use Rattle.ceiling_kernel.specs.declared.trace.Slice.{Slice}
@@ -9,6 +9,7 @@ use Rattle.picture.specs.declared.waits.Stay.{Stay}
 use Rattle.picture.specs.declared.waits.Wait.{Wait}
 use Rattle.picture.specs.Frame.{Frame, x_of}
 use Rattle.picture.specs.Rows.{row_named, record_at}
+use Rattle.picture.specs.Sections.{slice_at}
 use Rattle.picture.specs.Misses.{ended}
 
 -- ---- which waits a job has
@@ -61,6 +62,16 @@ wait_at rows jobs slices stay n = wait_if rows jobs stay (slice_get slices n)
 -- the same in the slice before it
 abbrev pub wait_before : List TaskRow → List JobRecord → List Slice → Stay → ℕ → Option Wait
 wait_before rows jobs slices stay n = if n == 0 then None else wait_at rows jobs slices stay (n - 1)
+
+-- ---- in which slices a job can't wait
+-- slices begin one after the other, the first no earlier than a time
+abbrev pub rises : (before : ℕ) → List Slice → Bool
+rises before [] = true
+rises before (s ∷ slices) = nat_le before s.start && rises s.start slices
+
+-- the first n slices end by a time
+abbrev pub EndBy : List Slice → (n time : ℕ) → Type 0
+EndBy slices n time = (m : ℕ) → m < n → (slice_at slices m).stop ≤ time
 
 -- ---- which of them are one line
 -- a wait of row k for a task above is less than 4 pixels wide

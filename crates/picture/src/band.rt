@@ -1,15 +1,15 @@
 //! Jobs of a task that are too close to be drawn apart.
-ghost use Rattle.std.specs.Prelude.{◌≡◌, ◌+◌, ◌*◌, ◌<◌, ◌≤◌, length};
+ghost use Rattle.std.specs.Prelude.{◌≡◌, ◌+◌, ◌-◌, ◌*◌, ◌<◌, ◌≤◌, length};
 ghost use Rattle.picture.specs.declared.frame.TheConstants.{RIGHTMOST};
 ghost use Rattle.task_sheet.specs.declared.set.TheConstants.{TASK_LIMIT};
 ghost use Rattle.picture.specs.Puts.{Puts};
 ghost use Rattle.picture.specs.Rows.{record_at};
-ghost use Rattle.picture.specs.Bands.{gap_of, band_box, band_words, reached_words, band_title, longest_words, wide_words, count_word, band_label, bracket_at, bracket_text, last_bound, band_on, label_of, band_with, stand_text, place_text};
+ghost use Rattle.picture.specs.Bands.{gap_of, band_box, band_words, reached_words, band_title, longest_words, wide_words, count_word, band_label, bracket_at, bracket_text, last_bound, any_on, band_back, band_on, label_of, seen_band, band_with, stand_text, place_text};
 
 use crate::boxes::bar_of;
 use crate::chart::Lane;
-use crate::frame::{Frame, top_of, x_after, x_of};
-use crate::jobs::limit_of;
+use crate::frame::{Frame, is_before, sees_up_to, top_of, x_after, x_of};
+use crate::jobs::{goes_on, limit_of};
 use crate::marks::is_shown;
 use crate::numbers::Millis;
 use crate::page::Page;
@@ -18,31 +18,40 @@ use pieces::{Band, band_in, joins, stretch_of};
 use run_lines::{Outcome, outcome_of};
 use std::io::Write;
 use streams::WriteFailed;
+use task_sheet::Name;
 
 // How many microseconds 20 pixels are.
 pub(crate) fn gap_of(frame: Frame) -> u64
     ensures { result ≡ gap_of frame }
 {
-    200 * frame.until / frame.span
+    200 * (frame.to - frame.from) / frame.span
 }
 
 // The job at a place.
-fn job_at(jobs: &[JobRecord], i: usize) -> JobRecord
+pub(crate) fn job_at(jobs: &[JobRecord], i: usize) -> JobRecord
     requires { i < length jobs.now }
     ensures { result ≡ record_at jobs.now i }
 {
     jobs[i]
 }
 
+// Whether of some jobs one of the task with a name goes on behind the window.
+fn any_on(frame: Frame, name: Name, jobs: &[JobRecord]) -> bool
+    ensures { result ≡ any_on frame name jobs.now }
+{
+    jobs.iter()
+        .any(|job| job.name == name && goes_on(frame, job.finish))
+}
+
 impl<W: Write + Drop> Page<'_, W> {
     // The box of a band.
     fn put_band_box(&mut self, lane: &Lane<'_>, first: u64, latest: u64) -> Result<(), WriteFailed>
         ensures { Puts W.contents self.old self.new result
-            (band_box lane.now.frame lane.now.k lane.now.row.now first latest) }
+            (band_box lane.now.frame lane.now.spot.k lane.now.row.now first latest) }
     {
         let x = x_of(lane.frame, first);
         let right = x_after(lane.frame, latest, limit_of(lane.row));
-        let bar = bar_of(x, right, lane.k);
+        let bar = bar_of(x, right, lane.spot.k);
         write!(self.out, "<path class=\"l w\" d=\"{bar}\"><title>")
     }
 
@@ -154,13 +163,13 @@ impl<W: Write + Drop> Page<'_, W> {
         outcome: Outcome,
     ) -> Result<(), WriteFailed>
         ensures { Puts W.contents self.old self.new result
-            (label_of lane.now.frame lane.now.k lane.now.row.now first.now band.count band.latest
+            (label_of lane.now.frame lane.now.spot.k lane.now.row.now first.now band.count band.latest
             outcome.done outcome.greatest) }
     {
         let x = x_of(lane.frame, first.release);
         let end = x_after(lane.frame, band.latest, limit_of(lane.row));
-        let right = bar_of(x, end, lane.k).right;
-        self.put_band_label(x, right, lane.k, band.count, outcome)
+        let right = bar_of(x, end, lane.spot.k).right;
+        self.put_band_label(x, right, lane.spot.k, band.count, outcome)
     }
 
     // A bracket in row k.
@@ -195,24 +204,62 @@ impl<W: Write + Drop> Page<'_, W> {
     // The same, if there is a bound.
     fn put_last_bound(&mut self, lane: &Lane<'_>, latest: u64) -> Result<(), WriteFailed>
         ensures { Puts W.contents self.old self.new result
-            (last_bound lane.now.frame lane.now.k latest lane.now.row.now.bound) }
+            (last_bound lane.now.frame lane.now.spot.k latest lane.now.row.now.bound) }
     {
         match lane.row.bound {
             None => Ok(()),
-            Some(bound) => self.put_bracket(lane.frame, lane.k, latest, bound),
+            Some(bound) => self.put_bracket(lane.frame, lane.spot.k, latest, bound),
         }
     }
 
-    // A sign at the end where some job of a band goes on.
-    fn put_band_on(&mut self, lane: &Lane<'_>, count: usize, done: usize) -> Result<(), WriteFailed>
+    // A sign at the beginning, before which the first job of a band arrives.
+    fn put_band_back(&mut self, lane: &Lane<'_>, first: u64) -> Result<(), WriteFailed>
         ensures { Puts W.contents self.old self.new result
-            (band_on lane.now.frame lane.now.k count done) }
+            (band_back lane.now.frame lane.now.spot.k first) }
     {
-        if done < count {
-            self.put_goes_on(lane)
+        if is_before(lane.frame, first) {
+            self.put_back_sign(lane.frame, lane.spot.k)
         } else {
             Ok(())
         }
+    }
+
+    // One at the end, behind which some job of it goes on.
+    fn put_band_on(
+        &mut self,
+        lane: &Lane<'_>,
+        name: Name,
+        jobs: &[JobRecord],
+    ) -> Result<(), WriteFailed>
+        ensures { Puts W.contents self.old self.new result
+            (band_on lane.now.frame lane.now.spot.k name jobs.now) }
+    {
+        if any_on(lane.frame, name, jobs) {
+            self.put_on_sign(lane.frame, lane.spot.k)
+        } else {
+            Ok(())
+        }
+    }
+
+    // A band whose box is in the window.
+    fn put_seen_band(
+        &mut self,
+        lane: &Lane<'_>,
+        first: &JobRecord,
+        jobs: &[JobRecord],
+        band: Band,
+        outcome: Outcome,
+    ) -> Result<(), WriteFailed>
+        ensures { Puts W.contents self.old self.new result
+            (seen_band lane.now.frame lane.now.spot.k lane.now.row.now first.now jobs.now
+            band.count band.latest outcome.done outcome.greatest) }
+    {
+        self.put_band_box(lane, first.release, band.latest)?;
+        self.put_band_title(lane, first, band, outcome)?;
+        self.put_label_of(lane, first, band, outcome)?;
+        self.put_last_bound(lane, band.latest)?;
+        self.put_band_back(lane, first.release)?;
+        self.put_band_on(lane, first.name, jobs)
     }
 
     // A band.
@@ -220,18 +267,19 @@ impl<W: Write + Drop> Page<'_, W> {
         &mut self,
         lane: &Lane<'_>,
         first: &JobRecord,
+        jobs: &[JobRecord],
         band: Band,
         outcome: Outcome,
     ) -> Result<(), WriteFailed>
         ensures { Puts W.contents self.old self.new result
-            (band_with lane.now.frame lane.now.k lane.now.row.now first.now band.count band.latest
-            outcome.done outcome.greatest) }
+            (band_with lane.now.frame lane.now.spot.k lane.now.row.now first.now jobs.now
+            band.count band.latest outcome.done outcome.greatest) }
     {
-        self.put_band_box(lane, first.release, band.latest)?;
-        self.put_band_title(lane, first, band, outcome)?;
-        self.put_label_of(lane, first, band, outcome)?;
-        self.put_last_bound(lane, band.latest)?;
-        self.put_band_on(lane, band.count, outcome.done)
+        if sees_up_to(lane.frame, first.release, band.latest, limit_of(lane.row)) {
+            self.put_seen_band(lane, first, jobs, band, outcome)
+        } else {
+            Ok(())
+        }
     }
 
     // A job alone, or the band of those of some jobs that are of its task.
@@ -242,11 +290,11 @@ impl<W: Write + Drop> Page<'_, W> {
         jobs: &[JobRecord],
     ) -> Result<(), WriteFailed>
         ensures { Puts W.contents self.old self.new result
-            (stand_text lane.now.frame first.now jobs.now lane.now.k lane.now.row.now) }
+            (stand_text lane.now.frame first.now jobs.now lane.now.spot.k lane.now.row.now) }
     {
         let band = band_in(jobs, first.name);
         if band.count > 1 {
-            self.put_band(lane, first, band, outcome_of(jobs, first.name))
+            self.put_band(lane, first, jobs, band, outcome_of(jobs, first.name))
         } else {
             self.put_job_in(lane, first)
         }
@@ -261,7 +309,7 @@ impl<W: Write + Drop> Page<'_, W> {
     ) -> Result<(), WriteFailed>
         requires { i < length jobs.now }
         ensures { Puts W.contents self.old self.new result
-            (place_text lane.now.frame jobs.now i lane.now.k lane.now.row.now) }
+            (place_text lane.now.frame jobs.now i lane.now.spot.k lane.now.row.now) }
     {
         let gap = gap_of(lane.frame);
         if joins(gap, jobs, i) {

@@ -2,14 +2,13 @@
 ghost use Rattle.std.specs.Prelude.{◌≡◌, ◌+◌, ◌≤◌, ◌<◌, length, slice_index};
 ghost use Rattle.picture.specs.Puts.{Puts};
 ghost use Rattle.picture.specs.Sections.{counted, AreUncounted};
-ghost use Rattle.picture.specs.Elements.{bar_text, slice_text};
+ghost use Rattle.picture.specs.Elements.{bar_text, seen_slice, slice_text};
 ghost use Rattle.picture.specs.Document.{slice_by, slices_text};
 
 use crate::boxes::bar_of;
 use crate::chart::{Chart, Lane};
-use crate::frame::{tone_of, x_of};
+use crate::frame::{sees, tone_of, x_of};
 use crate::page::Page;
-use crate::rows::find_row;
 use crate::ticks::executed_after;
 use ceiling_kernel::Slice;
 use std::io::Write;
@@ -32,12 +31,12 @@ impl<W: Write + Drop> Page<'_, W> {
     // A slice.
     fn put_bar(&mut self, slice: Slice, lane: &Lane<'_>) -> Result<(), WriteFailed>
         ensures { Puts W.contents self.old self.new result
-            (bar_text lane.now.frame slice lane.now.k lane.now.row.now) }
+            (bar_text lane.now.frame slice lane.now.spot lane.now.row.now) }
     {
         let start = x_of(lane.frame, slice.start);
         let stop = x_of(lane.frame, slice.stop);
-        let bar = bar_of(start, stop, lane.k);
-        let tone = tone_of(lane.k);
+        let bar = bar_of(start, stop, lane.spot.k);
+        let tone = tone_of(lane.spot.rank);
         let name = lane.row.sheet.name();
         let start = slice.start;
         let stop = slice.stop;
@@ -50,13 +49,32 @@ impl<W: Write + Drop> Page<'_, W> {
     // A slice and its darker parts.
     fn put_whole(&mut self, executed: u64, slice: Slice, lane: &Lane<'_>) -> Result<(), WriteFailed>
         ensures { Puts W.contents self.old self.new result
-            (slice_text lane.now.frame lane.now.locks.now executed slice lane.now.k lane.now.row.now) }
+            (seen_slice lane.now.frame lane.now.locks.now executed slice lane.now.spot
+            lane.now.row.now) }
     {
         self.put_bar(slice, lane)?;
         for section in lane.row.sheet.sections() {
             self.put_dark(executed, slice, lane, section)?;
         }
         Ok(())
+    }
+
+    // The same, where it is in the window.
+    fn put_slice_in(
+        &mut self,
+        executed: u64,
+        slice: Slice,
+        lane: &Lane<'_>,
+    ) -> Result<(), WriteFailed>
+        ensures { Puts W.contents self.old self.new result
+            (slice_text lane.now.frame lane.now.locks.now executed slice lane.now.spot
+            lane.now.row.now) }
+    {
+        if sees(lane.frame, slice.start, slice.stop) {
+            self.put_whole(executed, slice, lane)
+        } else {
+            Ok(())
+        }
     }
 
     // A slice in the row of the task of its job; its ticks are counted.
@@ -67,16 +85,16 @@ impl<W: Write + Drop> Page<'_, W> {
         slice: Slice,
     ) -> Result<(), WriteFailed>
         ensures put { Puts W.contents self.old self.new result
-            (slice_by chart.now.frame chart.now.locks.now chart.now.rows.now chart.now.jobs.now
-            (slice_index executed.old slice.job) slice) }
+            (slice_by chart.now.frame chart.now.locks.now chart.now.rows.now chart.now.shown.now
+            chart.now.jobs.now (slice_index executed.old slice.job) slice) }
         ensures counted { executed.new ≡ counted executed.old slice }
     {
         let before = count_slice(executed, slice);
         match chart.jobs.get(slice.job) {
             None => Ok(()),
-            Some(job) => match find_row(chart.rows, job.name) {
+            Some(job) => match chart.spot_of(job.name) {
                 None => Ok(()),
-                Some(k) => self.put_whole(before, slice, &chart.lane(k)),
+                Some(spot) => self.put_slice_in(before, slice, &chart.lane(spot)),
             },
         }
     }
@@ -89,8 +107,8 @@ impl<W: Write + Drop> Page<'_, W> {
     ) -> Result<(), WriteFailed>
         requires { AreUncounted executed.old (length chart.now.jobs.now) }
         ensures { Puts W.contents self.old self.new result
-            (slices_text chart.now.frame chart.now.locks.now chart.now.rows.now chart.now.jobs.now
-            chart.now.slices.now) }
+            (slices_text chart.now.frame chart.now.locks.now chart.now.rows.now chart.now.shown.now
+            chart.now.jobs.now chart.now.slices.now) }
     {
         for slice in chart.slices {
             self.put_slice(chart, executed, *slice)?;

@@ -87,7 +87,7 @@ fn executed_by(executed: u64, slice: Slice, time: u64) -> u64
 }
 
 // Slice n.
-fn slice_at(slices: &[Slice], n: usize) -> Slice
+pub(crate) fn slice_at(slices: &[Slice], n: usize) -> Slice
     requires { n < length slices.now }
     ensures { result ≡ slice_at slices.now n }
 {

@@ -1,53 +1,83 @@
 //! A run in a frame.
-ghost use Rattle.std.specs.Prelude.{◌≡◌, ◌<◌, ◌≤◌, length};
+ghost use Rattle.std.specs.Prelude.{◌≡◌, ◌<◌, ◌≤◌, All, length};
 ghost use Rattle.task_sheet.specs.declared.set.TheConstants.{TASK_LIMIT};
 ghost use Rattle.picture.specs.declared.locks.TheConstants.{LOCKS_LIMIT};
+ghost use Rattle.picture.specs.Waits.{rises};
 
 use crate::frame::Frame;
-use crate::rows::TaskRow;
+use crate::rows::{Spot, TaskRow, find_spot, spot_in};
 use ceiling_kernel::{JobRecord, Release, Slice};
 use task_sheet::Name;
 
-// What is drawn: how time lies, the rows, the highest level first, when the run ends, what happened in it, and the locks.
+// What is drawn: how time lies, the title, the rows, the highest level first, and which of them are shown, when the run
+// ends, what happened in it, and the locks.
 #[derive(Drop)]
 pub(crate) struct Chart<'a> {
     pub(crate) frame: Frame,
+    pub(crate) title: &'a [u8],
     pub(crate) rows: &'a [TaskRow],
+    pub(crate) shown: &'a [usize],
     pub(crate) until: u64,
     pub(crate) releases: &'a [Release],
     pub(crate) jobs: &'a [JobRecord],
     pub(crate) slices: &'a [Slice],
+    // Whether slices begin one after the other.
+    pub(crate) rising: bool,
     pub(crate) locks: &'a [Name],
     ghost few: { length rows.now ≤ TASK_LIMIT },
+    ghost few_shown: { length shown.now ≤ TASK_LIMIT },
+    ghost ranks: { All (λ rank. rank < length rows.now) shown.now },
     ghost some_locks: { length locks.now ≤ LOCKS_LIMIT },
+    ghost rises: { rising ≡ rises 0 slices.now },
 }
 
-// A row of it, and its place.
+// A row of it, and where it stands.
 #[derive(Drop)]
 pub(crate) struct Lane<'a> {
     pub(crate) frame: Frame,
-    pub(crate) k: usize,
+    pub(crate) spot: Spot,
     pub(crate) row: &'a TaskRow,
     pub(crate) locks: &'a [Name],
-    ghost within: { k ≤ TASK_LIMIT },
+    ghost within: { spot.k ≤ TASK_LIMIT },
 }
 
 impl Chart<'_> {
-    ghost use Rattle.picture.specs.Rows.{row_at};
+    ghost use Rattle.std.specs.Prelude.{IfSome};
+    ghost use Rattle.picture.specs.Rows.{row_at, spot_in, spot_named};
 
-    // The row at a place.
-    pub(crate) fn lane(&self, k: usize) -> Lane<'_>
-        requires { k < length self.now.rows.now }
+    // The row at a spot.
+    pub(crate) fn lane(&self, spot: Spot) -> Lane<'_>
+        requires row { spot.rank < length self.now.rows.now }
+        requires place { spot.k ≤ TASK_LIMIT }
         ensures frame { result.frame ≡ self.now.frame }
-        ensures place { result.k ≡ k }
+        ensures spot { result.spot ≡ spot }
         ensures locks { result.locks.now ≡ self.now.locks.now }
-        ensures row { result.row.now ≡ row_at self.now.rows.now k }
+        ensures row { result.row.now ≡ row_at self.now.rows.now spot.rank }
     {
         Lane {
             frame: self.frame,
-            k,
-            row: &self.rows[k],
+            spot,
+            row: &self.rows[spot.rank],
             locks: self.locks,
         }
+    }
+
+    // The spot at a place.
+    pub(crate) fn spot(&self, k: usize) -> Spot
+        requires { k < length self.now.shown.now }
+        ensures spot { result ≡ spot_in self.now.shown.now k }
+        ensures row { result.rank < length self.now.rows.now }
+        ensures place { result.k ≤ TASK_LIMIT }
+    {
+        spot_in(self.shown, k)
+    }
+
+    // The spot of the task with a name, if it is shown.
+    pub(crate) fn spot_of(&self, name: Name) -> Option<Spot>
+        ensures spot { result ≡ spot_named self.now.rows.now self.now.shown.now name }
+        ensures row { IfSome result (λ s. s.rank < length self.now.rows.now) }
+        ensures place { IfSome result (λ s. s.k ≤ TASK_LIMIT) }
+    {
+        find_spot(self.rows, self.shown, name)
     }
 }

@@ -1,11 +1,12 @@
 //! The whole picture.
-ghost use Rattle.std.specs.Prelude.{◌≡◌, ◌+◌, ◌≤◌, length, OnOk, OnErr, Err, IfOk, true};
+ghost use Rattle.std.specs.Prelude.{◌≡◌, ◌+◌, ◌≤◌, ◌<◌, All, length, OnOk, OnErr, Err, IfOk, true};
 ghost use Rattle.task_sheet.specs.declared.set.TheConstants.{TASK_LIMIT};
 ghost use Rattle.picture.specs.Puts.{Puts};
 ghost use Rattle.std.specs.Io.KnownBytes.{Appends};
 ghost use Rattle.picture.specs.Sections.{AreUncounted};
 ghost use Rattle.picture.specs.declared.locks.TheConstants.{LOCKS_LIMIT};
 ghost use Rattle.picture.specs.Locks.{locks_of};
+ghost use Rattle.picture.specs.View.{shown_of};
 ghost use Rattle.picture.specs.Document.{framed, document};
 
 use crate::chart::Chart;
@@ -13,6 +14,8 @@ use crate::frame::frame_of;
 use crate::locks::locks_of;
 use crate::page::Page;
 use crate::rows::TaskRow;
+use crate::view::{View, shown_of};
+use crate::waits::starts_rise;
 use ceiling_kernel::{Release, Trace};
 use std::alloc::{AllocError, Global};
 use std::io::Write;
@@ -43,8 +46,9 @@ fn put_document<W: Write + Drop>(
 ) -> Result<(), WriteFailed>
     requires { AreUncounted executed.old (length chart.now.jobs.now) }
     ensures { Puts W.contents page.old page.new result
-        (framed chart.now.frame chart.now.locks.now chart.now.rows.now chart.now.until chart.now.releases.now
-        chart.now.jobs.now chart.now.slices.now) }
+        (framed chart.now.frame chart.now.title.now chart.now.locks.now chart.now.rows.now
+        chart.now.shown.now chart.now.until chart.now.releases.now chart.now.jobs.now
+        chart.now.slices.now) }
 {
     page.put_ground(chart)?;
     page.put_lanes(chart)?;
@@ -64,8 +68,9 @@ fn put_all<W: Write + Drop>(
 ) -> Result<(), WriteFailed>
     requires { AreUncounted executed.old (length chart.now.jobs.now) }
     ensures sent { OnOk result (Appends (W.contents output.old.inner) (W.contents output.new.inner)
-        (framed chart.now.frame chart.now.locks.now chart.now.rows.now chart.now.until chart.now.releases.now
-        chart.now.jobs.now chart.now.slices.now)) }
+        (framed chart.now.frame chart.now.title.now chart.now.locks.now chart.now.rows.now
+        chart.now.shown.now chart.now.until chart.now.releases.now chart.now.jobs.now
+        chart.now.slices.now)) }
     ensures ok { OnOk result (output.new.has_failed ≡ output.old.has_failed) }
     ensures failed { OnErr result (output.new.has_failed ≡ true) }
 {
@@ -76,11 +81,13 @@ fn put_all<W: Write + Drop>(
     page.out.flush()
 }
 
-// The picture, of rows with these locks.
+// The picture, of rows with these locks, of which these are shown.
 fn draw_with<W: Write + Drop>(
     alloc: Global,
     rows: &[TaskRow],
+    view: &View,
     locks: &[Name],
+    shown: &[usize],
     until: u64,
     releases: &[Release],
     trace: &Trace,
@@ -89,20 +96,26 @@ fn draw_with<W: Write + Drop>(
     requires rows { length rows.now ≤ TASK_LIMIT }
     requires locks { locks.now ≡ locks_of rows.now }
     requires few { length locks.now ≤ LOCKS_LIMIT }
+    requires shown { shown.now ≡ shown_of view.now.tasks.items rows.now }
+    requires ranks { All (λ rank. rank < length rows.now) shown.now }
+    requires few_shown { length shown.now ≤ length rows.now }
     ensures drawn { OnOk result (Appends (W.contents output.old.inner) (W.contents output.new.inner)
-        (document rows.now until releases.now trace.now)) }
+        (document rows.now view.now until releases.now trace.now)) }
     ensures ok { OnOk result (output.new.has_failed ≡ output.old.has_failed) }
     ensures failed { result ≡ Err DrawFault.WriteFailed → output.new.has_failed ≡ true }
     ensures memory { result ≡ Err DrawFault.OutOfMemory → output.new ≡ output.old }
 {
     let mut executed = no_ticks(alloc, trace.jobs.len()).map_err(|_| DrawFault::OutOfMemory)?;
     let chart = Chart {
-        frame: frame_of(rows, until),
+        frame: frame_of(rows, view, until),
+        title: &view.title,
         rows,
+        shown,
         until,
         releases,
         jobs: &trace.jobs,
         slices: &trace.slices,
+        rising: starts_rise(&trace.slices),
         locks,
     };
     match put_all(&chart, &mut executed, output) {
@@ -111,12 +124,14 @@ fn draw_with<W: Write + Drop>(
     }
 }
 
-/// Writes the picture of a run of these rows, the highest level first, whose trace ends at `until`, in microseconds:
-/// an SVG 1.1 document. It is held back and sent, 16,384 bytes at a time; memory is taken for one count of each job and one
-/// name of each lock, before anything is written.
+/// Writes the picture of a run of these rows, the highest level first, whose trace ends at `until`, in microseconds, as a
+/// view has it: an SVG 1.1 document. A window in which nothing lies is one of a microsecond. It is held back and sent,
+/// 16,384 bytes at a time; memory is taken for one count of each job, one name of each lock and one number of each row,
+/// before anything is written.
 pub fn draw<W: Write + Drop>(
     alloc: Global,
     rows: &[TaskRow],
+    view: &View,
     until: u64,
     releases: &[Release],
     trace: &Trace,
@@ -124,13 +139,16 @@ pub fn draw<W: Write + Drop>(
 ) -> Result<(), DrawFault>
     requires { length rows.now ≤ TASK_LIMIT }
     ensures drawn { OnOk result (Appends (W.contents output.old.inner) (W.contents output.new.inner)
-        (document rows.now until releases.now trace.now)) }
+        (document rows.now view.now until releases.now trace.now)) }
     ensures ok { OnOk result (output.new.has_failed ≡ output.old.has_failed) }
     ensures failed { result ≡ Err DrawFault.WriteFailed → output.new.has_failed ≡ true }
     ensures memory { result ≡ Err DrawFault.OutOfMemory → output.new ≡ output.old }
 {
+    let shown = shown_of(alloc, &view.tasks, rows).map_err(|_| DrawFault::OutOfMemory)?;
     match locks_of(alloc, rows) {
-        Ok(locks) => draw_with(alloc, rows, &locks, until, releases, trace, output),
+        Ok(locks) => draw_with(
+            alloc, rows, view, &locks, &shown, until, releases, trace, output,
+        ),
         Err(_) => Err(DrawFault::OutOfMemory),
     }
 }

@@ -1,11 +1,12 @@
 //! How time and rows lie in the picture.
-ghost use Rattle.std.specs.Prelude.{◌≡◌, ◌+◌, ◌*◌, ◌<◌, ◌≤◌, length};
-ghost use Rattle.picture.specs.declared.frame.TheConstants.{LONGEST_PERIOD, RIGHTMOST, LOWEST_TOP, WIDEST_MARGIN, WIDEST_STEP, WIDEST_DECADE};
+ghost use Rattle.std.specs.Prelude.{◌≡◌, ◌+◌, ◌*◌, ◌<◌, ◌≤◌, length, nat_le, nat_lt};
+ghost use Rattle.picture.specs.declared.frame.TheConstants.{LONGEST_PERIOD, NARROWEST, RIGHTMOST, LOWEST_TOP, WIDEST_MARGIN, WIDEST_STEP, WIDEST_DECADE};
+ghost use Rattle.ceiling_kernel.specs.declared.accept.TheConstants.{HORIZON};
 ghost use Rattle.task_sheet.specs.declared.set.TheConstants.{TASK_LIMIT};
-ghost use Rattle.picture.specs.Frame.{frame_of, least_period, longest_name, left_of, x_of, frame_end, right_of, top_of, level_of, tone_of, is_wide, decade_of, step_in, step_of, unit_of, unit_name, Frame, IsFrame};
+ghost use Rattle.picture.specs.Frame.{frame_of, least_period, longest_name, left_of, span_of, x_of, is_in, sees, steps_before, frame_end, right_of, top_of, level_of, tone_of, is_wide, decade_of, step_in, step_of, unit_of, unit_name, Frame, IsFrame};
 
 use crate::rows::TaskRow;
-use ceiling_kernel::HORIZON;
+use crate::view::{View, end_of_run, frame_from, frame_to};
 use std::marker::Model;
 
 // The longest period that a sheet may have, in microseconds.
@@ -14,8 +15,11 @@ const LONGEST_PERIOD: u64 = 10_000_000;
 // How far to the right time ends at least.
 const NARROWEST: u64 = 9_400;
 
-// How far to the right it ends at most.
-const RIGHTMOST: u64 = 15_800;
+// How far to the right it ends at most, where no width is said.
+const WIDEST: u64 = 15_800;
+
+// And where one is.
+const RIGHTMOST: u64 = 159_800;
 
 // How wide the margin to the left of it is at most.
 const WIDEST_MARGIN: u64 = 2_500;
@@ -29,10 +33,13 @@ const WIDEST_DECADE: u64 = 1_000_000;
 // The widest step of the scale, in microseconds.
 const WIDEST_STEP: u64 = 5 * WIDEST_DECADE;
 
-// A span of time in microseconds, where it begins and how wide it is, and how many rows there are.
+// When a run ends, and the window of it, in microseconds; where the window begins and how wide it is, and how many tasks
+// there are.
 #[derive(Clone, Copy)]
 pub(crate) struct Frame {
     pub(crate) until: u64,
+    pub(crate) from: u64,
+    pub(crate) to: u64,
     pub(crate) left: u64,
     pub(crate) span: u64,
     pub(crate) count: u64,
@@ -41,11 +48,11 @@ pub(crate) struct Frame {
 impl Model for Frame {
     ghost Value = { Frame };
 
-    ghost view = { λ f. record { until = f.until; left = f.left; span = f.span; count = f.count } };
+    ghost view = { λ f. record { until = f.until; from = f.from; to = f.to; left = f.left; span = f.span; count = f.count } };
 
-    ghost inverse = { λ f. record { until = f.until; left = f.left; span = f.span; count = f.count } };
+    ghost inverse = { λ f. record { until = f.until; from = f.from; to = f.to; left = f.left; span = f.span; count = f.count } };
 
-    ghost invariant = { λ f. IsFrame (record { until = f.until; left = f.left; span = f.span; count = f.count }) };
+    ghost invariant = { λ f. IsFrame (record { until = f.until; from = f.from; to = f.to; left = f.left; span = f.span; count = f.count }) };
 }
 
 // The shortest period of the rows.
@@ -79,20 +86,42 @@ fn left_of(letters: u64) -> u64
     (620 + (78 * letters).max(1_340)).min(WIDEST_MARGIN)
 }
 
-// The frame of a run of the rows.
-pub(crate) fn frame_of(rows: &[TaskRow], until: u64) -> Frame
+// How wide so much time is, to the right of a margin.
+fn span_of(width: Option<u64>, left: u64, least: u64, time: u64) -> u64
+    requires margin { left ≤ WIDEST_MARGIN }
+    requires period { 0 < least }
+    requires within { time ≤ HORIZON }
+    ensures value { result ≡ span_of width left least time }
+    ensures wide { NARROWEST ≤ left + result }
+    ensures narrow { left + result ≤ RIGHTMOST }
+{
+    match width {
+        None => (240 * time / least)
+            .min(WIDEST - left)
+            .max(NARROWEST - left),
+        Some(width) => {
+            let right = 10 * width.min(RIGHTMOST);
+            right.saturating_sub(200).min(RIGHTMOST).max(NARROWEST) - left
+        }
+    }
+}
+
+// The frame of a view of a run of the rows.
+pub(crate) fn frame_of(rows: &[TaskRow], view: &View, until: u64) -> Frame
     requires { length rows.now ≤ TASK_LIMIT }
-    ensures { result ≡ frame_of rows.now until }
+    ensures { result ≡ frame_of rows.now view.now until }
 {
     let left = left_of(longest_name(rows));
     let least = least_period(rows).max(1);
-    let until = until.min(HORIZON).max(1);
-    let span = (240 * until / least)
-        .min(RIGHTMOST - left)
-        .max(NARROWEST - left);
+    let end = end_of_run(until);
+    let from = frame_from(view, until);
+    let to = frame_to(view, until);
+    let span = span_of(view.width, left, least, to - from);
     let count = rows.len() as u64;
     Frame {
-        until,
+        until: end,
+        from,
+        to,
         left,
         span,
         count,
@@ -104,7 +133,44 @@ pub(crate) fn x_of(frame: Frame, time: u64) -> u64
     ensures value { result ≡ x_of frame time }
     ensures within { result ≤ RIGHTMOST }
 {
-    frame.left + time.min(frame.until) * frame.span / frame.until
+    let len = frame.to - frame.from;
+    let gone = time.max(frame.from).min(frame.to) - frame.from;
+    frame.left + gone * frame.span / len
+}
+
+// Whether a time is in the window.
+pub(crate) fn is_in(frame: Frame, time: u64) -> bool
+    ensures { result ≡ is_in frame time }
+{
+    frame.from <= time && time <= frame.to
+}
+
+// Whether it is before it.
+pub(crate) fn is_before(frame: Frame, time: u64) -> bool
+    ensures { result ≡ nat_lt time frame.from }
+{
+    time < frame.from
+}
+
+// Whether a span of time that has a tick is partly in it.
+pub(crate) fn sees(frame: Frame, start: u64, stop: u64) -> bool
+    ensures { result ≡ sees frame start stop }
+{
+    start < frame.to && frame.from < stop
+}
+
+// The same of a span that ends so long after a time.
+pub(crate) fn sees_up_to(frame: Frame, start: u64, time: u64, len: u64) -> bool
+    ensures { result ≡ sees frame start (time + len) }
+{
+    start < frame.to && (frame.from < time || frame.from - time < len)
+}
+
+// The same of the span of a time and so much more.
+pub(crate) fn sees_from(frame: Frame, time: u64, len: u64) -> bool
+    ensures { result ≡ sees frame time (time + len) }
+{
+    sees_up_to(frame, time, time, len)
 }
 
 // Where the time lies that comes so long after another.
@@ -112,8 +178,8 @@ pub(crate) fn x_after(frame: Frame, time: u64, len: u64) -> u64
     ensures value { result ≡ x_of frame (time + len) }
     ensures within { result ≤ RIGHTMOST }
 {
-    let time = time.min(frame.until);
-    let rest = frame.until - time;
+    let time = time.min(frame.to);
+    let rest = frame.to - time;
     x_of(frame, time + len.min(rest))
 }
 
@@ -141,18 +207,32 @@ pub(crate) fn top_of(k: usize) -> u64
     1690 + 480 * k as u64
 }
 
-// The level of a row.
-pub(crate) fn level_of(frame: Frame, k: usize) -> u64
-    ensures { result ≡ level_of frame k }
+// Whether the time that comes so long after another isn't behind the window.
+pub(crate) fn is_by_end(frame: Frame, time: u64, len: u64) -> bool
+    ensures { result ≡ nat_le (time + len) frame.to }
 {
-    frame.count.saturating_sub(k as u64)
+    time <= frame.to && len <= frame.to - time
 }
 
-// The tone of a row's task.
-pub(crate) fn tone_of(k: usize) -> usize
-    ensures { result ≡ tone_of k }
+// Whether it isn't before it.
+pub(crate) fn is_from_start(frame: Frame, time: u64, len: u64) -> bool
+    ensures { result ≡ nat_le frame.from (time + len) }
 {
-    k % 10
+    frame.from <= time || frame.from - time <= len
+}
+
+// The level of a task by its rank, from the highest level down.
+pub(crate) fn level_of(frame: Frame, rank: usize) -> u64
+    ensures { result ≡ level_of frame rank }
+{
+    frame.count.saturating_sub(rank as u64)
+}
+
+// Its tone.
+pub(crate) fn tone_of(rank: usize) -> usize
+    ensures { result ≡ tone_of rank }
+{
+    rank % 10
 }
 
 // Whether a step is wide enough.
@@ -160,7 +240,7 @@ fn is_wide(frame: Frame, step: u64) -> bool
     requires step { step ≤ WIDEST_STEP }
     ensures { result ≡ is_wide frame step }
 {
-    step * frame.span >= 800 * frame.until
+    step * frame.span >= 800 * (frame.to - frame.from)
 }
 
 // The least power of ten of which five are wide enough.
@@ -210,6 +290,15 @@ pub(crate) fn step_of(frame: Frame) -> u64
     ensures within { result ≤ WIDEST_STEP }
 {
     step_in(frame, decade_of(frame))
+}
+
+// How many steps lie before the window.
+pub(crate) fn steps_before(frame: Frame, step: u64) -> u64
+    requires some { 0 < step }
+    requires within { step ≤ WIDEST_STEP }
+    ensures { result ≡ steps_before frame step }
+{
+    (frame.from + step - 1) / step
 }
 
 // How many microseconds the scale's unit has.

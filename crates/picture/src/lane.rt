@@ -4,36 +4,45 @@ ghost use Rattle.std.specs.Fmt.{decimal};
 ghost use Rattle.picture.specs.declared.frame.TheConstants.{RIGHTMOST};
 ghost use Rattle.picture.specs.Puts.{Puts};
 ghost use Rattle.picture.specs.Rows.{on_row};
-ghost use Rattle.picture.specs.Lane.{busy_from, busy_of, lane_head, lane_line, lane_right, edge_class, lane_bar, lane_word, level_room, lane_label, lane_text};
+ghost use Rattle.picture.specs.Lane.{busy_with, busy_from, busy_of, lane_head, lane_line, lane_right, edge_class, lane_bar, lane_word, level_room, lane_label, seen_lane, lane_text};
 ghost use Rattle.picture.specs.Document.{lane_by, lanes_text};
 
 use crate::boxes::Bar;
 use crate::chart::{Chart, Lane};
-use crate::frame::{Frame, end_of, level_of, start_of, tone_of, x_of};
+use crate::frame::{Frame, end_of, level_of, sees, start_of, tone_of, x_of};
 use crate::page::Page;
-use crate::rows::{TaskRow, find_row};
-use crate::ticks::executed_after;
+use crate::rows::{Spot, TaskRow, find_row};
 use ceiling_kernel::{JobRecord, Slice};
 use std::io::Write;
 use streams::WriteFailed;
 use task_sheet::Name;
 
-// For how long slices execute.
-fn busy_in(slices: &[Slice]) -> u64
-    ensures { result ≡ busy_from 0 slices.now }
+// For how long a slice executes in the window, and what was before.
+fn busy_with(frame: Frame, before: u64, slice: Slice) -> u64
+    ensures { result ≡ busy_with frame before slice }
+{
+    let start = slice.start.max(frame.from);
+    let stop = slice.stop.min(frame.to);
+    before.min(slice.start) + stop.saturating_sub(start)
+}
+
+// For how long slices do.
+fn busy_in(frame: Frame, slices: &[Slice]) -> u64
+    ensures { result ≡ busy_from frame 0 slices.now }
 {
     let mut busy = 0;
     for slice in slices {
-        busy = executed_after(busy, *slice);
+        busy = busy_with(frame, busy, *slice);
     }
     busy
 }
 
-// For how much of the time, in thousandths.
+// For how much of the window, in thousandths.
 fn busy_of(frame: Frame, slices: &[Slice]) -> u64
     ensures { result ≡ busy_of frame slices.now }
 {
-    1_000 * busy_in(slices).min(frame.until) / frame.until
+    let len = frame.to - frame.from;
+    1_000 * busy_in(frame, slices).min(len) / len
 }
 
 // Where a slice's bar ends.
@@ -92,11 +101,11 @@ impl<W: Write + Drop> Page<'_, W> {
     // The bar of a slice.
     fn put_lane_bar(&mut self, slice: Slice, lane: &Lane<'_>) -> Result<(), WriteFailed>
         ensures { Puts W.contents self.old self.new result
-            (lane_bar lane.now.frame slice lane.now.k lane.now.row.now) }
+            (lane_bar lane.now.frame slice lane.now.spot.rank lane.now.row.now) }
     {
         let x = x_of(lane.frame, slice.start);
         let right = lane_right(lane.frame, slice);
-        let tone = tone_of(lane.k);
+        let tone = tone_of(lane.spot.rank);
         let edge = edge_class(right.saturating_sub(x));
         let bar = Bar {
             x,
@@ -161,15 +170,27 @@ impl<W: Write + Drop> Page<'_, W> {
         }
     }
 
-    // A slice of a row's task.
-    fn put_lane_slice(&mut self, slice: Slice, lane: &Lane<'_>) -> Result<(), WriteFailed>
+    // A slice of a row's task, in the window.
+    fn put_seen_lane(&mut self, slice: Slice, lane: &Lane<'_>) -> Result<(), WriteFailed>
         ensures { Puts W.contents self.old self.new result
-            (lane_text lane.now.frame slice lane.now.k lane.now.row.now) }
+            (seen_lane lane.now.frame slice lane.now.spot.rank lane.now.row.now) }
     {
         self.put_lane_bar(slice, lane)?;
         let x = x_of(lane.frame, slice.start);
         let right = lane_right(lane.frame, slice);
-        self.put_lane_label(x, right, level_of(lane.frame, lane.k), lane.row)
+        self.put_lane_label(x, right, level_of(lane.frame, lane.spot.rank), lane.row)
+    }
+
+    // The same of any slice.
+    fn put_lane_slice(&mut self, slice: Slice, lane: &Lane<'_>) -> Result<(), WriteFailed>
+        ensures { Puts W.contents self.old self.new result
+            (lane_text lane.now.frame slice lane.now.spot.rank lane.now.row.now) }
+    {
+        if sees(lane.frame, slice.start, slice.stop) {
+            self.put_seen_lane(slice, lane)
+        } else {
+            Ok(())
+        }
     }
 
     // A slice of a job, in the tone of the row of its task.
@@ -184,7 +205,7 @@ impl<W: Write + Drop> Page<'_, W> {
     {
         match find_row(chart.rows, job.name) {
             None => Ok(()),
-            Some(k) => self.put_lane_slice(slice, &chart.lane(k)),
+            Some(rank) => self.put_lane_slice(slice, &chart.lane(Spot { rank, k: rank })),
         }
     }
 

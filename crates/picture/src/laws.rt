@@ -17,7 +17,7 @@ pub fn misses_are_shown()
     ensures { AreMissesShown }
 {}
 
-/// A picture is from 960 to 1,600 pixels wide, however long the run is.
+/// A picture is as wide as its view says; where it says nothing, from 960 to 1,600 pixels, however long the run is.
 pub fn widths_are_held()
     ensures { HasWidth }
 {}

@@ -23,8 +23,11 @@ mod parts;
 mod rows;
 mod style;
 mod ticks;
+mod title;
+mod view;
 mod waits;
 mod why;
 
 pub use document::{DrawFault, draw};
 pub use rows::TaskRow;
+pub use view::View;

@@ -96,7 +96,7 @@ fn stripe_top(n: usize, i: usize) -> u64
 fn per_line(frame: Frame) -> u64
     ensures value { result ≡ per_line frame }
     ensures some { 0 < result }
-    ensures within { result ≤ 8 }
+    ensures within { result ≤ 84 }
 {
     ((end_of(frame) - 900) / 1_900).max(1)
 }
@@ -116,7 +116,7 @@ pub(crate) fn locks_high(frame: Frame, n: usize) -> u64
 // Where lock i begins in it.
 fn lock_left(frame: Frame, i: usize) -> u64
     ensures value { result ≡ lock_left frame i }
-    ensures within { result ≤ 16_100 }
+    ensures within { result ≤ 160_500 }
 {
     900 + 1_900 * (i as u64 % per_line(frame))
 }
@@ -126,7 +126,7 @@ fn lock_upper(frame: Frame, bottom: u64, i: usize) -> u64
     requires place { i ≤ LOCKS_LIMIT }
     requires row { bottom ≤ 2 * RIGHTMOST }
     ensures value { result ≡ lock_upper frame bottom i }
-    ensures within { result ≤ 300_000 }
+    ensures within { result ≤ 600_000 }
 {
     bottom + 250 * (i as u64 / per_line(frame))
 }
@@ -238,9 +238,9 @@ impl<W: Write + Drop> Page<'_, W> {
     // The legend of the locks, as a group.
     pub(crate) fn put_locks_group(&mut self, chart: &Chart<'_>) -> Result<(), WriteFailed>
         ensures { Puts W.contents self.old self.new result
-            (locks_group chart.now.frame chart.now.rows.now chart.now.locks.now) }
+            (locks_group chart.now.frame (length chart.now.shown.now) chart.now.locks.now) }
     {
-        let bottom = top_of(chart.rows.len()) + 120;
+        let bottom = top_of(chart.shown.len()) + 120;
         self.out.put(b"<g id=\"k\">\n")?;
         self.put_locks_head(bottom, chart.locks.len())?;
         self.put_lock_texts(chart.frame, bottom, chart.locks)?;

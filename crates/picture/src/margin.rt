@@ -28,12 +28,12 @@ impl<W: Write + Drop> Page<'_, W> {
     // A row's level, and the tone of its task.
     fn put_level(&mut self, lane: &Lane<'_>) -> Result<(), WriteFailed>
         ensures { Puts W.contents self.old self.new result
-            (level_text lane.now.frame lane.now.k) }
+            (level_text lane.now.frame lane.now.spot) }
     {
-        let top = top_of(lane.k);
+        let top = top_of(lane.spot.k);
         let (y, chip) = (top + 230, top + 130);
-        let level = level_of(lane.frame, lane.k);
-        let tone = tone_of(lane.k);
+        let level = level_of(lane.frame, lane.spot.rank);
+        let tone = tone_of(lane.spot.rank);
         write!(
             self.out,
             "<text class=\"v\" x=\"300\" y=\"{y}\">{level}</text><rect class=\"f{tone}\" x=\"350\" y=\"{chip}\" width=\"100\" height=\"100\" rx=\"20\"/>\n"
@@ -72,9 +72,9 @@ impl<W: Write + Drop> Page<'_, W> {
         jobs: &[JobRecord],
     ) -> Result<(), WriteFailed>
         ensures { Puts W.contents self.old self.new result
-            (name_text missed jobs.now lane.now.k lane.now.row.now) }
+            (name_text missed jobs.now lane.now.spot.k lane.now.row.now) }
     {
-        let y = top_of(lane.k) + 230;
+        let y = top_of(lane.spot.k) + 230;
         let class = name_class(missed);
         let name = lane.row.sheet.name();
         write!(self.out, "<text class=\"{class}\" x=\"500\" y=\"{y}\">")?;
@@ -85,9 +85,9 @@ impl<W: Write + Drop> Page<'_, W> {
     // The bound and the deadline, in milliseconds; without a bound the deadline.
     fn put_limits(&mut self, lane: &Lane<'_>) -> Result<(), WriteFailed>
         ensures { Puts W.contents self.old self.new result
-            (limits_text lane.now.k lane.now.row.now lane.now.row.now.bound) }
+            (limits_text lane.now.spot.k lane.now.row.now lane.now.row.now.bound) }
     {
-        let y = top_of(lane.k) + 355;
+        let y = top_of(lane.spot.k) + 355;
         let limit = lane.row.sheet.deadline();
         let deadline = Millis { micros: limit };
         match lane.row.bound {
@@ -120,19 +120,19 @@ impl<W: Write + Drop> Page<'_, W> {
     // One of the two.
     fn put_second_line(&mut self, missed: usize, lane: &Lane<'_>) -> Result<(), WriteFailed>
         ensures { Puts W.contents self.old self.new result
-            (second_line missed lane.now.k lane.now.row.now) }
+            (second_line missed lane.now.spot.k lane.now.row.now) }
     {
         if missed == 0 {
             self.put_limits(lane)
         } else {
-            self.put_missed_words(lane.k, missed)
+            self.put_missed_words(lane.spot.k, missed)
         }
     }
 
     // A row's part of the margin.
     fn put_margin(&mut self, lane: &Lane<'_>, jobs: &[JobRecord]) -> Result<(), WriteFailed>
         ensures { Puts W.contents self.old self.new result
-            (margin_text lane.now.frame jobs.now lane.now.k lane.now.row.now) }
+            (margin_text lane.now.frame jobs.now lane.now.spot lane.now.row.now) }
     {
         let missed = missed_in(lane.frame, lane.row, jobs);
         self.put_level(lane)?;
@@ -143,10 +143,10 @@ impl<W: Write + Drop> Page<'_, W> {
     // The rows' parts.
     fn put_margins(&mut self, chart: &Chart<'_>) -> Result<(), WriteFailed>
         ensures { Puts W.contents self.old self.new result
-            (margins_text chart.now.frame chart.now.rows.now chart.now.jobs.now) }
+            (margins_text chart.now.frame chart.now.rows.now chart.now.shown.now chart.now.jobs.now) }
     {
-        for k in 0..chart.rows.len() {
-            self.put_margin(&chart.lane(k), chart.jobs)?;
+        for k in 0..chart.shown.len() {
+            self.put_margin(&chart.lane(chart.spot(k)), chart.jobs)?;
         }
         Ok(())
     }
@@ -154,10 +154,11 @@ impl<W: Write + Drop> Page<'_, W> {
     // The margin, as a group.
     pub(crate) fn put_group(&mut self, chart: &Chart<'_>) -> Result<(), WriteFailed>
         ensures { Puts W.contents self.old self.new result
-            (margin_group chart.now.frame chart.now.rows.now chart.now.jobs.now
+            (margin_group chart.now.frame chart.now.rows.now chart.now.shown.now chart.now.jobs.now
             chart.now.slices.now) }
     {
         self.out.put(b"<g id=\"n\">\n")?;
+        self.put_time_head(chart.frame)?;
         self.put_lane_head(chart)?;
         self.put_margins(chart)?;
         self.out.put(b"</g>\n")

@@ -1,16 +1,16 @@
 //! The marks of releases.
-ghost use Rattle.std.specs.Prelude.{◌≡◌, ◌+◌, ◌<◌, nat_le, length};
+ghost use Rattle.std.specs.Prelude.{◌≡◌, ◌+◌, ◌<◌, length};
 ghost use Rattle.picture.specs.Puts.{Puts};
-ghost use Rattle.picture.specs.Rows.{on_row};
+ghost use Rattle.picture.specs.Frame.{is_in};
+ghost use Rattle.picture.specs.Rows.{on_spot};
 ghost use Rattle.ceiling_kernel.specs.Releases.{release_at};
 ghost use Rattle.picture.specs.Elements.{arrival_text, ready_text, later_text, bound_text, mark_text, mark_head};
 ghost use Rattle.picture.specs.Document.{mark_alone, marks_text, all_marks};
 
 use crate::band::gap_of;
 use crate::chart::{Chart, Lane};
-use crate::frame::{Frame, top_of, x_after, x_of};
+use crate::frame::{Frame, is_by_end, is_from_start, is_in, sees_from, top_of, x_after, x_of};
 use crate::page::Page;
-use crate::rows::find_row;
 use ceiling_kernel::Release;
 use pieces::is_banded;
 use std::io::Write;
@@ -31,9 +31,9 @@ pub(crate) enum Mark {
 
 // Whether the time that comes so long after another is in the picture.
 pub(crate) fn is_shown(frame: Frame, time: u64, len: u64) -> bool
-    ensures { result ≡ nat_le (time + len) frame.until }
+    ensures { result ≡ is_in frame (time + len) }
 {
-    time <= frame.until && len <= frame.until - time
+    is_from_start(frame, time, len) && is_by_end(frame, time, len)
 }
 
 // The release at a place.
@@ -45,10 +45,13 @@ fn release_at(releases: &[Release], i: usize) -> Release
 }
 
 impl<W: Write + Drop> Page<'_, W> {
-    // An arrow up at the arrival.
+    // An arrow up at the arrival, where that is in the picture.
     fn put_arrival(&mut self, frame: Frame, release: Release, y: u64) -> Result<(), WriteFailed>
         ensures { Puts W.contents self.old self.new result (arrival_text frame release y) }
     {
+        if !is_in(frame, release.time) {
+            return Ok(());
+        }
         let x = x_of(frame, release.time);
         write!(self.out, "M{x} {y}v-100m-35 50l35-50 35 50\n")
     }
@@ -57,7 +60,7 @@ impl<W: Write + Drop> Page<'_, W> {
     fn put_ready(&mut self, frame: Frame, release: Release, y: u64) -> Result<(), WriteFailed>
         ensures { Puts W.contents self.old self.new result (ready_text frame release y) }
     {
-        if release.late == 0 {
+        if release.late == 0 || !sees_from(frame, release.time, release.late) {
             return Ok(());
         }
         let x = x_of(frame, release.time);
@@ -108,11 +111,11 @@ impl<W: Write + Drop> Page<'_, W> {
         lane: &Lane<'_>,
     ) -> Result<(), WriteFailed>
         ensures { Puts W.contents self.old self.new result
-            (mark_text lane.now.frame mark release lane.now.k lane.now.row.now) }
+            (mark_text lane.now.frame mark release lane.now.spot.k lane.now.row.now) }
     {
         let frame = lane.frame;
         let row = lane.row;
-        let top = top_of(lane.k);
+        let top = top_of(lane.spot.k);
         match mark {
             Mark::Arrival => self.put_arrival(frame, release, top + 450),
             Mark::Ready => self.put_ready(frame, release, top + 255),
@@ -133,11 +136,12 @@ impl<W: Write + Drop> Page<'_, W> {
         release: Release,
     ) -> Result<(), WriteFailed>
         ensures { Puts W.contents self.old self.new result
-            (on_row chart.now.rows.now release.name (mark_text chart.now.frame mark release)) }
+            (on_spot chart.now.rows.now chart.now.shown.now release.name
+            (λ s row. mark_text chart.now.frame mark release s.k row)) }
     {
-        match find_row(chart.rows, release.name) {
+        match chart.spot_of(release.name) {
             None => Ok(()),
-            Some(k) => self.put_mark_in(mark, release, &chart.lane(k)),
+            Some(spot) => self.put_mark_in(mark, release, &chart.lane(spot)),
         }
     }
 
@@ -157,7 +161,7 @@ impl<W: Write + Drop> Page<'_, W> {
     fn put_mark_alone(&mut self, chart: &Chart<'_>, mark: Mark, i: usize) -> Result<(), WriteFailed>
         requires { i < length chart.now.releases.now }
         ensures { Puts W.contents self.old self.new result
-            (mark_alone chart.now.frame chart.now.rows.now chart.now.jobs.now mark i
+            (mark_alone chart.now.frame chart.now.rows.now chart.now.shown.now chart.now.jobs.now mark i
             (release_at chart.now.releases.now i)) }
     {
         if is_banded(gap_of(chart.frame), chart.jobs, i) {
@@ -169,7 +173,7 @@ impl<W: Write + Drop> Page<'_, W> {
     // The marks of a kind, as one path.
     fn put_marks(&mut self, chart: &Chart<'_>, mark: Mark) -> Result<(), WriteFailed>
         ensures { Puts W.contents self.old self.new result
-            (marks_text chart.now.frame chart.now.rows.now chart.now.jobs.now mark
+            (marks_text chart.now.frame chart.now.rows.now chart.now.shown.now chart.now.jobs.now mark
             chart.now.releases.now) }
     {
         self.put_mark_head(mark)?;
@@ -182,7 +186,7 @@ impl<W: Write + Drop> Page<'_, W> {
     // The marks of all kinds.
     pub(crate) fn put_all_marks(&mut self, chart: &Chart<'_>) -> Result<(), WriteFailed>
         ensures { Puts W.contents self.old self.new result
-            (all_marks chart.now.frame chart.now.rows.now chart.now.jobs.now
+            (all_marks chart.now.frame chart.now.rows.now chart.now.shown.now chart.now.jobs.now
             chart.now.releases.now) }
     {
         self.put_marks(chart, Mark::Ready)?;

@@ -1,6 +1,6 @@
 //! Rows.
 ghost use Rattle.std.specs.Prelude.{◌≡◌, ◌<◌, length, IfSome};
-ghost use Rattle.picture.specs.Rows.{name_in, record_at, row_named};
+ghost use Rattle.picture.specs.Rows.{name_in, record_at, row_named, place_in, spot_in, spot_named};
 
 use ceiling_kernel::JobRecord;
 use task_sheet::{Name, Sheet};
@@ -10,6 +10,13 @@ use task_sheet::{Name, Sheet};
 pub struct TaskRow {
     pub sheet: Sheet,
     pub bound: Option<u64>,
+}
+
+// Where a row stands that is shown: its rank among all, and its place in the picture, each from 0, the highest first.
+#[derive(Clone, Copy)]
+pub(crate) struct Spot {
+    pub(crate) rank: usize,
+    pub(crate) k: usize,
 }
 
 // The name of the task of a row.
@@ -34,4 +41,36 @@ pub(crate) fn find_row(rows: &[TaskRow], name: Name) -> Option<usize>
     ensures within { IfSome result (λ k. k < length rows.now) }
 {
     rows.iter().position(|row| row.sheet.name() == name)
+}
+
+// The place of a row among those that are shown.
+pub(crate) fn place_in(shown: &[usize], rank: usize) -> Option<usize>
+    ensures place { result ≡ place_in shown.now rank }
+    ensures within { IfSome result (λ k. k < length shown.now) }
+{
+    shown.iter().position(|other| *other == rank)
+}
+
+// The spot at a place.
+pub(crate) fn spot_in(shown: &[usize], k: usize) -> Spot
+    requires { k < length shown.now }
+    ensures { result ≡ spot_in shown.now k }
+{
+    let rank = shown[k];
+    Spot { rank, k }
+}
+
+// The spot of the task with a name.
+pub(crate) fn find_spot(rows: &[TaskRow], shown: &[usize], name: Name) -> Option<Spot>
+    ensures spot { result ≡ spot_named rows.now shown.now name }
+    ensures row { IfSome result (λ s. s.rank < length rows.now) }
+    ensures place { IfSome result (λ s. s.k < length shown.now) }
+{
+    let Some(rank) = find_row(rows, name) else {
+        return None;
+    };
+    match place_in(shown, rank) {
+        None => None,
+        Some(k) => Some(Spot { rank, k }),
+    }
 }

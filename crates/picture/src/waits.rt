@@ -1,7 +1,10 @@
 //! Why a job doesn't execute while it is ready.
-ghost use Rattle.std.specs.Prelude.{◌≡◌, ◌+◌, ◌<◌, IfSome, length, slice_get};
-ghost use Rattle.picture.specs.Waits.{ready_in, ready_at, stay_of, row_of, wait_for, wait_during, wait_at, wait_before, is_short, touches, are_close, is_gathered};
+ghost use Rattle.std.specs.Prelude.{◌≡◌, ◌+◌, ◌<◌, ◌≤◌, true, IfSome, length, slice_get};
+ghost use Rattle.picture.specs.Sections.{slice_at};
+ghost use Rattle.picture.specs.Waits.{ready_in, ready_at, rises, EndBy, stay_of, row_of, wait_for, wait_during, wait_at, wait_before, is_short, touches, are_close, is_gathered};
 
+use crate::band::job_at;
+use crate::blocker::slice_at;
 use crate::chart::Chart;
 use crate::frame::{Frame, x_of};
 use crate::misses::ended;
@@ -52,6 +55,79 @@ pub(crate) fn stay_of(chart: &Chart<'_>, job: usize) -> Stay
         from: ready_at(chart.frame, chart.releases, job),
         to: ended(chart.frame, &chart.jobs[job]),
     }
+}
+
+// How many of the first slices are known to end by a time.
+#[derive(Clone, Copy)]
+pub(crate) struct Past {
+    pub(crate) count: usize,
+    pub(crate) time: u64,
+}
+
+// Whether slices begin one after the other.
+pub(crate) fn starts_rise(slices: &[Slice]) -> bool
+    ensures { result ≡ rises 0 slices.now }
+{
+    let mut before = 0;
+    for slice in slices {
+        if slice.start < before {
+            return false;
+        }
+        before = slice.start;
+    }
+    true
+}
+
+// So many and those right behind them that end by a time, too.
+fn ended_by(slices: &[Slice], count: usize, time: u64) -> usize
+    requires within { count ≤ length slices.now }
+    requires ended { EndBy slices.now count time }
+    ensures within { result ≤ length slices.now }
+    ensures ended { EndBy slices.now result time }
+{
+    for n in count..slices.len() {
+        if slice_at(slices, n).stop > time {
+            return n;
+        }
+    }
+    slices.len()
+}
+
+// How many end by a time: where that isn't earlier than the last one, it is known of some.
+fn past_by(slices: &[Slice], past: Past, time: u64) -> Past
+    requires within { past.count ≤ length slices.now }
+    requires ended { EndBy slices.now past.count past.time }
+    ensures within { result.count ≤ length slices.now }
+    ensures ended { EndBy slices.now result.count result.time }
+    ensures time { result.time ≡ time }
+{
+    let count = if time < past.time { 0 } else { past.count };
+    Past {
+        count: ended_by(slices, count, time),
+        time,
+    }
+}
+
+// How many end before a job is ready.
+pub(crate) fn past_before(chart: &Chart<'_>, j: usize, past: Past) -> Past
+    requires job { j < length chart.now.jobs.now }
+    requires within { past.count ≤ length chart.now.slices.now }
+    requires ended { EndBy chart.now.slices.now past.count past.time }
+    ensures within { result.count ≤ length chart.now.slices.now }
+    ensures ended { EndBy chart.now.slices.now result.count result.time }
+    ensures before { result.time ≤ (stay_of chart.now.frame chart.now.releases.now chart.now.jobs.now j).from }
+{
+    let arrival = job_at(chart.jobs, j).release;
+    past_by(chart.slices, past, arrival.min(stay_of(chart, j).from))
+}
+
+// Whether slice n and those behind it begin when a job is done.
+pub(crate) fn is_behind(chart: &Chart<'_>, stay: Stay, n: usize) -> bool
+    requires { n < length chart.now.slices.now }
+    ensures rises { result ≡ true → rises 0 chart.now.slices.now ≡ true }
+    ensures done { result ≡ true → stay.to ≤ (slice_at chart.now.slices.now n).start }
+{
+    chart.rising && stay.to <= slice_at(chart.slices, n).start
 }
 
 // The row of the task of a job, if there is one.

@@ -3,17 +3,18 @@ ghost use Rattle.std.specs.Prelude.{◌≡◌, ◌+◌, ◌*◌, ◌<◌, ◌≤
 ghost use Rattle.task_sheet.specs.declared.set.TheConstants.{TASK_LIMIT};
 ghost use Rattle.picture.specs.declared.frame.TheConstants.{RIGHTMOST};
 ghost use Rattle.picture.specs.Puts.{Puts};
-ghost use Rattle.picture.specs.Rows.{name_in};
-ghost use Rattle.picture.specs.WaitTexts.{ink_text, line_path, wait_words, wait_end, above_text, dots_path, blocked_words, lock_words, tone_of_lock, link_path, link_text, blocked_text, who_word, who_at, who_text, why_text, wait_text, nth_wait_text, stay_text, job_waits, waits_text};
+ghost use Rattle.picture.specs.Rows.{name_in, place_in};
+ghost use Rattle.picture.specs.Waits.{EndBy, stay_of};
+ghost use Rattle.picture.specs.WaitTexts.{ink_text, line_path, wait_words, wait_end, above_text, dots_path, blocked_words, lock_words, tone_of_lock, link_path, link_to, link_text, blocked_text, who_word, who_at, who_text, why_text, seen_wait, wait_text, nth_wait_text, stay_text, job_waits, waits_text};
 
 use crate::blocker::blocking_lock;
 use crate::chart::Chart;
-use crate::frame::{Frame, tone_of, top_of, x_of};
+use crate::frame::{Frame, sees, tone_of, top_of, x_of};
 use crate::lane::has_room;
 use crate::locks::lock_tone;
 use crate::page::Page;
-use crate::rows::{TaskRow, find_row, name_in, name_of};
-use crate::waits::{Stay, Wait, is_gathered, stay_of, wait_at};
+use crate::rows::{Spot, TaskRow, name_in, name_of, place_in};
+use crate::waits::{Past, Stay, Wait, is_behind, is_gathered, past_before, stay_of, wait_at};
 use std::io::Write;
 use streams::WriteFailed;
 use task_sheet::Name;
@@ -28,11 +29,11 @@ fn tone_of_lock(locks: &[Name], lock: &Option<Name>) -> usize
     }
 }
 
-// Whether a task below row k executes.
-fn is_below(k: usize, wait: Wait) -> bool
-    ensures { result ≡ nat_lt k wait.row }
+// Whether a task below a row executes.
+fn is_below(spot: Spot, wait: Wait) -> bool
+    ensures { result ≡ nat_lt spot.rank wait.row }
 {
-    k < wait.row
+    spot.rank < wait.row
 }
 
 impl<W: Write + Drop> Page<'_, W> {
@@ -47,7 +48,7 @@ impl<W: Write + Drop> Page<'_, W> {
         write!(self.out, "{tone}")
     }
 
-    // A line in the middle of row k.
+    // A line in the middle of the row at place k.
     fn put_wait_line(&mut self, frame: Frame, k: usize, wait: Wait) -> Result<(), WriteFailed>
         requires { k ≤ TASK_LIMIT }
         ensures { Puts W.contents self.old self.new result (line_path frame k wait) }
@@ -78,27 +79,28 @@ impl<W: Write + Drop> Page<'_, W> {
         write!(self.out, "{start} to {stop} us</title></path>\n")
     }
 
-    // A wait of row k for a task above.
+    // A wait of a row for a task above.
     fn put_above(
         &mut self,
         chart: &Chart<'_>,
-        k: usize,
+        spot: Spot,
         wait: Wait,
         gathered: bool,
     ) -> Result<(), WriteFailed>
-        requires row { k < length chart.now.rows.now }
+        requires row { spot.rank < length chart.now.rows.now }
+        requires place { spot.k ≤ TASK_LIMIT }
         requires other { wait.row < length chart.now.rows.now }
         ensures { Puts W.contents self.old self.new result
-            (above_text chart.now.frame chart.now.rows.now k wait gathered) }
+            (above_text chart.now.frame chart.now.rows.now spot wait gathered) }
     {
         self.out.put(b"<path class=\"wa i")?;
         self.put_ink(gathered, wait.row)?;
-        self.put_wait_line(chart.frame, k, wait)?;
-        self.put_wait_words(chart.rows, k, wait.row)?;
+        self.put_wait_line(chart.frame, spot.k, wait)?;
+        self.put_wait_words(chart.rows, spot.rank, wait.row)?;
         self.put_wait_end(wait)
     }
 
-    // Dots in the middle of row k, in a tone.
+    // Dots in the middle of the row at place k, in a tone.
     fn put_dots(
         &mut self,
         frame: Frame,
@@ -141,66 +143,87 @@ impl<W: Write + Drop> Page<'_, W> {
         }
     }
 
-    // A link in a tone, from the end of a wait of row k down to the bar of the task below.
+    // A link in a tone, from the end of a wait at place k down to a bar at place m.
     fn put_link_path(
         &mut self,
         frame: Frame,
         k: usize,
         wait: Wait,
         tone: usize,
+        m: usize,
     ) -> Result<(), WriteFailed>
-        requires row { k ≤ TASK_LIMIT }
-        requires other { wait.row ≤ TASK_LIMIT }
-        ensures { Puts W.contents self.old self.new result (link_path frame k wait tone) }
+        requires place { k ≤ TASK_LIMIT }
+        requires other { m ≤ TASK_LIMIT }
+        ensures { Puts W.contents self.old self.new result (link_path frame k wait tone m) }
     {
         let x = x_of(frame, wait.stop);
         let y = top_of(k) + 255;
-        let bar = top_of(wait.row) + 165;
+        let bar = top_of(m) + 165;
         write!(
             self.out,
             "<path class=\"wj d{tone}\" d=\"M{x} {y}V{bar}\"/>\n"
         )
     }
 
-    // The same where the wait is at least 2 pixels wide.
-    fn put_link(
-        &mut self,
-        frame: Frame,
-        k: usize,
-        wait: Wait,
-        tone: usize,
-    ) -> Result<(), WriteFailed>
-        requires row { k ≤ TASK_LIMIT }
-        requires other { wait.row ≤ TASK_LIMIT }
-        ensures { Puts W.contents self.old self.new result (link_text frame k wait tone) }
-    {
-        if x_of(frame, wait.stop) < x_of(frame, wait.start) + 20 {
-            Ok(())
-        } else {
-            self.put_link_path(frame, k, wait, tone)
-        }
-    }
-
-    // A wait of row k for a task below, which blocks by a lock.
-    fn put_blocked(
+    // The same, if the row of the task below is shown.
+    fn put_link_to(
         &mut self,
         chart: &Chart<'_>,
         k: usize,
         wait: Wait,
+        tone: usize,
+    ) -> Result<(), WriteFailed>
+        requires { k ≤ TASK_LIMIT }
+        ensures { Puts W.contents self.old self.new result
+            (link_to chart.now.frame k wait tone (place_in chart.now.shown.now wait.row)) }
+    {
+        match place_in(chart.shown, wait.row) {
+            None => Ok(()),
+            Some(m) => self.put_link_path(chart.frame, k, wait, tone, m),
+        }
+    }
+
+    // The same where the wait ends in the window and is at least 2 pixels wide.
+    fn put_link(
+        &mut self,
+        chart: &Chart<'_>,
+        k: usize,
+        wait: Wait,
+        tone: usize,
+    ) -> Result<(), WriteFailed>
+        requires { k ≤ TASK_LIMIT }
+        ensures { Puts W.contents self.old self.new result
+            (link_text chart.now.frame chart.now.shown.now k wait tone) }
+    {
+        let frame = chart.frame;
+        if wait.stop <= frame.to && x_of(frame, wait.start) + 20 <= x_of(frame, wait.stop) {
+            self.put_link_to(chart, k, wait, tone)
+        } else {
+            Ok(())
+        }
+    }
+
+    // A wait of a row for a task below, which blocks by a lock.
+    fn put_blocked(
+        &mut self,
+        chart: &Chart<'_>,
+        spot: Spot,
+        wait: Wait,
         lock: &Option<Name>,
     ) -> Result<(), WriteFailed>
-        requires row { k < length chart.now.rows.now }
+        requires row { spot.rank < length chart.now.rows.now }
+        requires place { spot.k ≤ TASK_LIMIT }
         requires other { wait.row < length chart.now.rows.now }
         ensures { Puts W.contents self.old self.new result
-            (blocked_text chart.now.frame chart.now.locks.now chart.now.rows.now k wait
-            lock.now) }
+            (blocked_text chart.now.frame chart.now.locks.now chart.now.rows.now chart.now.shown.now
+            spot wait lock.now) }
     {
         let tone = tone_of_lock(chart.locks, lock);
-        self.put_dots(chart.frame, k, wait, tone)?;
-        self.put_blocked_words(chart.rows, k, wait.row)?;
+        self.put_dots(chart.frame, spot.k, wait, tone)?;
+        self.put_blocked_words(chart.rows, spot.rank, wait.row)?;
         self.put_lock_words(lock)?;
         self.put_wait_end(wait)?;
-        self.put_link(chart.frame, k, wait, tone)
+        self.put_link(chart, spot.k, wait, tone)
     }
 
     // The name of who executes, in the middle, above.
@@ -232,7 +255,7 @@ impl<W: Write + Drop> Page<'_, W> {
 
     // The same of a wait.
     fn put_who(&mut self, chart: &Chart<'_>, k: usize, wait: Wait) -> Result<(), WriteFailed>
-        requires row { k < length chart.now.rows.now }
+        requires place { k ≤ TASK_LIMIT }
         requires other { wait.row < length chart.now.rows.now }
         ensures { Puts W.contents self.old self.new result
             (who_text chart.now.frame chart.now.rows.now k wait) }
@@ -243,49 +266,75 @@ impl<W: Write + Drop> Page<'_, W> {
         self.put_who_at(x, right, k, name)
     }
 
-    // Why a job in row k waits in slice n.
+    // Why a job in a row waits in slice n.
     fn put_why(
         &mut self,
         chart: &Chart<'_>,
         stay: Stay,
-        k: usize,
+        spot: Spot,
         n: usize,
         wait: Wait,
     ) -> Result<(), WriteFailed>
-        requires row { k < length chart.now.rows.now }
+        requires row { spot.rank < length chart.now.rows.now }
+        requires place { spot.k ≤ TASK_LIMIT }
         requires other { wait.row < length chart.now.rows.now }
-        requires place { n < length chart.now.slices.now }
+        requires slice { n < length chart.now.slices.now }
         ensures { Puts W.contents self.old self.new result
-            (why_text chart.now.frame chart.now.locks.now chart.now.rows.now chart.now.jobs.now
-            chart.now.slices.now stay k n wait) }
+            (why_text chart.now.frame chart.now.locks.now chart.now.rows.now chart.now.shown.now
+            chart.now.jobs.now chart.now.slices.now stay spot n wait) }
     {
-        if is_below(k, wait) {
-            let lock = blocking_lock(chart.rows, chart.slices, k, n, wait.start, wait.row);
-            self.put_blocked(chart, k, wait, &lock)
+        if is_below(spot, wait) {
+            let lock = blocking_lock(chart.rows, chart.slices, spot.rank, n, wait.start, wait.row);
+            self.put_blocked(chart, spot, wait, &lock)
         } else {
-            let gathered = is_gathered(chart, stay, k, n);
-            self.put_above(chart, k, wait, gathered)
+            let gathered = is_gathered(chart, stay, spot.rank, n);
+            self.put_above(chart, spot, wait, gathered)
         }
     }
 
     // That, and the name of who executes.
+    fn put_seen_wait(
+        &mut self,
+        chart: &Chart<'_>,
+        stay: Stay,
+        spot: Spot,
+        n: usize,
+        wait: Wait,
+    ) -> Result<(), WriteFailed>
+        requires row { spot.rank < length chart.now.rows.now }
+        requires place { spot.k ≤ TASK_LIMIT }
+        requires other { wait.row < length chart.now.rows.now }
+        requires slice { n < length chart.now.slices.now }
+        ensures { Puts W.contents self.old self.new result
+            (seen_wait chart.now.frame chart.now.locks.now chart.now.rows.now chart.now.shown.now
+            chart.now.jobs.now chart.now.slices.now stay spot n wait) }
+    {
+        self.put_why(chart, stay, spot, n, wait)?;
+        self.put_who(chart, spot.k, wait)
+    }
+
+    // The same, where the wait is in the window.
     fn put_wait(
         &mut self,
         chart: &Chart<'_>,
         stay: Stay,
-        k: usize,
+        spot: Spot,
         n: usize,
         wait: Wait,
     ) -> Result<(), WriteFailed>
-        requires row { k < length chart.now.rows.now }
+        requires row { spot.rank < length chart.now.rows.now }
+        requires place { spot.k ≤ TASK_LIMIT }
         requires other { wait.row < length chart.now.rows.now }
-        requires place { n < length chart.now.slices.now }
+        requires slice { n < length chart.now.slices.now }
         ensures { Puts W.contents self.old self.new result
-            (wait_text chart.now.frame chart.now.locks.now chart.now.rows.now chart.now.jobs.now
-            chart.now.slices.now stay k n (Some wait)) }
+            (wait_text chart.now.frame chart.now.locks.now chart.now.rows.now chart.now.shown.now
+            chart.now.jobs.now chart.now.slices.now stay spot n (Some wait)) }
     {
-        self.put_why(chart, stay, k, n, wait)?;
-        self.put_who(chart, k, wait)
+        if sees(chart.frame, wait.start, wait.stop) {
+            self.put_seen_wait(chart, stay, spot, n, wait)
+        } else {
+            Ok(())
+        }
     }
 
     // The wait of a job in slice n, if it waits in it.
@@ -293,56 +342,75 @@ impl<W: Write + Drop> Page<'_, W> {
         &mut self,
         chart: &Chart<'_>,
         stay: Stay,
-        k: usize,
+        spot: Spot,
         n: usize,
     ) -> Result<(), WriteFailed>
-        requires row { k < length chart.now.rows.now }
-        requires place { n < length chart.now.slices.now }
+        requires row { spot.rank < length chart.now.rows.now }
+        requires place { spot.k ≤ TASK_LIMIT }
+        requires slice { n < length chart.now.slices.now }
         ensures { Puts W.contents self.old self.new result
             (nth_wait_text chart.now.frame chart.now.locks.now chart.now.rows.now
-            chart.now.jobs.now chart.now.slices.now stay k n) }
+            chart.now.shown.now chart.now.jobs.now chart.now.slices.now stay spot n) }
     {
         match wait_at(chart, stay, n) {
             None => Ok(()),
-            Some(wait) => self.put_wait(chart, stay, k, n, wait),
+            Some(wait) => self.put_wait(chart, stay, spot, n, wait),
         }
     }
 
-    // The waits of a job in row k, by time.
-    fn put_stay(&mut self, chart: &Chart<'_>, stay: Stay, k: usize) -> Result<(), WriteFailed>
-        requires { k < length chart.now.rows.now }
+    // The waits of a job in a row, by time: in the slices that end by then it isn't ready.
+    fn put_stay(
+        &mut self,
+        chart: &Chart<'_>,
+        stay: Stay,
+        spot: Spot,
+        past: Past,
+    ) -> Result<(), WriteFailed>
+        requires row { spot.rank < length chart.now.rows.now }
+        requires place { spot.k ≤ TASK_LIMIT }
+        requires within { past.count ≤ length chart.now.slices.now }
+        requires ended { EndBy chart.now.slices.now past.count past.time }
+        requires before { past.time ≤ stay.from }
         ensures { Puts W.contents self.old self.new result
-            (stay_text chart.now.frame chart.now.locks.now chart.now.rows.now chart.now.jobs.now
-            chart.now.slices.now stay k) }
+            (stay_text chart.now.frame chart.now.locks.now chart.now.rows.now chart.now.shown.now
+            chart.now.jobs.now chart.now.slices.now stay spot) }
     {
-        for n in 0..chart.slices.len() {
-            self.put_nth_wait(chart, stay, k, n)?;
+        for n in past.count..chart.slices.len() {
+            if is_behind(chart, stay, n) {
+                return Ok(());
+            }
+            self.put_nth_wait(chart, stay, spot, n)?;
         }
         Ok(())
     }
 
     // The waits of job j, in the row of its task.
-    fn put_job_waits(&mut self, chart: &Chart<'_>, j: usize) -> Result<(), WriteFailed>
-        requires { j < length chart.now.jobs.now }
+    fn put_job_waits(&mut self, chart: &Chart<'_>, j: usize, past: Past) -> Result<(), WriteFailed>
+        requires job { j < length chart.now.jobs.now }
+        requires within { past.count ≤ length chart.now.slices.now }
+        requires ended { EndBy chart.now.slices.now past.count past.time }
+        requires before { past.time ≤ (stay_of chart.now.frame chart.now.releases.now chart.now.jobs.now j).from }
         ensures { Puts W.contents self.old self.new result
-            (job_waits chart.now.frame chart.now.locks.now chart.now.rows.now
+            (job_waits chart.now.frame chart.now.locks.now chart.now.rows.now chart.now.shown.now
             chart.now.releases.now chart.now.jobs.now chart.now.slices.now j) }
     {
         let name = name_of(chart.jobs, j);
-        match find_row(chart.rows, name) {
+        match chart.spot_of(name) {
             None => Ok(()),
-            Some(k) => self.put_stay(chart, stay_of(chart, j), k),
+            Some(spot) => self.put_stay(chart, stay_of(chart, j), spot, past),
         }
     }
 
     // The waits of each job.
     pub(crate) fn put_waits(&mut self, chart: &Chart<'_>) -> Result<(), WriteFailed>
         ensures { Puts W.contents self.old self.new result
-            (waits_text chart.now.frame chart.now.locks.now chart.now.rows.now
+            (waits_text chart.now.frame chart.now.locks.now chart.now.rows.now chart.now.shown.now
             chart.now.releases.now chart.now.jobs.now chart.now.slices.now) }
     {
+        let mut past = Past { count: 0, time: 0 };
         for j in 0..chart.jobs.len() {
-            self.put_job_waits(chart, j)?;
+            past = past_before(chart, j, past);
+            self.put_job_waits(chart, j, past)?;
         }
         Ok(())
     }

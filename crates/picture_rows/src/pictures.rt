@@ -1,7 +1,7 @@
 //! Pictures of runs.
 use ceiling_kernel::{Kernel, Release, RunFault, Trace};
 use example_sets::{again, name, set_of};
-use picture::{DrawFault, TaskRow, draw};
+use picture::{DrawFault, TaskRow, View, draw};
 use std::alloc::Global;
 use std::test::Fail;
 use streams::Watched;
@@ -59,17 +59,18 @@ const PICTURE: Parts = Parts {
     above: "<text class=\"t\" x=\"100\" y=\"200\">no deadline missed</text>
 <text x=\"100\" y=\"390\">tasks: 2, jobs: 3, until 1.3 ms</text>
 ",
-    below: "<path class=\"g\" d=\"M1960 1230V2650\"/><text class=\"s\" x=\"1960\" y=\"1200\">0 us</text>
-<path class=\"g\" d=\"M3104 1230V2650\"/><text class=\"s\" x=\"3104\" y=\"1200\">200 us</text>
-<path class=\"g\" d=\"M4249 1230V2650\"/><text class=\"s\" x=\"4249\" y=\"1200\">400 us</text>
-<path class=\"g\" d=\"M5393 1230V2650\"/><text class=\"s\" x=\"5393\" y=\"1200\">600 us</text>
-<path class=\"g\" d=\"M6538 1230V2650\"/><text class=\"s\" x=\"6538\" y=\"1200\">800 us</text>
-<path class=\"g\" d=\"M7683 1230V2650\"/><text class=\"s\" x=\"7683\" y=\"1200\">1000 us</text>
-<path class=\"g\" d=\"M8827 1230V2650\"/><text class=\"s\" x=\"8827\" y=\"1200\">1200 us</text>
+    below: "<path class=\"g\" d=\"M1960 1230V2650\"/><text class=\"s\" x=\"1960\" y=\"1200\">0</text>
+<path class=\"g\" d=\"M3104 1230V2650\"/><text class=\"s\" x=\"3104\" y=\"1200\">200</text>
+<path class=\"g\" d=\"M4249 1230V2650\"/><text class=\"s\" x=\"4249\" y=\"1200\">400</text>
+<path class=\"g\" d=\"M5393 1230V2650\"/><text class=\"s\" x=\"5393\" y=\"1200\">600</text>
+<path class=\"g\" d=\"M6538 1230V2650\"/><text class=\"s\" x=\"6538\" y=\"1200\">800</text>
+<path class=\"g\" d=\"M7683 1230V2650\"/><text class=\"s\" x=\"7683\" y=\"1200\">1000</text>
+<path class=\"g\" d=\"M8827 1230V2650\"/><text class=\"s\" x=\"8827\" y=\"1200\">1200</text>
 <path class=\"l\" d=\"M1960 1570H9400\"/>
 <path class=\"g\" d=\"M100 1690H9400\"/><path class=\"l\" d=\"M1960 2035H9400\"/>
 <path class=\"g\" d=\"M100 2170H9400\"/><path class=\"l\" d=\"M1960 2515H9400\"/>
 <g id=\"n\">
+<text x=\"500\" y=\"1200\">time in us</text>
 <text class=\"n\" x=\"500\" y=\"1460\">processor</text><text x=\"500\" y=\"1580\">busy 88.4 %</text>
 <text class=\"v\" x=\"300\" y=\"1920\">2</text><rect class=\"f0\" x=\"350\" y=\"1820\" width=\"100\" height=\"100\" rx=\"20\"/>
 <text class=\"n\" x=\"500\" y=\"1920\"><title>done: 1, greatest response: 450, bound: 550 us</title>a</text>
@@ -138,17 +139,18 @@ const LATE: Parts = Parts {
 <text class=\"t q\" x=\"320\" y=\"200\">deadlines missed: 1</text>
 <text x=\"100\" y=\"390\">tasks: 2, jobs: 3, until 1.25 ms</text>
 ",
-    below: "<path class=\"g\" d=\"M1960 1230V2650\"/><text class=\"s\" x=\"1960\" y=\"1200\">0 us</text>
-<path class=\"g\" d=\"M3150 1230V2650\"/><text class=\"s\" x=\"3150\" y=\"1200\">200 us</text>
-<path class=\"g\" d=\"M4340 1230V2650\"/><text class=\"s\" x=\"4340\" y=\"1200\">400 us</text>
-<path class=\"g\" d=\"M5531 1230V2650\"/><text class=\"s\" x=\"5531\" y=\"1200\">600 us</text>
-<path class=\"g\" d=\"M6721 1230V2650\"/><text class=\"s\" x=\"6721\" y=\"1200\">800 us</text>
-<path class=\"g\" d=\"M7912 1230V2650\"/><text class=\"s\" x=\"7912\" y=\"1200\">1000 us</text>
-<path class=\"g\" d=\"M9102 1230V2650\"/><text class=\"s\" x=\"9102\" y=\"1200\">1200 us</text>
+    below: "<path class=\"g\" d=\"M1960 1230V2650\"/><text class=\"s\" x=\"1960\" y=\"1200\">0</text>
+<path class=\"g\" d=\"M3150 1230V2650\"/><text class=\"s\" x=\"3150\" y=\"1200\">200</text>
+<path class=\"g\" d=\"M4340 1230V2650\"/><text class=\"s\" x=\"4340\" y=\"1200\">400</text>
+<path class=\"g\" d=\"M5531 1230V2650\"/><text class=\"s\" x=\"5531\" y=\"1200\">600</text>
+<path class=\"g\" d=\"M6721 1230V2650\"/><text class=\"s\" x=\"6721\" y=\"1200\">800</text>
+<path class=\"g\" d=\"M7912 1230V2650\"/><text class=\"s\" x=\"7912\" y=\"1200\">1000</text>
+<path class=\"g\" d=\"M9102 1230V2650\"/><text class=\"s\" x=\"9102\" y=\"1200\">1200</text>
 <path class=\"l\" d=\"M1960 1570H9400\"/>
 <path class=\"g\" d=\"M100 1690H9400\"/><path class=\"l\" d=\"M1960 2035H9400\"/>
 <path class=\"g\" d=\"M100 2170H9400\"/><path class=\"l\" d=\"M1960 2515H9400\"/>
 <g id=\"n\">
+<text x=\"500\" y=\"1200\">time in us</text>
 <text class=\"n\" x=\"500\" y=\"1460\">processor</text><text x=\"500\" y=\"1580\">busy 92.0 %</text>
 <text class=\"v\" x=\"300\" y=\"1920\">2</text><rect class=\"f0\" x=\"350\" y=\"1820\" width=\"100\" height=\"100\" rx=\"20\"/>
 <text class=\"n\" x=\"500\" y=\"1920\"><title>done: 1, greatest response: 600, bound: - us</title>b</text>
@@ -199,10 +201,11 @@ const EMPTY_PICTURE: Parts = Parts {
     above: "<text class=\"t\" x=\"100\" y=\"200\">no deadline missed</text>
 <text x=\"100\" y=\"390\">tasks: 0, jobs: 0, until 0 ms</text>
 ",
-    below: "<path class=\"g\" d=\"M1960 1230V1690\"/><text class=\"s\" x=\"1960\" y=\"1200\">0 us</text>
-<path class=\"g\" d=\"M9400 1230V1690\"/><text class=\"s\" x=\"9400\" y=\"1200\">1 us</text>
+    below: "<path class=\"g\" d=\"M1960 1230V1690\"/><text class=\"s\" x=\"1960\" y=\"1200\">0</text>
+<path class=\"g\" d=\"M9400 1230V1690\"/><text class=\"s\" x=\"9400\" y=\"1200\">1</text>
 <path class=\"l\" d=\"M1960 1570H9400\"/>
 <g id=\"n\">
+<text x=\"500\" y=\"1200\">time in us</text>
 <text class=\"n\" x=\"500\" y=\"1460\">processor</text><text x=\"500\" y=\"1580\">busy 0.0 %</text>
 </g>
 <g id=\"k\">
@@ -272,7 +275,15 @@ fn picture_of(
     let mut out = Watched::new(&mut text);
     if rows.len() <= TASK_LIMIT {
         again!(
-            draw(alloc, rows, until, releases, trace, &mut out),
+            draw(
+                alloc,
+                rows,
+                &View::whole(alloc),
+                until,
+                releases,
+                trace,
+                &mut out
+            ),
             DrawFault::OutOfMemory
         )
         .ok()

@@ -3,4 +3,5 @@ use Rattle.picture.proofs.page.Page.put_group.Goals as goal
 
 pub returns : goal.returns
 returns g c =
-    puts_both (puts_both (puts_both c.in_ok-put.ensures c.in_ok-put_lane_head.ensures) c.in_ok-put_margins.ensures) c.put-2.ensures
+    let heads = puts_both (puts_both c.in_ok-put.ensures c.in_ok-put_time_head.ensures) c.in_ok-put_lane_head.ensures in
+    puts_both (puts_both heads c.in_ok-put_margins.ensures) c.put-2.ensures

@@ -4,4 +4,4 @@ use Rattle.picture.proofs.page.Page.put_missed.Goals as goal
 pub returns : goal.returns
 returns g c =
     let told = puts_both (puts_both (puts_both c.in_ok-put_hatch.ensures c.in_ok-put_arrival_words.ensures) c.in_ok-put_finish_words.ensures) c.in_ok-put_due_words.ensures in
-    puts_both told (rw (← c.deadline.ensures) (rw (← c.x_after-x.ensures.value) (rw (← c.top_of.ensures.value) c.put_badge.ensures)))
+    puts_both (puts_both told c.in_ok-put_due_badge.ensures) c.put_late_signs.ensures

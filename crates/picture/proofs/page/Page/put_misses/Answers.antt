@@ -1,13 +1,22 @@
-use Rattle.std.proofs.Common.{ℕ, get_or}
-use Rattle.ceiling_kernel.specs.Runs.{no_record}
-use Rattle.ceiling_kernel.specs.declared.trace.JobRecord.{JobRecord}
-use Rattle.picture.specs.Misses.{miss_text}
-use Rattle.picture.specs.Rows.{on_row}
-use Rattle.picture.proofs.Puts.{puts_none, puts_item}
+use Rattle.std.proofs.Common.{ℕ, List}
+use Rattle.picture.specs.Misses.{row_misses}
+use Rattle.picture.specs.Rows.{row_at, spot_in}
+use Rattle.picture.specs.Frame.{Frame}
+use Rattle.picture.specs.declared.rows.Spot.{Spot}
+use Rattle.picture.specs.declared.rows.TaskRow.{TaskRow}
+use Rattle.picture.proofs.Puts.{puts_none, puts_one_more}
+use Rattle.picture.proofs.Lanes.{puts_in_lane, puts_same}
 use Rattle.picture.proofs.page.Page.put_misses.Goals as goal
 
-pub loop-job-init : goal.loop-job-init
-loop-job-init g c = puts_none g.W.Write.contents c.args.self.now.out (λ i. (λ (i : ℕ) (job : JobRecord). on_row c.args.chart.now.rows.now job.name (miss_text c.args.chart.now.frame job)) i (get_or c.args.chart.now.jobs.now i no_record))
+pub loop-k-init : goal.loop-k-init
+loop-k-init g c = puts_none g.W.Write.contents c.args.self.now.out (λ k. row_misses c.args.chart.now.frame c.args.chart.now.jobs.now (spot_in c.args.chart.now.shown.now k).k (row_at c.args.chart.now.rows.now (spot_in c.args.chart.now.shown.now k).rank))
 
-pub loop-job-preserved : goal.loop-job-preserved
-loop-job-preserved g c = puts_item (λ (i : ℕ) (job : JobRecord). on_row c.args.chart.now.rows.now job.name (miss_text c.args.chart.now.frame job)) c.args.chart.now.jobs.now no_record c.loop-job.job-index c.job-item.result c.loop-job-test.true c.job-item.is c.loop-job.invariant c.in_ok-put_miss.ensures
+pub loop-k-preserved : goal.loop-k-preserved
+loop-k-preserved g c =
+    let text : Frame → Spot → TaskRow → List ℕ = λ f s row. row_misses f c.args.chart.now.jobs.now s.k row in
+    let rows = c.args.chart.now.rows.now in
+    let frame = c.args.chart.now.frame in
+    let shown = c.args.chart.now.shown.now in
+    let k = c.loop-k.k in
+    let missed = puts_in_lane text rows frame c.spot.result c.lane.result.frame c.lane.result.spot c.lane.result.row.now c.lane.ensures.frame c.lane.ensures.spot c.lane.ensures.row c.in_ok-put_row_misses.ensures in
+    puts_one_more (λ k. text frame (spot_in shown k) (row_at rows (spot_in shown k).rank)) k c.loop-k.invariant (puts_same (λ (s : Spot). text frame s (row_at rows s.rank)) c.spot.ensures.spot missed)

@@ -1,9 +1,8 @@
 use Rattle.std.specs.Prelude.{Ok}
-use Rattle.picture.specs.Rows.{each, on_row}
+use Rattle.picture.specs.Rows.{each, row_at, spot_in}
 use Rattle.picture.specs.Puts.{Puts}
-use Rattle.picture.specs.Misses.{miss_text}
-use Rattle.picture.specs.Rows.{record_at}
+use Rattle.picture.specs.Misses.{row_misses}
 use Rattle.picture.proofs.page.Page.put_misses.Given as goal
 
-abbrev pub invariant-loop-job : goal.invariant-loop-job
-invariant-loop-job g l = Puts g.W.Write.contents l.fn.self l.self (Ok tt) (each l.job-index (λ i. on_row l.fn.chart.rows.now (record_at l.fn.chart.jobs.now i).name (miss_text l.fn.chart.frame (record_at l.fn.chart.jobs.now i))))
+abbrev pub invariant-loop-k : goal.invariant-loop-k
+invariant-loop-k g l = Puts g.W.Write.contents l.fn.self l.self (Ok tt) (each l.k (λ k. row_misses l.fn.chart.frame l.fn.chart.jobs.now (spot_in l.fn.chart.shown.now k).k (row_at l.fn.chart.rows.now (spot_in l.fn.chart.shown.now k).rank)))

@@ -3,7 +3,7 @@ use Rattle.streams.proofs.Puts.{puts_both}
 use Rattle.picture.specs.Frame.{x_of}
 use Rattle.picture.specs.Lane.{lane_right, lane_label}
 use Rattle.picture.proofs.Lanes.{puts_same}
-use Rattle.picture.proofs.page.Page.put_lane_slice.Goals as goal
+use Rattle.picture.proofs.page.Page.put_seen_lane.Goals as goal
 
 pub returns : goal.returns
 returns g c =

@@ -1,0 +1,5 @@
+pub mod ListLaws
+pub mod RunLaws
+pub mod LateLaws
+pub mod PlaceLaws
+pub mod StandLaws
