@@ -14,4 +14,4 @@ pub use crate::observing::observe;
 pub use crate::pieces::Piece;
 pub use crate::promises::{Promise, promises_of};
 pub use crate::seen::Seen;
-pub use crate::sight::{Observed, Sight, observe_text};
+pub use crate::sight::{Observed, Sight, observe_at, observe_places, observe_text};

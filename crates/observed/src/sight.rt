@@ -1,16 +1,22 @@
-//! What a text shows, as a trace, of a set's tasks at the levels of their best order.
+//! What a trace shows of a set's tasks at the levels of an order, and a text at those of their best one.
 ghost use Rattle.std.specs.Prelude.{◌≡◌, ◌<◌, length, All, MatchResult};
 ghost use Rattle.task_sheet.specs.Indexes.{indexes_of};
-ghost use Rattle.observed.specs.Sights.{IsSight, IsSightFault};
+ghost use Rattle.ceilings.specs.IsTableOf.{IsTableOf};
+ghost use Rattle.trace_text.specs.Faults.{IsTraceFault};
+ghost use Rattle.trace_text.specs.Rows.{rows_at};
+ghost use Rattle.observed.specs.Observed.{observed_fault};
+ghost use Rattle.observed.specs.Promises.{promises_of};
+ghost use Rattle.observed.specs.Sights.{IsShownAt, IsSight, IsSightFault, IsSightFaultOf, IsSightOf};
 
 use crate::observing::observe;
 use crate::promises::{Promise, promises_of};
 use crate::seen::Seen;
-use assignment::{Placing, place_all};
+use assignment::{Place, Placing, place_all};
 use ceilings::LockTable;
+use lines::TextPlace;
 use std::alloc::Global;
 use task_sheet::{Members, TaskSet};
-use trace_text::{TraceFault, read_trace};
+use trace_text::{TraceFault, TraceLines, read_trace_at};
 
 /// What a trace shows of a set's tasks.
 #[derive(Drop)]
@@ -28,22 +34,51 @@ pub struct Observed {
     pub seen: Vec<Seen>,
 }
 
-/// What a text shows, as a trace, of a set's tasks at the levels of their best order. The text is refused in the order of
-/// `TraceFault`, before the set is placed but for `NoJob`.
-pub fn observe_text(alloc: Global, set: &TaskSet, text: &[u8]) -> Result<Sight, TraceFault>
+/// What a trace shows of a set's tasks at the levels of an order with these places. The table is that of the set. Refused
+/// only as `NoJob`.
+pub fn observe_places(
+    alloc: Global,
+    set: &TaskSet,
+    table: &LockTable,
+    places: &[Place],
+    trace: &TraceLines,
+) -> Result<Observed, TraceFault>
+    requires table { IsTableOf set.now table.now }
+    requires tasks { All (λ p. p.task < length set.now) places.now }
     ensures { MatchResult result
-        (λ sight. IsSight set.now text.now sight) (λ fault. IsSightFault set.now text.now fault) }
+        (λ observed. IsShownAt set.now places.now trace.now observed)
+        (λ fault. IsTraceFault fault
+        (observed_fault (promises_of set.now places.now) trace.now)) }
+{
+    let promises = promises_of(alloc, set, table, places)?;
+    let seen = observe(alloc, &promises, trace)?;
+    Ok(Observed { promises, seen })
+}
+
+/// What a text shows from a place on, as a trace, of a set's tasks at the levels of their best order. It is refused in the
+/// order of `TraceFault`, before the set is placed but for `NoJob`.
+pub fn observe_at(alloc: Global, set: &TaskSet, at: TextPlace<'_>) -> Result<Sight, TraceFault>
+    ensures { MatchResult result
+        (λ sight. IsSightOf set.now (rows_at at.entry.line at.entry.rest.now) sight)
+        (λ fault. IsSightFaultOf set.now (rows_at at.entry.line at.entry.rest.now) fault) }
 {
     // The set is valid: the proof has it from its sheets.
     let _sheets = set.sheets();
-    let trace = read_trace(alloc, text)?;
+    let trace = read_trace_at(alloc, at)?;
     let table = LockTable::new(alloc, set)?;
     match place_all(alloc, set, &table)? {
         Placing::Stuck(members) => Ok(Sight::Infeasible(members)),
         Placing::Best(places) => {
-            let promises = promises_of(alloc, set, &table, &places)?;
-            let seen = observe(alloc, &promises, &trace)?;
-            Ok(Sight::Seen(Observed { promises, seen }))
+            let observed = observe_places(alloc, set, &table, &places, &trace)?;
+            Ok(Sight::Seen(observed))
         }
     }
+}
+
+/// The same of a text.
+pub fn observe_text(alloc: Global, set: &TaskSet, text: &[u8]) -> Result<Sight, TraceFault>
+    ensures { MatchResult result
+        (λ sight. IsSight set.now text.now sight) (λ fault. IsSightFault set.now text.now fault) }
+{
+    observe_at(alloc, set, TextPlace::start(text))
 }

@@ -51,13 +51,17 @@ rows_fault (Ok rows) = sequence_fault (slices_of rows) (jobs_of rows)
 abbrev pub trace_fault : List ℕ → Option TraceFault
 trace_fault text = rows_fault (rows_in text)
 
--- what a text says that is a trace
-pub record IsTraceIn (text : List ℕ) (trace : TraceLines) : Type 0 where
-  pub sound : trace_fault text ≡ None
+-- what a reading says that is a trace
+pub record IsTraceOf (found : Result (List TraceRow) ℕ) (trace : TraceLines) : Type 0 where
+  pub sound : rows_fault found ≡ None
   pub rows : List TraceRow
-  pub read : rows_in text ≡ Ok rows
+  pub read : found ≡ Ok rows
   pub slices : trace.slices.items ≡ slices_of rows
   pub jobs : trace.jobs.items ≡ jobs_of rows
+
+-- what a text says that is a trace
+abbrev pub IsTraceIn : List ℕ → TraceLines → Type 0
+IsTraceIn text trace = IsTraceOf (rows_in text) trace
 
 -- ---- how they are found
 -- a fault is want of memory, or the first faulty line

@@ -2,7 +2,7 @@
 -- with `-` where it has no finish. Times are whole microseconds.
 use Rattle.std.specs.Prelude.{ℕ, nat_le, nat_lt, List, [], ◌∷◌, ◌++◌, Option, Some, None, Result, Ok, Err, bytes_eq, codes, if◌then◌else◌}
 use Rattle.std.specs.Option.{option_map}
-use Rattle.lines.specs.Lines.{kept_lines}
+use Rattle.lines.specs.Lines.{kept_from, kept_lines, lines_of}
 use Rattle.lines.specs.Words.{name_in, number_in, words}
 use Rattle.trace_text.specs.declared.rows.TraceRow.{TraceRow}
 use Rattle.trace_text.specs.declared.rows.TraceRow.TheVariants.{Slice, Job}
@@ -80,6 +80,10 @@ with_row line (Some row) rest = before (row ∷ []) rest
 abbrev pub rows_from : List (ℕ × List ℕ) → Result (List TraceRow) ℕ
 rows_from [] = Ok []
 rows_from (l ∷ ls) = with_row l.0 (trace_row_in l.0 (words l.1)) (rows_from ls)
+
+-- the rows of lines, the first of which has a number, that are not skipped, or the number of the first faulty line
+abbrev pub rows_at : ℕ → List ℕ → Result (List TraceRow) ℕ
+rows_at line rest = rows_from (kept_from line (lines_of rest))
 
 -- the rows of the lines of a text that are not skipped, or the number of the first faulty line
 abbrev pub rows_in : List ℕ → Result (List TraceRow) ℕ

@@ -1,9 +1,11 @@
 //! Reading a trace.
 ghost use Rattle.std.specs.Prelude.{◌≡◌, MatchResult};
-ghost use Rattle.trace_text.specs.Faults.{IsTraceFault, IsTraceIn, are_too_many, overlap_from, overlap_in, sequence_fault, trace_fault, unsorted_from, unsorted_in};
+ghost use Rattle.trace_text.specs.Faults.{IsTraceFault, IsTraceIn, IsTraceOf, are_too_many, overlap_from, overlap_in, rows_fault, sequence_fault, trace_fault, unsorted_from, unsorted_in};
+ghost use Rattle.trace_text.specs.Rows.{rows_at};
 
 use crate::fault::TraceFault;
 use crate::rows::{TraceJob, TraceSlice, jobs_of, read_rows, slices_of};
+use lines::TextPlace;
 use std::alloc::Global;
 
 /// The most slices of a trace.
@@ -77,7 +79,16 @@ pub fn read_trace(alloc: Global, text: &[u8]) -> Result<TraceLines, TraceFault>
         (λ trace. IsTraceIn text.now trace)
         (λ fault. IsTraceFault fault (trace_fault text.now)) }
 {
-    let rows = read_rows(alloc, text)?;
+    read_trace_at(alloc, TextPlace::start(text))
+}
+
+/// The same of a text from a place on, whose lines count from the start of the text.
+pub fn read_trace_at(alloc: Global, at: TextPlace<'_>) -> Result<TraceLines, TraceFault>
+    ensures { MatchResult result
+        (λ trace. IsTraceOf (rows_at at.entry.line at.entry.rest.now) trace)
+        (λ fault. IsTraceFault fault (rows_fault (rows_at at.entry.line at.entry.rest.now))) }
+{
+    let rows = read_rows(alloc, at)?;
     let slices = slices_of(alloc, &rows)?;
     let jobs = jobs_of(alloc, &rows)?;
     match sequence_fault(&slices, &jobs) {

@@ -2,7 +2,7 @@
 ghost use Rattle.std.specs.Prelude.{◌≡◌, Ok, MatchResult, IfOk};
 ghost use Rattle.lines.specs.Words.{words};
 ghost use Rattle.trace_text.specs.Faults.{IsRowsFault};
-ghost use Rattle.trace_text.specs.Rows.{finish_in, job_at, job_words, jobs_of, rows_in, slice_at, slices_of, trace_row_in};
+ghost use Rattle.trace_text.specs.Rows.{finish_in, job_at, job_words, jobs_of, rows_at, slice_at, slices_of, trace_row_in};
 
 use crate::fault::TraceFault;
 use lines::{TextPlace, Words, name_of, next_kept, number_of};
@@ -116,12 +116,14 @@ fn read_row(line: u64, text: &[u8]) -> Option<TraceRow>
     }
 }
 
-// The rows of a text. Empty lines and lines that begin with `#` are skipped and counted; the last line may lack its LF.
-pub(crate) fn read_rows(alloc: Global, text: &[u8]) -> Result<Vec<TraceRow>, TraceFault>
+// The rows of a text from a place on. Empty lines and lines that begin with `#` are skipped and counted; the last line may
+// lack its LF.
+pub(crate) fn read_rows<'a>(alloc: Global, at: TextPlace<'a>) -> Result<Vec<TraceRow>, TraceFault>
     ensures { MatchResult result
-        (λ rows. rows_in text.now ≡ Ok rows.items) (λ fault. IsRowsFault fault (rows_in text.now)) }
+        (λ rows. rows_at at.entry.line at.entry.rest.now ≡ Ok rows.items)
+        (λ fault. IsRowsFault fault (rows_at at.entry.line at.entry.rest.now)) }
 {
-    let mut at = TextPlace::start(text);
+    let mut at = at;
     let mut rows = Vec::new(alloc);
     while let Ok((line, after)) = next_kept(at) {
         let Some(row) = read_row(line.number, line.text) else {
