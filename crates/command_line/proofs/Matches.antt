@@ -7,7 +7,7 @@ use Rattle.clap.specs.declared.parser.matches.ArgMatches.{ArgMatches}
 use Rattle.clap.specs.declared.parser.matches.SubCommand.{SubCommand}
 use Rattle.clap.specs.declared.parser.matches.ArgMatches.TheViews.{out-ArgMatches, out-SubCommand}
 use Rattle.command_line.specs.Calls.{AreOptions, CountsWithin, HasNumber, HaveNumbers, IsCall, IsTaken}
-use Rattle.command_line.specs.declared.calls.TheConstants.{MOST_PRIORITY, MOST_SEED, MOST_TOLERANCE}
+use Rattle.command_line.specs.declared.calls.TheConstants.{MOST_PRIORITY, MOST_SEED, MOST_TOLERANCE, LATEST_END, LEAST_WIDTH, MOST_WIDTH}
 use Rattle.command_line.specs.declared.calls.Takes.TheVariants as takes
 use Rattle.command_line.specs.declared.calls.Options.{Options}
 use Rattle.command_line.specs.Commands.{least_of, most_of}
@@ -39,6 +39,9 @@ have_numbers rows options are = (
   number_within 1 MOST_PRIORITY _ options.base are.base,
   number_within 0 MOST_SEED _ options.seed are.seed,
   number_within 0 MOST_TOLERANCE _ options.tolerance are.tolerance,
+  number_within 0 LATEST_END _ options.from are.from,
+  number_within 0 LATEST_END _ options.to are.to,
+  number_within LEAST_WIDTH MOST_WIDTH _ options.width are.width,
 )
 
 -- a call that a command names has a number that the command takes

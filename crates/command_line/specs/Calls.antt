@@ -4,9 +4,9 @@ use Rattle.std.specs.Str.Parse.{digits_value, without_leading_plus}
 use Rattle.clap.specs.Words.{HasKind, IsUnsignedIn, Row, Text, fault_of, first_of, one_of, subcommand_of}
 use Rattle.command_line.specs.App.{desk_app}
 use Rattle.command_line.specs.Commands.{choice_name, input_of, least_of, most_of, number_choices, number_name, second_of, takes_of, verb_of, by_file}
-use Rattle.command_line.specs.declared.calls.TheConstants.{MOST_PRIORITY, MOST_SEED, MOST_TOLERANCE}
+use Rattle.command_line.specs.declared.calls.TheConstants.{MOST_PRIORITY, MOST_SEED, MOST_TOLERANCE, LATEST_END, LEAST_WIDTH, MOST_WIDTH}
 use Rattle.command_line.specs.declared.calls.Choice.{Choice}
-use Rattle.command_line.specs.declared.calls.Choice.TheVariants.{Base, LowerIsHigher, Seed, Tasks, Tolerance}
+use Rattle.command_line.specs.declared.calls.Choice.TheVariants.{Base, LowerIsHigher, Seed, Tasks, Tolerance, From, To, Width}
 use Rattle.command_line.specs.declared.calls.Takes.{Takes}
 use Rattle.command_line.specs.declared.calls.Takes.TheVariants as takes
 use Rattle.command_line.specs.declared.calls.Preferred.{Preferred}
@@ -118,14 +118,19 @@ Flags c rows true = first_of (choice_name c) rows ≡ Some (codes "true")
 Flags c rows false = first_of (choice_name c) rows ≢ Some (codes "true")
 
 -- what the words of a command choose
-pub record AreOptions (rows : List Row) (options : OptionsData) : Type 0 where
-  pub prefer : Prefers rows options.prefer
-  pub task : option_map (λ s. s.now) options.task ≡ first_of (codes "task") rows
-  pub base : IsNumberOf Base rows options.base
-  pub lower_is_higher : Flags LowerIsHigher rows options.lower_is_higher
-  pub seed : IsNumberOf Seed rows options.seed
-  pub by_task : Flags Tasks rows options.by_task
-  pub tolerance : IsNumberOf Tolerance rows options.tolerance
+pub record AreOptions (given : List Row) (options : OptionsData) : Type 0 where
+  pub prefer : Prefers given options.prefer
+  pub task : option_map (λ s. s.now) options.task ≡ first_of (codes "task") given
+  pub base : IsNumberOf Base given options.base
+  pub lower_is_higher : Flags LowerIsHigher given options.lower_is_higher
+  pub seed : IsNumberOf Seed given options.seed
+  pub by_task : Flags Tasks given options.by_task
+  pub tolerance : IsNumberOf Tolerance given options.tolerance
+  pub from : IsNumberOf From given options.from
+  pub to : IsNumberOf To given options.to
+  pub width : IsNumberOf Width given options.width
+  pub title : option_map (λ s. s.now) options.title ≡ first_of (codes "title") given
+  pub rows : option_map (λ s. s.now) options.rows ≡ first_of (codes "tasks") given
 
 -- nothing is chosen
 abbrev pub no_options : OptionsData
@@ -138,6 +143,11 @@ no_options =
       seed = None;
       by_task = false;
       tolerance = None;
+      from = None;
+      to = None;
+      width = None;
+      title = None;
+      rows = None;
     }
 
 -- the numbers that are chosen are ones that their options take
@@ -146,6 +156,9 @@ HaveNumbers options =
     IfSome options.base (λ base. (1 ≤ base) × (base ≤ MOST_PRIORITY))
     × IfSome options.seed (λ seed. (0 ≤ seed) × (seed ≤ MOST_SEED))
     × IfSome options.tolerance (λ tolerance. (0 ≤ tolerance) × (tolerance ≤ MOST_TOLERANCE))
+    × IfSome options.from (λ from. (0 ≤ from) × (from ≤ LATEST_END))
+    × IfSome options.to (λ to. (0 ≤ to) × (to ≤ LATEST_END))
+    × IfSome options.width (λ width. (LEAST_WIDTH ≤ width) × (width ≤ MOST_WIDTH))
 
 -- the word of the option that names a command of one input a second one
 abbrev pub file_of : Option (Choice × OfTwo) → List Row → Option Text

@@ -13,10 +13,10 @@ use Rattle.command_line.specs.declared.calls.OfNumber.TheVariants.{Releases, Scr
 use Rattle.command_line.specs.declared.calls.Verb.{Verb}
 use Rattle.command_line.specs.declared.calls.Verb.TheVariants.{One, Two, Number}
 use Rattle.command_line.specs.declared.calls.Choice.{Choice}
-use Rattle.command_line.specs.declared.calls.Choice.TheVariants.{Prefer, Task, Base, LowerIsHigher, Seed, Tasks, Tolerance, Keep, At}
+use Rattle.command_line.specs.declared.calls.Choice.TheVariants.{Prefer, Task, Base, LowerIsHigher, Seed, Tasks, Tolerance, Keep, At, From, To, Width, Title, Rows}
 use Rattle.command_line.specs.declared.calls.Takes.{Takes}
 use Rattle.command_line.specs.declared.calls.Takes.TheVariants as takes
-use Rattle.command_line.specs.declared.calls.TheConstants.{MOST_WORKERS, MOST_TEAM, MOST_PRIORITY, MOST_SEED, MOST_TOLERANCE, LATEST_END}
+use Rattle.command_line.specs.declared.calls.TheConstants.{MOST_WORKERS, MOST_TEAM, MOST_PRIORITY, MOST_SEED, MOST_TOLERANCE, LEAST_WIDTH, MOST_WIDTH, LATEST_END}
 
 -- the commands with their words and the options that they take, as help lists them: those that answer on a task set,
 -- those for certificates and runs, those for scripts
@@ -33,7 +33,7 @@ commands =
     ∷ (codes "releases", Number Releases, Prefer ∷ Seed ∷ [])
     ∷ (codes "worst", One Worst, Prefer ∷ Task ∷ At ∷ [])
     ∷ (codes "simulate", Two Simulate, Prefer ∷ Tasks ∷ [])
-    ∷ (codes "draw", Two Draw, Prefer ∷ [])
+    ∷ (codes "draw", Two Draw, Prefer ∷ From ∷ To ∷ Width ∷ Title ∷ Rows ∷ [])
     ∷ (codes "observe", Two Observe, Prefer ∷ Tolerance ∷ [])
     ∷ (codes "script", Number Script, Prefer ∷ [])
     ∷ (codes "play", One Play, [])
@@ -99,6 +99,11 @@ choice_name Tasks = codes "tasks"
 choice_name Tolerance = codes "tolerance"
 choice_name Keep = codes "keep"
 choice_name At = codes "at"
+choice_name From = codes "from"
+choice_name To = codes "to"
+choice_name Width = codes "width"
+choice_name Title = codes "title"
+choice_name Rows = codes "tasks"
 
 -- what an option takes
 abbrev pub takes_of : Choice → Takes
@@ -111,7 +116,12 @@ takes_of Tasks = takes.Flag
 takes_of Tolerance = takes.Number 0 MOST_TOLERANCE
 takes_of Keep = takes.Word
 takes_of At = takes.Word
+takes_of From = takes.Number 0 LATEST_END
+takes_of To = takes.Number 0 LATEST_END
+takes_of Width = takes.Number LEAST_WIDTH MOST_WIDTH
+takes_of Title = takes.Word
+takes_of Rows = takes.Word
 
 -- the options that take a number
 abbrev pub number_choices : List Choice
-number_choices = Base ∷ Seed ∷ Tolerance ∷ []
+number_choices = Base ∷ Seed ∷ Tolerance ∷ From ∷ To ∷ Width ∷ []

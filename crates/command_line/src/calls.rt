@@ -19,6 +19,12 @@ pub const MOST_PRIORITY: usize = 1_000_000;
 /// The greatest tolerance of a trace, in microseconds.
 pub const MOST_TOLERANCE: usize = 60_000_000;
 
+/// The least width of a picture, in pixels.
+pub const LEAST_WIDTH: usize = 960;
+
+/// The greatest width of a picture, in pixels.
+pub const MOST_WIDTH: usize = 16_000;
+
 /// The greatest seed of a random release list.
 pub const MOST_SEED: usize = 4_294_967_295;
 
@@ -124,6 +130,16 @@ pub(crate) enum Choice {
     Keep,
     // `--at SETTINGS`
     At,
+    // `--from T`
+    From,
+    // `--to T`
+    To,
+    // `--width N`
+    Width,
+    // `--title TEXT`
+    Title,
+    // `--tasks NAMES`
+    Rows,
 }
 
 // What an option takes: a word, a number from the least to the most, or nothing.
@@ -161,6 +177,16 @@ pub struct Options<'a> {
     pub by_task: bool,
     /// `--tolerance N`: by so many microseconds the times of a trace may be past what is promised.
     pub tolerance: Option<usize>,
+    /// `--from T`: where a picture begins, in microseconds.
+    pub from: Option<usize>,
+    /// `--to T`: where it ends.
+    pub to: Option<usize>,
+    /// `--width N`: how wide it is, in pixels.
+    pub width: Option<usize>,
+    /// `--title TEXT`: what stands before its verdict.
+    pub title: Option<&'a str>,
+    /// `--tasks NAMES`: the tasks that have rows in it, a comma between two.
+    pub rows: Option<&'a str>,
 }
 
 /// A command with its inputs, and what its words choose.
@@ -269,6 +295,11 @@ impl Choice {
             Choice::Tolerance => "tolerance",
             Choice::Keep => "keep",
             Choice::At => "at",
+            Choice::From => "from",
+            Choice::To => "to",
+            Choice::Width => "width",
+            Choice::Title => "title",
+            Choice::Rows => "tasks",
         }
     }
 
@@ -277,7 +308,12 @@ impl Choice {
         ensures { result ≡ takes_of self }
     {
         match self {
-            Choice::Prefer | Choice::Task | Choice::Keep | Choice::At => Takes::Word,
+            Choice::Prefer
+            | Choice::Task
+            | Choice::Keep
+            | Choice::At
+            | Choice::Title
+            | Choice::Rows => Takes::Word,
             Choice::Base => Takes::Number {
                 least: 1,
                 most: MOST_PRIORITY as u32,
@@ -290,6 +326,14 @@ impl Choice {
                 least: 0,
                 most: MOST_TOLERANCE as u32,
             },
+            Choice::From | Choice::To => Takes::Number {
+                least: 0,
+                most: LATEST_END as u32,
+            },
+            Choice::Width => Takes::Number {
+                least: LEAST_WIDTH as u32,
+                most: MOST_WIDTH as u32,
+            },
             Choice::LowerIsHigher | Choice::Tasks => Takes::Flag,
         }
     }
@@ -300,11 +344,15 @@ impl Choice {
             Choice::Prefer => "ORDER",
             Choice::Task => "NAME",
             Choice::Keep | Choice::At => "SETTINGS",
+            Choice::From | Choice::To => "T",
+            Choice::Title => "TEXT",
+            Choice::Rows => "NAMES",
             Choice::Base
             | Choice::Seed
             | Choice::LowerIsHigher
             | Choice::Tasks
-            | Choice::Tolerance => "N",
+            | Choice::Tolerance
+            | Choice::Width => "N",
         }
     }
 
@@ -322,6 +370,11 @@ impl Choice {
             }
             Choice::Keep => "Settings of a node whose order stays, as far as both have its tasks",
             Choice::At => "Settings that give the order, in place of the best one",
+            Choice::From => "Where the picture begins, in microseconds",
+            Choice::To => "Where the picture ends, in microseconds, if not with the run",
+            Choice::Width => "How wide the picture is, in pixels, from 960 to 16000",
+            Choice::Title => "What stands before its verdict",
+            Choice::Rows => "The tasks that have rows, a comma between two; else all",
         }
     }
 }
@@ -339,6 +392,11 @@ impl<'a> Options<'a> {
             seed: None,
             by_task: false,
             tolerance: None,
+            from: None,
+            to: None,
+            width: None,
+            title: None,
+            rows: None,
         }
     }
 }

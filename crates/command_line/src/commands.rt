@@ -155,7 +155,14 @@ const COMMANDS: [Listed; 16] = [
     Listed {
         verb: Verb::Two(OfTwo::Draw),
         word: "draw",
-        options: &[Choice::Prefer],
+        options: &[
+            Choice::Prefer,
+            Choice::From,
+            Choice::To,
+            Choice::Width,
+            Choice::Title,
+            Choice::Rows,
+        ],
         about: "Draws the run that simulate prints, as an SVG document",
         example: example!(
             "draw examples/shared-lock.toml examples/shared-lock.releases > run.svg",

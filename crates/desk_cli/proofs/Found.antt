@@ -64,7 +64,7 @@ module _ (options : Options) (owners : List Owner) (U : List Task) (text : List 
   said_in command.Judge (Judged judged) finds wrote is = λ set other has. (Ok (U, judged), (text, both set other has, finds), wrote, is)
   said_in command.Simulate (Simulated answer) finds wrote is = λ set other has. rw finds.0 (Ok (U, answer), (text, both set other has, finds.1), wrote, is)
   said_in command.Simulate (Reached answer) finds wrote is = λ set other has. rw finds.0 (Ok (U, answer), (text, both set other has, finds.1), wrote, is)
-  said_in command.Draw (Drawn answer) finds wrote is = λ set other has. (Ok (U, answer), (text, both set other has, finds), wrote, is)
+  said_in command.Draw (Drawn drawing) finds wrote is = λ set other has. (Ok (U, drawing), (text, both set other has, finds), wrote, is)
   said_in command.Observe (Observed tolerance sight) finds wrote is = λ set other has. rw (← finds.0) (Ok (U, sight), (text, both set other has, finds.1), wrote, is)
   said_in command.Keep (Keeping keeping base) finds wrote is = λ set other has. (Ok (U, keeping), (text, both set other has, finds.1), subst (λ (b : ℕ). Appends before after (keeping_lines U b keeping)) finds.0 wrote, is)
   said_in command.WorstAt (WorstAt worst) finds wrote is = λ set other has. (Ok (U, worst), (text, both set other has, finds), wrote, is)

@@ -81,7 +81,7 @@ TwoSay Diff options first second before after s =
 TwoSay Simulate options first second before after s =
     SaysSimulation options.by_task (preference_of options) first second before after s
 TwoSay Draw options first second before after s =
-    SaysDrawn (preference_of options) first second before after s
+    SaysDrawn options (preference_of options) first second before after s
 TwoSay Observe options first second before after s =
     SaysObserved (tolerance_of options) (preference_of options) first second before after s
 TwoSay Keep options first second before after s =

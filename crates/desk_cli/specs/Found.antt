@@ -12,11 +12,11 @@ use Rattle.desk_cli.specs.Check.{ChecksText, checked_line}
 use Rattle.desk_cli.specs.Admit.{placing_status}
 use Rattle.desk_cli.specs.Commands.{base_of, preference_of, task_of}
 use Rattle.desk_cli.specs.Diff.{ComparesText, compared_lines}
-use Rattle.desk_cli.specs.Draw.{drawing_said}
+use Rattle.desk_cli.specs.Draw.{DrawsText, drawing_said}
 use Rattle.desk_cli.specs.ExplainAt.{ExplainsText, explained_at_lines}
 use Rattle.desk_cli.specs.Judge.{JudgesText, judged_status}
 use Rattle.desk_cli.specs.LimitsAt.{LimitsText}
-use Rattle.desk_cli.specs.Observe.{ObservesText, sight_said, sight_status, tolerance_of}
+use Rattle.desk_cli.specs.Observe.{IsObservationOf, ObservesText, observation_said, observation_status, tolerance_of}
 use Rattle.desk_cli.specs.Printed.{IsPrinted}
 use Rattle.desk_cli.specs.Simulate.{IsInOrder, SimulatesText, reached_said, simulation_said, simulation_status}
 use Rattle.desk_cli.specs.declared.of_two.Found.{Found}
@@ -41,10 +41,10 @@ FindsIn command.Simulate options U text (Ok (Simulated answer)) =
 FindsIn command.Simulate options U text (Ok (Reached answer)) =
     (options.by_task ≡ true) × SimulatesText U text (Ok answer)
 FindsIn command.Simulate options U text (Err r) = SimulatesText U text (Err r)
-FindsIn command.Draw options U text (Ok (Drawn answer)) = SimulatesText U text (Ok answer)
-FindsIn command.Draw options U text (Err r) = SimulatesText U text (Err r)
-FindsIn command.Observe options U text (Ok (Observed tolerance sight)) =
-    (tolerance ≡ tolerance_of options) × ObservesText U text (Ok sight)
+FindsIn command.Draw options U text (Ok (Drawn drawing)) = DrawsText options U text (Ok drawing)
+FindsIn command.Draw options U text (Err r) = DrawsText options U text (Err r)
+FindsIn command.Observe options U text (Ok (Observed tolerance shown)) =
+    (tolerance ≡ tolerance_of options) × ObservesText U text (Ok shown)
 FindsIn command.Observe options U text (Err r) = ObservesText U text (Err r)
 FindsIn command.Keep options U text (Ok (Keeping keeping base)) =
     (base ≡ base_of options) × KeepsText U text (Ok keeping)
@@ -63,7 +63,8 @@ abbrev pub IsFoundOf : List Task → Found → Type 0
 IsFoundOf U (Judged node) = All (λ j. j.task < TASK_LIMIT) node.judged.items
 IsFoundOf U (Compared c) = IsPlacingOf U c.was × IsPlacingOf c.set c.is
 IsFoundOf U (Reached answer) = IsInOrder U answer
-IsFoundOf U (Drawn answer) = IsInOrder U answer
+IsFoundOf U (Drawn drawing) = IsInOrder U drawing.answer
+IsFoundOf U (Observed tolerance shown) = IsObservationOf shown
 IsFoundOf U (Keeping keeping base) = IsKeptIn U keeping
 IsFoundOf U (ExplainedAt found) = All (λ j. j.task < TASK_LIMIT) found.node.judged.items
 IsFoundOf U _ = Unit {0}
@@ -75,8 +76,8 @@ found_said owners U (Compared c) = compared_lines owners U c
 found_said owners U (Judged node) = judged_lines U node.judged.items node.numbers.items
 found_said owners U (Simulated answer) = simulation_said U answer
 found_said owners U (Reached answer) = reached_said U answer
-found_said owners U (Drawn answer) = drawing_said U answer
-found_said owners U (Observed tolerance sight) = sight_said tolerance U sight
+found_said owners U (Drawn drawing) = drawing_said U drawing
+found_said owners U (Observed tolerance shown) = observation_said tolerance U shown
 found_said owners U (Keeping keeping base) = keeping_lines U base keeping
 found_said owners U (WorstAt found) = string_bytes found.text
 found_said owners U (LimitedAt found) = string_bytes found.text
@@ -89,8 +90,8 @@ found_status (Compared c) = placing_status c.is
 found_status (Judged node) = judged_status node.judged.items
 found_status (Simulated answer) = simulation_status answer
 found_status (Reached answer) = simulation_status answer
-found_status (Drawn answer) = simulation_status answer
-found_status (Observed tolerance sight) = sight_status tolerance sight
+found_status (Drawn drawing) = simulation_status drawing.answer
+found_status (Observed tolerance shown) = observation_status tolerance shown
 found_status (Keeping keeping base) = keeping_status keeping
 found_status (WorstAt found) = judged_status found.node.judged.items
 found_status (LimitedAt found) = judged_status found.node.judged.items

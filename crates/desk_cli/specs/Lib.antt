@@ -3,6 +3,7 @@ pub mod Certify
 pub mod Check
 pub mod Commands
 pub mod Diff
+pub mod View
 pub mod Draw
 pub mod Explain
 pub mod Found

@@ -15,7 +15,7 @@ use Rattle.owners.specs.NamedLines.{named_lines}
 use Rattle.owners.specs.declared.owner.Owner.{Owner}
 use Rattle.owners.specs.declared.words.Naming.TheVariants as naming
 use Rattle.desk_cli.specs.Admit.{Places, placing_status}
-use Rattle.desk_cli.specs.Explain.{SaysExplained}
+use Rattle.desk_cli.specs.Explain.{AreDecided, SaysExplained}
 use Rattle.desk_cli.specs.Limits.{SaysLimits, placing_first}
 use Rattle.desk_cli.specs.Printed.{Prints}
 use Rattle.desk_cli.specs.Owning.{HasOwned}
@@ -26,17 +26,19 @@ use Rattle.desk_cli.specs.declared.refusal.CommandRefusal.{CommandRefusal}
 use Rattle.desk_cli.specs.declared.refusal.CommandRefusal.TheVariants as refusal
 use Rattle.desk_cli.specs.declared.status.Status.{Status}
 
--- the lines of a task in an explanation, each task with its team
-abbrev pub task_reasons : List Owner → List Task → ℕ → Explanation → List ℕ
-task_reasons owners U task e = named_lines naming.Reasons owners (task_lines U task e)
+-- the lines of a task in an explanation, and those in an order that decides, each task with its team
+abbrev pub task_reasons : List Owner → List Task → ℕ → Explanation → (decided : List ℕ) → List ℕ
+task_reasons owners U task e decided =
+    named_lines naming.Reasons owners (task_lines U task e ++ decided)
 
--- a text is what is said of a task of a placed set: how far its numbers may go, what explains its response, or its worst
--- case
+-- a text is what is said of a task of a placed set: how far its numbers may go, what explains its response, or that it has
+-- none, or its worst case
 abbrev pub AreLinesOf : TaskPart → List Owner → List Task → Placing → ℕ → List ℕ → Type 0
 AreLinesOf Limits owners U placing task text = AreTaskLines U (places_in placing) task text
 AreLinesOf Reasons owners U placing task text =
-    (explanation : Explanation) × Explains U placing explanation
-    × (text ≡ task_reasons owners U task explanation)
+    (explanation : Explanation) × (decided : List ℕ) × Explains U placing explanation
+    × AreDecided U (Some task) placing decided
+    × (text ≡ task_reasons owners U task explanation decided)
 AreLinesOf Worst owners U placing task text = AreWorstLines U placing (Some task) text
 
 -- the task of a set that has the name that a word is

@@ -13,6 +13,8 @@ use Rattle.task_sheet.specs.declared.read.SetFault.TheVariants as fault
 use Rattle.teams.specs.NodeDocument.{quantity_word}
 use Rattle.teams.specs.declared.node.NodeFault.{NodeFault}
 use Rattle.teams.specs.declared.node.NodeFault.TheVariants as node
+use Rattle.overheads.specs.declared.padding.PadFault.{PadFault}
+use Rattle.overheads.specs.declared.padding.PadFault.TheVariants as pad
 use Rattle.teams.specs.declared.fault.TeamsFault.{TeamsFault}
 use Rattle.teams.specs.declared.fault.TeamsFault.TheVariants as teams
 use Rattle.certificate.specs.declared.fault.CertFault.{CertFault}
@@ -99,6 +101,7 @@ fault_words (fault.UnknownKey task section) = at_section (codes "UnknownKey") ta
 fault_words (fault.MissingKey task section key) = at_key (codes "MissingKey") task section key
 fault_words (fault.WrongKind task section key) = at_key (codes "WrongKind") task section key
 fault_words fault.BadPreference = codes "BadPreference"
+fault_words fault.UnknownOverhead = codes "UnknownOverhead"
 fault_words (fault.BadName task section) = at_section (codes "BadName") task section
 fault_words (fault.Sheet task cause) = cause_words task cause
 fault_words (fault.BadJitter task) = at_task (codes "BadJitter") task
@@ -119,6 +122,12 @@ node_words (node.NoNumber team quantity) =
     codes "WrongKind " ++ team ++ codes " " ++ quantity_word quantity
 node_words node.OutOfMemory = codes "OutOfMemory"
 
+-- what the node doesn't leave room for, and the task
+abbrev pub padding_words : PadFault → List ℕ
+padding_words (pad.CostPastPeriod task) = codes "PaddedCost " ++ task
+padding_words (pad.JitterPastDeadline task) = codes "PaddedJitter " ++ task
+padding_words pad.OutOfMemory = codes "OutOfMemory"
+
 -- the fault of a set's text; that of a team's document stands behind the team
 abbrev pub teams_words : TeamsFault → List ℕ
 teams_words (teams.Alone fault) = fault_words fault
@@ -128,11 +137,13 @@ teams_words (teams.Taken team task other) =
     codes "TakenName " ++ team ++ codes " " ++ task ++ codes " " ++ other
 teams_words (teams.OtherPreference team other) =
     codes "OtherPreference " ++ team ++ codes " " ++ other
+teams_words (teams.OtherNode team other) = codes "OtherNode " ++ team ++ codes " " ++ other
 teams_words (teams.Node fault) = codes "node " ++ node_words fault
 teams_words (teams.NoSuchTeam team) = codes "NoSuchTeam " ++ team
 teams_words (teams.PastBudget team quantity number limit) =
     codes "PastBudget " ++ team ++ codes " " ++ quantity_word quantity ++ codes " " ++ decimal number
     ++ codes " " ++ decimal limit
+teams_words (teams.Padded fault) = padding_words fault
 teams_words teams.TooManyTasks = codes "TooManyTasks"
 teams_words teams.OutOfMemory = codes "OutOfMemory"
 
@@ -228,6 +239,7 @@ words_of (refusal.Script fault) = script_words fault
 words_of (refusal.Rush fault) = rush_words fault
 words_of (refusal.NoSuchTask (Some name)) = codes "NoSuchTask " ++ name
 words_of (refusal.NoSuchTask None) = codes "NoSuchTask"
+words_of refusal.EmptyWindow = codes "EmptyWindow"
 words_of refusal.OutOfMemory = codes "OutOfMemory"
 
 -- the line of a refusal
@@ -258,4 +270,5 @@ status_of (refusal.Script script.OutOfMemory) = status.OutOfMemory
 status_of (refusal.Script _) = status.BadInput
 status_of (refusal.Rush _) = status.OutOfMemory
 status_of (refusal.NoSuchTask _) = status.BadInput
+status_of refusal.EmptyWindow = status.BadInput
 status_of refusal.OutOfMemory = status.OutOfMemory

@@ -6,21 +6,33 @@ ghost use Rattle.assignment.specs.Placings.{tasks_of_places};
 ghost use Rattle.desk_cli.specs.Printed.{IsPrinted};
 ghost use Rattle.judge.specs.Judgements.{order_judged};
 ghost use Rattle.run_lines.specs.TaskBounds.{bounds_of, tasks_of_bounds};
-ghost use Rattle.desk_cli.specs.Draw.{picture_of, drawn_row, rows_of};
+ghost use Rattle.desk_cli.specs.Draw.{DrawsText, picture_of, drawing_said, drawn_row, rows_of};
 ghost use Rattle.desk_cli.specs.Outcomes.{IsSaidOn};
-ghost use Rattle.desk_cli.specs.Simulate.{bounds_judged};
+ghost use Rattle.desk_cli.specs.Simulate.{IsInOrder, bounds_judged, simulation_status};
 
+use crate::answer::print_stuck;
 use crate::output::refuse;
 use crate::refusal::CommandRefusal;
-use crate::simulate::{OrderedRun, Run, bounds_judged};
+use crate::simulate::{OrderedRun, Run, Simulated, bounds_judged, simulate_text};
 use crate::status::Status;
+use crate::view::{is_unseen, view_of};
 use ceiling_kernel::{Release, Trace};
-use picture::{DrawFault, TaskRow, draw};
+use command_line::Options;
+use picture::{DrawFault, TaskRow, View, draw};
 use run_lines::{TaskBound, bounds_of};
 use std::alloc::{AllocError, Global};
 use std::io::Write;
 use streams::Watched;
 use task_sheet::{Sheet, TaskSet};
+
+/// What came of a set and a release list, and what is drawn of it.
+#[derive(Drop)]
+pub struct Drawing {
+    /// As `desk simulate` answers.
+    pub answer: Simulated,
+    /// In whose window something lies.
+    pub view: View,
+}
 
 // The row of a level.
 fn row_of(alloc: Global, sheets: &[Sheet], bound: TaskBound) -> Result<TaskRow, AllocError>
@@ -65,6 +77,7 @@ fn draw_run<W: Write + Drop>(
     alloc: Global,
     set: &TaskSet,
     bounds: &[TaskBound],
+    view: &View,
     until: u64,
     releases: &[Release],
     trace: &Trace,
@@ -72,13 +85,13 @@ fn draw_run<W: Write + Drop>(
 ) -> Status
     requires { IsOrder set.now (tasks_of_bounds bounds.now) }
     ensures { IsSaidOn (λ before after s. IsPrinted before after
-        (picture_of set.now bounds.now until releases.now trace.now) Status.Done s)
+        (picture_of set.now bounds.now view.now until releases.now trace.now) Status.Done s)
         W.contents output.old output.new result }
 {
     let Ok(rows) = rows_in(alloc, set, bounds) else {
         return refuse(CommandRefusal::OutOfMemory, output);
     };
-    match draw(alloc, &rows, until, releases, trace, output) {
+    match draw(alloc, &rows, view, until, releases, trace, output) {
         Ok(()) => Status::Done,
         Err(DrawFault::OutOfMemory) => refuse(CommandRefusal::OutOfMemory, output),
         Err(DrawFault::WriteFailed) => Status::InputOrOutputFailed,
@@ -86,15 +99,16 @@ fn draw_run<W: Write + Drop>(
 }
 
 // Draws a run in the best order of a set.
-pub(crate) fn draw_best<W: Write + Drop>(
+fn draw_best<W: Write + Drop>(
     alloc: Global,
     set: &TaskSet,
     run: &Run,
+    view: &View,
     output: &mut Watched<W>,
 ) -> Status
     requires { IsOrder set.now (tasks_of_places run.now.places.items) }
     ensures { IsSaidOn (λ before after s. IsPrinted before after
-        (picture_of set.now (bounds_of run.now.places.items) run.now.until
+        (picture_of set.now (bounds_of run.now.places.items) view.now run.now.until
         run.now.releases.items run.now.trace) Status.Done s)
         W.contents output.old output.new result }
 {
@@ -103,6 +117,7 @@ pub(crate) fn draw_best<W: Write + Drop>(
             alloc,
             set,
             &bounds,
+            view,
             run.until,
             &run.releases,
             &run.trace,
@@ -113,15 +128,16 @@ pub(crate) fn draw_best<W: Write + Drop>(
 }
 
 // Draws a run in a given order of a set.
-pub(crate) fn draw_ordered<W: Write + Drop>(
+fn draw_ordered<W: Write + Drop>(
     alloc: Global,
     set: &TaskSet,
     run: &OrderedRun,
+    view: &View,
     output: &mut Watched<W>,
 ) -> Status
     requires { IsOrder set.now (order_judged run.now.judged.items) }
     ensures { IsSaidOn (λ before after s. IsPrinted before after
-        (picture_of set.now (bounds_judged run.now.judged.items) run.now.until
+        (picture_of set.now (bounds_judged run.now.judged.items) view.now run.now.until
         run.now.releases.items run.now.trace) Status.Done s)
         W.contents output.old output.new result }
 {
@@ -130,11 +146,49 @@ pub(crate) fn draw_ordered<W: Write + Drop>(
             alloc,
             set,
             &bounds,
+            view,
             run.until,
             &run.releases,
             &run.trace,
             output,
         ),
         Err(_) => refuse(CommandRefusal::OutOfMemory, output),
+    }
+}
+
+// What came of a set and the text of a release list, and what is drawn of it.
+pub(crate) fn draw_text(
+    alloc: Global,
+    options: Options<'_>,
+    tasks: &TaskSet,
+    text: &[u8],
+) -> Result<Drawing, CommandRefusal>
+    ensures answer { DrawsText options.entry tasks.now text.now result }
+    ensures order { IfOk result (λ d. IsInOrder tasks.now d.answer) }
+{
+    let answer = simulate_text(alloc, tasks, text)?;
+    let view = view_of(alloc, options, tasks)?;
+    if is_unseen(&view, &answer) {
+        return Err(CommandRefusal::EmptyWindow);
+    }
+    Ok(Drawing { answer, view })
+}
+
+// Prints it.
+pub(crate) fn print_drawing<W: Write + Drop>(
+    alloc: Global,
+    tasks: &TaskSet,
+    drawing: &Drawing,
+    output: &mut Watched<W>,
+) -> Status
+    requires { IsInOrder tasks.now drawing.now.answer }
+    ensures { IsSaidOn (λ before after s. IsPrinted before after (drawing_said tasks.now drawing.now)
+        (simulation_status drawing.now.answer) s) W.contents output.old output.new result }
+{
+    let view = &drawing.view;
+    match &drawing.answer {
+        Simulated::Ran(run) => draw_best(alloc, tasks, run, view, output),
+        Simulated::Ordered(run) => draw_ordered(alloc, tasks, run, view, output),
+        Simulated::Infeasible(members) => print_stuck(alloc, tasks, *members, output),
     }
 }

@@ -1,10 +1,9 @@
 //! `desk explain`.
-ghost use Rattle.std.specs.Prelude.{◌≡◌, ◌++◌, List, IfOk};
+ghost use Rattle.std.specs.Prelude.{◌≡◌, ◌++◌, ℕ, List, None, IfOk, string_bytes};
 ghost use Rattle.ceilings.specs.IsTableOf.{IsTableOf};
 ghost use Rattle.assignment.specs.Placings.{IsPlacingOf};
 ghost use Rattle.explain.specs.Explanations.{Explains};
 ghost use Rattle.explain.specs.declared.explanation.Explanation.{Explanation};
-ghost use Rattle.judge.specs.declared.judging.JudgedTask.{JudgedTask};
 ghost use Rattle.desk_cli.specs.Explain.{AreDecided, reasons_said};
 ghost use Rattle.desk_cli.specs.Limits.{placing_first};
 
@@ -12,25 +11,29 @@ use crate::answer::{OrderPart, joined, placing_text};
 use assignment::Placing;
 use ceilings::LockTable;
 use explain::{explain, explanation_text};
-use judge::{JudgedTask, levels_text};
+use judge::{Parted, levels_text};
 use owners::{Naming, Owner, named_text};
 use std::alloc::{AllocError, Global};
 use task_sheet::TaskSet;
 use worst_lines::judge_deciding;
 
-// What becomes of each task in an order that decides, where no order passes; else nothing.
-fn decided(
+// The lines of an order that decides, or those of one task in it, where no order passes; else nothing.
+pub(crate) fn decided_text(
     alloc: Global,
     set: &TaskSet,
     table: &LockTable,
     placing: &Placing,
-) -> Result<Vec<JudgedTask>, AllocError>
+    asked: Option<usize>,
+) -> Result<String, AllocError>
     requires { IsTableOf set.now table.now }
-    ensures { IfOk result (λ judged. AreDecided set.now placing.now judged.items) }
+    ensures { IfOk result (λ text. AreDecided set.now asked placing.now (string_bytes text)) }
 {
     match placing {
-        Placing::Best(_) => Ok(Vec::new(alloc)),
-        Placing::Stuck(_) => judge_deciding(alloc, set, table),
+        Placing::Best(_) => Ok(String::new(alloc)),
+        Placing::Stuck(_) => {
+            let judged = judge_deciding(alloc, set, table)?;
+            levels_text(alloc, set, table, Parted::Missed, asked, &judged)
+        }
     }
 }
 
@@ -42,16 +45,15 @@ fn why_text(
     placing: &Placing,
 ) -> Result<Vec<u8>, AllocError>
     requires { IsPlacingOf set.now placing.now }
-    ensures { IfOk result (λ text. (explanation : Explanation) × (judged : List JudgedTask)
-        × Explains set.now placing.now explanation × AreDecided set.now placing.now judged
-        × (text.items ≡ reasons_said owners.now set.now explanation judged)) }
+    ensures { IfOk result (λ text. (explanation : Explanation) × (decided : List ℕ)
+        × Explains set.now placing.now explanation × AreDecided set.now None placing.now decided
+        × (text.items ≡ reasons_said owners.now set.now explanation decided)) }
 {
     let table = LockTable::new(alloc, set)?;
     let explanation = explain(alloc, set, &table, placing)?;
-    let judged = decided(alloc, set, &table, placing)?;
+    let decided = decided_text(alloc, set, &table, placing, None)?;
     let mut text = explanation_text(alloc, set, &explanation)?;
-    let levels = levels_text(alloc, set, &judged)?;
-    text.push_str(levels.as_str())?;
+    text.push_str(decided.as_str())?;
     let named = named_text(alloc, Naming::Reasons, owners, text.as_bytes())?;
     Ok(named)
 }
@@ -64,10 +66,10 @@ pub(crate) fn explained_text(
     placing: &Placing,
 ) -> Result<Vec<u8>, AllocError>
     requires { IsPlacingOf set.now placing.now }
-    ensures { IfOk result (λ text. (explanation : Explanation) × (judged : List JudgedTask)
-        × Explains set.now placing.now explanation × AreDecided set.now placing.now judged
+    ensures { IfOk result (λ text. (explanation : Explanation) × (decided : List ℕ)
+        × Explains set.now placing.now explanation × AreDecided set.now None placing.now decided
         × (text.items ≡ placing_first set.now placing.now
-        ++ reasons_said owners.now set.now explanation judged)) }
+        ++ reasons_said owners.now set.now explanation decided)) }
 {
     let lines = why_text(alloc, owners, set, placing)?;
     let first = placing_text(alloc, OrderPart::Count, set, placing)?;

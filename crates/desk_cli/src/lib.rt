@@ -30,6 +30,7 @@ mod script;
 mod sets;
 mod simulate;
 mod status;
+mod view;
 mod worst_at;
 
 pub use audience::{Audience, Nobody, Which};

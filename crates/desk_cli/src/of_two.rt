@@ -10,13 +10,13 @@ use crate::answer::print_stuck;
 use crate::audience::{Audience, Which};
 use crate::check::{check_text, line_of};
 use crate::diff_lines::{Compared, compare_text, compared_text};
-use crate::draw::{draw_best, draw_ordered};
+use crate::draw::{Drawing, draw_text, print_drawing};
 use crate::explain_at::{explain_at, explained_at_text};
 use crate::in_order::InOrder;
 use crate::judge_lines::{judge_text, judged_status};
 use crate::keep_lines::{keep_text, keeping_status, keeping_text};
 use crate::limits_at::limits_at;
-use crate::observe_lines::{observed_status, sight_of, tolerance_of};
+use crate::observe_lines::{Observation, observe_text, print_observation, tolerance_of};
 use crate::output::{print, print_bytes, print_made, refuse};
 use crate::refusal::CommandRefusal;
 use crate::sets::{base_of, preference_of, read_two, tell};
@@ -27,8 +27,6 @@ use cert_checker::Checked;
 use command_line::{OfTwo, Options};
 use judge::{JudgedNode, judged_text};
 use kept_order::Keeping;
-use observed::Sight;
-use observed_lines::observed_text;
 use owners::Owner;
 use printed_runs::trace_text;
 use std::alloc::Global;
@@ -50,9 +48,9 @@ pub enum Found {
     /// The same, to be shown as the lines of what the tasks came to.
     Reached(Simulated),
     /// The same, to be shown as an SVG 1.1 document.
-    Drawn(Simulated),
+    Drawn(Drawing),
     /// What a trace shows, by so many microseconds that a time may be past what is promised.
-    Observed(u64, Sight),
+    Observed(u64, Observation),
     /// What becomes of a set that is to keep the order that settings give, and the priority of level 1.
     Keeping { keeping: Keeping, base: u32 },
     /// The worst case of a task in the order that settings give.
@@ -91,10 +89,10 @@ fn find(
                 Ok(Found::Simulated(answer))
             }
         }
-        OfTwo::Draw => Ok(Found::Drawn(simulate_text(alloc, tasks, text)?)),
+        OfTwo::Draw => Ok(Found::Drawn(draw_text(alloc, options, tasks, text)?)),
         OfTwo::Observe => {
-            let sight = sight_of(alloc, tasks, text)?;
-            Ok(Found::Observed(tolerance_of(options), sight))
+            let shown = observe_text(alloc, tasks, text)?;
+            Ok(Found::Observed(tolerance_of(options), shown))
         }
         OfTwo::Keep => Ok(Found::Keeping {
             keeping: keep_text(alloc, tasks, text)?,
@@ -135,28 +133,21 @@ fn print_found<W: Write + Drop>(
         Found::Reached(Simulated::Ran(run)) => {
             print_made(reached_text(alloc, tasks, run), Status::Done, output)
         }
-        Found::Drawn(Simulated::Ran(run)) => draw_best(alloc, tasks, run, output),
+        Found::Drawn(drawing) => print_drawing(alloc, tasks, drawing, output),
         Found::Simulated(Simulated::Ordered(run)) => {
             print_made(trace_text(alloc, &run.trace), Status::Done, output)
         }
         Found::Reached(Simulated::Ordered(run)) => {
             print_made(ordered_text(alloc, tasks, run), Status::Done, output)
         }
-        Found::Drawn(Simulated::Ordered(run)) => draw_ordered(alloc, tasks, run, output),
         Found::Simulated(Simulated::Infeasible(members)) => {
             print_stuck(alloc, tasks, *members, output)
         }
         Found::Reached(Simulated::Infeasible(members)) => {
             print_stuck(alloc, tasks, *members, output)
         }
-        Found::Drawn(Simulated::Infeasible(members)) => print_stuck(alloc, tasks, *members, output),
-        Found::Observed(tolerance, Sight::Seen(shown)) => print_made(
-            observed_text(alloc, *tolerance, &shown.promises, &shown.seen),
-            observed_status(*tolerance, shown),
-            output,
-        ),
-        Found::Observed(_, Sight::Infeasible(members)) => {
-            print_stuck(alloc, tasks, *members, output)
+        Found::Observed(tolerance, shown) => {
+            print_observation(alloc, tasks, *tolerance, shown, output)
         }
         Found::Keeping { keeping, base } => print_made(
             keeping_text(alloc, tasks, *base, keeping),

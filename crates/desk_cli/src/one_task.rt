@@ -1,17 +1,18 @@
 //! What is said of one task of a set, where the words ask about it.
-ghost use Rattle.std.specs.Prelude.{◌≡◌, ◌++◌, ◌<◌, length, IfOk, IfSome, option_map, Some, string_bytes};
+ghost use Rattle.std.specs.Prelude.{◌≡◌, ◌++◌, ◌<◌, ℕ, List, length, IfOk, IfSome, option_map, Some, string_bytes};
 ghost use Rattle.task_sheet.specs.TaskSet.{IsTaskSet};
 ghost use Rattle.assignment.specs.Placings.{IsPlacingOf};
 ghost use Rattle.explain.specs.Explanations.{Explains};
 ghost use Rattle.explain.specs.declared.explanation.Explanation.{Explanation};
 ghost use Rattle.limit_lines.specs.Lines.{AreTaskLines, places_in};
 ghost use Rattle.worst_lines.specs.Lines.{AreWorstLines};
+ghost use Rattle.desk_cli.specs.Explain.{AreDecided};
 ghost use Rattle.desk_cli.specs.OneTask.{AreLinesOf, OfPlaced, SaysLimitsOf, SaysReasonsOf, SaysTask, SaysWorstOf, asked_task, first_said, no_such_task, task_reasons};
 ghost use Rattle.desk_cli.specs.Outcomes.{IsSaidOn};
 
 use crate::admit::placing_status;
 use crate::answer::{OrderPart, joined, placing_text};
-use crate::explain_lines::explained_text;
+use crate::explain_lines::{decided_text, explained_text};
 use crate::limits_lines::{order_of, print_placing};
 use crate::output::{print_bytes, print_made, refuse};
 use crate::refusal::CommandRefusal;
@@ -32,7 +33,8 @@ use worst_lines::worst_text;
 pub enum TaskPart {
     /// How far its numbers may go.
     Limits,
-    /// What its response is made of, or why it may not stand below the others of a conflict.
+    /// What its response is made of; or why it may not stand below the others of a conflict, and what becomes of it in an
+    /// order that decides.
     Reasons,
     /// Its worst case.
     Worst,
@@ -78,7 +80,7 @@ fn limits_text(
     Ok(lines)
 }
 
-// What explains the response of a task.
+// What explains the response of a task, or that it has none.
 fn reasons_text(
     alloc: Global,
     owners: &[Owner],
@@ -88,12 +90,16 @@ fn reasons_text(
 ) -> Result<Vec<u8>, AllocError>
     requires { IsPlacingOf set.now placing.now }
     ensures { IfOk result (λ text. (explanation : Explanation)
+        × (decided : List ℕ)
         × Explains set.now placing.now explanation
-        × (text.items ≡ task_reasons owners.now set.now task explanation)) }
+        × AreDecided set.now (Some task) placing.now decided
+        × (text.items ≡ task_reasons owners.now set.now task explanation decided)) }
 {
     let table = LockTable::new(alloc, set)?;
     let explanation = explain(alloc, set, &table, placing)?;
-    let text = explain::task_text(alloc, set, &explanation, task)?;
+    let decided = decided_text(alloc, set, &table, placing, Some(task))?;
+    let mut text = explain::task_text(alloc, set, &explanation, task)?;
+    text.push_str(decided.as_str())?;
     let named = named_text(alloc, Naming::Reasons, owners, text.as_bytes())?;
     Ok(named)
 }

@@ -2,7 +2,7 @@
 ghost use Rattle.std.specs.Prelude.{◌≡◌, Some};
 ghost use Rattle.std.specs.Fmt.{DisplaysOnOk};
 ghost use Rattle.desk_cli.specs.declared.refusal.CommandRefusal.TheVariants.{OutOfMemory};
-ghost use Rattle.desk_cli.specs.Refusals.{cause_words, certificate_words, check_words, fault_words, lone_cause_words, node_words, outranks_words, refusal_line, run_words, rush_words, script_words, settings_words, status_of, teams_words, text_words, trace_words, words_of};
+ghost use Rattle.desk_cli.specs.Refusals.{cause_words, certificate_words, check_words, fault_words, lone_cause_words, node_words, outranks_words, padding_words, refusal_line, run_words, rush_words, script_words, settings_words, status_of, teams_words, text_words, trace_words, words_of};
 
 use crate::release_text::TextFault;
 use crate::status::Status;
@@ -10,6 +10,7 @@ use ceiling_kernel::RunFault;
 use cert_checker::CheckFault;
 use certificate::CertFault;
 use judge::SettingsFault;
+use overheads::PadFault;
 use rushes::RushFault;
 use scripts::ScriptFault;
 use std::alloc::AllocError;
@@ -46,6 +47,8 @@ pub enum CommandRefusal {
     Rush(RushFault),
     /// No task of the set has the name that was asked about; none where the word is no name.
     NoSuchTask { name: Option<Name> },
+    /// Nothing of the run lies in the window that was asked for.
+    EmptyWindow,
     /// Memory ran out after the inputs were read.
     OutOfMemory,
 }
@@ -86,6 +89,7 @@ impl CommandRefusal {
             CommandRefusal::Script(_) => Status::BadInput,
             CommandRefusal::Rush(_) => Status::OutOfMemory,
             CommandRefusal::NoSuchTask { .. } => Status::BadInput,
+            CommandRefusal::EmptyWindow => Status::BadInput,
             CommandRefusal::OutOfMemory => Status::OutOfMemory,
         }
     }
@@ -183,6 +187,7 @@ fn write_fault<W: fmt::Write>(fault: SetFault, f: &mut fmt::Formatter<W>) -> fmt
             write!(f, "WrongKind {task} {section} {word}")
         }
         SetFault::BadPreference => f.write_str("BadPreference"),
+        SetFault::UnknownOverhead => f.write_str("UnknownOverhead"),
         SetFault::BadName { task, section } => write!(f, "BadName {task} {section}"),
         SetFault::Sheet { task, cause } => write_cause(task, cause, f),
         SetFault::BadJitter { task } => write!(f, "BadJitter {task}"),
@@ -215,6 +220,17 @@ fn write_node_fault<W: fmt::Write>(fault: NodeFault, f: &mut fmt::Formatter<W>) 
     }
 }
 
+// The name of what a node doesn't leave room for, with the task.
+fn write_padding_fault<W: fmt::Write>(fault: PadFault, f: &mut fmt::Formatter<W>) -> fmt::Result
+    ensures { DisplaysOnOk W.write_str_gives f.old result (Some (padding_words fault)) f.new }
+{
+    match fault {
+        PadFault::CostPastPeriod { task } => write!(f, "PaddedCost {task}"),
+        PadFault::JitterPastDeadline { task } => write!(f, "PaddedJitter {task}"),
+        PadFault::OutOfMemory => f.write_str("OutOfMemory"),
+    }
+}
+
 // The name of the fault of a set's text, with its fields: that of a team's document stands behind the team.
 fn write_teams_fault<W: fmt::Write>(fault: TeamsFault, f: &mut fmt::Formatter<W>) -> fmt::Result
     ensures { DisplaysOnOk W.write_str_gives f.old result (Some (teams_words fault)) f.new }
@@ -228,6 +244,7 @@ fn write_teams_fault<W: fmt::Write>(fault: TeamsFault, f: &mut fmt::Formatter<W>
         }
         TeamsFault::Taken { team, task, other } => write!(f, "TakenName {team} {task} {other}"),
         TeamsFault::OtherPreference { team, other } => write!(f, "OtherPreference {team} {other}"),
+        TeamsFault::OtherNode { team, other } => write!(f, "OtherNode {team} {other}"),
         TeamsFault::Node { fault } => {
             f.write_str("node ")?;
             write_node_fault(fault, f)
@@ -242,6 +259,7 @@ fn write_teams_fault<W: fmt::Write>(fault: TeamsFault, f: &mut fmt::Formatter<W>
             let word = quantity.word();
             write!(f, "PastBudget {team} {word} {number} {limit}")
         }
+        TeamsFault::Padded { fault } => write_padding_fault(fault, f),
         TeamsFault::TooManyTasks => f.write_str("TooManyTasks"),
         TeamsFault::OutOfMemory => f.write_str("OutOfMemory"),
     }
@@ -386,6 +404,7 @@ fn write_words<W: fmt::Write>(refusal: CommandRefusal, f: &mut fmt::Formatter<W>
         CommandRefusal::Rush(fault) => write_rush_fault(fault, f),
         CommandRefusal::NoSuchTask { name: Some(name) } => write!(f, "NoSuchTask {name}"),
         CommandRefusal::NoSuchTask { name: None } => f.write_str("NoSuchTask"),
+        CommandRefusal::EmptyWindow => f.write_str("EmptyWindow"),
         CommandRefusal::OutOfMemory => f.write_str("OutOfMemory"),
     }
 }

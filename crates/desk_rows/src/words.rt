@@ -13,6 +13,11 @@ const PLAIN: Options<'static> = Options {
     seed: None,
     by_task: false,
     tolerance: None,
+    from: None,
+    to: None,
+    width: None,
+    title: None,
+    rows: None,
 };
 
 // Where deadlines are preferred.
@@ -28,7 +33,7 @@ const BY_WEIGHT: Options<'static> = Options {
 };
 
 // Words, and the call that they name.
-const CALLS: [(&[&str], Call<'static>); 24] = [
+const CALLS: [(&[&str], Call<'static>); 25] = [
     (
         &[],
         Call::One {
@@ -178,6 +183,25 @@ const CALLS: [(&[&str], Call<'static>); 24] = [
         },
     ),
     (
+        &[
+            "draw", "s", "r", "--from=0", "--to", "60000000", "--width", "960", "--title", "a: b",
+            "--tasks", "a,b",
+        ],
+        Call::Two {
+            command: OfTwo::Draw,
+            first: Input::File("s"),
+            second: Input::File("r"),
+            options: Options {
+                from: Some(0),
+                to: Some(60_000_000),
+                width: Some(960),
+                title: Some("a: b"),
+                rows: Some("a,b"),
+                ..PLAIN
+            },
+        },
+    ),
+    (
         &["observe", "s", "-", "--tolerance", "60000000"],
         Call::Two {
             command: OfTwo::Observe,
@@ -269,7 +293,7 @@ const OTHERS: [&[&str]; 5] = [
 
 // Words that an option is no part of: twice, with no word or number, before the command, at another command, by half its
 // name, with a number that it doesn't take.
-const NONE: [&[&str]; 18] = [
+const NONE: [&[&str]; 21] = [
     &["admit", "--prefer", "deadline", "--prefer", "deadline", "s"],
     &["admit", "s", "--prefer"],
     &["--prefer", "deadline", "admit", "s"],
@@ -281,6 +305,9 @@ const NONE: [&[&str]; 18] = [
     &["releases", "s", "100", "--seed", "4294967296"],
     &["releases", "s", "100", "--seed", "-1"],
     &["draw", "s", "r", "--tasks"],
+    &["draw", "s", "r", "--width", "959"],
+    &["draw", "s", "r", "--to", "60000001"],
+    &["simulate", "s", "r", "--from", "1"],
     &["simulate", "s", "r", "--tasks", "--tasks"],
     &["observe", "s", "t", "--tolerance", "60000001"],
     &["judge", "s", "t", "--tolerance", "1"],

@@ -6,9 +6,9 @@ use Rattle.std.specs.Cmp.Lexicographic.{nat_list_eq_equiv}
 use Rattle.std.proofs.lemmas.Bool.{both_ways, cases_Bool, le-ltb, lt-ltb}
 use Rattle.std.proofs.lemmas.List.Elements.{All-from_recursion}
 use Rattle.std.proofs.lemmas.List.Quantifiers.{position-Some}
-use Rattle.std.proofs.lemmas.Slice.Eq.{slice_eq-Decides, bytes_eq-Decides}
+use Rattle.std.proofs.lemmas.Slice.Eq.{slice_eq-Decides}
 use Rattle.task_sheet.specs.Sheet.{Task, same_bytes, task_at, no_task}
-use Rattle.task_sheet.specs.SheetEquality.{same_section-Decides}
+use Rattle.task_sheet.specs.SheetEquality.{same_section-Decides, same_outranks-Decides}
 use Rattle.task_sheet.specs.TaskSet.{AreDistinct, same_name}
 use Rattle.assignment.specs.declared.placing.Placing.{Placing}
 use Rattle.diff.specs.Keys.{is_changed}
@@ -27,7 +27,7 @@ unchanged weighs t =
     let cost = nat_eq_equiv.refl t.cost in
     let jitter = nat_eq_equiv.refl t.jitter in
     let sections = (slice_eq-Decides same_section-Decides t.sections t.sections _ refl).1 refl in
-    let outranks = (slice_eq-Decides bytes_eq-Decides t.outranks t.outranks _ refl).1 refl in
+    let outranks = (same_outranks-Decides t.outranks t.outranks).1 refl in
     rw (weight, period, deadline, cost, jitter, sections, outranks) (neither weighs)
   where
     neither : (w : Bool) → ((w && false) || false) ≡ false

@@ -1,7 +1,7 @@
 -- What two sheets of one name say differently.
 use Rattle.std.specs.Prelude.{ℕ, Bool, ◌||◌, ◌&&◌, not, nat_eq, List, [], ◌++◌, codes, if◌then◌else◌}
 use Rattle.std.specs.Cmp.Lexicographic.{pointwise}
-use Rattle.task_sheet.specs.Sheet.{Task, same_bytes, same_section}
+use Rattle.task_sheet.specs.Sheet.{Task, same_section, same_outranks}
 
 -- the weights differ, where weights count
 abbrev pub other_weight : Bool → Task → Task → Bool
@@ -11,9 +11,9 @@ other_weight weighs s t = weighs && not (nat_eq s.weight t.weight)
 abbrev pub other_sections : Task → Task → Bool
 other_sections s t = not (pointwise same_section s.sections t.sections)
 
--- the names of the tasks that must be outranked differ
+-- the tasks that must be outranked are said otherwise
 abbrev pub other_outranks : Task → Task → Bool
-other_outranks s t = not (pointwise same_bytes s.outranks t.outranks)
+other_outranks s t = not (same_outranks s.outranks t.outranks)
 
 -- the sheets say something else, beside their names; a weight does only where weights count
 abbrev pub is_changed : Bool → Task → Task → Bool

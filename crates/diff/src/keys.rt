@@ -21,7 +21,7 @@ fn other_sections(old: &Sheet, new: &Sheet) -> bool
 fn other_outranks(old: &Sheet, new: &Sheet) -> bool
     ensures { result ≡ other_outranks old.now new.now }
 {
-    !(old.outranks() == new.outranks())
+    !old.outranks().is_same(new.outranks())
 }
 
 /// The sheets say something else, beside their names. A weight does only where weights count.

@@ -76,7 +76,7 @@ module _ (V U : List Task) (light : AreLighter V U) where
   names-lighter k = (ap (λ (t : Task). t.name) (light.each k).same, ap (λ (t : Task). t.outranks) (light.each k).same)
 
   must_outrank-lighter : (i k : ℕ) → must_outrank V i k ≡ must_outrank U i k
-  must_outrank-lighter i k = rw ((names-lighter k).0, (names-lighter i).1) refl
+  must_outrank-lighter i k = rw ((names-lighter k).0, (names-lighter k).1, (names-lighter i).1) refl
 
   is_bound-lighter : (i : ℕ) (H : Indexes) → is_bound V i H ≡ is_bound U i H
   unfolding is_bound

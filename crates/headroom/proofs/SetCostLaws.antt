@@ -30,7 +30,8 @@ sections-costed U i cost k = same-costed (λ (t : Task). t.sections) cost (λ y.
 -- ---- tasks above which a task must stand
 pub must_outrank-costed : (U : List Task) (j cost i k : ℕ) → must_outrank (costed U j cost) i k ≡ must_outrank U i k
 must_outrank-costed U j cost i k =
-    rw (same-costed (λ (t : Task). t.name) cost (λ y. refl) U j k, same-costed (λ (t : Task). t.outranks) cost (λ y. refl) U j i) refl
+    let outranks = same-costed (λ (t : Task). t.outranks) cost (λ y. refl) U j in
+    rw (same-costed (λ (t : Task). t.name) cost (λ y. refl) U j k, outranks k, outranks i) refl
 
 -- ---- the names of locks
 names-costed : (U : List Task) (i cost : ℕ) → names_in (costed U i cost) ≡ names_in U

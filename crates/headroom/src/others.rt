@@ -1,10 +1,11 @@
 //! Sheets with other numbers and sections.
 ghost use Rattle.std.specs.Prelude.{◌≡◌, IfOk};
 ghost use Rattle.task_sheet.specs.Sheet.{IsValidSheet};
+ghost use Rattle.task_sheet.specs.SheetFields.{outranks_of};
 ghost use Rattle.headroom.specs.Remade.{remade};
 
 use std::alloc::{AllocError, Global};
-use task_sheet::{Name, Section, Sheet};
+use task_sheet::{Outranks, Section, Sheet};
 
 /// Sections that say the same. The error is want of memory.
 pub fn copy_sections(alloc: Global, sections: &[Section]) -> Result<Vec<Section>, AllocError>
@@ -43,10 +44,10 @@ pub fn times_of(sheet: &Sheet) -> Times
     }
 }
 
-/// The sheet with other numbers and sections. The names are those that it must outrank.
-pub fn remade(sheet: &Sheet, times: Times, sections: Vec<Section>, outranks: Vec<Name>) -> Sheet
+/// The sheet with other numbers and sections. The tasks above which it must stand are those of the sheet.
+pub fn remade(sheet: &Sheet, times: Times, sections: Vec<Section>, outranks: Outranks) -> Sheet
     requires may { IsValidSheet (remade sheet.now times.period times.deadline times.cost times.jitter sections.items) }
-    requires outranks { outranks.items ≡ sheet.now.outranks }
+    requires outranks { outranks_of outranks ≡ sheet.now.outranks }
     ensures { result ≡ remade sheet.now times.period times.deadline times.cost times.jitter sections.items }
 {
     let Ok(other) = Sheet::new(

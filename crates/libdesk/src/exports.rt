@@ -4,6 +4,7 @@ ghost use Rattle.desk_cli.specs.Admit.{Says, admit_lines};
 ghost use Rattle.desk_cli.specs.Certify.{certificate_lines};
 ghost use Rattle.desk_cli.specs.Check.{SaysChecked};
 ghost use Rattle.desk_cli.specs.Diff.{SaysCompared};
+ghost use Rattle.command_line.specs.Calls.{no_options};
 ghost use Rattle.desk_cli.specs.Draw.{SaysDrawn};
 ghost use Rattle.desk_cli.specs.Explain.{SaysExplained};
 ghost use Rattle.desk_cli.specs.Limits.{SaysLimits};
@@ -204,7 +205,7 @@ pub extern "C" fn desk_draw(
     status: &mut u8,
 ) -> usize
     ensures room { length room.new ≡ length room.old }
-    ensures answer { AnswersCall (SaysDrawn None (Some set.now)
+    ensures answer { AnswersCall (SaysDrawn no_options None (Some set.now)
         (Some releases.now)) room.old room.new result status.new }
 {
     answer(alloc, Asked::Two(OfTwo::Draw, set, releases), room, status)

@@ -38,7 +38,7 @@ part_place line =
     else if is_at line 2 (codes "above") then Some 3
     else None
 
--- `LEVEL NAME TIME of DEADLINE` or `LEVEL NAME misses DEADLINE`; `LEVEL NAME below OTHER` speaks of two
+-- `LEVEL NAME TIME of DEADLINE` or `LEVEL NAME misses DEADLINE ..`; `LEVEL NAME below OTHER` speaks of two
 abbrev pub level_place : List (List ℕ) → Option ℕ
 level_place line = if is_at line 2 (codes "below") then None else Some 1
 

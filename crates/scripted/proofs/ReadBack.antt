@@ -8,18 +8,16 @@ use Rattle.std.proofs.Math.Dec.{eqb-suc-zero}
 use Rattle.std.proofs.lemmas.Fmt.{decimal_digit}
 use Rattle.std.proofs.lemmas.List.Elements.{recursion_from_All}
 use Rattle.task_sheet.specs.Name.{IsName, is_name_byte}
-use Rattle.task_sheet.specs.Sheet.{CriticalSection, Task, AreOutranked, AreSections, IsValidSheet, task_of, with_jitter}
-use Rattle.task_sheet.specs.SheetFault.{outranks_fault}
+use Rattle.task_sheet.specs.Sheet.{CriticalSection, OutranksData, Named, AllOthers, Task, MayOutrank, AreSections, IsValidSheet, names_said, task_of, with_jitter}
 use Rattle.task_sheet.specs.TaskSet.{IsTaskSet}
-use Rattle.task_sheet.specs.declared.sheet.OutranksCause.{OutranksCause}
-use Rattle.task_sheet.proofs.SheetLaws.{sheet_valid, never_outranked}
+use Rattle.task_sheet.proofs.SheetLaws.{sheet_valid, outranks_valid}
 use Rattle.lines.specs.Lines.{kept_from, lines_of}
 use Rattle.lines.specs.Steps.{◌>>=◌}
 use Rattle.lines.specs.Words.{number_in, words}
 use Rattle.lines.proofs.NumberLaws.{number_again}
 use Rattle.lines.proofs.Parts.{line_cut}
 use Rattle.drafts.specs.declared.team.TheConstants.{TEAM_LIMIT}
-use Rattle.scripts.specs.Rows.{each_in, field_case, made_in, names_or_none, next_draft, next_field, next_name, next_number, only_draft, open_in, or_bad, pair_of, put_in, round, row_in, section_in, sections_in, sheet_in, sheet_with_jitter, up_to, value_of, value_or_zero, word_names}
+use Rattle.scripts.specs.Rows.{each_in, field_case, made_in, all_sign, over_in, over_or_none, next_draft, next_field, next_name, next_number, only_draft, open_in, or_bad, pair_of, put_in, round, row_in, section_in, sections_in, sheet_in, sheet_with_jitter, up_to, value_of, value_or_zero, word_names}
 use Rattle.scripts.specs.Script.{script_from, script_in}
 use Rattle.scripts.specs.declared.line.Row.TheVariants.{Open, Put, Commit}
 use Rattle.scripted.specs.Scripted.{delay_words, lines_from, lines_of_set, over_words, plus_names, put_line, put_lines, script_of, section_word, section_words, spaced, value_words}
@@ -164,29 +162,42 @@ over_lacks = record { none = (refl, (refl, (refl, (refl, tt)))) }
 delay_lacks : Lacks 61 (codes "j")
 delay_lacks = record { none = (refl, tt) }
 
+-- the sign of all others
+sign_lacks : (c : ℕ) → (42 == c) ≡ false → Lacks c all_sign
+sign_lacks c other = record { none = (other, tt) }
+
 -- sections are no field
 sections_no_field : (key : List ℕ) (ss : List CriticalSection) → AllByRecursion IsSpelled ss → next_field key (map section_word ss) ≡ (None, map section_word ss)
 sections_no_field key [] each = no_words key
 sections_no_field key (s ∷ ss) each = no_field key (section_word s) (map section_word ss) (section_lacks 61 s equals_apart each.0)
 
 -- the value of `over`
-over_value : List (List ℕ) → Option (List ℕ)
-over_value [] = None
-over_value (n ∷ ns) = Some (plus_names (n ∷ ns))
+over_value : OutranksData → Option (List ℕ)
+over_value (Named []) = None
+over_value (Named (n ∷ ns)) = Some (plus_names (n ∷ ns))
+over_value AllOthers = Some all_sign
 
-over_next : (names : List (List ℕ)) (ss : List CriticalSection) → AllByRecursion IsName names → AllByRecursion IsSpelled ss → next_field (codes "over") (over_words names ++ map section_word ss) ≡ (over_value names, map section_word ss)
+over_next : (said : OutranksData) (ss : List CriticalSection) → AllByRecursion IsName (names_said said) → AllByRecursion IsSpelled ss → next_field (codes "over") (over_words said ++ map section_word ss) ≡ (over_value said, map section_word ss)
 unfolding over_value
-over_next [] ss named each = sections_no_field (codes "over") ss each
-over_next (n ∷ ns) ss named each = this_field (codes "over") (plus_names (n ∷ ns)) (map section_word ss) over_lacks (plus_lacks 61 (n ∷ ns) refl refl named) refl
+over_next (Named []) ss named each = sections_no_field (codes "over") ss each
+over_next AllOthers ss named each = this_field (codes "over") all_sign (map section_word ss) over_lacks (sign_lacks 61 refl) refl
+over_next (Named (n ∷ ns)) ss named each = this_field (codes "over") (plus_names (n ∷ ns)) (map section_word ss) over_lacks (plus_lacks 61 (n ∷ ns) refl refl named) refl
 
-over_again : (names : List (List ℕ)) → AllByRecursion IsName names → names_or_none (over_value names) ≡ Ok names
-unfolding over_value
-over_again [] named = refl
-over_again (n ∷ ns) named = plus_again n ns named
+-- names are not the sign of all others
+not_all : (w : List ℕ) → Lacks 42 w → bytes_eq w all_sign ≡ false
+not_all [] lacks = refl
+not_all (b ∷ w) lacks = rw lacks.none.0 refl
 
-no_delay : (names : List (List ℕ)) (ss : List CriticalSection) → AllByRecursion IsName names → AllByRecursion IsSpelled ss → next_field (codes "j") (over_words names ++ map section_word ss) ≡ (None, over_words names ++ map section_word ss)
-no_delay [] ss named each = sections_no_field (codes "j") ss each
-no_delay (n ∷ ns) ss named each = other_field (codes "j") (codes "over") (plus_names (n ∷ ns)) (map section_word ss) over_lacks (plus_lacks 61 (n ∷ ns) refl refl named) refl
+over_again : (said : OutranksData) → AllByRecursion IsName (names_said said) → over_or_none (over_value said) ≡ Ok said
+unfolding over_value over_in
+over_again (Named []) named = refl
+over_again (Named (n ∷ ns)) named = rw (not_all (plus_names (n ∷ ns)) (plus_lacks 42 (n ∷ ns) refl refl named), plus_again n ns named) refl
+over_again AllOthers named = refl
+
+no_delay : (said : OutranksData) (ss : List CriticalSection) → AllByRecursion IsName (names_said said) → AllByRecursion IsSpelled ss → next_field (codes "j") (over_words said ++ map section_word ss) ≡ (None, over_words said ++ map section_word ss)
+no_delay (Named []) ss named each = sections_no_field (codes "j") ss each
+no_delay AllOthers ss named each = other_field (codes "j") (codes "over") all_sign (map section_word ss) over_lacks (sign_lacks 61 refl) refl
+no_delay (Named (n ∷ ns)) ss named each = other_field (codes "j") (codes "over") (plus_names (n ∷ ns)) (map section_word ss) over_lacks (plus_lacks 61 (n ∷ ns) refl refl named) refl
 
 -- the value of `j`
 delay_value : ℕ → Option (List ℕ)
@@ -196,10 +207,10 @@ delay_value (suc k) = Some (decimal (suc k))
 delay_shape : (k : ℕ) → delay_words (suc k) ≡ (codes "j=" ++ decimal (suc k)) ∷ []
 delay_shape k = rw (eqb-suc-zero k) refl
 
-delay_next : (jitter : ℕ) (names : List (List ℕ)) (ss : List CriticalSection) → jitter < 10 ^ 10 → AllByRecursion IsName names → AllByRecursion IsSpelled ss → next_field (codes "j") (delay_words jitter ++ (over_words names ++ map section_word ss)) ≡ (delay_value jitter, over_words names ++ map section_word ss)
+delay_next : (jitter : ℕ) (said : OutranksData) (ss : List CriticalSection) → jitter < 10 ^ 10 → AllByRecursion IsName (names_said said) → AllByRecursion IsSpelled ss → next_field (codes "j") (delay_words jitter ++ (over_words said ++ map section_word ss)) ≡ (delay_value jitter, over_words said ++ map section_word ss)
 unfolding delay_value
-delay_next zero names ss short named each = no_delay names ss named each
-delay_next (suc k) names ss short named each = ap (λ (l : List (List ℕ)). next_field (codes "j") (l ++ (over_words names ++ map section_word ss))) (delay_shape k) ∙ this_field (codes "j") (decimal (suc k)) (over_words names ++ map section_word ss) delay_lacks (number_lacks 61 (suc k) refl (omega (arith, short))) refl
+delay_next zero said ss short named each = no_delay said ss named each
+delay_next (suc k) said ss short named each = ap (λ (l : List (List ℕ)). next_field (codes "j") (l ++ (over_words said ++ map section_word ss))) (delay_shape k) ∙ this_field (codes "j") (decimal (suc k)) (over_words said ++ map section_word ss) delay_lacks (number_lacks 61 (suc k) refl (omega (arith, short))) refl
 
 delay_again : (jitter : ℕ) → jitter < 10 ^ 10 → value_or_zero (delay_value jitter) ≡ Ok jitter
 unfolding delay_value
@@ -207,12 +218,9 @@ delay_again zero short = refl
 delay_again (suc k) short = ap or_bad (number_again (suc k) short)
 
 -- ---- a sheet
-no_outranks_fault : (own : List ℕ) (names : List (List ℕ)) → AreOutranked own names → outranks_fault own names ≡ None
-no_outranks_fault own names are = by (outranks_fault own names) refl
-  where
-    by : (o : Option OutranksCause) → outranks_fault own names ≡ o → outranks_fault own names ≡ None
-    by None is = is
-    by (Some c) is = absurd (never_outranked own names c is are)
+names_valid : (own : List ℕ) (said : OutranksData) → MayOutrank own said → AllByRecursion IsName (names_said said)
+names_valid own (Named names) may = recursion_from_All IsName names may.named
+names_valid own AllOthers may = tt
 
 -- what is spelled of a sheet
 record IsShort (t : Task) : Type 0 where
@@ -221,7 +229,7 @@ record IsShort (t : Task) : Type 0 where
   deadline : t.deadline < 10 ^ 10
   cost : t.cost < 10 ^ 10
   jitter : t.jitter < 10 ^ 10
-  names : AllByRecursion IsName t.outranks
+  names : AllByRecursion IsName (names_said t.outranks)
   sections : AllByRecursion IsSpelled t.sections
 
 short_sheet : (t : Task) → IsValidSheet t → IsShort t
@@ -233,7 +241,7 @@ short_sheet t is =
       deadline = omega (arith, is.deadline_to, is.period_to);
       cost = cost;
       jitter = omega (arith, is.jitter, is.deadline_to, is.period_to);
-      names = recursion_from_All IsName t.outranks is.outranked.named;
+      names = names_valid t.name t.outranks is.outranked;
       sections = spelled_sections 0 t.cost t.sections cost is.sections;
     }
 
@@ -290,7 +298,7 @@ sheet_again t is =
       over_again t.outranks short.names,
       made_again t is,
       late_again t is,
-      no_outranks_fault t.name t.outranks is.outranked,
+      outranks_valid t.name t.outranks is.outranked,
     ) refl
 
 -- ---- a line
@@ -314,6 +322,7 @@ record IsGap (c : ℕ) : Type 0 where
   one : Lacks c (codes "1")
   delay : Lacks c (codes "j=")
   over : Lacks c (codes "over=")
+  all : (42 == c) ≡ false
 
 all_append : (c : ℕ) (vs ws : List (List ℕ)) → AllByRecursion (λ v. Lacks c v) vs → AllByRecursion (λ v. Lacks c v) ws → AllByRecursion (λ v. Lacks c v) (vs ++ ws)
 all_append c [] ws a b = b
@@ -327,9 +336,10 @@ module _ (c : ℕ) (gap : IsGap c) where
   sections_apart [] each = tt
   sections_apart (s ∷ ss) each = (section_lacks c s gap.apart each.0, sections_apart ss each.1)
 
-  over_apart : (names : List (List ℕ)) → AllByRecursion IsName names → AllByRecursion (λ v. Lacks c v) (over_words names)
-  over_apart [] named = tt
-  over_apart (n ∷ ns) named = (lacks_append c (codes "over=") (plus_names (n ∷ ns)) gap.over (plus_lacks c (n ∷ ns) gap.apart.plus gap.apart.name named), tt)
+  over_apart : (said : OutranksData) → AllByRecursion IsName (names_said said) → AllByRecursion (λ v. Lacks c v) (over_words said)
+  over_apart (Named []) named = tt
+  over_apart AllOthers named = (lacks_append c (codes "over=") all_sign gap.over (sign_lacks c gap.all), tt)
+  over_apart (Named (n ∷ ns)) named = (lacks_append c (codes "over=") (plus_names (n ∷ ns)) gap.over (plus_lacks c (n ∷ ns) gap.apart.plus gap.apart.name named), tt)
 
   delay_apart : (jitter : ℕ) → jitter < 10 ^ 10 → AllByRecursion (λ v. Lacks c v) (delay_words jitter)
   delay_apart zero short = tt
@@ -350,6 +360,7 @@ space_gap = record {
   one = record { none = (refl, tt) };
   delay = record { none = (refl, (refl, tt)) };
   over = record { none = (refl, (refl, (refl, (refl, (refl, tt))))) };
+  all = refl;
 }
 
 end_gap : IsGap 10
@@ -358,6 +369,7 @@ end_gap = record {
   one = record { none = (refl, tt) };
   delay = record { none = (refl, (refl, tt)) };
   over = record { none = (refl, (refl, (refl, (refl, (refl, tt))))) };
+  all = refl;
 }
 
 put_again : (ws : List (List ℕ)) (t : Task) → sheet_in ws ≡ Ok t → row_in 1 (codes "put" ∷ codes "1" ∷ ws) ≡ Ok (Put 1 t)

@@ -1,7 +1,7 @@
 -- A set as a script.
 use Rattle.std.specs.Prelude.{ℕ, ◌+◌, ◌==◌, List, [], ◌∷◌, ◌++◌, map, codes, if◌then◌else◌}
 use Rattle.std.specs.Fmt.{decimal}
-use Rattle.task_sheet.specs.Sheet.{CriticalSection, Task}
+use Rattle.task_sheet.specs.Sheet.{CriticalSection, OutranksData, Named, AllOthers, Task}
 use Rattle.scripts.specs.declared.line.Line.{Line}
 use Rattle.scripts.specs.declared.line.Row.TheVariants.{Open, Put, Commit}
 
@@ -33,10 +33,11 @@ section_words ss = map section_word ss
 abbrev pub delay_words : ℕ → List (List ℕ)
 delay_words jitter = if jitter == 0 then [] else (codes "j=" ++ decimal jitter) ∷ []
 
--- `over=NAME+NAME`, where the task must stand above others
-abbrev pub over_words : List (List ℕ) → List (List ℕ)
-over_words [] = []
-over_words (n ∷ ns) = (codes "over=" ++ plus_names (n ∷ ns)) ∷ []
+-- `over=NAME+NAME`, where the task must stand above others, or `over=*`, above all others
+abbrev pub over_words : OutranksData → List (List ℕ)
+over_words (Named []) = []
+over_words (Named (n ∷ ns)) = (codes "over=" ++ plus_names (n ∷ ns)) ∷ []
+over_words AllOthers = codes "over=*" ∷ []
 
 -- the draft, and what stands in each sheet
 abbrev pub value_words : Task → List (List ℕ)

@@ -1,11 +1,13 @@
 //! The text of a set as a script.
 ghost use Rattle.std.specs.Prelude.{◌≡◌, ◌++◌, OnOk, IfOk, string_bytes, codes};
 ghost use Rattle.std.specs.Fmt.{decimal};
+ghost use Rattle.task_sheet.specs.Sheet.{Named};
+ghost use Rattle.task_sheet.specs.SheetFields.{outranks_of};
 ghost use Rattle.scripted.specs.Scripted.{delay_words, over_words, plus_names, plus_rest, put_line, put_lines, script_of, section_word, section_words, spaced};
 
 use drafts::Team;
 use std::alloc::{AllocError, Global};
-use task_sheet::{Name, Section, Sheet, TaskSet};
+use task_sheet::{Name, Outranks, Section, Sheet, TaskSet};
 
 // Names, each behind a sign `+`.
 fn push_rest(text: &mut String, names: &[Name]) -> Result<(), AllocError>
@@ -63,15 +65,26 @@ fn push_delay(text: &mut String, jitter: u64) -> Result<(), AllocError>
 }
 
 // `over=NAME+NAME`, where there are names, behind a space.
-fn push_over(text: &mut String, names: &[Name]) -> Result<(), AllocError>
+fn push_named(text: &mut String, names: &[Name]) -> Result<(), AllocError>
     ensures { OnOk result (string_bytes text.new
-        ≡ string_bytes text.old ++ spaced (over_words names.now)) }
+        ≡ string_bytes text.old ++ spaced (over_words (Named names.now))) }
 {
     if names.is_empty() {
         return Ok(());
     }
     text.push_str(" over=")?;
     push_names(text, names)
+}
+
+// The same, or `over=*` for all others.
+fn push_over(text: &mut String, outranks: &Outranks) -> Result<(), AllocError>
+    ensures { OnOk result (string_bytes text.new
+        ≡ string_bytes text.old ++ spaced (over_words (outranks_of outranks.now))) }
+{
+    match outranks {
+        Outranks::Named(names) => push_named(text, names),
+        Outranks::AllOthers => text.push_str(" over=*"),
+    }
 }
 
 // The line that puts a task into the first draft.

@@ -1,7 +1,7 @@
 -- What the words of a script's line say.
 use Rattle.std.specs.Prelude.{ℕ, Bool, true, false, ◌==◌, ◌&&◌, nat_le, nat_lt, List, [], ◌∷◌, Option, Some, None, Result, Ok, Err, bytes_eq, codes, if◌then◌else◌}
 use Rattle.std.specs.List.{slice_split}
-use Rattle.task_sheet.specs.Sheet.{CriticalSection, Task, task_of, with_jitter, outranking}
+use Rattle.task_sheet.specs.Sheet.{CriticalSection, OutranksData, Named, AllOthers, Task, task_of, with_jitter, outranking}
 use Rattle.task_sheet.specs.SheetFault.{sheet_fault, outranks_fault}
 use Rattle.task_sheet.specs.declared.sheet.OutranksCause.{OutranksCause}
 use Rattle.task_sheet.specs.declared.sheet.SheetCause.{SheetCause}
@@ -133,10 +133,20 @@ abbrev pub value_or_zero : Option (List ℕ) → Result ℕ RowFault
 value_or_zero None = Ok 0
 value_or_zero (Some text) = or_bad (number_in text)
 
--- the names between the signs `+` of a value, and none of no value
-abbrev pub names_or_none : Option (List ℕ) → Result (List (List ℕ)) RowFault
-names_or_none None = Ok []
-names_or_none (Some text) = word_names (slice_split (λ b. b == 43) text)
+-- how all others are written
+abbrev pub all_sign : List ℕ
+all_sign = codes "*"
+
+-- above which tasks one must stand, as a value says: all others, or those named between the signs `+`
+unfoldable pub over_in : List ℕ → Result OutranksData RowFault
+over_in text =
+    if bytes_eq text all_sign then Ok AllOthers
+    else (word_names (slice_split (λ b. b == 43) text) >>= λ names. Ok (Named names))
+
+-- the same, and no name of no value
+abbrev pub over_or_none : Option (List ℕ) → Result OutranksData RowFault
+over_or_none None = Ok (Named [])
+over_or_none (Some text) = over_in text
 
 -- ---- lines, by the words behind the first
 -- a valid sheet
@@ -149,7 +159,7 @@ abbrev pub sheet_with_jitter : ℕ → Task → Result Task RowFault
 sheet_with_jitter jitter task =
     if nat_lt jitter task.deadline then Ok (with_jitter task jitter) else Err BadJitter
 
--- a valid sheet that names these tasks
+-- a valid sheet of a task that must stand above others
 abbrev pub valid_over : Option OutranksCause → Task → Result Task RowFault
 valid_over None task = Ok task
 valid_over (Some cause) task = Err (Outranks cause)
@@ -173,10 +183,10 @@ sheet_in ws = do
   let delay : Option (List ℕ) × List (List ℕ) = next_field (codes "j") cost.1
   jitter ← value_or_zero delay.0
   let over : Option (List ℕ) × List (List ℕ) = next_field (codes "over") delay.1
-  names ← names_or_none over.0
+  outranks ← over_or_none over.0
   sheet ← made_in name.0 weight.0 period.0 deadline.0 cost.0 over.1
   later ← sheet_with_jitter jitter sheet
-  valid_over (outranks_fault name.0 names) (outranking later names)
+  valid_over (outranks_fault name.0 outranks) (outranking later outranks)
 
 -- what the words behind `open` say
 unfoldable pub open_in : List (List ℕ) → Result Row RowFault

@@ -51,7 +51,8 @@ pub enum Row {
         team: Team,
     },
     /// `put DRAFT NAME WEIGHT PERIOD DEADLINE COST SECTION..`, behind the cost with `j=JITTER` where the jitter isn't 0 and
-    /// then `over=NAME+NAME` where the task must stand above others: a sheet is put into a draft.
+    /// then `over=NAME+NAME`, or `over=*` for all others, where the task must stand above others: a sheet is put into a
+    /// draft.
     Put {
         draft: usize,
         sheet: PutSheet,

@@ -12,7 +12,7 @@ use crate::fields::{
     other_of, team_of,
 };
 use crate::line::{PutSheet, Row, RowFault};
-use crate::sections::{names_or_none, sections_of};
+use crate::sections::{over_or_none, sections_of};
 use lines::Words;
 use std::alloc::Global;
 use task_sheet::{Name, OutranksFault, Section, Sheet, SheetFault};
@@ -81,10 +81,10 @@ fn sheet_of(alloc: Global, words: &mut Words<'_>) -> Result<Sheet, RowFault>
         cost: next_number(words)?,
     };
     let jitter = number_or_zero(next_field(b"j", words))?;
-    let names = names_or_none(alloc, next_field(b"over", words))?;
+    let outranks = over_or_none(alloc, next_field(b"over", words))?;
     let sheet = made_of(alloc, words, values)?;
     let sheet = late(sheet, jitter)?;
-    match sheet.outranking(names) {
+    match sheet.outranking(outranks) {
         Ok(sheet) => Ok(sheet),
         Err(OutranksFault { cause, .. }) => Err(RowFault::Outranks { cause }),
     }

@@ -1,14 +1,15 @@
-//! Sections in a line, as `LOCK+LOCK@AT:LEN`, and names, as `NAME+NAME`.
-ghost use Rattle.std.specs.Prelude.{◌≡◌, ◌==◌, ◌≤◌, ◌++◌, ◌∷◌, [], length, take, option_map, OnOk, IfErr};
+//! Sections in a line, as `LOCK+LOCK@AT:LEN`, and names, as `NAME+NAME`, or `*` for all others.
+ghost use Rattle.std.specs.Prelude.{◌≡◌, ◌==◌, ◌≤◌, ◌++◌, ◌∷◌, [], length, take, bytes_eq, option_map, OnOk, IfErr};
 ghost use Rattle.std.specs.List.{slice_split};
 ghost use Rattle.scripts.specs.Gives.{GivesRow, GivesFirst};
-ghost use Rattle.scripts.specs.Rows.{word_names, names_or_none, section_in, sections_in};
+ghost use Rattle.scripts.specs.Rows.{word_names, all_sign, over_in, over_or_none, section_in, sections_in};
+ghost use Rattle.task_sheet.specs.SheetFields.{outranks_of};
 
 use crate::fields::round;
 use crate::line::RowFault;
 use lines::{Words, cut, name_of, number_of};
 use std::alloc::Global;
-use task_sheet::{Name, Section};
+use task_sheet::{Name, Outranks, Section};
 
 // How many sections of a line are kept: one more than a sheet may have. So they show whether there are too many.
 const KEPT: usize = 9;
@@ -33,13 +34,32 @@ fn names_of(alloc: Global, text: &[u8]) -> Result<Vec<Name>, RowFault>
     Ok(names)
 }
 
-/// The names of a value, and none of no value.
-pub(crate) fn names_or_none(alloc: Global, value: Option<&[u8]>) -> Result<Vec<Name>, RowFault>
-    ensures { GivesRow (λ x. x.items) result (names_or_none (option_map (λ v. v.now) value.entry)) }
+// Whether a text is the sign of all others.
+fn is_all(text: &[u8]) -> bool
+    ensures { result ≡ bytes_eq text.now all_sign }
+{
+    text == b"*".as_slice()
+}
+
+// Above which tasks one must stand, as a text says.
+#[tactic(auto, unfolding(crate::specs::Rows::over_in))]
+fn over_of(alloc: Global, text: &[u8]) -> Result<Outranks, RowFault>
+    ensures { GivesRow outranks_of result (over_in text.now) }
+{
+    if is_all(text) {
+        return Ok(Outranks::AllOthers);
+    }
+    let names = names_of(alloc, text)?;
+    Ok(Outranks::Named(names))
+}
+
+/// Above which tasks one must stand, as a value says; of no value none.
+pub(crate) fn over_or_none(alloc: Global, value: Option<&[u8]>) -> Result<Outranks, RowFault>
+    ensures { GivesRow outranks_of result (over_or_none (option_map (λ v. v.now) value.entry)) }
 {
     match value {
-        Some(text) => names_of(alloc, text),
-        None => Ok(Vec::new(alloc)),
+        Some(text) => over_of(alloc, text),
+        None => Ok(Outranks::Named(Vec::new(alloc))),
     }
 }
 

@@ -1,6 +1,7 @@
 //! Why a set's text is no task set.
 
 use crate::node::{of_budget, of_node, of_stranger};
+use crate::padding::of_padding;
 use crate::sets::of_set;
 use crate::texts::push_unseen;
 use crate::told::told;
@@ -23,6 +24,11 @@ pub fn of_set_text(alloc: Global, bytes: &[u8], fault: TeamsFault) -> Option<Str
                 "{team}.toml: prefers otherwise than {other}.toml; one team says it for all"
             ).ok()
         }
+        TeamsFault::OtherNode { team, other } => {
+            format!(in alloc;
+                "{team}.toml: another [node] than {other}.toml; one team says it for all"
+            ).ok()
+        }
         TeamsFault::Node { fault } => of_node(alloc, node_in(bytes), fault),
         TeamsFault::NoSuchTeam { team } => of_stranger(alloc, node_in(bytes), team),
         TeamsFault::PastBudget {
@@ -31,6 +37,7 @@ pub fn of_set_text(alloc: Global, bytes: &[u8], fault: TeamsFault) -> Option<Str
             number,
             limit,
         } => of_budget(alloc, node_in(bytes), team, quantity, number, limit),
+        TeamsFault::Padded { fault } => of_padding(alloc, fault),
         TeamsFault::TooManyTasks => {
             String::from_str(alloc, "the teams have more than 32 tasks together").ok()
         }

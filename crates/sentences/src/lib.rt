@@ -1,6 +1,7 @@
 //! What a person is told of a refusal or of a set: plain sentences that name the place, the value and its limit.
 #![tactic(auto)]
 
+mod asked;
 mod causes;
 mod choices;
 mod conflicts;
@@ -10,6 +11,7 @@ mod lists;
 mod node;
 mod notes;
 mod overload;
+mod padding;
 mod puts;
 mod records;
 mod sets;
@@ -21,6 +23,7 @@ mod traces;
 mod tree;
 mod values;
 
+pub use asked::{of_task, of_tasks, of_window};
 pub use choices::{put_names_decide, put_override};
 pub use conflicts::{put_conflict, put_parted, put_unrun};
 pub use density::{greatest_until, of_density};

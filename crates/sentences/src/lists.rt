@@ -131,8 +131,8 @@ fn time_at(line: &[u8], place: usize) -> u64 {
     }
 }
 
-// The time of the line until.
-fn until_of(bytes: &[u8]) -> u64 {
+/// The time of the line until.
+pub(crate) fn until_of(bytes: &[u8]) -> u64 {
     match line_of_place(bytes, 0) {
         Some(number) => time_at(line_at(bytes, number).unwrap_or(&[]), 1),
         None => 0,

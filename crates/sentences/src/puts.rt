@@ -44,7 +44,7 @@ fn form_of(word: &[u8]) -> &'static str {
     match std::str::from_utf8(word) {
         Ok("open") => "open TEAM, with TEAM from 1 to 8",
         Ok("put") => "put DRAFT NAME WEIGHT PERIOD DEADLINE COST, then j=JITTER, over=NAME+NAME \
-            and LOCK+LOCK@AT:LEN where there are such",
+            or over=* and LOCK+LOCK@AT:LEN where there are such",
         Ok("remove") => "remove DRAFT NAME",
         Ok("found") => "found DRAFT NAME or found DRAFT NAME OTHER",
         Ok("test") => "test DRAFT",

@@ -11,8 +11,8 @@ use crate::tree::{
 use crate::values::{no_span, numbers_in, span_at};
 use std::alloc::{AllocError, Global};
 use task_sheet::{
-    Key, NAME_LIMIT, OutranksCause, ROOT_KEYS, SECTION_KEYS, SetFault, SheetCause, TASK_KEYS,
-    TASK_LIMIT,
+    Key, NAME_LIMIT, NODE_KEYS, OutranksCause, ROOT_KEYS, SECTION_KEYS, SetFault, SheetCause,
+    TASK_KEYS, TASK_LIMIT,
 };
 use toml::{Table, Value};
 
@@ -81,6 +81,7 @@ fn place_of(fault: SetFault) -> (usize, usize) {
         SetFault::SameName { task } => (task, 0),
         SetFault::Syntax
         | SetFault::BadPreference
+        | SetFault::UnknownOverhead
         | SetFault::TooManyTasks
         | SetFault::OutOfMemory => (0, 0),
     }
@@ -93,6 +94,7 @@ fn push_fault(text: &mut String, root: &Table, fault: SetFault) -> Result<(), Al
         SetFault::MissingKey { section, key, .. } => push_missing(text, section, key),
         SetFault::WrongKind { task, section, key } => push_kind(text, root, task, section, key),
         SetFault::BadPreference => push_preference(text, root),
+        SetFault::UnknownOverhead => push_overhead(text, root),
         SetFault::BadName { task, section } => push_bad_name(text, root, task, section),
         SetFault::Sheet { task, cause } => push_sheet(text, root, task, cause),
         SetFault::BadJitter { task } => match table_of(root, task, 0) {
@@ -147,7 +149,7 @@ fn push_known(
 ) -> Result<(), AllocError> {
     match (task, section) {
         (0, _) => text.push_str(
-            "; a set has tasks alone, each headed by [[task]], and may have prefer in front of them",
+            "; a set has tasks, each headed by [[task]], and may have prefer in front of them, and [node]",
         ),
         (_, 0) => {
             text.push_str("; a task has")?;
@@ -160,6 +162,36 @@ fn push_known(
     }
 }
 
+// The node's table, where it is one.
+fn node_table<'a>(root: &'a Table) -> Option<&'a Table> {
+    root.get(Key::Node.word())?.as_table()
+}
+
+// A key of the node's table that is not known, and those that are.
+fn push_overhead(text: &mut String, root: &Table) -> Result<(), AllocError> {
+    text.push_str("unknown key ")?;
+    if let Some(table) = node_table(root) {
+        if let Some(key) = unknown_key(&NODE_KEYS, table) {
+            push_shown(text, key)?;
+        }
+    }
+    text.push_str("; [node] has")?;
+    push_keys(text, &NODE_KEYS)
+}
+
+// Whether a key is one of the node's table.
+fn is_of_node(key: Key) -> bool {
+    NODE_KEYS.iter().any(|known| *known == key)
+}
+
+// The table that has a key, at the place of a fault.
+fn table_with<'a>(root: &'a Table, task: usize, section: usize, key: Key) -> Option<&'a Table> {
+    if is_of_node(key) {
+        return node_table(root);
+    }
+    table_of(root, task, section)
+}
+
 // A key that a table lacks, and those that it needs.
 fn push_missing(text: &mut String, section: usize, key: Key) -> Result<(), AllocError> {
     let word = key.word();
@@ -169,7 +201,7 @@ fn push_missing(text: &mut String, section: usize, key: Key) -> Result<(), Alloc
         return push_keys(text, &[Key::Name, Key::Period, Key::Deadline, Key::Cost]);
     }
     text.push_str("a section needs")?;
-    push_keys(text, &SECTION_KEYS)
+    push_keys(text, &[Key::Locks, Key::Len])
 }
 
 // ---- kinds
@@ -181,11 +213,19 @@ fn kind_of(key: Key) -> &'static str {
         Key::Section => "an array of tables, each headed by [[task.section]]",
         Key::Name => "a string, in quotes",
         Key::Prefer => "\"deadline\" or \"weight\"",
-        Key::Locks | Key::Outranks => "an array of strings, as [\"a\", \"b\"]",
+        Key::Node => "a table, headed by [node]",
+        Key::Locks => "an array of strings, as [\"a\", \"b\"]",
+        Key::Outranks => "an array of strings, as [\"a\", \"b\"], or the string \"all\"",
         Key::Weight => "a whole number from 0",
-        Key::Period | Key::Deadline | Key::Cost | Key::Jitter | Key::At | Key::Len => {
-            "a whole number of microseconds from 0, without quotes"
-        }
+        Key::Period
+        | Key::Deadline
+        | Key::Cost
+        | Key::Jitter
+        | Key::At
+        | Key::Len
+        | Key::Job
+        | Key::Lock
+        | Key::Late => "a whole number of microseconds from 0, without quotes",
     }
 }
 
@@ -250,7 +290,7 @@ fn push_kind(
     let word = key.word();
     let kind = kind_of(key);
     write!(text, "{word} has to be {kind}")?;
-    let Some(table) = table_of(root, task, section) else {
+    let Some(table) = table_with(root, task, section, key) else {
         return Ok(());
     };
     match table.get(word) {

@@ -2,7 +2,7 @@
 
 use std::io::Write;
 use streams::{Held, Watched, WriteFailed};
-use task_sheet::{Name, TaskSet};
+use task_sheet::{Name, Outranks, TaskSet};
 
 // The note on a name that a task outranks.
 fn put_stranger<W: Write + Drop>(
@@ -18,6 +18,22 @@ fn put_stranger<W: Write + Drop>(
     held.put(b", which is no task of the set: that binds nothing\n", out)
 }
 
+// The notes on those of the names that a task outranks that no task of the set has.
+fn put_strangers_of<W: Write + Drop>(
+    set: &TaskSet,
+    task: &Name,
+    names: &[Name],
+    held: &mut Held,
+    out: &mut Watched<W>,
+) -> Result<(), WriteFailed> {
+    for name in names {
+        if set.find(*name).is_none() {
+            put_stranger(task, name, held, out)?;
+        }
+    }
+    Ok(())
+}
+
 /// Writes a note for each name that a task outranks and that no task of the set has, by rank, then as written. It takes
 /// no memory.
 pub fn put_strangers<W: Write + Drop>(
@@ -26,10 +42,8 @@ pub fn put_strangers<W: Write + Drop>(
 ) -> Result<(), WriteFailed> {
     let mut held = Held::new();
     for sheet in set.sheets() {
-        for name in sheet.outranks() {
-            if set.find(*name).is_none() {
-                put_stranger(&sheet.name(), name, &mut held, out)?;
-            }
+        if let Outranks::Named(names) = sheet.outranks() {
+            put_strangers_of(set, &sheet.name(), names, &mut held, out)?;
         }
     }
     held.send(out)

@@ -63,10 +63,22 @@ pub(crate) fn end_of(at: Option<u64>, len: Option<u64>) -> Option<u64> {
     Some(at?.saturating_add(len?))
 }
 
-// The end of the section at a place of a task's table.
+// Where a section begins: at the end of the one before it, where it doesn't say where.
+fn begin_of(before: Option<u64>, section: &Table) -> Option<u64> {
+    match section.get(Key::At.word()) {
+        Some(_) => number_at(Key::At, section),
+        None => before,
+    }
+}
+
+// The end of the section at a place of a task's table, from 1; 0 in front of the first.
 fn end_at(place: usize, table: &Table) -> Option<u64> {
-    let section = table_at(Key::Section, place, table)?;
-    end_of(number_at(Key::At, section), number_at(Key::Len, section))
+    let mut end = Some(0);
+    for i in 0..place {
+        let section = table_at(Key::Section, i + 1, table)?;
+        end = end_of(begin_of(end, section), number_at(Key::Len, section));
+    }
+    end
 }
 
 // The lock that stands twice in a section's table.
@@ -76,13 +88,14 @@ fn twice_in<'a>(section: &'a Table) -> Option<&'a str> {
 
 /// Those of the section at a place of a task's table, from 1.
 pub(crate) fn span_at<'a>(place: usize, table: &'a Table) -> Span<'a> {
+    let from = end_at(place.saturating_sub(1), table);
     match table_at(Key::Section, place, table) {
         Some(section) => Span {
-            at: number_at(Key::At, section),
+            at: begin_of(from, section),
             len: number_at(Key::Len, section),
             locks: count_at(Key::Locks, section),
             twice: twice_in(section),
-            from: end_at(place.saturating_sub(1), table),
+            from,
         },
         None => no_span(),
     }

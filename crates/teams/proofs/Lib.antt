@@ -1,2 +1,3 @@
 pub mod TeamLaws
 pub mod BudgetLaws
+pub mod PaddingLaws

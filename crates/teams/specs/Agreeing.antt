@@ -1,11 +1,13 @@
--- What the documents of teams prefer together: what one of them says holds for all, and none may say otherwise.
-use Rattle.std.specs.Prelude.{ℕ, Bool, true, false, List, [], ◌∷◌, Option, Some, None, option_map, if◌then◌else◌}
+-- What the documents of teams prefer together, and which node they say: what one of them says holds for all, and none may
+-- say otherwise.
+use Rattle.std.specs.Prelude.{ℕ, Bool, true, false, nat_eq, ◌&&◌, not, List, [], ◌∷◌, Option, Some, None, option_map, if◌then◌else◌}
 use Rattle.std.specs.Option.{option_or}
 use Rattle.task_sheet.specs.declared.prefer.Preference.{Preference}
 use Rattle.task_sheet.specs.declared.prefer.Preference.TheVariants.{Weights, Deadline}
+use Rattle.task_sheet.specs.declared.node.Node.{Node}
 use Rattle.teams.specs.Owned.{TeamSetData}
 use Rattle.teams.specs.declared.fault.TeamsFault.{TeamsFault}
-use Rattle.teams.specs.declared.fault.TeamsFault.TheVariants.{OtherPreference}
+use Rattle.teams.specs.declared.fault.TeamsFault.TheVariants.{OtherPreference, OtherNode}
 
 -- a document's preference, with its team
 abbrev pub said_by : List ℕ → Option Preference → Option (List ℕ × Preference)
@@ -42,3 +44,44 @@ disagreement_with (Some said) sets =
 -- the first document that prefers otherwise than one before it
 abbrev pub disagreement : List TeamSetData → Option TeamsFault
 disagreement sets = disagreement_with (first_saying sets) sets
+
+-- ---- the node
+
+-- two nodes take the same
+abbrev pub same_node : Node → Node → Bool
+same_node x y = nat_eq x.job y.job && (nat_eq x.lock y.lock && nat_eq x.late y.late)
+
+-- a document's node, with its team
+abbrev pub node_said_by : List ℕ → Option Node → Option (List ℕ × Node)
+node_said_by team None = None
+node_said_by team (Some node) = Some (team, node)
+
+-- the first document that says a node
+abbrev pub first_node : List TeamSetData → Option (List ℕ × Node)
+first_node [] = None
+first_node (s ∷ sets) = option_or (node_said_by s.team s.node) (first_node sets)
+
+-- which it is
+abbrev pub node_by : List TeamSetData → Option Node
+node_by sets = option_map (λ said. said.1) (first_node sets)
+
+-- a document says another node than this
+abbrev pub says_other_node : Node → Option Node → Bool
+says_other_node node None = false
+says_other_node node (Some other) = not (same_node node other)
+
+-- the team of the first that does
+abbrev pub first_other_node : Node → List TeamSetData → Option (List ℕ)
+first_other_node node [] = None
+first_other_node node (s ∷ sets) =
+    if says_other_node node s.node then Some s.team else first_other_node node sets
+
+-- the fault of documents of which this is the first that says a node: another one says otherwise
+abbrev pub node_disagreement_with : Option (List ℕ × Node) → List TeamSetData → Option TeamsFault
+node_disagreement_with None sets = None
+node_disagreement_with (Some said) sets =
+    option_map (λ team. OtherNode team said.0) (first_other_node said.1 sets)
+
+-- the first document that says another node than one before it
+abbrev pub node_disagreement : List TeamSetData → Option TeamsFault
+node_disagreement sets = node_disagreement_with (first_node sets) sets

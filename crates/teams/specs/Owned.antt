@@ -2,14 +2,16 @@
 use Rattle.std.specs.Prelude.{ℕ, List, [], ◌∷◌, ◌++◌, map, Option, slice_index_or, if◌then◌else◌}
 use Rattle.task_sheet.specs.Sheet.{Task, no_task, same_bytes}
 use Rattle.task_sheet.specs.declared.prefer.Preference.{Preference}
+use Rattle.task_sheet.specs.declared.node.Node.{Node}
 use Rattle.teams.specs.declared.fault.TeamsFault.{TeamsFault}
 use Rattle.teams.specs.declared.fault.TeamsFault.TheVariants.{Taken}
 
--- a team's set, and what its document prefers
+-- a team's set, what its document prefers, and the node that it says
 pub record TeamSetData : Type 0 where
   pub team : List ℕ
   pub set : List Task
   pub prefers : Option Preference
+  pub node : Option Node
 
 -- a team's task
 pub record OwnedData : Type 0 where

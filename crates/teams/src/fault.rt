@@ -3,6 +3,7 @@ ghost use Rattle.std.specs.Prelude.{◌≡◌};
 ghost use Rattle.teams.specs.declared.fault.TeamsFault.TheVariants.{OutOfMemory};
 
 use crate::node::{NodeFault, Quantity};
+use overheads::PadFault;
 use std::alloc::AllocError;
 use task_sheet::{Name, SetFault};
 use thiserror::Error;
@@ -39,6 +40,12 @@ pub enum TeamsFault {
         team: Name,
         other: Name,
     },
+    /// A team's document says another node than that of another, which stands before it.
+    #[error("{team}: another node than {other}")]
+    OtherNode {
+        team: Name,
+        other: Name,
+    },
     /// The node's document says no budgets.
     #[error("node: {fault}")]
     Node {
@@ -56,6 +63,11 @@ pub enum TeamsFault {
         quantity: Quantity,
         number: u64,
         limit: u64,
+    },
+    /// The set has no room for what the node takes.
+    #[error("{fault}")]
+    Padded {
+        fault: PadFault,
     },
     /// There are more than 32 tasks.
     #[error("more than 32 tasks")]

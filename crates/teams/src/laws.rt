@@ -1,10 +1,10 @@
-//! Laws of budgets. Each is the contract of a function that does nothing.
+//! Laws of budgets, and of sets without a node. Each is the contract of a function that does nothing.
 ghost use Rattle.std.specs.Prelude.{◌≡◌, ◌↔◌, ℕ, List, None, Ok};
 ghost use Rattle.task_sheet.specs.declared.read.Document.{Document};
 ghost use Rattle.teams.specs.Budgets.{budget_fault, IsWithin};
 ghost use Rattle.teams.specs.Gathering.{ReadsGathered};
 ghost use Rattle.teams.specs.Owned.{TeamSetData};
-ghost use Rattle.teams.specs.ReadsText.{ReadsBounded};
+ghost use Rattle.teams.specs.ReadsText.{ReadsBounded, ReadsText, ReadsWritten};
 ghost use Rattle.teams.specs.declared.node.Budget.{Budget};
 
 /// A budget has no fault exactly where its team has a document, its load in millionths is at most a thousand times the
@@ -18,4 +18,10 @@ pub fn kept_is_within()
 pub fn budgets_keep_set()
     ensures { (document text : List ℕ) (d : Document) → ReadsBounded document text (Ok d)
         → ReadsGathered text (Ok d) }
+{}
+
+/// Where no document says a node, a set's text says the set that is written.
+pub fn no_node_is_as_written()
+    ensures { (text : List ℕ) (d : Document) → d.node ≡ None
+        → ReadsText text (Ok d) ↔ ReadsWritten text (Ok d) }
 {}

@@ -1,7 +1,7 @@
 //! A set's text.
 ghost use Rattle.std.specs.Prelude.{◌≡◌, [], Ok, IfOk, IfErr};
 ghost use Rattle.teams.specs.Gathering.{AreGathered, IsNotGathered};
-ghost use Rattle.teams.specs.ReadsText.{ReadsAlone, ReadsBounded, ReadsDocuments, ReadsText, is_gathered};
+ghost use Rattle.teams.specs.ReadsText.{ReadsAlone, ReadsBounded, ReadsDocuments, ReadsText, ReadsWritten, Pads, is_gathered};
 ghost use Rattle.teams.specs.ReadsTeams.{UnitesAll};
 
 use crate::fault::TeamsFault;
@@ -9,6 +9,7 @@ use crate::gathering::{node_part, read_documents, read_gathered};
 use crate::keeping::budgets_fault;
 use crate::node::read_node;
 use crate::uniting::{TeamSet, owned_all, united};
+use overheads::{PadFault, pad};
 use std::alloc::Global;
 use task_sheet::{Document, SetFault, read_document};
 
@@ -63,16 +64,44 @@ fn read_several(alloc: Global, text: &[u8]) -> Result<Document, TeamsFault>
     }
 }
 
-/// The set that a text says, and what it prefers: of documents of teams where it begins with `#% `, as `read_gathered`
-/// reads them; else of one document, as `task_sheet::read_document` does. In front of the teams' documents that of the
-/// node may stand, behind a line `#% COUNT`: what it refuses comes first, and last the first budget by the names of the
-/// teams whose team has no document, or takes more. To TOML the lines with `#% ` are comments.
-pub fn read_text(alloc: Global, text: &[u8]) -> Result<Document, TeamsFault>
-    ensures { ReadsText text.now result }
+// The set that a text says, as it is written.
+fn read_written(alloc: Global, text: &[u8]) -> Result<Document, TeamsFault>
+    ensures { ReadsWritten text.now result }
 {
     if is_gathered(text) {
         read_several(alloc, text)
     } else {
         read_alone(alloc, text)
     }
+}
+
+// The document, its set with what the node takes, where it says a node.
+fn padded(alloc: Global, document: Document) -> Result<Document, TeamsFault>
+    ensures { Pads document result }
+{
+    let prefers = document.prefers;
+    let Some(node) = document.node else {
+        return Ok(document);
+    };
+    match pad(alloc, &document.set, node) {
+        Ok(set) => Ok(Document {
+            set,
+            prefers,
+            node: Some(node),
+        }),
+        Err(PadFault::OutOfMemory) => Err(TeamsFault::OutOfMemory),
+        Err(fault) => Err(TeamsFault::Padded { fault }),
+    }
+}
+
+/// The set that a text says, and what it prefers: of documents of teams where it begins with `#% `, as `read_gathered`
+/// reads them; else of one document, as `task_sheet::read_document` does. In front of the teams' documents that of the
+/// node may stand, behind a line `#% COUNT`: what it refuses comes first, and last the first budget by the names of the
+/// teams whose team has no document, or takes more. To TOML the lines with `#% ` are comments. Where a document says a
+/// node, the set has what that takes, as `overheads::pad` puts it in; what that refuses comes last of all.
+pub fn read_text(alloc: Global, text: &[u8]) -> Result<Document, TeamsFault>
+    ensures { ReadsText text.now result }
+{
+    let document = read_written(alloc, text)?;
+    padded(alloc, document)
 }

@@ -1,21 +1,22 @@
 //! Putting the sets of teams together.
 ghost use Rattle.std.specs.Prelude.{◌≡◌, ◌≢◌, ◌<◌, ◌++◌, length, map, Err, None, Some, IfOk, IfErr, OnOk};
 ghost use Rattle.task_sheet.specs.SheetsFault.{sheets_fault};
-ghost use Rattle.teams.specs.Agreeing.{disagreement, first_other, first_saying, preferred_by, says_other};
+ghost use Rattle.teams.specs.Agreeing.{disagreement, first_node, first_other, first_other_node, first_saying, node_by, node_disagreement, preferred_by, same_node, says_other, says_other_node};
 ghost use Rattle.teams.specs.Owned.{holder_of, owned_all, owned_by, taken_at};
 ghost use Rattle.teams.specs.ReadsTeams.{Unites, UnitesAll};
 
 use crate::fault::TeamsFault;
 use std::alloc::{AllocError, Global};
 use std::marker::Model;
-use task_sheet::{Document, Name, Preference, SetCause, Sheet, TaskSet};
+use task_sheet::{Document, Name, Node, Preference, SetCause, Sheet, TaskSet};
 
-// A team's set, and what its document prefers.
+// A team's set, what its document prefers, and the node that it says.
 #[derive(Drop)]
 pub(crate) struct TeamSet {
     pub team: Name,
     pub set: TaskSet,
     pub prefers: Option<Preference>,
+    pub node: Option<Node>,
 }
 
 impl Model for TeamSet {
@@ -23,7 +24,8 @@ impl Model for TeamSet {
 
     ghost Value = { TeamSetData };
 
-    ghost view = { λ s. record { team = s.team; set = s.set; prefers = s.prefers } };
+    ghost view = { λ s.
+        record { team = s.team; set = s.set; prefers = s.prefers; node = s.node } };
 }
 
 // A team's task.
@@ -191,11 +193,69 @@ fn agreed(sets: &[TeamSet]) -> Result<Option<Preference>, TeamsFault>
     }
 }
 
+// ---- which node teams say
+
+// The first document that says a node, with its team.
+fn first_node(sets: &[TeamSet]) -> Option<(Name, Node)>
+    ensures { result ≡ first_node sets.now }
+{
+    for part in sets {
+        if let Some(node) = part.node {
+            return Some((part.team, node));
+        }
+    }
+    None
+}
+
+// Whether two nodes take the same.
+fn same_node(node: Node, other: Node) -> bool
+    ensures { result ≡ same_node node other }
+{
+    node.job == other.job && node.lock == other.lock && node.late == other.late
+}
+
+// Whether a document says another node than this.
+fn says_other_node(node: Node, said: Option<Node>) -> bool
+    ensures { result ≡ says_other_node node said }
+{
+    match said {
+        Some(other) => !same_node(node, other),
+        None => false,
+    }
+}
+
+// The team of the first document that says another node than this.
+fn first_other_node(sets: &[TeamSet], node: Node) -> Option<Name>
+    ensures { result ≡ first_other_node node sets.now }
+{
+    for part in sets {
+        if says_other_node(node, part.node) {
+            return Some(part.team);
+        }
+    }
+    None
+}
+
+// The node of the documents, where one says it; or the first that says another than one before it.
+fn agreed_node(sets: &[TeamSet]) -> Result<Option<Node>, TeamsFault>
+    ensures ok { IfOk result (λ n. (node_disagreement sets.now ≡ None) × (n ≡ node_by sets.now)) }
+    ensures err { IfErr result (λ e. node_disagreement sets.now ≡ Some e) }
+{
+    let Some((other, node)) = first_node(sets) else {
+        return Ok(None);
+    };
+    match first_other_node(sets, node) {
+        Some(team) => Err(TeamsFault::OtherNode { team, other }),
+        None => Ok(Some(node)),
+    }
+}
+
 /// The documents of teams as one.
 pub(crate) fn united(alloc: Global, sets: &[TeamSet]) -> Result<Document, TeamsFault>
     ensures { UnitesAll sets.now result }
 {
     let prefers = agreed(sets)?;
+    let node = agreed_node(sets)?;
     let set = united_set(alloc, sets)?;
-    Ok(Document { set, prefers })
+    Ok(Document { set, prefers, node })
 }

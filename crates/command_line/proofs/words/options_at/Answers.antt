@@ -12,4 +12,9 @@ returns-clause-known c = record {
   seed = c.number_chosen-2.ensures;
   by_task = c.flag_chosen-2.ensures;
   tolerance = c.number_chosen-3.ensures;
+  from = c.number_chosen-4.ensures;
+  to = c.number_chosen-5.ensures;
+  width = c.number_chosen-6.ensures;
+  title = c.get_str-2.ensures ∙ first_value-rows (found_of c.args.matches.now) _;
+  rows = c.get_str-3.ensures ∙ first_value-rows (found_of c.args.matches.now) _;
 }

@@ -48,3 +48,8 @@ returns-then-is_twice c =
 
 pub returns-clause-number : goal.returns-clause-number
 returns-clause-number c = call_has_number _ _ c.in-Some.ensures.call
+
+pub returns-clause-call : goal.returns-clause-call
+returns-clause-call c =
+    let some = some_words (λ s. s.now) c.args.words.now (sym c.is_empty.ensures ∙ c.if-is_empty.false) in
+    calls_named _ _ some (subst (λ (found : Option (Text × List Row)). IsCall found c.in-Some.call) c.in-Ok.ensures.ok c.in-Some.ensures.call)

@@ -21,5 +21,5 @@ returns-in-Ok g c =
     let U = c.args.set.now in
     let run = c.args.run.now in
     let bounds = c.deref-in-Ok.ensures.value ∙ c.in-Ok.ensures.bounds ∙ ap (λ (xs : List PlaceData). bounds_of xs) c.deref.ensures.value in
-    let drawn = subst (λ (rs : List Release). IsSaidOn (λ before after s. IsPrinted before after (picture_of U c.deref-in-Ok.result.now run.until rs run.trace) status.Done s) g.W.Write.contents c.args.output.now c.draw_run.new.output c.draw_run.result) c.deref-in-Ok-2.ensures.value c.draw_run.ensures in
-    subst (λ (bs : List TaskBound). IsSaidOn (λ before after s. IsPrinted before after (picture_of U bs run.until run.releases.items run.trace) status.Done s) g.W.Write.contents c.args.output.now c.draw_run.new.output c.draw_run.result) bounds drawn
+    let drawn = subst (λ (rs : List Release). IsSaidOn (λ before after s. IsPrinted before after (picture_of U c.deref-in-Ok.result.now c.args.view.now run.until rs run.trace) status.Done s) g.W.Write.contents c.args.output.now c.draw_run.new.output c.draw_run.result) c.deref-in-Ok-2.ensures.value c.draw_run.ensures in
+    subst (λ (bs : List TaskBound). IsSaidOn (λ before after s. IsPrinted before after (picture_of U bs c.args.view.now run.until run.releases.items run.trace) status.Done s) g.W.Write.contents c.args.output.now c.draw_run.new.output c.draw_run.result) bounds drawn

@@ -13,5 +13,5 @@ returns-in-None g c =
     let before = g.W.Write.contents c.args.output.now.inner in
     let after = g.W.Write.contents c.print_bytes.new.output.inner in
     rw c.in-None.is (made_said c.explained_text.result (λ t. t.items) _ c.explained_text.ensures c.print_bytes.ensures
-    (λ text found wrote is. λ preference known has. (Ok (record { set = c.args.set.now; owners = c.args.owners.now; placing = c.args.placing.now; explanation = found.0; judged = found.1 }), (has, c.requires, found.2, found.3), subst (λ (t : List ℕ). Appends before after t) found.4 wrote, is ∙ c.placing_status-status.ensures))
+    (λ text found wrote is. λ preference known has. (Ok (record { set = c.args.set.now; owners = c.args.owners.now; placing = c.args.placing.now; explanation = found.0; decided = found.1 }), (has, c.requires, found.2, found.3), subst (λ (t : List ℕ). Appends before after t) found.4 wrote, is ∙ c.placing_status-status.ensures))
     (λ wrote is. λ preference known has. (Err refusal.OutOfMemory, tt, wrote, is)))

@@ -1,0 +1,5 @@
+use Rattle.teams.proofs.PaddingLaws.{reads_padded}
+use Rattle.teams.proofs.text.read_text.Goals as goal
+
+pub returns : goal.returns
+returns c = reads_padded c.args.text.now c.in_ok-document.document c.padded.result c.in_ok-document.ensures c.padded.ensures

@@ -1,0 +1,6 @@
+use Rattle.std.proofs.Common.{◌≡◌, drop}
+use Rattle.teams.specs.Agreeing.{first_node}
+use Rattle.teams.proofs.uniting.first_node.Given as goal
+
+abbrev pub invariant-loop-part : goal.invariant-loop-part
+invariant-loop-part l = first_node (drop l.part-index l.sets) ≡ first_node l.sets
