@@ -11,11 +11,12 @@ import {
 import { random_script, random_set, seed as sow } from './driving/random.mjs';
 import { all_execution, conflicts, grips, judging, mending, teams } from './driving/answering.mjs';
 import {
-  moving, other_forms, preference, sections, sorting, the_table,
+  long_texts, moving, other_forms, preference, sections, sorting, the_table,
 } from './driving/editing.mjs';
 import { delays } from './driving/delays.mjs';
 import { baseline, files, kept_baselines } from './driving/keeping.mjs';
 import { keys, looks, names } from './driving/looking.mjs';
+import { of_a_node } from './driving/padding.mjs';
 import { slices, the_run } from './driving/running.mjs';
 import { tracing } from './driving/tracing.mjs';
 import { skipping, troubles } from './driving/troubles.mjs';
@@ -36,9 +37,9 @@ try {
     first.shown.play);
   // Firefox shows nobody its tree of names and roles.
   const in_chromium = is_firefox ? [] : [names, skipping];
-  const scenes = [the_table, moving, preference, sorting, sections, other_forms, grips,
-    all_execution, conflicts, mending, baseline, kept_baselines, judging, teams, files, the_run,
-    slices, worst_cases, tracing, keys, looks, delays, ...in_chromium];
+  const scenes = [the_table, moving, preference, sorting, sections, other_forms, long_texts,
+    grips, all_execution, conflicts, mending, of_a_node, baseline, kept_baselines, judging, teams,
+    files, the_run, slices, worst_cases, tracing, keys, looks, delays, ...in_chromium];
   for (const scene of scenes.filter(it => !SCENES || SCENES.split(',').includes(it.name))) {
     const before = tally.failed;
     try {

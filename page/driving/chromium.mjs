@@ -3,13 +3,14 @@ import { spawn } from 'child_process';
 import { mkdtempSync, rmSync, writeFileSync } from 'fs';
 import { tmpdir } from 'os';
 import { join } from 'path';
-import { Hand } from './hand.mjs';
+import { Hand, soon } from './hand.mjs';
 
 const WORDS = ['--headless=new', '--no-sandbox', '--disable-gpu', '--remote-debugging-pipe'];
 const CODES = { Tab: 9, Enter: 13, Escape: 27, End: 35, Home: 36, ArrowLeft: 37, ArrowUp: 38,
   ArrowRight: 39, ArrowDown: 40, Backspace: 8, ' ': 32 };
 const EVENTS = { move: 'mouseMoved', drag: 'mouseMoved', down: 'mousePressed',
   up: 'mouseReleased' };
+const TASKS = 'disabled-by-default-devtools.timeline';
 const TOUCHES = { down: 'touchStart', drag: 'touchMove', up: 'touchEnd' };
 
 export class Chromium extends Hand {
@@ -28,7 +29,7 @@ export class Chromium extends Hand {
   }
   // Messages end with a byte 0, on two pipes.
   listen() {
-    Object.assign(this, { waiting: new Map(), complaints: [], heard: '', number: 0 });
+    Object.assign(this, { waiting: new Map(), complaints: [], heard: '', number: 0, trace: null });
     this.process.stdio[4].setEncoding('utf8').on('data', data => {
       const messages = (this.heard + data).split('\0');
       this.heard = messages.pop();
@@ -44,6 +45,8 @@ export class Chromium extends Hand {
         params.exceptionDetails.text);
     if (method === 'Runtime.consoleAPICalled' && params.type === 'error')
       this.complaints.push(params.args.map(it => it.description ?? it.value).join(' '));
+    if (method === 'Tracing.dataCollected') this.trace.events.push(...params.value);
+    if (method === 'Tracing.tracingComplete') this.trace.over();
     const it = this.waiting.get(id);
     this.waiting.delete(id);
     if (it) error ? it.reject(Error(error.message)) : it.resolve(result);
@@ -72,19 +75,39 @@ export class Chromium extends Hand {
   navigate(url) {
     return this.send('Page.navigate', { url });
   }
+  // How long the longest task takes that the page's own thread has while something is done: the
+  // milliseconds that a processor is at it, and those by the clock, which may be other programs'.
+  async longest_hold(act) {
+    await this.send('Tracing.start', { transferMode: 'ReportEvents',
+      traceConfig: { includedCategories: [TASKS], excludedCategories: ['*'] } });
+    const over = new Promise(over => { this.trace = { events: [], over }; });
+    await act();
+    await this.send('Tracing.end');
+    await over;
+    const { events } = this.trace, of = it => `${it.pid} ${it.tid}`;
+    const threads = new Set(events.filter(it => it.args?.name === 'CrRendererMain').map(of));
+    const tasks = events
+      .filter(it => it.name === 'RunTask' && it.ph === 'X' && threads.has(of(it)));
+    const longest = key => Math.max(0, ...tasks.map(it => it[key] ?? it.dur)) / 1000;
+    return { own: longest('tdur'), clock: longest('dur') };
+  }
   async looks(width, height, scheme) {
     await this.send('Emulation.setEmulatedMedia',
       { features: [{ name: 'prefers-color-scheme', value: scheme }] });
-    await this.send('Emulation.setDeviceMetricsOverride',
-      { width, height, deviceScaleFactor: 1, mobile: width < 500 });
+    this.size = { width, height, deviceScaleFactor: 1, mobile: width < 500 };
+    await this.send('Emulation.setDeviceMetricsOverride', this.size);
   }
+  // The whole is drawn in a window that has room for it: what can't be seen isn't drawn.
   async picture(file, is_whole) {
-    const clip = is_whole && {
-      x: 0, y: 0, width: await this.evaluate('innerWidth'),
-      height: await this.evaluate('document.documentElement.scrollHeight'), scale: 1 };
-    const { data } = await this.send(
-      'Page.captureScreenshot', clip ? { captureBeyondViewport: true, clip } : {});
+    if (is_whole) {
+      const height = await this.evaluate('document.documentElement.scrollHeight');
+      await this.send('Emulation.setDeviceMetricsOverride', { ...this.size, height });
+      await soon(500);
+      await this.settled();
+    }
+    const { data } = await this.send('Page.captureScreenshot');
     writeFileSync(file, Buffer.from(data, 'base64'));
+    if (is_whole) await this.send('Emulation.setDeviceMetricsOverride', this.size);
   }
 
   mouse(kind, [x, y]) {

@@ -1,8 +1,11 @@
 // The page beside the program: each printed line, each bar, its parts and their widths.
 import { digits, equal, expect, kinds, native } from './page.mjs';
 
+// (a comma stands behind the lock where its ceiling follows)
+const lock_of = words => words[7].replace(',', '');
 const PARTS = { cost: it => `own cost: ${it[1]} µs`, jitter: it => `jitter: ${it[1]} µs`,
-  blocked: it => `blocked by ${it[3]}, section ${it[5]}, lock ${it[7]}: ${it[1]} µs`,
+  blocked: it => `blocked by ${it[3]}, section ${it[5]}, lock ${lock_of(it)}` +
+    `${it[10] ? `, its ceiling by ${it[10]}` : ''}: ${it[1]} µs`,
   above: it => `${it[1]} above: ${it[2]} job${it[2] === '1' ? '' : 's'}, ${it[4]} µs` };
 // Each bar has the account's numbers, a part for each part of it, and their widths.
 function compare_bars(what, explain, { bars }) {
@@ -37,12 +40,18 @@ function compare_bars(what, explain, { bars }) {
     equal(bars.map(it => it.name).join(), blocks.map(it => it.split(' ')[1]).reverse().join(),
       `${what}: order of the bars`);
 }
-// What becomes of each task in the order behind the conflict.
-const FATES = { misses: it => `misses ${it[3]} µs`, below: it => `stands below ${it[3]}` };
+// What becomes of each task in the order behind the conflict, and who blocks one that misses.
+const FATES = { misses: it => `misses ${it[3]} µs, needs ${it[5]}`,
+  below: it => `stands below ${it[3]}` };
+const fate = it => FATES[it[2]]?.(it) ?? `${it[2]} of ${it[4]} µs`;
+const blocked = parts => parts.map(it => it.trim().split(' ')).filter(it => it[0] === 'blocked')
+  .map(it => `; blocked ${it[1]} by ${it[3]}, section ${it[5]} that holds ${lock_of(it)}`).join('');
 function compare_order(what, explain, conflict) {
   const [, order] = explain.text.split(/\nload \d+\n/);
-  const told = order.trimEnd().split('\n').map(it => it.split(' ')).map(it =>
-    `${it[1]}, level ${it[0]}: ${FATES[it[2]]?.(it) ?? `${it[2]} of ${it[4]} µs`}`);
+  const told = order.trimEnd().split(/\n(?! )/).map(block => {
+    const [head, ...parts] = block.split('\n'), words = head.split(' ');
+    return `${words[1]}, level ${words[0]}: ${fate(words)}${blocked(parts)}`;
+  });
   expect(digits(conflict).endsWith(told.reverse().join('')), `${what}: ${conflict}`);
 }
 // Each change that mends a refused set has its button.

@@ -116,8 +116,14 @@ export async function sorting() {
   await browser.press('ArrowDown');
   equal(await browser.evaluate(`document.activeElement.getAttribute('aria-label')`),
     `deadline of ${(await shown_rows()).split(',')[1]}`, 'arrows walk as the rows stand');
+  await browser.run(() => {
+    window.moved = 0;
+    new MutationObserver(all => all.forEach(it => { window.moved += it.addedNodes.length; }))
+      .observe(document.getElementById('table'), { childList: true });
+  });
   await browser.write('#table [data-task="upload"] [data-cell="deadline"]', '2000');
   await soon(50);
+  equal(await browser.evaluate('window.moved'), 2, 'no row but that one, with its editor');
   expect((await look()).set.includes('deadline = 2000\n'), 'an edit in a sorted table');
   equal((await shown_rows()).split(',')[1], 'upload', 'and its row moves');
   await browser.click('#undo');
@@ -206,6 +212,10 @@ export async function sections() {
   seen = await look();
   expect(seen.set.includes('outranks = ["upload"]'), 'outranks');
   compare_set('two sections', seen.set, seen);
+  await browser.write('#over-6', '*');
+  seen = await look();
+  expect(seen.set.includes('outranks = "all"'), 'outranks all others');
+  compare_set('above all others', seen.set, seen);
   await browser.write('#editor-6 .line[aria-label="section 2"] input:nth-of-type(2)', '350');
   seen = await look();
   const why = 'section 2: it begins before the end of the one before it: at 350, ';
@@ -219,6 +229,50 @@ export async function sections() {
   seen = await look();
   expect(seen.set.includes('section = [{ locks = ["bus"], at = 100, len = 300 }]\n'),
     'a removed section');
+}
+// Of a long text the lines that can be seen stand in the text area, until somebody goes to it.
+export async function long_texts() {
+  const about = '# a line of a comment, as long as such a line may well be in a set\n';
+  const set = `${about.repeat(400)}${example('robot-mended')}`;
+  const area = () => browser.run(() => {
+    const { value, readOnly, scrollTop } = document.getElementById('set');
+    const line = Math.round(scrollTop / 18.85);
+    return { value, is_part: readOnly, lines: value.split('\n').slice(line, line + 10).join('\n') };
+  });
+  await put({ set });
+  equal((await area()).value, set, 'a long text that is typed stays');
+  await browser.run(() => { document.getElementById('set').scrollTop = 18.85 * 398; });
+  const before = await area();
+  await browser.write(cell(0, 'cost'), '151');
+  await soon(50);
+  let seen = await area();
+  expect(seen.is_part && seen.value.length < set.length / 2, `a part: ${seen.value.length}`);
+  const edited = it => it.replace('cost = 150\n', 'cost = 151\n');
+  equal(seen.lines, edited(before.lines), 'which is where it was scrolled to');
+  await browser.hover('#set', .5);
+  seen = await area();
+  equal(`${seen.is_part} ${seen.value === edited(set)}`, 'false true', 'a pointer gets the whole');
+  equal(seen.lines, edited(before.lines), 'at the same lines');
+  // Undo in the text area leaves the rest of it alone.
+  await browser.run(() => document.getElementById('set').focus());
+  await browser.press('z', { ctrl: true });
+  await browser.settled();
+  equal((await area()).value === set, true, 'undo in the text');
+  equal((await look()).rows[0].cost, '150', 'and in the table');
+  await browser.press('z', { ctrl: true, shift: true });
+  await browser.settled();
+  equal((await area()).value === edited(set), true, 'redo');
+  compare_set('a long text', edited(set), await look());
+  // What is refused is led to, in the part that isn't there.
+  await browser.write(cell(8, 'deadline'), '9999999');
+  await soon(50);
+  expect((await area()).is_part, 'a part again');
+  await browser.click('#set-place button');
+  const chosen = await browser.run(() => {
+    const { value, selectionStart, selectionEnd } = document.getElementById('set');
+    return value.slice(selectionStart, selectionEnd);
+  });
+  equal(chosen, 'deadline = 9999999', 'the place of a refusal in a long text');
 }
 export async function other_forms() {
   const section = '[{ locks = ["m"], at = 0, len = 10 }]';

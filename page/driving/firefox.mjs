@@ -5,6 +5,7 @@ import { connect } from 'net';
 import { tmpdir } from 'os';
 import { join } from 'path';
 import { Hand, soon } from './hand.mjs';
+import { longest_hold } from './holds.mjs';
 
 const WORDS = ['--headless', '--no-remote', '--marionette', '--remote-allow-system-access'];
 // (a file of its own says which port it took)
@@ -87,6 +88,14 @@ export class Firefox extends Hand {
   }
   navigate(url) {
     return this.send('WebDriver:Navigate', { url });
+  }
+  // How long the page is held up at most while something is done.
+  async longest_hold(act) {
+    await this.send('Marionette:SetContext', { value: 'chrome' });
+    const process =
+      await this.evaluate('gBrowser.selectedBrowser.frameLoader.remoteTab.osPid');
+    await this.send('Marionette:SetContext', { value: 'content' });
+    return longest_hold(this, process, act);
   }
   // So much room for a page, which may have less than the narrowest window, and its colours.
   async looks(width, height, scheme) {

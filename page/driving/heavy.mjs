@@ -41,5 +41,8 @@ at = ${10 * number}\nlen = 5\n`;
 // As many locks as there can be, each with one user: each has its note.
 export const many_notes = () => many_sections().replace(/lock-of-the-bus-number-\d/g,
   (_, at) => `lock-of-the-bus-${at}`);
+// The same with a cost that no order bears: a task's whole deadline.
+export const too_much = set =>
+  set.replace(/(name = "task5"[^[]*\ndeadline = (\d+)\ncost = )\d+/, '$1$2');
 // (page.mjs has the examples)
 export const ordinary = () => example('robot-mended');

@@ -29,7 +29,11 @@ export function native(command, inputs, words = []) {
     { input: inputs.at(-1), maxBuffer: 1 << 28 });
   return { text: stdout.toString('utf8'), status, told: stderr.toString('utf8') };
 }
-function looked() {
+async function looked() {
+  const answers = {};
+  // (of a long one the whole, as it comes to a file)
+  for (const [name, it] of Object.entries(desk.state.answers))
+    answers[name] = it.file ? { ...it, text: await it.file.text() } : it;
   const text = it => document.getElementById(it).textContent;
   const bars = [...document.querySelectorAll('#bars > .bar')].map(it => ({
     name: it.dataset.task, level: it.querySelector('.level').textContent,
@@ -54,7 +58,7 @@ function looked() {
     [...document.querySelectorAll('[id]')].map(it => [it.id, it.textContent]));
   const slices = [...document.getElementById('picture').shadowRoot.querySelectorAll('.e > title')]
     .map(it => it.textContent);
-  return { answers: desk.state.answers, bars, rows, shown, slices, verdict: text('verdict'),
+  return { answers, bars, rows, shown, slices, verdict: text('verdict'),
     trouble: text('trouble'), conflict: document.getElementById('conflict').hidden ? '' :
     text('conflict'),
     mends: [...document.querySelectorAll('#mends button')].map(it => it.textContent),

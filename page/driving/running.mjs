@@ -59,23 +59,24 @@ export async function the_run() {
     `document.getElementById('tip').hidden ? '' : document.getElementById('tip').textContent`)),
     'a pointer on a part is told of it');
 }
+// Clicks on what has a title in the picture: what is said of it.
+export async function click_on(title) {
+  const place = await browser.run(title => {
+    const host = document.getElementById('picture');
+    host.scrollIntoView({ block: 'center', behavior: 'instant' });
+    const it = [...host.shadowRoot.querySelectorAll('path > title')]
+      .find(it => it.textContent === title)?.parentElement, box = it?.getBoundingClientRect();
+    return box && [box.left + box.width / 2, box.top + box.height - 2];
+  }, title);
+  if (!place) return `no slice ${title}`;
+  for (const it of ['move', 'down', 'up']) await browser.mouse(it, place);
+  return digits(await browser.evaluate(`document.getElementById('slice').textContent`));
+}
 // A click on a slice names its job, task and section, as `simulate` has them.
 export async function slices() {
   await browser.open(PAGE_URL);
   await put({ set: example('shared-lock'), until: '30000' });
   await browser.click('#fit');
-  const click_on = async title => {
-    const place = await browser.run(title => {
-      const host = document.getElementById('picture');
-      host.scrollIntoView({ block: 'center', behavior: 'instant' });
-      const it = [...host.shadowRoot.querySelectorAll('path > title')]
-        .find(it => it.textContent === title)?.parentElement, box = it?.getBoundingClientRect();
-      return box && [box.left + box.width / 2, box.top + box.height - 2];
-    }, title);
-    if (!place) return `no slice ${title}`;
-    for (const it of ['move', 'down', 'up']) await browser.mouse(it, place);
-    return digits(await browser.evaluate(`document.getElementById('slice').textContent`));
-  };
   equal(await click_on('lo holds m 3100 to 7100 us'),
     'lo, job 1, arrived at 0 µs, done at 27000 µs: holds m from 3100 to 7100 µs, in section 1.',
     'a held slice');

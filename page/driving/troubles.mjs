@@ -14,10 +14,9 @@ export async function skipping() {
   const none = { CHROMIUM: '/nowhere/chromium', FIREFOX: '/nowhere/firefox' };
   const { stdout, status } = spawnSync(new URL('../test', import.meta.url).pathname,
     { env: { ...process.env, ...none } });
-  const [last, before] = stdout.toString().trimEnd().split('\n').reverse();
-  equal(`${status} ${last}`, '0 0 passed, 0 failed', 'a test without a browser');
-  expect(before.startsWith("page/test: skipped: /nowhere/chromium isn't here"),
-    `which says: ${before}`);
+  equal(`${status} ${stdout.toString().split('\n').slice(-2).join('|')}`,
+    "0 page/test: skipped: /nowhere/chromium isn't here: 0 passed, 0 failed|",
+    'a test without a browser');
 }
 // A page of the same script over another module: its bytes as the function leaves them.
 function variant(name, change) {

@@ -35,24 +35,26 @@ function read_part(line) {
   const words = line.trim().split(' '), [kind] = words;
   if (kind === 'blocked')
     return { kind, time: Number(words[1]), by: words[3], section: Number(words[5]),
-      lock: words[7] };
+      lock: words[7].replace(',', ''), user: words[7].endsWith(',') ? words[10] : null };
   if (kind === 'above')
     return { kind, by: words[1], jobs: Number(words[2]), time: Number(words[4]) };
   return { kind, time: Number(words[1]) };
 }
 
 // `explain`: the account of each task from the lowest level up, or of each of the minimal conflict;
-// the load; and behind it, of a conflict, what becomes of each task in an order that decides.
+// the load; and behind it, of a conflict, what becomes of each task in an order that decides, with
+// the parts of what it needs where it misses its deadline.
 export function read_explain({ text, status }) {
   if (status !== 0 && status !== 3) return null;
   const found = { accounts: [], conflict: null, load: null, order: [] };
   for (const line of lines_of(text).slice(1)) {
     const words = line.split(' ');
-    if (line.startsWith('  ')) found.accounts.at(-1)?.parts.push(read_part(line));
+    if (line.startsWith('  '))
+      (found.load === null ? found.accounts : found.order).at(-1)?.parts.push(read_part(line));
     else if (status === 3 && words[0] === 'conflict' && !found.conflict)
       found.conflict = words.slice(1);
     else if (words[0] === 'load' && words.length === 2) found.load = Number(words[1]);
-    else if (found.load !== null) found.order.push(read_fate(line));
+    else if (found.load !== null) found.order.push({ ...read_fate(line), parts: [] });
     else if (words[1] === 'must')
       found.accounts.push({ name: words[0], over: words[4], parts: [] });
     else {
@@ -90,12 +92,16 @@ export function read_limits({ text, status }) {
 export const limit_of = (limits, name, key) =>
   limits?.tasks.get(name)?.find(it => it.key === key && it.section === null) ?? null;
 
-// `judge`: each task from the lowest level up, and what becomes of it.
+// `judge`: each task from the lowest level up, and what becomes of it; `explain` also says what one
+// needs that misses its deadline.
 function read_fate(line) {
-  const [level, name, word, last, deadline] = line.split(' '), row = { level: Number(level), name };
-  if (word === 'misses') return { ...row, fate: word, deadline: Number(last) };
+  const [level, name, word, last, next, needs] = line.split(' ');
+  const row = { level: Number(level), name };
+  if (word === 'misses')
+    return { ...row, fate: word, deadline: Number(last),
+      needs: next === 'needs' ? Number(needs) : null };
   if (word === 'below') return { ...row, fate: word, other: last };
-  return { ...row, fate: 'meets', response: Number(word), deadline: Number(deadline) };
+  return { ...row, fate: 'meets', response: Number(word), deadline: Number(next) };
 }
 export function read_judge({ text, status, told }) {
   if (status !== 0 && status !== 3)
@@ -149,6 +155,9 @@ export function read_observe({ text, status, told }) {
   const lines = lines_of(text).map(it => it.split(' '));
   if (lines[0]?.[0] === 'infeasible')
     return { refused: 'No order passes, so a node has nothing to keep to.', rows: [], breaks: [] };
+  if (lines[0]?.[0] === 'misses')
+    return { refused: 'In the order of the trace not every deadline is met, so the node has ' +
+      'nothing to keep to.', rows: [], breaks: [] };
   return { refused: null, rows: lines.filter(it => it[0] === 'task').map(read_seen),
     breaks: lines.filter(it => it[0] !== 'task').map(read_break) };
 }

@@ -2,6 +2,7 @@
 // below it the cost as a grip, with how far `limits` lets it go.
 import { limit_of } from './answers.mjs';
 import { coloured, element, grouped, plural, us } from './dom.mjs';
+import { arrange_children } from './ordering.mjs';
 import { safely } from './trouble.mjs';
 import { Turns } from './turns.mjs';
 
@@ -12,7 +13,8 @@ export function part_told(part) {
   if (part.kind === 'above')
     return `${part.by} above: ${plural(part.jobs, 'job')}, ${us(part.time)}`;
   if (part.kind === 'blocked')
-    return `blocked by ${part.by}, section ${part.section}, lock ${part.lock}: ${us(part.time)}`;
+    return `blocked by ${part.by}, section ${part.section}, lock ${part.lock}` +
+      `${part.user ? `, its ceiling by ${part.user}` : ''}: ${us(part.time)}`;
   return `${part.kind === 'cost' ? 'own cost' : part.kind}: ${us(part.time)}`;
 }
 const label_of = part => part.kind === 'above' ? part.by :
@@ -99,11 +101,7 @@ export class Bars {
   // Rows move only where nobody is pulling a grip, and the focus stays.
   order(names) {
     if (this.pulled) return;
-    const wanted = names.map(it => this.rows.get(it).item);
-    if (wanted.every((it, at) => this.host.children[at] === it)) return;
-    const focused = this.host.contains(document.activeElement) ? document.activeElement : null;
-    this.host.append(...wanted);
-    if (focused && focused !== document.activeElement) focused.focus({ preventScroll: true });
+    arrange_children(this.host, names.map(it => this.rows.get(it).item));
   }
 
   row(name) {

@@ -6,7 +6,7 @@ import { difference } from './compare.mjs';
 import { at, write } from './dom.mjs';
 import { bytes_to_save, download } from './files.mjs';
 import { keep_baseline } from './keeping.mjs';
-import { parts, state } from './state.mjs';
+import { followed, parts, state } from './state.mjs';
 import { notice } from './trouble.mjs';
 import { verdict_told } from './words.mjs';
 
@@ -14,7 +14,8 @@ const accounts_of = explained => new Map((explained?.accounts ?? []).map(it => [
 
 export function set_baseline({ text, name }) {
   state.baseline = {
-    text, name, verdict: '…', limits: null, explained: null, conflict: null, accounts: new Map(),
+    text, name, document: followed(text), verdict: '…', limits: null, explained: null,
+    conflict: null, accounts: new Map(),
   };
   state.changes = null;
   keep_baseline(state.baseline);
@@ -63,16 +64,24 @@ export function heard_of_changes({ text, status }) {
   show_difference();
 }
 
+// What is shown already stays; what is written since has no answer yet.
+let differing = [];
+const is_known = all =>
+  all.length === differing.length && all.every((it, place) => it === differing[place]);
 export function show_difference() {
-  const { baseline, explained, limits, admit, changes, text } = state;
+  const { baseline, explained, limits, admit, changes, is_stale, document } = state;
+  const known = [explained, limits, admit, changes, is_stale, baseline,
+    ...Object.values(baseline ?? {})];
+  if (is_known(known)) return;
+  differing = known;
   at('compared').hidden = !baseline;
   for (const it of ['restore', 'unpin', 'save-baseline']) at(it).hidden = !baseline;
   at('pin').textContent = baseline ? 'Pin anew' : 'Pin as baseline';
-  at('pin').disabled = !explained || state.is_stale;
+  at('pin').disabled = !explained || is_stale;
   if (!baseline) return;
   const verdict = admit ? at('verdict').textContent : '';
-  const now = { text, verdict, limits, accounts: accounts_of(explained) };
-  const { head, summary, table } = difference(baseline, now, state.is_stale ? null : changes);
+  const now = { document, verdict, limits, accounts: accounts_of(explained) };
+  const { head, summary, table } = difference(baseline, now, is_stale ? null : changes);
   at('both').replaceChildren(...head);
   write(at('changed'), summary);
   at('changes').replaceChildren(...table ? [table] : []);

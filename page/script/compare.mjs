@@ -2,7 +2,7 @@
 // it is written in one of the two texts.
 import { limit_of } from './answers.mjs';
 import { element, grouped, plural, thousandths } from './dom.mjs';
-import { name_of, number_in, read_document } from './toml.mjs';
+import { name_of, number_in } from './toml.mjs';
 
 const KINDS = { removed: 'no longer there', added: 'new' };
 const NUMBERED = ['weight', 'period', 'deadline', 'cost', 'jitter'];
@@ -15,10 +15,10 @@ function cell_of([before, now], more_is_better = null) {
   const kind = !is_known ? 'td' : now > before === more_is_better ? 'td.better' : 'td.worse';
   return element(kind, `${or_none(before)} → ${or_none(now)}`);
 }
-// What a task's sheet says otherwise, with the numbers of both texts.
-function what_of({ kind, name, keys }, texts) {
+// What a task's sheet says otherwise, with the numbers that both texts have, where they are read.
+function what_of({ kind, name, keys }, documents) {
   if (!keys.length) return KINDS[kind] ?? kind;
-  const sheets = texts.map(it => it.tasks.find(task => name_of(task) === name));
+  const sheets = documents.map(it => it.tasks.find(task => name_of(task) === name));
   const told = key => {
     if (!NUMBERED.includes(key) || !sheets[0] || !sheets[1]) return key;
     const [before, now] = sheets.map(it => number_in(it, key) ?? 0);
@@ -30,9 +30,10 @@ function growth_of(name, was, now) {
   const limits = [was, now].map(it => limit_of(it.limits, name, 'cost'));
   return limits.map(it => it?.in_order ?? null);
 }
-function row_of(it, was, now, texts) {
+function row_of(it, was, now) {
   const head = element('th', { scope: 'row' }, it.name), growth = growth_of(it.name, was, now);
-  return element('tr', head, element('td.what', what_of(it, texts)), cell_of(it.level),
+  const what = what_of(it, [was.document, now.document]);
+  return element('tr', head, element('td.what', what), cell_of(it.level),
     cell_of(it.bound, false), cell_of(it.left, true), cell_of(growth, true));
 }
 // Tasks of which `diff` has nothing to say, but whose cost may now grow further or less far.
@@ -57,9 +58,8 @@ export function difference(was, now, changes) {
   const head = [element('p', element('b', `Baseline${name}: `), said(was)),
     element('p', element('b', 'Now: '), said(now))];
   if (!changes) return { head, summary: '', table: null };
-  const texts = [was, now].map(it => read_document(it.text));
   const all = [...changes, ...grown(changes, was, now)];
-  const rows = all.map(it => row_of(it, was, now, texts));
+  const rows = all.map(it => row_of(it, was, now));
   const none = 'No task, level, bound or limit of a cost has changed.';
   if (!rows.length) return { head, summary: none, table: null };
   const heads = ['task', 'what', 'level', 'bound µs', 'left of the deadline', 'cost up to'];

@@ -8,8 +8,10 @@ export function line_named(sentence, text) {
   const start = lines.slice(0, number - 1).reduce((sum, it) => sum + it.length + 1, 0);
   return { start, end: start + lines[number - 1].length };
 }
-// A field scrolls to where its selection is when it gets the focus.
+// A field scrolls to where its selection is when it gets the focus; the first time it gets the
+// whole of a long text.
 function show_span(area, { start, end }) {
+  area.focus();
   area.blur();
   area.setSelectionRange(start, start);
   area.focus();

@@ -49,9 +49,11 @@ export function broken_rows({ breaks }) {
 
 // ---- the trace as slices and jobs, and what a release list says of the same arrivals
 
+const TRACE_SETTING = /^(?:thread|mutex) [^ \n]+ \d+$/gm;
 const TRACE_SLICE = /^(\d+) (\d+) ([^ \n]+)$/gm;
 const TRACE_JOB = /^job ([^ \n]+) (\d+) (\d+|-)$/gm;
 export function read_trace(text) {
+  const settings = text.match(TRACE_SETTING) ?? [];
   const slices = [...text.matchAll(TRACE_SLICE)]
     .map(([, start, stop, name]) => ({ name, start: Number(start), stop: Number(stop) }));
   const jobs = [...text.matchAll(TRACE_JOB)].map(([, name, arrival, finish]) =>
@@ -59,9 +61,11 @@ export function read_trace(text) {
   const times = [...slices.flatMap(it => [it.start, it.stop]),
     ...jobs.flatMap(it => [it.arrival, it.finish ?? it.arrival])];
   const least = (a, b) => Math.min(a, b), most = (a, b) => Math.max(a, b);
-  return { slices, jobs, from: times.reduce(least, Infinity), until: times.reduce(most, 0) };
+  return { settings, slices, jobs, from: times.reduce(least, Infinity),
+    until: times.reduce(most, 0) };
 }
-export function releases_of({ jobs, until }, rows) {
+export function releases_of({ settings, jobs, until }, rows) {
   const names = new Set(rows.map(it => it.name)), own = jobs.filter(it => names.has(it.name));
-  return [`until ${until}`, ...own.map(it => `${it.arrival} ${it.name}`), ''].join('\n');
+  const list = [`until ${until}`, ...own.map(it => `${it.arrival} ${it.name}`), ''];
+  return [...settings, ...list].join('\n');
 }

@@ -1,4 +1,5 @@
 // The page: who hears whom, and the start.
+import { fill_part, typed_in_area } from './area.mjs';
 import { ask, ask_node, ask_script, ask_trace, lanes, open_lanes } from './asking.mjs';
 import { Bars } from './bars.mjs';
 import {
@@ -8,6 +9,7 @@ import { at, element, grouped, write } from './dom.mjs';
 import { bytes_to_save, copied, download, fragment_of, opened } from './files.mjs';
 import { kept_baseline, kept_set } from './keeping.mjs';
 import { compiled } from './lanes.mjs';
+import { Overhead } from './overhead.mjs';
 import { Picture } from './picture.mjs';
 import { heat, tip } from './pointer.mjs';
 import { choose_run, heard_of_worst } from './run.mjs';
@@ -24,13 +26,14 @@ import { heard_of_arrivals, heard_of_trace } from './tracing.mjs';
 import { notice, safely, trouble } from './trouble.mjs';
 import { show_view, walk_tabs } from './views.mjs';
 import {
-  change, edit, fill_area, grow, mend, prefer_deadlines, take_file, take_fragment, travel,
+  change, edit, grow, mend, prefer_deadlines, take_file, take_fragment, travel,
 } from './writing.mjs';
 
 // ---- the parts, and what each hears
 
 const point = (name, section) => parts.table.point(name, section);
 parts.table = new Table(at('table'), edit, key => { at('sorted').value = key; }, notice);
+parts.overhead = new Overhead(at('overhead'), edit);
 parts.bars = new Bars(at('bars'), { grow: safely(grow), point, tip: safely(tip),
   run: safely(name => {
     choose_run(name);
@@ -58,7 +61,7 @@ parts.redraw = safely(() => {
 });
 function heard_of_script({ name, text, status, told }, { text: script }) {
   state.answers[name] = { text, status, told };
-  write(at('play'), cut(text));
+  write(at('play'), cut({ text }));
   show_teams(script, { text, status, told });
 }
 open_lanes({
@@ -96,10 +99,12 @@ function on_file(button, input, take) {
   });
 }
 on('set', 'input', () => {
-  if (at('set').value === state.text) ask();
-  else change(at('set').value, { key: 'text', by: 'text' });
+  const text = typed_in_area();
+  if (text === state.text) ask();
+  else if (text !== null) change(text, { key: 'text', by: 'text' });
 });
-for (const it of ['focus', 'pointerenter']) on('set', it, fill_area);
+for (const it of ['focus', 'pointerenter', 'pointermove']) on('set', it, fill_part);
+at('set').addEventListener('wheel', safely(fill_part), { passive: true });
 on('until', 'input', ask);
 on('run-of', 'change', () => choose_run(at('run-of').value || null));
 on('judged', 'input', ask_node);
@@ -152,7 +157,10 @@ on('stop', 'click', () => {
   notice('Stopped. Change the text to ask again.');
 });
 on('copy', 'click', () => copy(at('settings').textContent, 'the settings'));
-on('copy-certificate', 'click', () => copy(state.answers.certify.text, 'the certificate'));
+on('copy-certificate', 'click', async () => {
+  const { text, file } = state.answers.certify;
+  await copy(await file?.text() ?? text, 'the certificate');
+});
 on('copy-lines', 'click', () => copy(at('lines').textContent + '\n', 'the command lines'));
 on('fill', 'click', () => {
   at('judged').value = state.answers.settings?.text ?? '';

@@ -5,7 +5,8 @@ import { lines_told } from './words.mjs';
 
 const PRINTED = ['admit', 'explain', 'settings', 'certify', 'check', 'releases', 'simulate',
   'draw', 'worst', 'limits'];
-export function show_printed(name, text, status) {
+export function show_printed(name, answer) {
+  const { status } = answer;
   let place = at(`printed-${name}`);
   if (!place) {
     place = element('pre', { id: `printed-${name}`, tabIndex: 0 });
@@ -15,7 +16,7 @@ export function show_printed(name, text, status) {
       element('div', {}, element('h3', { className: 'code' }), place), behind);
   }
   write(place.previousSibling, `desk ${name}${status ? ` [${status}]` : ''}`);
-  write(place, cut(text));
+  write(place, cut(answer));
 }
 export function unprint(...names) {
   for (const it of names) at(`printed-${it}`)?.parentElement.remove();

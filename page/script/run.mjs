@@ -108,9 +108,14 @@ export function settle_run() {
   else if (is_of_one()) undrawn('');
   show_choices();
 }
+// (of which question the picture is the answer)
+let drawn_of = null;
 export function heard_of_worst({ id, name, text, status, told }, asked) {
   if (asked.text !== state.text || asked.of !== state.run_of || !is_of_one()) return;
-  if (name === 'draw') return show_picture({ text, status });
+  if (name === 'draw') {
+    drawn_of = id;
+    return show_picture({ text, status });
+  }
   if (status === 6) trouble('worst: no memory for the whole answer.');
   // (a name that the set has no more)
   if (/^refused: NoSuchTask\b/.test(text)) return choose_run(null);
@@ -118,7 +123,7 @@ export function heard_of_worst({ id, name, text, status, told }, asked) {
   if (!found) return;
   state.answers.worst = { text, status, told };
   state.worst = { ...found, id };
-  show_printed('worst', text, status);
+  show_printed('worst', state.answers.worst);
   at('worst').className = found.fate === 'bound' ? '' : 'no';
   write(at('worst'), worst_told(found));
   if (!found.has_list) no_picture();
@@ -127,7 +132,7 @@ export function heard_of_worst({ id, name, text, status, told }, asked) {
 }
 // What is drawn is of another text, and the answer is late.
 export function show_late_run() {
-  if (!is_of_one() || !lanes.worst.is_busy) return;
+  if (!is_of_one() || !lanes.worst.is_busy || lanes.worst.asked?.id === drawn_of) return;
   if (state.worst?.id !== lanes.worst.asked?.id) forget();
   no_picture();
 }

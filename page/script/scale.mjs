@@ -3,12 +3,12 @@
 // begin and the length of each section, rounded up; a section begins no earlier than the one before
 // it ends, and the cost is at least the end of the last.
 import { element, thousandths } from './dom.mjs';
-import { name_of, number_in, put_key, sections_in } from './toml.mjs';
+import { padded_execution } from './padding.mjs';
+import { name_of, number_in, put_key } from './toml.mjs';
 
-// What the factor is of: the cost and the sections of each task.
-export const execution_of = ({ tasks }) =>
-  new Map(tasks
-  .map(it => [name_of(it), { cost: number_in(it, 'cost'), sections: sections_in(it) }]));
+// What the factor is of: the cost and the sections of each task, with what the node takes of them.
+export const execution_of = document =>
+  new Map(document.tasks.map(it => [name_of(it), padded_execution(document, it)]));
 
 const put_where_changed = (document, table, key, value) => value === number_in(table, key) ? [] :
   put_key(document, table, key, String(value));
@@ -17,15 +17,19 @@ export function scaled(document, base, permille) {
   return document.tasks.flatMap(task => {
     const was = base.get(name_of(task));
     if (!was?.cost || was.sections.length !== task.sections.length) return [];
-    let end = 0;
-    const edits = was.sections.flatMap(({ at, len }, place) => {
-      const begin = Math.max(end, times(at ?? 0)), table = task.sections[place];
-      end = begin + times(len ?? 0);
-      return [...put_where_changed(document, table, 'at', begin),
-        ...put_where_changed(document, table, 'len', end - begin)];
+    // (`end` is where a section ends with what the node takes, `stop` where without)
+    let end = 0, stop = 0;
+    const edits = was.sections.flatMap(({ at, len, pads }, place) => {
+      const begin = Math.max(end, times(at)), table = task.sections[place];
+      end = begin + times(len);
+      const from = Math.max(stop, begin - pads.at);
+      const length = Math.max(Math.min(1, len), end - begin - pads.len);
+      stop = from + length;
+      return [...put_where_changed(document, table, 'at', from),
+        ...put_where_changed(document, table, 'len', length)];
     });
-    return [...edits,
-      ...put_where_changed(document, task, 'cost', Math.max(1, end, times(was.cost)))];
+    const cost = Math.max(1, stop, Math.max(end, times(was.cost)) - was.pad);
+    return [...edits, ...put_where_changed(document, task, 'cost', cost)];
   });
 }
 

@@ -9,6 +9,9 @@ import { fates, judgement } from './judging.mjs';
 import { lanes } from './asking.mjs';
 import { lead, line_named } from './leading.mjs';
 import { cell_refused, span_refused } from './refusals.mjs';
+import {
+  learn_pads, pad_of, printed_in_accounts, printed_in_limits,
+} from './padding.mjs';
 import { show_lines, show_printed, unprint } from './printing.mjs';
 import {
   is_of_one, settle_run, show_choices, show_late_run, show_picture, undrawn,
@@ -26,7 +29,7 @@ const SHOW = {
   explain: it => show_explained(read_explain(it)),
   limits: it => show_limits(read_limits(it)),
   settings: ({ text, status }) => show_settings(status === 0 ? text : null),
-  certify: ({ text, status }) => show_certificate(status === 0 || status === 3 ? text : null),
+  certify: it => show_certificate(it.status === 0 || it.status === 3 ? it : null),
   check: ({ text }) => write(at('checked'), `desk check: ${text.trim()}`),
   releases: it => {
     if (!is_of_one()) undrawn(it.status === 0 ? '' : `No picture. ${sentence_of(it, 'until')}`);
@@ -38,7 +41,7 @@ const SHOW = {
   },
 };
 // What the new answers have no line for goes: the picture of a refused set, say.
-export function heard_of_set({ id, name, text, status, told }) {
+export function heard_of_set({ id, name, text, file, status, told }) {
   const is_growth = name === 'limits';
   if (!is_growth && id !== state.question) {
     state.question = id;
@@ -47,10 +50,10 @@ export function heard_of_set({ id, name, text, status, told }) {
       ...observe && { observe }, ...play && { play } };
     unprint('settings', 'certify', 'check', 'releases', 'simulate', 'draw');
   }
-  state.answers[name] = { text, status, told };
+  state.answers[name] = { text, file, status, told };
   if (status === 6) trouble(`${name}: no memory for the whole answer.`);
   SHOW[name](state.answers[name]);
-  show_printed(name, text, status);
+  show_printed(name, state.answers[name]);
 }
 // The note on a conflict stands above it; of very many others the first are shown.
 const NOTES = 100;
@@ -82,6 +85,7 @@ export function show_verdict(admit) {
 function show_explained(explained) {
   if (!explained) return show_conflict(null);
   state.explained = explained;
+  if (!lanes.set.waiting) learn_pads(state.document, printed_in_accounts(explained));
   show_conflict(explained);
   draw_bars();
   show_facts();
@@ -102,21 +106,27 @@ function show_limits(limits) {
   state.limits = limits;
   if (!lanes.growth.waiting) {
     state.is_growing = false;
+    learn_pads(state.document, printed_in_limits(limits));
     if (limits) hold_against(limits);
   }
   show_mends();
   draw_bars();
   show_facts();
 }
-// The table is right where it reads of each task the cost and the deadline that the desk prints.
+// The costs of the table as the desk prints them, with what the node takes.
+const printed_costs = () => new Map([...parts.table.costs()].map(([name, cost]) =>
+  [name, cost === null ? null : cost + pad_of(name, 'cost')]));
+// The table is right where it reads of each task the deadline that the desk prints and the cost, or
+// no more than that where the node takes something.
 function hold_against(limits) {
   const { document, explained, is_stale } = state;
   if (document.why !== null) return;
-  const costs = parts.table.costs();
+  const costs = printed_costs();
   const deadlines = new Map(document.tasks.map(it => [name_of(it), number_in(it, 'deadline')]));
   const cost_read = name => limit_of(limits, name, 'cost')?.value;
   const other = [...limits.tasks.keys()]
-    .find(it => cost_read(it) !== undefined && costs.get(it) !== cost_read(it)) ??
+    .find(it => pad_of(it, 'cost') < 0 ||
+      cost_read(it) !== undefined && costs.get(it) !== cost_read(it)) ??
     [...costs.keys()].find(it => limits.is_whole && !limits.tasks.has(it)) ??
       (is_stale || lanes.set.is_busy ? null :
       explained?.accounts.find(
@@ -139,7 +149,7 @@ export function draw_bars() {
     explained: state.explained, limits: state.limits, was: state.baseline, can_edit: why === null,
     deadlines: new Map(why === null ?
       tasks.map(it => [name_of(it), number_in(it, 'deadline')]) : []),
-    costs: why === null ? parts.table.costs() : new Map(),
+    costs: why === null ? printed_costs() : new Map(),
   });
   parts.scale.show(state.limits?.all, why === null && tasks.length > 0);
   show_difference();
@@ -149,11 +159,11 @@ function show_settings(text) {
   at('copy').disabled = at('fill').disabled = text === null;
   offer(at('settings-file'), 'settings', text);
 }
-function show_certificate(text) {
-  write(at('certificate-text'), cut(text ?? ''));
-  at('copy-certificate').disabled = text === null;
-  offer(at('certificate'), 'desk.cert', text);
-  if (text === null) write(at('checked'), '');
+function show_certificate(answer) {
+  write(at('certificate-text'), answer ? cut(answer) : '');
+  at('copy-certificate').disabled = !answer;
+  offer(at('certificate'), 'desk.cert', answer && (answer.file ?? answer.text));
+  if (!answer) write(at('checked'), '');
   show_lines();
 }
 // ---- the priorities that a node has
@@ -175,6 +185,7 @@ function show_judgement(judged) {
 export function show_document() {
   const { why, root } = state.document;
   parts.table.show(state.document);
+  parts.overhead.show(state.document);
   at('untabled').hidden = why === null;
   const only = 'so only the text is edited; the desk answers to it all the same.';
   if (why !== null) write(at('untabled'), `The table doesn't follow this text (${why}), ${only}`);

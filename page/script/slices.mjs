@@ -1,6 +1,7 @@
 // What a slice of the run is: its task, its job and its section, by the titles of the picture.
 import { element, grouped, us } from './dom.mjs';
-import { name_of, sections_in } from './toml.mjs';
+import { padded_execution } from './padding.mjs';
+import { name_of } from './toml.mjs';
 
 const JOB = /^(\S+): arrival (\d+), (?:done (\d+), response \d+|not done), bound (\d+|-)/;
 const MISS =
@@ -47,7 +48,7 @@ function box_told(title, jobs) {
   return [...job_told(job), `: ${what}.`];
 }
 // The title of what was clicked, in words; `point` shows a section in the table.
-export function slice_told(title, titles, { tasks }, point) {
+export function slice_told(title, titles, document, point) {
   const jobs = read_all(titles, JOB, read_job), slices = read_all(titles, SLICE, read_slice);
   const found = title.match(SLICE) ?? title.match(WHOLE);
   if (!found) return box_told(title, jobs);
@@ -56,8 +57,9 @@ export function slice_told(title, titles, { tasks }, point) {
   const job = job_of(slice.name, jobs, it => it.done === null || it.done >= slice.stop);
   const head = job ? job_told(job) : [element('b', slice.name)];
   if (!slice.locks) return [...head, `: executes ${span_told(slice)}.`];
-  const task = tasks.find(it => name_of(it) === slice.name);
-  const section = task && job ? section_of(slice, job, slices, sections_in(task)) : null;
+  const task = document.tasks.find(it => name_of(it) === slice.name);
+  const sections = task ? padded_execution(document, task).sections : [];
+  const section = job ? section_of(slice, job, slices, sections) : null;
   const holds = `: holds ${slice.locks} ${span_told(slice)}`;
   if (section === null) return [...head, `${holds}.`];
   const onclick = () => point(slice.name, section);

@@ -6,8 +6,12 @@ import { read_document } from './toml.mjs';
 // What is shown as text, and at most so much of it. A longer text, or one with more tasks, has no
 // table.
 const SHOWN = 200000, TABLED = 300000, ROWS = 100;
-export const cut = text => text.length <= SHOWN ? text :
-  `${text.slice(0, SHOWN)}\n(cut here: the whole has ${text.length} bytes)\n`;
+// (of an answer that is longer than its text, `file` has the whole)
+export function cut({ text, file }) {
+  const size = file?.size ?? text.length;
+  if (size <= SHOWN) return text;
+  return `${text.slice(0, SHOWN)}\n(cut here: the whole has ${size} bytes)\n`;
+}
 
 export const state = {
   text: at('set').value, document: null,

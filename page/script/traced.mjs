@@ -55,13 +55,18 @@ function step_of({ time, span }) {
   for (let ten = 1; ; ten *= 10)
     for (const step of [ten, 2 * ten, 5 * ten]) if (step * span >= 800 * time) return step;
 }
+function unit_of(step) {
+  return step % 1000000 === 0 ? [1000000, 's'] : step % 1000 === 0 ? [1000, 'ms'] : [1, 'us'];
+}
+// A long number ends with the picture.
 function scale_of(frame, bottom) {
-  const step = step_of(frame), lines = [];
-  const [unit, name] = step % 1000000 === 0 ? [1000000, 's'] : step % 1000 === 0 ? [1000, 'ms'] :
-    [1, 'us'];
-  for (let time = Math.ceil(frame.start / step) * step; time <= frame.until; time += step)
-    lines.push(`<path class="g" d="M${frame.x(time)} 1230V${bottom}"/>` +
-      `<text class="s" x="${frame.x(time)}" y="1200">${time / unit} ${name}</text>`);
+  const step = step_of(frame), [unit] = unit_of(step), lines = [];
+  for (let time = Math.ceil(frame.start / step) * step; time <= frame.until; time += step) {
+    const x = frame.x(time), number = time / unit;
+    const middle = number < 1000000 ? x : Math.min(x, frame.end - 90);
+    lines.push(`<path class="g" d="M${x} 1230V${bottom}"/>` +
+      `<text class="s" x="${middle}" y="1200">${number}</text>`);
+  }
   return lines;
 }
 const top_of = row => TOP + ROW * row;
@@ -147,7 +152,8 @@ export function picture_of(trace, { rows, breaks }) {
   `<path class="l" d="M${left} 1570H${end}"/>`,
   ...all.map((_, row) => `<path class="g" d="M100 ${top_of(row)}H${end}"/>` +
     `<path class="l" d="M${left} ${top_of(row) + 345}H${end}"/>`),
-  '<g id="n"><text class="n" x="500" y="1460">processor</text><text x="500" y="1580">busy ' +
+  `<g id="n"><text x="500" y="1200">time in ${unit_of(step_of(frame))[1]}</text>` +
+    '<text class="n" x="500" y="1460">processor</text><text x="500" y="1580">busy ' +
     `${Math.floor(thousandths / 10)}.${thousandths % 10} %</text>`,
   ...all.map((it, row) => margin_row(it, row, breaks.filter(one => one.name === it.name).length)),
   '</g>',

@@ -26,27 +26,28 @@ function show_trace(seen, text) {
   write(at('observed'), told);
   at('broken').replaceChildren(...seen ? broken_rows(seen) : []);
   at('seen').replaceChildren(...seen ? seen_rows(seen) : []);
-  parts.traced.clear();
-  parts.arrivals.clear();
-  for (const it of ['not-traced', 'beside']) write(at(it), '');
-  wanted_run = null;
-  if (!seen || seen.refused) return;
+  if (!seen || seen.refused) return no_pictures('');
   const trace = read_trace(text), count = trace.slices.length;
-  if (count > MOST_DRAWN) {
-    write(at('not-traced'), `No picture: the trace has ${count} slices.`);
-    return;
-  }
+  if (count > MOST_DRAWN) return no_pictures(`No picture: the trace has ${count} slices.`);
   parts.traced.show(picture_of(trace, seen), true);
   wanted_run = releases_of(trace, seen.rows);
   ask_arrivals(wanted_run);
 }
+function no_pictures(why) {
+  parts.traced.clear();
+  no_run(why);
+  wanted_run = null;
+}
+function no_run(why) {
+  parts.arrivals.clear();
+  write(at('beside'), '');
+  write(at('not-traced'), why);
+}
 // Arrivals that the desk refuses (too soon, say) have no run.
 export function heard_of_arrivals(answer, asked) {
   if (asked.text !== wanted_run) return;
-  if (answer.status !== 0) {
-    write(at('not-traced'), `No run beside it. ${sentence_of(answer, 'releases')}`);
-    return;
-  }
+  if (answer.status !== 0) return no_run(`No run beside it. ${sentence_of(answer, 'releases')}`);
+  write(at('not-traced'), '');
   write(at('beside'), 'The desk\'s run of the same arrivals, each job for its whole cost:');
   parts.arrivals.show(answer.text, true);
 }

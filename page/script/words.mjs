@@ -9,21 +9,23 @@ export function verdict_told(admit) {
   return admit.sentence;
 }
 
-// What each task of a conflict needs, and who blocks it; `point` shows a section in the table.
+// Who blocks a task, if anybody does; `point` shows a section in the table.
+function blocked_told(parts, point) {
+  const blocked = parts.find(it => it.kind === 'blocked');
+  if (!blocked) return [];
+  const title = 'Show this section in the table';
+  const onclick = () => point(blocked.by, blocked.section);
+  const button = element('button.small', { type: 'button', title, onclick },
+    `${blocked.by}, section ${blocked.section}`);
+  return [`; blocked ${grouped(blocked.time)} by `, button, ` that holds ${blocked.lock}`];
+}
+// What each task of a conflict needs, and who blocks it.
 function need_told(account, point) {
   const { name, over, time, deadline, parts } = account, told = [element('b', name)];
   if (over) return element('li', ...told, ` must stand above ${over}.`);
   told.push(` needs ${grouped(time)} of ${us(deadline)}`);
   if (time > deadline) told.push(element('span.no', `, ${grouped(time - deadline)} too long`));
-  const blocked = parts.find(it => it.kind === 'blocked');
-  if (blocked) {
-    const title = 'Show this section in the table';
-    const onclick = () => point(blocked.by, blocked.section);
-    const button = element('button.small', { type: 'button', title, onclick },
-      `${blocked.by}, section ${blocked.section}`);
-    told.push(`; blocked ${grouped(blocked.time)} by `, button, ` that holds ${blocked.lock}`);
-  }
-  return element('li', ...told, '.');
+  return element('li', ...told, ...blocked_told(parts, point), '.');
 }
 // Each change that mends the set, as a button that makes it.
 function mend_told([name, limit], mend) {
@@ -39,18 +41,20 @@ export function mends_told(limits, mend) {
   return ['Each of these changes alone mends it:',
     element('ul', ...all.map(it => mend_told(it, mend)))];
 }
-// What becomes of each task in an order that passes wherever one does; the highest stands on top.
-function order_told(order) {
+// What becomes of each task in an order that passes wherever one does, and who blocks it where it
+// misses its deadline; the highest stands on top.
+function order_told(order, point) {
   if (!order.length) return [];
   const rows = [...order].reverse().map(it =>
-    element('li', element('b', it.name), `, level ${it.level}: ${fate_told(it)}`));
+    element('li', element('b', it.name), `, level ${it.level}: ${fate_told(it)}`,
+      ...blocked_told(it.parts, point)));
   return [element('details', element('summary', 'In an order that passes wherever one does'),
     element('ul', ...rows))];
 }
 // The desk's word on the conflict, what each of its tasks needs, and one order of all.
 export function conflict_told(word, { accounts, order }, point) {
   const needs = element('ul', ...accounts.map(it => need_told(it, point)));
-  return [...word ? [`${word}:`] : [], needs, ...order_told(order)];
+  return [...word ? [`${word}:`] : [], needs, ...order_told(order, point)];
 }
 
 export function facts_told(explained, limits, was) {

@@ -1,10 +1,13 @@
 // Runs in a worker: the module, and all that is asked of it. A question is { id, kind, .. }; its
 // answers are { id, name, text, status, told }, or { id, name, trouble }, and at the end
-// { id, done }. `told` is what the program tells a person, for a refusal or of a set.
+// { id, done }. `told` is what the program tells a person, for a refusal or of a set. Of a long
+// certificate, of which nobody reads more, `text` is the beginning, and `file` has all of it.
 
 // Room for an answer at first; a longer one is asked for again. A module with more memory than this
 // is let go after use.
 const ROOM = (1 << 20) - 1, KEPT = 1 << 26;
+// So much of a long certificate is text.
+const BEGINNING = 200000;
 // The exports and their inputs, in the order of include/desk.h; a number among them is passed as it
 // is.
 const INPUTS = {
@@ -76,7 +79,10 @@ function told(name, given, status) {
 function answer(name, given) {
   try {
     const { bytes, status } = call(name, given);
-    return { bytes, text: text_of(bytes), status, told: told(name, given, status) };
+    const is_cut = name === 'certify' && bytes.length > BEGINNING;
+    const said = is_cut ? { text: text_of(bytes.subarray(0, BEGINNING)), file: new Blob([bytes]) } :
+      { text: text_of(bytes) };
+    return { bytes, ...said, status, told: told(name, given, status) };
   } catch (error) {
     desk = null;
     return { trouble: String(error), status: null };

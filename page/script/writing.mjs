@@ -1,8 +1,10 @@
 // What somebody writes: each edit makes another text, which the desk is asked about.
+import { show_text, show_text_soon } from './area.mjs';
 import { ask } from './asking.mjs';
 import { at } from './dom.mjs';
 import { opened, text_of_fragment } from './files.mjs';
 import { keep_set } from './keeping.mjs';
+import { learn_pads, pad_of } from './padding.mjs';
 import { show_lines } from './printing.mjs';
 import { draw_bars, show_document } from './showing.mjs';
 import { followed, parts, past, state } from './state.mjs';
@@ -19,61 +21,35 @@ export function change(text, { key = null, by = '' } = {}) {
 function become(text, by = '') {
   state.text = text;
   notice('');
-  if (by !== 'text') fill_area_soon();
+  if (by !== 'text') show_text_soon();
   state.document = followed(text);
+  learn_pads(state.document, []);
   ask();
   keep_set(state);
   show_document();
   draw_bars();
 }
-// The text area gets the newest text, and stays where it was scrolled to. Since a long text takes
-// the browser a while, it gets that one once the edits have stopped and it can be seen, or somebody
-// goes to it.
-const LONG_TEXT = 20000, STOPPED = 300;
-let area_timer = 0, is_seen = true;
-const is_long = () => state.text.length > LONG_TEXT;
-function fill_area_soon() {
-  clearTimeout(area_timer);
-  area_timer = setTimeout(safely(() => {
-    if (is_seen || !is_long()) fill_area();
-  }), is_long() ? STOPPED : 0);
-}
-export function fill_area() {
-  clearTimeout(area_timer);
-  const area = at('set'), { scrollTop } = area;
-  if (area.value === state.text) return;
-  area.value = state.text;
-  // (its lines are laid out here, and painted in a task of the browser)
-  if (scrollTop || is_long() && area.scrollHeight) area.scrollTop = scrollTop;
-}
-new IntersectionObserver(safely(all => {
-  is_seen = all.at(-1).isIntersecting;
-  if (is_seen) fill_area_soon();
-})).observe(at('set'));
 export const edit =
   safely((splices, key = null) => change(spliced(state.text, splices), { key, by: 'table' }));
 export function travel(text) {
   if (text === null) return;
-  const was = state.text, area = at('set');
-  let from = 0;
-  while (from < text.length && text[from] === was[from]) from++;
   become(text);
-  fill_area();
-  if (document.activeElement === area) area.setSelectionRange(from, from);
+  if (document.activeElement === at('set')) show_text();
 }
-export function grow(name, cost) {
+// A cost as the desk prints it, with what the node takes.
+export function grow(name, printed) {
   const index = state.document.tasks.findIndex(it => name_of(it) === name);
   if (index < 0) return;
-  const last =
-    Math.max(
-    0, ...sections_in(state.document.tasks[index]).map(it => (it.at ?? 0) + (it.len ?? 0)));
-  const key = `grip ${name} ${parts.bars.pulls}`;
-  edit(set_number(state.document, index, 'cost', Math.max(cost, last)), key);
+  const ends = sections_in(state.document.tasks[index]).map(it => (it.at ?? 0) + (it.len ?? 0));
+  const cost = Math.max(1, printed - pad_of(name, 'cost'), ...ends);
+  edit(set_number(state.document, index, 'cost', cost), `grip ${name} ${parts.bars.pulls}`);
 }
 // A number of a task, as far as `limits` says that it has to come. A period takes a later deadline
 // along, and a deadline a shorter period.
-export function mend(name, { key, section, most }) {
-  const { document } = state;
+export function mend(name, limit) {
+  const { document } = state, { key, section } = limit;
+  const most = limit.most - pad_of(name, key, section);
+  if (most < (key === 'jitter' ? 0 : 1)) return notice('The node itself takes more than that.');
   const index = document.tasks.findIndex(it => name_of(it) === name);
   const task = document.tasks[index];
   if (!task) return;

@@ -1,0 +1,45 @@
+// How long a page is held up, in a browser that doesn't tell of its tasks: the times between two
+// messages that the page sends itself, one behind the other, and for how much of them a processor
+// was at the page's thread, as Linux counts that.
+import { readFileSync } from 'fs';
+
+// Milliseconds.
+const LOOK = 1, LONG = 10;
+
+const worked = thread =>
+  Number(readFileSync(`/proc/${thread}/schedstat`, 'utf8').split(' ')[0]) / 1e6;
+// What a thread had worked at a time, from looks at it before and after.
+function worked_at(looks, time) {
+  const after = looks.findIndex(it => it.time >= time);
+  if (after < 1) return looks.at(after).worked;
+  const [a, b] = looks.slice(after - 1, after + 1);
+  return a.worked + (b.worked - a.worked) * (time - a.time) / (b.time - a.time);
+}
+// The longest of these times while something is done: by the processor, and by the clock.
+export async function longest_hold(browser, process, act) {
+  const looks = [], look = () =>
+    looks.push({ time: Date.now(), worked: worked(`${process}/task/${process}`) });
+  const looking = setInterval(look, LOOK);
+  await browser.run(long => {
+    const it = window.watched = { gaps: [], last: Date.now() };
+    const { port1, port2 } = new MessageChannel();
+    port1.onmessage = () => {
+      const now = Date.now();
+      if (now - it.last > long) it.gaps.push([it.last, now]);
+      it.last = now;
+      if (!it.is_over) port2.postMessage(null);
+    };
+    port2.postMessage(null);
+  }, LONG);
+  await act();
+  const gaps = await browser.run(() => {
+    const { gaps, last } = window.watched;
+    window.watched.is_over = true;
+    return [...gaps, [last, Date.now()]];
+  });
+  look();
+  clearInterval(looking);
+  const own = gaps.map(([from, to]) =>
+    Math.min(to - from, worked_at(looks, to) - worked_at(looks, from)));
+  return { own: Math.max(0, ...own), clock: Math.max(0, ...gaps.map(([from, to]) => to - from)) };
+}
