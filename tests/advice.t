@@ -96,7 +96,7 @@ Keys
 ----
 
   $ document 'tasks = []'
-  standard input: unknown key tasks; a set has tasks alone, each headed by [[task]], and may have prefer in front of them
+  standard input: unknown key tasks; a set has tasks, each headed by [[task]], and may have prefer in front of them, and [node]
   [4]
   $ more 'deadlin = 3'
   standard input: task 1 (a): unknown key deadlin; a task has name, weight, period, deadline, cost, section, jitter, outranks
@@ -108,7 +108,14 @@ Keys
   standard input: task 1 (a): no key deadline; a task needs name, period, deadline, cost
   [4]
   $ sections '{ locks = ["m"], at = 0 }'
-  standard input: task 1 (a), section 1: no key len; a section needs locks, at, len
+  standard input: task 1 (a), section 1: no key len; a section needs locks, len
+  [4]
+
+  $ sections '{ locks = ["m"], len = 3000 }, { locks = ["n"], len = 2001 }'
+  standard input: task 1 (a): section 2: it ends past the cost: at 3000 and len 2001 make 5001, cost 5000
+  [4]
+  $ sections '{ locks = ["m"], at = 10, len = 3000 }, { locks = ["n"], len = 10 }, { locks = ["m"], at = 10, len = 10 }'
+  standard input: task 1 (a): section 3: it begins before the end of the one before it: at 10, that one ends at 3020
   [4]
 
 A task that stands under a line `[[task]]` has its number:
@@ -151,7 +158,7 @@ Kinds
   standard input: task 1 (a): section has to be an array of tables, each headed by [[task.section]]; it is a single table
   [4]
   $ more 'outranks = "b"'
-  standard input: task 1 (a): outranks has to be an array of strings, as ["a", "b"]; it is the string "b"
+  standard input: task 1 (a): outranks has to be an array of strings, as ["a", "b"], or the string "all"; it is the string "b"
   [4]
   $ sections '{ locks = ["m", 2], at = 0, len = 10 }'
   standard input: task 1 (a), section 1: locks has to be an array of strings, as ["a", "b"]; it is an array with 2
@@ -415,7 +422,7 @@ Scripts
   standard input: line 1, "open 9" has to be open TEAM, with TEAM from 1 to 8
   [4]
   $ script 'open 1\nput 2 a 0 1000 1000 1\n'
-  standard input: line 2, "put 2 a 0 1000 1000 1" has to be put DRAFT NAME WEIGHT PERIOD DEADLINE COST, then j=JITTER, over=NAME+NAME and LOCK+LOCK@AT:LEN where there are such; DRAFT is the number of an open line above it
+  standard input: line 2, "put 2 a 0 1000 1000 1" has to be put DRAFT NAME WEIGHT PERIOD DEADLINE COST, then j=JITTER, over=NAME+NAME or over=* and LOCK+LOCK@AT:LEN where there are such; DRAFT is the number of an open line above it
   [4]
   $ script 'open 1\nremove 1\n'
   standard input: line 2, "remove 1" has to be remove DRAFT NAME; DRAFT is the number of an open line above it
@@ -440,6 +447,39 @@ Scripts
   [4]
   $ printf 'open 9\n' | said rush - 1
   standard input: line 1, "open 9" has to be open TEAM, with TEAM from 1 to 8
+  [4]
+
+Tasks and times that are asked for
+----------------------------------
+
+  $ said explain examples/shared-lock.toml --task nobody
+  examples/shared-lock.toml: no task is called "nobody": the set has lo, mid, hi
+  [4]
+  $ desk settings examples/shared-lock.toml > settings
+  $ for command in explain limits worst; do
+  >   said $command examples/shared-lock.toml --at settings --task lo,hi
+  >   said $command examples/shared-lock.toml --task=
+  > done | sort | uniq -c | sed 's/^ *//'
+  3 examples/shared-lock.toml: no task is called "": the set has lo, mid, hi
+  3 examples/shared-lock.toml: no task is called "lo,hi": the set has lo, mid, hi
+  $ said explain examples/robot.toml --prefer deadline --task Motor
+  examples/robot.toml: no task is called "Motor": the set has upload, diagnostics, battery, planner, camera, lidar, balance, imu and 1 more
+  [4]
+  $ said limits examples/empty-set.toml --task a
+  examples/empty-set.toml: no task is called "a": the set has none
+  [4]
+  $ view() { desk releases examples/shared-lock.toml 100000 | said draw examples/shared-lock.toml - "$@"; }
+  $ view --tasks hi,low,lo,high
+  examples/shared-lock.toml: no task is called "low": the set has lo, mid, hi
+  [4]
+  $ view --tasks hi,
+  examples/shared-lock.toml: no task is called "": the set has lo, mid, hi
+  [4]
+  $ view --from 200000
+  standard input: its run ends at 100000: nothing of it lies from 200000 on
+  [4]
+  $ view --from 5000 --to 4000
+  standard input: its run ends at 100000: nothing of it lies from 5000 to 4000
   [4]
 
 Notes

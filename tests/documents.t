@@ -152,7 +152,7 @@ A byte 00 or FF at any place:
 
 Each proper prefix of a set is a set or is refused:
 
-  $ for n in $(seq 0 340); do
+  $ for n in $(seq 0 380); do
   >   head -c $n examples/blocked-out.toml | desk admit - 2> told | head -n 1 | cut -d ' ' -f 1
   > done | sort -u
   admitted
@@ -192,9 +192,6 @@ MissingKey: a needed key isn't there
   [4]
   $ sections '{ at = 0, len = 1 }'
   refused: MissingKey 1 1 locks
-  [4]
-  $ sections "{ locks = ['m'], len = 1 }"
-  refused: MissingKey 1 1 at
   [4]
   $ sections "{ locks = ['m'], at = 0 }"
   refused: MissingKey 1 1 len
@@ -332,6 +329,28 @@ Limits of a section
   [4]
   $ sections "{ locks = ['m'], at = 1000, len = 4001 }"
   refused: SectionPastCost 1 1
+  [4]
+
+A section without `at` begins where the section before it ends, which is past the cost, if that ends there:
+
+  $ sections "{ locks = ['m'], len = 5000 }"
+  admitted 1
+  1 a 5000
+  (on standard error) note: lock m has one user, a
+  $ sections "{ locks = ['m'], len = 5001 }"
+  refused: SectionPastCost 1 1
+  [4]
+  $ sections "{ locks = ['m'], at = 4000, len = 1000 }, { locks = ['m'], len = 1 }"
+  refused: SectionPastCost 1 2
+  [4]
+  $ sections "{ locks = ['m'], len = 2 }, { locks = ['m'], at = 1, len = 1 }"
+  refused: Overlap 1 2
+  [4]
+  $ sections "{ locks = ['m'], at = 9223372036854775807, len = 9223372036854775807 }, { locks = ['m'], len = 9223372036854775807 }, { locks = ['m'], len = 1 }"
+  refused: SectionPastCost 1 1
+  [4]
+  $ sections "{ locks = ['m'], at = '0', len = 1 }"
+  refused: WrongKind 1 1 at
   [4]
 
 Limits of a set

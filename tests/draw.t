@@ -42,6 +42,95 @@ The pictures of README.md and docs/FORMATS.md are those of the commands beside t
   $ desk draw examples/jitter.toml examples/late.releases | cmp - docs/picture-2.svg
   $ desk worst examples/robot.toml | desk draw examples/robot.toml - | cmp - docs/picture-3.svg
 
+A window: what lies in it is drawn, and cut at its edges, where two chevrons show what goes on; the margin's figures are those
+of the run, but the heading names the window, for which the processor is busy. Its scale begins in it:
+
+  $ wide() { desk draw examples/shared-lock.toml examples/shared-lock.releases "$@"; }
+  $ wide --from 1000 --to 6000 > run.svg
+  $ sed -nE 's/.*<title>(.* to .* us)<.title>.*/\1/p' run.svg
+  lo executes 0 to 4100 us
+  hi executes 4100 to 5100 us
+  mid executes 5100 to 7100 us
+  lo waits for hi 4100 to 5100 us
+  lo waits for mid 5100 to 7100 us
+  mid is blocked by lo with m 200 to 4100 us
+  mid waits for hi 4100 to 5100 us
+  hi is blocked by lo with m 300 to 4100 us
+  lo 0 to 4100 us
+  lo holds m 100 to 4100 us
+  hi 4100 to 5100 us
+  hi holds m 4100 to 4300 us
+  mid 5100 to 7100 us
+  $ grep -o 'm-20 0l-60\|m20 0l60' run.svg | sort | uniq -c | sed 's/  *//'
+  3 m-20 0l-60
+  2 m20 0l60
+  $ sed -nE 's/.* y="1200">(.*)<.text>/\1/p' run.svg | xargs
+  1 2 3 4 5 6 time in ms
+  $ grep -oE '(tasks: .* ms|busy .* %)<' run.svg
+  tasks: 3, jobs: 3, until 100 ms, shown: 1 to 6 ms<
+  busy 100.0 %<
+  $ wide --from 22000 --to 24000 | grep -o 'busy .* %'
+  busy 50.0 %
+
+The whole window is the picture without one:
+
+  $ wide > run.svg
+  $ wide --from 0 --to 100000 | cmp - run.svg
+  $ wide --to 60000000 --title '' | cmp - run.svg
+  $ wide --tasks lo,mid,hi | cmp - run.svg
+
+Where nothing of the run lies in it:
+
+  $ wide --from 5000 --to 5000
+  refused: EmptyWindow
+  [4]
+  $ wide --from 100000
+  refused: EmptyWindow
+  [4]
+  $ wide --to 0
+  refused: EmptyWindow
+  [4]
+
+Rows that are chosen keep their order, their levels and their tones; the lane stays whole, and the link needs both rows:
+
+  $ wide --tasks lo,hi > run.svg
+  $ grep -o '<text class="v".*class="f[0-9]"' run.svg
+  <text class="v" x="300" y="1920">3</text><rect class="f0"
+  <text class="v" x="300" y="2400">1</text><rect class="f2"
+  $ lane run.svg
+  4
+  $ slices run.svg
+  3
+  $ grep -c 'class="wj' run.svg
+  1
+  $ wide --tasks mid | grep -c 'class="wj'
+  0
+  [1]
+  $ wide --tasks hi,low
+  refused: NoSuchTask low
+  [4]
+  $ wide --tasks hi,
+  refused: NoSuchTask
+  [4]
+  $ wide --from 100000 --tasks low
+  refused: NoSuchTask low
+  [4]
+  $ desk draw examples/blocked-out.toml examples/shared-lock.releases --tasks low
+  refused: NoSuchTask low
+  [4]
+
+A width and a title, of which each byte stands for itself where XML has its character:
+
+  $ wide --width 2000 | sed -n 2p
+  <svg xmlns="http://www.w3.org/2000/svg" version="1.1" width="2000" height="360" viewBox="0 0 20000 3600">
+  $ wide --title "$(printf 'a\357\277\276\357\277\277b\357\277\275')" | sed -n 3p
+  <title>a  b�: tasks: 3, jobs: 3, until 100000 us</title>
+  $ wide --title 'R&D <hi> é' | sed -nE '3p;s/^(<text class="t".*)/\1/p'
+  <title>R&amp;D &lt;hi&gt; é: tasks: 3, jobs: 3, until 100000 us</title>
+  <text class="t" x="100" y="200">R&amp;D &lt;hi&gt; é: no deadline missed</text>
+  $ desk worst examples/robot.toml | desk draw examples/robot.toml - --title 'at rest' | grep 'class="t q"'
+  <text class="t q" x="320" y="200">at rest: deadlines missed: 1</text>
+
 What the title of a row's name says is what `desk simulate --tasks` prints:
 
   $ desk draw examples/jitter.toml examples/late.releases | sed -nE 's/.*<title>done: (.*), greatest response: (.*), bound: (.*) us<.title>(.*)<.text>/task \4 \1 \2 \3/p' | sort
@@ -74,18 +163,19 @@ Two small documents, whole, as a program apart from this one makes them:
   <path class="r" d="M2260 880h200"/><text x="2520" y="918">not ready yet</text>
   <path class="d" d="M3460 820v110m0 0l-35-50h70z"/><text x="3550" y="918">deadline</text>
   <path class="x" d="M4330 880h1"/><path class="y" d="M4330 880m-38-38l76 76m0-76l-76 76"/><text x="4450" y="918">missed</text>
-  <path class="g" d="M1960 1230V3130"/><text class="s" x="1960" y="1200">0 us</text>
-  <path class="g" d="M3200 1230V3130"/><text class="s" x="3200" y="1200">500 us</text>
-  <path class="g" d="M4440 1230V3130"/><text class="s" x="4440" y="1200">1000 us</text>
-  <path class="g" d="M5680 1230V3130"/><text class="s" x="5680" y="1200">1500 us</text>
-  <path class="g" d="M6920 1230V3130"/><text class="s" x="6920" y="1200">2000 us</text>
-  <path class="g" d="M8160 1230V3130"/><text class="s" x="8160" y="1200">2500 us</text>
-  <path class="g" d="M9400 1230V3130"/><text class="s" x="9400" y="1200">3000 us</text>
+  <path class="g" d="M1960 1230V3130"/><text class="s" x="1960" y="1200">0</text>
+  <path class="g" d="M3200 1230V3130"/><text class="s" x="3200" y="1200">500</text>
+  <path class="g" d="M4440 1230V3130"/><text class="s" x="4440" y="1200">1000</text>
+  <path class="g" d="M5680 1230V3130"/><text class="s" x="5680" y="1200">1500</text>
+  <path class="g" d="M6920 1230V3130"/><text class="s" x="6920" y="1200">2000</text>
+  <path class="g" d="M8160 1230V3130"/><text class="s" x="8160" y="1200">2500</text>
+  <path class="g" d="M9400 1230V3130"/><text class="s" x="9400" y="1200">3000</text>
   <path class="l" d="M1960 1570H9400"/>
   <path class="g" d="M100 1690H9400"/><path class="l" d="M1960 2035H9400"/>
   <path class="g" d="M100 2170H9400"/><path class="l" d="M1960 2515H9400"/>
   <path class="g" d="M100 2650H9400"/><path class="l" d="M1960 2995H9400"/>
   <g id="n">
+  <text x="500" y="1200">time in us</text>
   <text class="n" x="500" y="1460">processor</text><text x="500" y="1580">busy 100.0 %</text>
   <text class="v" x="300" y="1920">3</text><rect class="f0" x="350" y="1820" width="100" height="100" rx="20"/>
   <text class="n" x="500" y="1920"><title>done: 0, greatest response: -, bound: 5000 us</title>hi</text>
@@ -138,18 +228,19 @@ Two small documents, whole, as a program apart from this one makes them:
   <path class="r" d="M2260 880h200"/><text x="2520" y="918">not ready yet</text>
   <path class="d" d="M3460 820v110m0 0l-35-50h70z"/><text x="3550" y="918">deadline</text>
   <path class="x" d="M4330 880h1"/><path class="y" d="M4330 880m-38-38l76 76m0-76l-76 76"/><text x="4450" y="918">missed</text>
-  <path class="g" d="M1960 1230V3130"/><text class="s" x="1960" y="1200">0 ms</text>
-  <path class="g" d="M3200 1230V3130"/><text class="s" x="3200" y="1200">2 ms</text>
-  <path class="g" d="M4440 1230V3130"/><text class="s" x="4440" y="1200">4 ms</text>
-  <path class="g" d="M5680 1230V3130"/><text class="s" x="5680" y="1200">6 ms</text>
-  <path class="g" d="M6920 1230V3130"/><text class="s" x="6920" y="1200">8 ms</text>
-  <path class="g" d="M8160 1230V3130"/><text class="s" x="8160" y="1200">10 ms</text>
-  <path class="g" d="M9400 1230V3130"/><text class="s" x="9400" y="1200">12 ms</text>
+  <path class="g" d="M1960 1230V3130"/><text class="s" x="1960" y="1200">0</text>
+  <path class="g" d="M3200 1230V3130"/><text class="s" x="3200" y="1200">2</text>
+  <path class="g" d="M4440 1230V3130"/><text class="s" x="4440" y="1200">4</text>
+  <path class="g" d="M5680 1230V3130"/><text class="s" x="5680" y="1200">6</text>
+  <path class="g" d="M6920 1230V3130"/><text class="s" x="6920" y="1200">8</text>
+  <path class="g" d="M8160 1230V3130"/><text class="s" x="8160" y="1200">10</text>
+  <path class="g" d="M9400 1230V3130"/><text class="s" x="9400" y="1200">12</text>
   <path class="l" d="M1960 1570H9400"/>
   <path class="g" d="M100 1690H9400"/><path class="l" d="M1960 2035H9400"/>
   <path class="g" d="M100 2170H9400"/><path class="l" d="M1960 2515H9400"/>
   <path class="g" d="M100 2650H9400"/><path class="l" d="M1960 2995H9400"/>
   <g id="n">
+  <text x="500" y="1200">time in ms</text>
   <text class="n" x="500" y="1460">processor</text><text x="500" y="1580">busy 91.6 %</text>
   <text class="v" x="300" y="1920">3</text><rect class="f0" x="350" y="1820" width="100" height="100" rx="20"/>
   <text class="n" x="500" y="1920"><title>done: 1, greatest response: 3000, bound: 3000 us</title>b</text>
@@ -263,6 +354,24 @@ A band goes on while each job comes close behind the one before it, and others s
   <text x="15677" y="2145">3</text>
   <path class="a" d="M15800 1885m20 0l60 60-60 60m60-120l60 60-60 60"/>
 
+In a window a band is that of the run, cut at both edges; where its jobs have room, each stands alone:
+
+  $ part() { desk releases many.toml 200000 | desk draw many.toml - "$@"; }
+  $ part --from 50000 --to 150000 | grep -A 3 'class="l w"'
+  <path class="l w" d="M1960 1855H15800v180H1960z"><title>a: 200 jobs, arrivals 0 to 199000, done 200, longest response 100, bound 100, deadline 400 us</title></path>
+  <text x="1980" y="2145">200 jobs, longest 0.1 ms</text>
+  <path class="a" d="M1960 1885m-20 0l-60 60 60 60m-60-120l-60 60 60 60"/>
+  <path class="a" d="M15800 1885m20 0l60 60-60 60m60-120l60 60-60 60"/>
+  $ part --from 50000 --to 60000 > many.svg
+  $ grep -c 'class="l w"' many.svg
+  0
+  [1]
+  $ grep -c '^<path class="w".*<title>a: arrival 5' many.svg
+  10
+  $ printf 'until 200000\n0 a\n1000 a\n2000 a\n100000 a\n101000 a\n' | desk draw many.toml - --from 99000 > many.svg
+  $ sed -nE 's/.*<title>(a: .*(jobs|arrival).*)<.title>.*/\1/p' many.svg
+  a: 2 jobs, arrivals 100000 to 101000, done 2, longest response 100, bound 100, deadline 400 us
+
 A deadline that is missed in one is shown as ever:
 
   $ printf 'thread a 1\nthread b 2\nuntil 200000\n0 a\n0 b\n1000 a\n2000 a\n' | desk draw many.toml - > many.svg
@@ -271,6 +380,33 @@ A deadline that is missed in one is shown as ever:
   <title>a: arrival 0, done 700, response 700, deadline 400 us missed</title>
   $ grep -c '^<path class="x" d="M1987 2255h1"/>' many.svg
   1
+
+Of many that are missed not each has a disc, but its hatching:
+
+  $ printf "task = [\n{ name = 'a', period = 10000, deadline = 1000, cost = 5000 },\n{ name = 'b', period = 20000, deadline = 20000, cost = 1000 },\n]\n" > late.toml
+  $ { printf 'thread a 1\nthread b 2\nuntil 2000000\n'; for i in $(seq 0 199); do echo $((i * 10000)) a; done; } | desk draw late.toml - > late.svg
+  $ grep -c '^<path class="z".* missed</title>' late.svg
+  200
+  $ grep -c '^<path class="x" d="M[0-9]* 2255h1"/>' late.svg
+  67
+
+Where only the hatching of a job is left in a window, its signs stand there too:
+
+  $ printf 'thread a 1\nthread b 2\nuntil 40000\n0 a\n0 b\n10000 a\n' | desk draw late.toml - --from 2000 --to 4000 | grep -E '^<path class="[awz]" d="M(1960|9400)'
+  <path class="z" d="M1960 2315H9400v220H1960z"><title>a: arrival 0, done 6000, response 6000, deadline 1000 us missed</title></path>
+  <path class="a" d="M1960 2365m-20 0l-60 60 60 60m-60-120l-60 60 60 60"/>
+  <path class="a" d="M9400 2365m20 0l60 60-60 60m60-120l60 60-60 60"/>
+
+A stripe isn't wider than its lock is held, and the last number of the scale stays in the picture:
+
+  $ printf 'until 10000000\n0 hi\n' | desk draw examples/shared-lock.toml - | grep -oE '^<path class="(e f0|h|k0)" d="M1960 18[^"]*"'
+  <path class="e f0" d="M1960 1855H1965v180H1960z"
+  <path class="h" d="M1960 1855H1961v180H1960z"
+  <path class="k0" d="M1960 1855H1961v180H1960z"
+  $ printf 'until 60000000\n0 hi\n' | desk draw examples/shared-lock.toml - --from 59000000 --to 59003000 | sed -nE 's/.*x="([0-9]*)" y="1200">(.*)<.text>/\1 \2/p' | tail -n 3
+  8160 59002500
+  9310 59003000
+  500 time in us
 
 What it draws stands alone:
 

@@ -1,5 +1,6 @@
 `desk explain SET` prints what each bound of the best order is made of; or a minimal conflict, with what each of its tasks
-needs, and what becomes of each task in an order that passes where any does. Every part stands once, and they add up.
+needs, and what becomes of each task in an order that passes where any does, with what it needs at least where it misses its
+deadline. Every part stands once, and they add up.
 
   $ desk explain examples/shared-lock.toml
   admitted 3
@@ -9,7 +10,7 @@ needs, and what becomes of each task in an order that passes where any does. Eve
     above mid 2 jobs 4000
   2 mid 7000 of 20000
     cost 2000
-    blocked 4000 by lo section 1 lock m
+    blocked 4000 by lo section 1 lock m, ceiling by hi
     above hi 1 jobs 1000
   3 hi 5000 of 10000
     cost 1000
@@ -23,8 +24,51 @@ needs, and what becomes of each task in an order that passes where any does. Eve
     blocked 2500 by lo section 1 lock m
   load 400000
   1 lo 14000 of 50000
-  2 hi misses 4400
+  2 hi misses 4400 needs 4500
+    cost 2000
+    blocked 2500 by lo section 1 lock m
   [3]
+
+Above a task that doesn't use the lock two do: the higher of them is named, which is another one with the other on top.
+Alone the lower is named:
+
+  $ task() { printf '[[task]]\nname = "%s"\nweight = %s\nperiod = 10000\ndeadline = 10000\ncost = 500\n' $1 $2; shift 2; for lock; do printf '[[task.section]]\nlocks = ["%s"]\nlen = 100\n' $lock; done; }
+  $ { task log 0 bus; task mid 1 pose; task arm 2 pose bus; task motor 3 bus; } > users.toml
+  $ desk explain users.toml --task mid
+  admitted 4
+  2 mid 1600 of 10000
+    cost 500
+    blocked 100 by log section 1 lock bus, ceiling by motor
+    above motor 1 jobs 500
+    above arm 1 jobs 500
+  $ printf 'thread log 1\nthread mid 2\nthread motor 3\nthread arm 4\n' | desk explain users.toml --at - --task mid
+  meets 4
+  2 mid 1600 of 10000
+    cost 500
+    blocked 100 by log section 1 lock bus, ceiling by arm
+    above arm 1 jobs 500
+    above motor 1 jobs 500
+  $ { task log 0 bus; task mid 1 pose; task arm 2 pose bus; } | desk explain - --task mid 2> notes
+  admitted 3
+  2 mid 1100 of 10000
+    cost 500
+    blocked 100 by log section 1 lock bus, ceiling by arm
+    above arm 1 jobs 500
+
+Of a conflict's task, too:
+
+  $ { task log 0 bus | sed 's/len = 100/len = 400/'; task mid 1 | sed 's/^deadline.*/deadline = 1300/'; task motor 2 bus | sed 's/^deadline.*/deadline = 900/'; } > short.toml
+  $ desk explain short.toml 2> notes | head -n 10
+  infeasible mid motor
+  conflict mid motor
+  mid 1400 of 1300
+    cost 500
+    blocked 400 by log section 1 lock bus, ceiling by motor
+    above motor 1 jobs 500
+  motor 1400 of 900
+    cost 500
+    blocked 400 by log section 1 lock bus
+    above mid 1 jobs 500
 
 No task, and a set that is refused:
 
@@ -68,8 +112,13 @@ past its 7000, and b after all of both, with a second job of a:
   $ printf 'thread b 10\nthread a 20\nthread c 30\n' > down
   $ desk explain examples/three-tasks.toml --at down
   misses a b
-  1 b misses 12000
-  2 a misses 7000
+  1 b misses 12000 needs 14000
+    cost 3000
+    above c 1 jobs 5000
+    above a 2 jobs 6000
+  2 a misses 7000 needs 8000
+    cost 3000
+    above c 1 jobs 5000
   3 c 5000 of 20000
     cost 5000
   load 928572
@@ -81,7 +130,9 @@ past its 7000, and b after all of both, with a second job of a:
   [3]
   $ desk explain --task=a examples/three-tasks.toml --at=- < down
   misses a b
-  2 a misses 7000
+  2 a misses 7000 needs 8000
+    cost 3000
+    above c 1 jobs 5000
   [3]
 
 With mid on top, which no section then blocks:

@@ -21,7 +21,9 @@ each number that mends it alone; he takes the one that is his:
     blocked 4000 by pan section 1 lock bus team cam
   in an order that passes wherever one does, from the lowest level:
   1 pan 9000 of 20000 team cam
-  2 arm misses 5000 team arm
+  2 arm misses 5000 needs 5500 team arm
+    cost 1500
+    blocked 4000 by pan section 1 lock bus team cam
   one of these changes mends it, all else as it is (the number, its value, the nearest that does):
   arm cost 1500 - 1000
   arm deadline 5000 - 5500

@@ -29,7 +29,7 @@ KINDS = {
     **dict.fromkeys(["weight", "period", "deadline", "cost", "jitter", "at", "len"], is_number),
     "name": lambda value: type(value) is str,
     "section": lambda value: are_all(dict, value),
-    "outranks": lambda value: are_all(str, value),
+    "outranks": lambda value: value == "all" or are_all(str, value),
     "locks": lambda value: are_all(str, value),
 }
 
@@ -46,7 +46,7 @@ def keys_of(table, place, known, wanted, ordered):
 
 
 def section_faults(number, n, section, start, cost):
-    locks, at, length = section["locks"], section["at"], section["len"]
+    locks, at, length = section["locks"], section.get("at", start), section["len"]
     tests = [
         ("NoLocks", not locks),
         ("TooManyLocks", len(locks) > 4),
@@ -59,6 +59,18 @@ def section_faults(number, n, section, start, cost):
         if holds:
             refuse(name, *number, n)
     return at + length
+
+
+def named_of(task):
+    """The names of tasks that a task outranks."""
+    outranks = task.get("outranks", [])
+    return [] if outranks == "all" else outranks
+
+
+def must_outrank(task, other):
+    if task.get("outranks") == "all":
+        return other.get("outranks") != "all"
+    return other["name"] in named_of(task)
 
 
 def value_faults(number, task):
@@ -79,7 +91,7 @@ def value_faults(number, task):
     start = 0
     for n, section in enumerate(task.get("section", []), 1):
         start = section_faults(number, n, section, start, cost)
-    names = task.get("outranks", [])
+    names = named_of(task)
     tests = [
         ("BadJitter", task.get("jitter", 0) >= deadline),
         ("TooManyOutranks", len(names) > 8),
@@ -95,13 +107,13 @@ def check_task(number, task):
     keys_of(task, (number, 0), TASK_KEYS, ["name", "period", "deadline", "cost"], TASK_KEYS)
     for n, section in enumerate(task.get("section", []), 1):
         keys = ["locks", "at", "len"]
-        keys_of(section, (number, n), keys, keys, keys)
+        keys_of(section, (number, n), keys, ["locks", "len"], keys)
     if not NAME.match(task["name"]):
         refuse("BadName", number, 0)
     for n, section in enumerate(task.get("section", []), 1):
         if not all(NAME.match(it) for it in section["locks"]):
             refuse("BadName", number, n)
-    if not all(NAME.match(it) for it in task.get("outranks", [])):
+    if not all(NAME.match(it) for it in named_of(task)):
         refuse("BadName", number, 0)
     value_faults((number,), task)
 
@@ -262,7 +274,7 @@ def admit(data):
         for task in left:
             above = [it for it in left if it is not task]
             response = response_of(task, above, [it for it in tasks if it not in left])
-            if response is not None and not {it["name"] for it in above} & set(task.get("outranks", [])):
+            if response is not None and not any(must_outrank(task, it) for it in above):
                 break
         else:
             return "infeasible " + " ".join(it["name"] for it in left) + "\n", 3
@@ -357,7 +369,8 @@ def put_in(words):
     if words and words[0].count("=") == 1 and words[0].startswith("j="):
         task["jitter"] = number_in(words.pop(0)[2:])
     if words and words[0].count("=") == 1 and words[0].startswith("over="):
-        task["outranks"] = [name_in(it) for it in words.pop(0)[5:].split("+")]
+        over = words.pop(0)[5:]
+        task["outranks"] = "all" if over == "*" else [name_in(it) for it in over.split("+")]
     task["section"] = [section_in(it) for it in words]
     return task
 

@@ -105,6 +105,75 @@ Of a set that no order serves nothing is promised:
   infeasible x
   [3]
 
+A trace may give the order that the node has, in the lines of `settings` in front. With mid above hi the bounds are other
+ones, and a run that keeps to them breaks nothing, as it would in the set's best order:
+
+  $ printf 'thread lo 10\nthread hi 20\nthread mid 30\n' > node.settings
+  $ cat node.settings examples/shared-lock.releases | desk simulate examples/shared-lock.toml - > node.trace
+  $ cat node.settings node.trace | desk observe examples/shared-lock.toml -
+  task lo 1 20000 20000 - 100000 23000 27000
+  task hi 1 1000 1000 - 10000 6800 7000
+  task mid 1 2000 2000 - 20000 2000 2000
+  $ desk observe examples/shared-lock.toml node.trace | grep -v task
+  bound hi 300 6800 of 5000
+  blocked hi 300 5800 of 4000 by mid
+  $ { cat node.settings; echo '0 2001 mid'; echo 'job mid 0 2001'; } | desk observe examples/shared-lock.toml -
+  task lo 0 0 20000 - 100000 - 27000
+  task hi 0 0 1000 - 10000 - 7000
+  task mid 1 2001 2000 - 20000 2001 2000
+  cost mid 0 2001 of 2000
+  bound mid 0 2001 of 2000
+  [3]
+  $ { cat node.settings; echo '0 2001 mid'; echo 'job mid 0 2001'; } | desk observe examples/shared-lock.toml - --tolerance 1 | grep -v task
+  [1]
+
+The best order may be given, too:
+
+  $ desk settings examples/shared-lock.toml | cat - examples/shared-lock.trace | desk observe examples/shared-lock.toml - > given
+  [3]
+  $ desk observe examples/shared-lock.toml examples/shared-lock.trace | cmp - given
+
+An order in which a task misses its deadline promises nothing, whatever was seen; of a set that no order passes, too:
+
+  $ observed 'thread hi 1\nthread mid 2\nthread lo 3\n0 10 hi\n'
+  misses mid hi
+  1 hi misses 10000 at 1
+  2 mid misses 20000 at 2
+  3 lo 20200 of 100000 at 3
+  [3]
+  $ printf 'thread x 7\n' | desk observe examples/cost-past-deadline.toml -
+  misses x
+  1 x misses 2000 at 7
+  [3]
+
+Settings and their faults are those of `judge`, lines counted in the whole. What stands in the lines comes first, then the
+settings, then slices in no job:
+
+  $ observed '# one\nthread lo 1\n\nthread mid 1\nthread hi 3\n'
+  refused: SameNumber 4
+  [4]
+  $ observed 'thread lo 1\nthread mid 2\nthread hi 3\nmutex m 2\n0 10 hi\n'
+  refused: WrongCeiling m
+  [4]
+  $ observed 'thread lo 1\nthread mid 2\n0 10 hi\n'
+  refused: MissingTask hi
+  [4]
+  $ observed 'thread z 1\n0 10 hi\n9 20 lo\n'
+  refused: SliceOverlap 3
+  [4]
+  $ observed 'thread z\n0 10 hi\n9 20 lo\n5\n'
+  refused: BadLine 1
+  [4]
+  $ observed 'thread z 1\n0 10 hi\n9 20 lo\n5\n'
+  refused: BadLine 4
+  [4]
+  $ observed 'thread lo 1\nthread mid 2\nthread hi 3\n0 10 hi\n'
+  refused: NoJob 4
+  [4]
+  $ observed 'thread lo 1\nthread mid 2\n0 10 hi\nthread hi 3\n'
+  refused: BadLine 4
+  [4]
+
 Each refusal, with its line:
 
   $ for text in '5 5 lo' 'job lo 5 4' 'job lo 5' 'task lo 5 9' '0 10 lo ' '0 10' '+1 10 lo' '0 10000000000 lo'; do observed "$text\n" 2> /dev/null; done | uniq -c | sed 's/^ *//'
@@ -124,7 +193,7 @@ Each refusal, with its line:
   $ seq 0 9999 | sed 's/.*/job x & -/' | desk observe examples/shared-lock.toml - | grep -c .
   3
   $ desk observe examples/cost-past-deadline.toml - < examples/shared-lock.toml
-  refused: BadLine 4
+  refused: BadLine 5
   [4]
   $ desk observe docs/FORMATS.md examples/shared-lock.trace
   refused: Syntax

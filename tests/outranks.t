@@ -106,6 +106,80 @@ A name that the set hasn't binds nothing:
   refused: OutranksSelf 1
   [4]
 
+All others are outranked by a word, but for those that say it, too. It is no name:
+
+  $ three "outranks = 'all'" > a-over-all.toml
+  $ desk admit a-over-all.toml
+  admitted 3
+  1 c 20000
+  2 b 6000
+  3 a 3000
+  $ desk certify a-over-all.toml | cmp - over.cert
+  $ desk check a-over-all.toml over.cert
+  best
+  $ desk check a-over-all.toml examples/three-tasks.cert
+  refused: WrongVersion
+  [5]
+  $ three "outranks = 'all'" "outranks = 'all'" > both-over-all.toml
+  $ desk certify both-over-all.toml | tee both.cert
+  desk-certificate 2
+  best 3
+  level 1 c 20000
+  fails a over c
+  fails b over c
+  level 2 a 6000
+  level 3 b 3000
+  end
+  $ desk check both-over-all.toml both.cert
+  best
+  $ desk check both-over-all.toml over.cert
+  refused: BadChain 1 a
+  [5]
+  $ three '' "outranks = 'all'" "outranks = 'all'" | desk certify -
+  desk-certificate 2
+  none 3
+  member a 1 11000
+  member b over a
+  member c over a
+  end
+  [3]
+  $ three "outranks = 'all'" "outranks = 'all'" "outranks = 'all'" | desk certify - | cmp - examples/three-tasks.cert
+  $ three "outranks = ['all']" | desk certify - 2> notes | cmp - examples/three-tasks.cert
+  $ cat notes
+  note: a outranks all, which is no task of the set: that binds nothing
+  $ three "outranks = 'b'" | desk admit -
+  refused: WrongKind 1 0 outranks
+  [4]
+  $ three "outranks = ['all', 'b', 'all']" | desk admit -
+  refused: OutranksTwice 1
+  [4]
+  $ desk diff a-over-b.toml a-over-all.toml
+  admitted 3
+  was admitted 3
+  changed a level 3 3 bound 3000 3000 slack 4000 4000 keys outranks
+  $ desk script both-over-all.toml 3 | tee both.script
+  open 3
+  put 1 a 0 7000 7000 3000 over=*
+  put 1 b 0 12000 12000 3000 over=*
+  put 1 c 0 20000 20000 5000
+  commit 1
+  $ desk play both.script | tail -n 4
+  version 1
+  level 1 c 3 20000
+  level 2 a 3 6000
+  level 3 b 3 3000
+
+They are all others of the set, those of other teams, too:
+
+  $ mkdir teams
+  $ sed -n 1,6p a-over-all.toml > teams/cam.toml
+  $ sed -n '7,$p' a-over-all.toml > teams/arm.toml
+  $ desk admit teams
+  admitted 3
+  1 c 20000
+  2 b 6000
+  3 a 3000
+
 With a jitter of 1000, too, the certificate is the same, since its numbers count from the latest release:
 
   $ three "jitter = 1000
@@ -170,6 +244,15 @@ The fields of a put stand behind the cost, `j=` first:
   level 1 b 2 6000
   level 2 a 1 4000
   $ play 'm@0:1 over=b'
+  refused: BadLine 2
+  [4]
+  $ play 'over=*' | tail -n 2
+  level 1 b 2 6000
+  level 2 a 1 3000
+  $ play 'over=*+b'
+  refused: BadLine 2
+  [4]
+  $ play 'over=**'
   refused: BadLine 2
   [4]
   $ play 'j=7000 over=a m@0:3001'

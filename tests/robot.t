@@ -18,7 +18,9 @@ From a no to the node: nine tasks of a robot that share three mutexes. What stan
   6 lidar 7900 of 25000
   7 balance 2750 of 4000
   8 imu 1550 of 2500
-  9 motor misses 1000
+  9 motor misses 1000 needs 1050
+    cost 150
+    blocked 900 by battery section 1 lock bus
   [3]
   $ desk limits examples/robot.toml
   infeasible motor

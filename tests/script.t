@@ -29,6 +29,31 @@ The names that a task must outrank, and sections:
   put 1 motion 3 10000 10000 3000
   commit 1
 
+A section that doesn't say where it begins begins where the one before it ends, the first at 0:
+
+  $ cat > behind.toml << END
+  > [[task]]
+  > name = "a"
+  > period = 10000
+  > deadline = 10000
+  > cost = 1000
+  > section = [{ locks = ["m"], len = 100 }, { locks = ["n"], len = 50 }, { locks = ["m"], at = 200, len = 1 }, { len = 10, locks = ["n"] }]
+  > [[task]]
+  > name = "b"
+  > period = 20000
+  > deadline = 20000
+  > cost = 1000
+  > [[task.section]]
+  > locks = ["n"]
+  > len = 1000
+  > END
+  $ desk script behind.toml 1
+  open 1
+  put 1 a 0 10000 10000 1000 m@0:100 n@100:50 m@200:1 n@201:10
+  put 1 b 0 20000 20000 1000 n@0:1000
+  commit 1
+  (on standard error) note: lock m has one user, a
+
 The empty set:
 
   $ desk script examples/empty-set.toml 1

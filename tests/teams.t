@@ -251,8 +251,13 @@ Of a minimal conflict the same, so that its teams know of each other; a task of 
     cost 5000
     above arm 2 jobs 18000 team arm
   load 1166667
-  1 spin misses 30000 team base
-  2 pan misses 20000 team cam
+  1 spin misses 30000 needs 37500 team base
+    cost 500
+    above arm 3 jobs 27000 team arm
+    above pan 2 jobs 10000 team cam
+  2 pan misses 20000 needs 23000 team cam
+    cost 5000
+    above arm 2 jobs 18000 team arm
   3 arm 9400 of 10000 team arm
   $ cat moved/arm.toml moved/cam.toml > alone.toml
   $ desk diff kept alone.toml 2> notes | sed 1,2d
@@ -262,6 +267,9 @@ Of a minimal conflict the same, so that its teams know of each other; a task of 
   infeasible arm pan
   conflict arm pan
   pan 23000 of 20000
+    cost 5000
+    above arm 2 jobs 18000
+  1 pan misses 20000 needs 23000
     cost 5000
     above arm 2 jobs 18000
   [3]

@@ -86,7 +86,7 @@ def is_chain(tasks, i, above, numbers):
 
 def bound_by(tasks, i, above):
     """The tasks above that task i must outrank, by rank."""
-    return [k for k in sorted(above) if tasks[k].name in tasks[i].outranks]
+    return [k for k in sorted(above) if tasks[i].must_outrank(tasks[k])]
 
 
 def stands(tasks, i, above):

@@ -13,6 +13,7 @@ import make_traces
 import picture
 import rushes
 import sets
+from refusals import Refused
 
 # how often each command is asked
 SHARES = {
@@ -57,12 +58,13 @@ def of_set(rng, subject):
     sheets = sheets_for(rng, subject)
     prefer = rng.choice([None] * 12 + ["deadline"] * 3 + ["weight"])  # what the words say
     own = rng.choice([None] * 6 + ["deadline"] * 2 + ["weight"])  # what the set says
-    inputs = [set_input(rng, sheets, 0.08 if subject in SECOND_INPUTS else 0.3, own)]
+    node = make_sets.overheads(rng, sheets) if rng.random() < 0.25 else None
+    inputs = [set_input(rng, sheets, 0.08 if subject in SECOND_INPUTS else 0.3, own, node)]
+    tasks = taken(sheets, node, prefer or own)
     if subject in SECOND_INPUTS:
-        tasks = sets.by_limits(sheets) if (prefer or own) == "deadline" else sets.by_rank(sheets)
         inputs.append(SECOND_INPUTS[subject](rng, tasks))
     if subject == "diff":
-        inputs.append(set_input(rng, make_sets.changed(rng, sheets), 0.1, rng.choice([own, own, None])))
+        inputs.append(set_input(rng, make_sets.changed(rng, sheets), 0.1, rng.choice([own, own, None]), rng.choice([node, node, None])))
     options = [] if prefer is None or rng.random() < 0.05 else [("prefer", prefer)]
     if subject in ("explain", "limits", "worst") and rng.random() < 0.3:
         options.append(("task", rng.choice([*(sheet.name for sheet in sheets), "none", "0", ""])))
@@ -70,9 +72,11 @@ def of_set(rng, subject):
     if subject == "releases":
         seed = rng.choice([0, 1, rng.getrandbits(32), 2**32 - 1, 2**32]) if rng.random() < 0.6 else None
         options += [] if seed is None else [("seed", str(seed))]
-        number = make_lines.until_of(rng, sets.by_rank(sheets), seed)
+        number = make_lines.until_of(rng, taken(sheets, node), seed)
     if subject == "simulate" and rng.random() < 0.3:
         options.append(("tasks", None))
+    if subject == "draw":
+        options += view_of(rng, sheets)
     if subject == "observe" and rng.random() < 0.3:
         options.append(("tolerance", rng.choice(["0", "1", "5", str(rng.randint(0, 5000)), "60000000", "60000001", "", "-1"])))
     if subject == "judge" and rng.random() < 0.3:
@@ -86,10 +90,35 @@ def of_set(rng, subject):
         inputs.append(make_lines.settings_of(rng, sets.by_rank(others)))
         return called(rng, subject, inputs, options, by="keep")
     if subject in ("explain", "limits", "worst") and rng.random() < 0.4:
-        tasks = sets.by_limits(sheets) if (prefer or own) == "deadline" else sets.by_rank(sheets)
         inputs.append(make_lines.settings_of(rng, tasks))
         return called(rng, subject, inputs, options, by="at")
     return called(rng, subject, inputs, options, number)
+
+
+def view_of(rng, sheets):
+    """Options of a picture: often none, else some of them."""
+    if rng.random() < 0.3:
+        return []
+    time = lambda: str(rng.choice([0, 60_000_000, 60_000_001] if rng.random() < 0.05 else [int(10 ** rng.uniform(0, 7))]))
+    names = [sheet.name for sheet in sheets]
+    some = rng.sample(names, rng.randint(0, len(names))) + rng.choice([[]] * 12 + [["none"], ["0"], [""], names[:1]])
+    drawn = {
+        "from": time(),
+        "to": time(),
+        "width": str(rng.choice([959, 960, 16_000, 16_001] if rng.random() < 0.2 else [rng.randint(960, 16_000)])),
+        "title": rng.choice(["", "x", "R&D <hi>", "a  b\t\r\n", '"\u00e9\u20ac\x7f', "]]>", "\uffff\ufffea\ufffd\ufffe", "\uff5f\U0001ffff"]),
+        "tasks": ",".join(some),
+    }
+    return [option for option in drawn.items() if rng.random() < 0.4]
+
+
+def taken(sheets, node, preference=None):
+    """The tasks with what the node takes, if they have room for it, by a preference."""
+    try:
+        sheets = sets.padded(sheets, None if node is None else sets.read_node(node))
+    except Refused:
+        pass
+    return sets.by_limits(sheets) if preference == "deadline" else sets.by_rank(sheets)
 
 
 def sheets_for(rng, subject):
@@ -103,28 +132,32 @@ def sheets_for(rng, subject):
     return sheets
 
 
-def set_input(rng, sheets, damaged, own=None):
+def set_input(rng, sheets, damaged, own=None, overheads=None):
     """The set as one document, as several of teams, or as a folder's files by their names; some are damaged."""
     if rng.random() < 0.88:
-        return set_text(rng, sheets, damaged, own)
+        return set_text(rng, sheets, damaged, own, overheads)
     owns = [None, own, own, own, rng.choice([None, "weight"])]
-    parts = make_sets.teams_of(rng, sheets, lambda part: set_text(rng, part, damaged / 3, rng.choice(owns)))
+    nodes = [None, *[overheads] * 5, rng.choice([None, {"job": 1}, {}])]
+    parts = make_sets.teams_of(rng, sheets, lambda part: set_text(rng, part, damaged / 3, rng.choice(owns), rng.choice(nodes)))
     node = make_sets.node_of(rng, parts, sheets) if rng.random() < 0.5 else None
     if rng.random() < 0.5:
         return make_sets.gathered(rng, parts, node)
     return make_sets.folder(rng, parts, node)
 
 
-def set_text(rng, sheets, damaged, own=None):
-    """The set as TOML with what it prefers, if anything; one of two ways of damage at the given rate."""
-    tables = [make_sets.table_of(sheet) for sheet in sheets]
+def set_text(rng, sheets, damaged, own=None, overheads=None):
+    """The set as TOML with what it prefers, and its node, if any; one of two ways of damage at the given rate."""
+    tables = [make_sets.table_of(rng, sheet) for sheet in sheets]
     prefers = {} if own is None else {"prefer": own}
+    node = {} if overheads is None else {"node": overheads}
     kind = rng.random()
     if kind < damaged / 2:
         if own is not None and rng.random() < 0.3:
             prefers = {"prefer": rng.choice(["", "deadlines", "name", 1, ["deadline"], True])}
-        return make_sets.toml(rng, prefers | make_sets.with_faults(rng, tables))
-    text = make_sets.toml(rng, prefers | {"task": tables})
+        if overheads is not None and rng.random() < 0.5:
+            node = {"node": make_sets.wrong_overheads(rng, overheads)}
+        return make_sets.toml(rng, prefers | make_sets.with_faults(rng, tables) | node)
+    text = make_sets.toml(rng, prefers | {"task": tables} | node)
     return make_sets.damaged_bytes(rng, text) if kind < damaged else text
 
 
@@ -161,7 +194,7 @@ def called(rng, subject, inputs, options=(), number=None, by=None):
 
 
 WORDS = ["-", "--", "set", "set", "none", "folder", "--prefer", "deadline", "--prefer=deadline", "--prefer=weight", "--prefer=name", "--prefer=",
-         "--task", "--task=a", "--task=", "--seed", "--seed=8", "--seed=4294967296", "--tasks", "--tasks=", "--tolerance", "--tolerance=8", "--base=1", "--base=0", "--base", "--lower-is-higher", "--lower-is-higher=1", "--keep", "--keep=set", "--keep=-", "--at", "--at=set", "--at=-", "-x", "--x",
+         "--task", "--task=a", "--task=", "--seed", "--seed=8", "--seed=4294967296", "--tasks", "--tasks=", "--tasks=a,a", "--from", "--from=8", "--to=60000001", "--width=959", "--width=960", "--title", "--title=x", "--tolerance", "--tolerance=8", "--base=1", "--base=0", "--base", "--lower-is-higher", "--lower-is-higher=1", "--keep", "--keep=set", "--keep=-", "--at", "--at=set", "--at=-", "-x", "--x",
          "", "0", "1", "8", "9", "+8", "007", "+", "++8", "0x8", "-8", " 8", "8_0", "60000000", "60000001", "1" * 25]  # fmt: skip
 
 
@@ -175,7 +208,7 @@ def wrong_words(rng):
     for _ in range(rng.choice([1, 1, 1, 2, 2, 3])):
         place = rng.randrange(len(words) + 1)
         words[place : place + rng.choice([0, 1, 1])] = rng.choice([[], [rng.choice(WORDS)], [rng.choice(WORDS)]])
-    text = make_sets.toml(rng, {"task": [make_sets.table_of(sheet) for sheet in make_sets.some_sheets(rng, 3)]})
+    text = make_sets.toml(rng, {"task": [make_sets.table_of(rng, sheet) for sheet in make_sets.some_sheets(rng, 3)]})
     return Case(tuple(words), {"set": text, "folder/": b""}, text)
 
 
@@ -201,7 +234,8 @@ def fault_of(case, stdout, stderr, status):
         return None if printed else "no help"
     if wanted.text is commands.DRAWN:
         tasks, said = inputs_of(case)
-        return picture.fault(stdout, tasks, *said)
+        call = calls.call_of(case.words, commands.COMMANDS)
+        return picture.fault(stdout, picture.View(**commands.keywords(call)), tasks, *said)
     return None if printed == wanted.text else "other bytes"
 
 

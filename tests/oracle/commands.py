@@ -11,6 +11,7 @@ import differences
 import kernel
 import limits
 import observed
+import picture
 import scripts
 import settings
 import teams
@@ -64,6 +65,11 @@ def check(tasks, said):
     return certificate.check(tasks, *said), 0
 
 
+def no_such_task(word):
+    """The refusal where a word names no task."""
+    return Refused(4, "NoSuchTask", *[word] * is_name(word))
+
+
 def of_task(command):
     """A command that with the name of a task says that task's lines alone."""
 
@@ -72,7 +78,7 @@ def of_task(command):
             return command(tasks, *more, None)
         index = next((i for i, sheet in enumerate(tasks) if sheet.name == task), None)
         if index is None:
-            return " ".join(["refused: NoSuchTask", *[task] * is_name(task)]) + "\n", 4
+            raise no_such_task(task)
         return command(tasks, *more, index)
 
     return on_set
@@ -101,8 +107,8 @@ def explain(tasks, task):
                 text += needs(tasks, i, conflict - {i})
     if task is None:
         text.append(f"load {analysis.load(tasks)}\n")
-        if order is None:
-            text += decided(tasks)
+    if order is None:
+        text += decided(tasks, task)
     return "".join(text), 0 if order is not None else INFEASIBLE
 
 
@@ -114,14 +120,24 @@ def explain_at(tasks, order, rows, task):
 
 
 def accounts(tasks, order, task):
-    """What becomes of each task of an order, or of one, with the parts of its response where it has one."""
+    """What becomes of each task of an order, or of one, with the parts of its response, or of what it needs."""
     for level, i, words in settings.judged_levels(tasks, order):
         if task not in (None, i):
             continue
+        above = order[level:]
+        if words.startswith("misses "):
+            yield from missed(tasks, level, i, words, above)
+            continue
         yield level_line(tasks, level, i, words)
-        if not words.startswith(("below ", "misses ")):
-            above = order[level:]
+        if not words.startswith("below "):
             yield from parts(tasks, i, above[::-1], analysis.response_of(tasks, i, set(above)) - tasks[i].jitter)
+
+
+def missed(tasks, level, i, words, above):
+    """What a task needs at least that misses its deadline in an order; those above it from the highest level down."""
+    chain = analysis.trail(tasks, i, set(above))
+    yield level_line(tasks, level, i, f"{words} needs {chain[-1] + tasks[i].jitter}")
+    yield from parts(tasks, i, above[::-1], chain[-2])
 
 
 def level_line(tasks, level, i, words):
@@ -129,10 +145,16 @@ def level_line(tasks, level, i, words):
     return f"{level} {tasks[i].name} {words}{'' if words.startswith('below ') else tasks.beside(tasks[i].name)}\n"
 
 
-def decided(tasks):
-    """What becomes of each task in an order that decides."""
-    for level, i, words in settings.judged_levels(tasks, worst.order_for(tasks, None)):
-        yield level_line(tasks, level, i, words)
+def decided(tasks, task):
+    """What becomes of each task in an order that decides, or of one, with the parts of what it needs."""
+    order = worst.order_for(tasks, None)
+    for level, i, words in settings.judged_levels(tasks, order):
+        if task not in (None, i):
+            continue
+        if words.startswith("misses "):
+            yield from missed(tasks, level, i, words, order[level:])
+        else:
+            yield level_line(tasks, level, i, words)
 
 
 def needs(tasks, i, above):
@@ -151,7 +173,9 @@ def parts(tasks, i, above, window):
         said.append(f"jitter {tasks[i].jitter}")
     if blocked := analysis.blocking_of(tasks, i, set(above)):
         task, section, lock = analysis.first_blocker(tasks, i, set(above))
-        said.append(f"blocked {blocked} by {task} section {section} lock {lock}{tasks.beside(task)}")
+        user = next(k for k in (i, *above) if lock in analysis.uses(tasks, k))
+        ceiling = "" if user == i else f", ceiling by {tasks[user].name}"
+        said.append(f"blocked {blocked} by {task} section {section} lock {lock}{ceiling}{tasks.beside(task)}")
     for k in above:
         jobs = analysis.releases_within(tasks[k], window)
         said.append(f"above {tasks[k].name} {jobs} jobs {jobs * tasks[k].cost}{tasks.beside(tasks[k].name)}")
@@ -238,24 +262,24 @@ def judge(tasks, rows, lower_is_higher=False):
     return settings.judge(tasks, settings.node_order(tasks, heights), rows)
 
 
-def simulate(tasks, said, by_task=False):
+def simulate(tasks, said, of_tasks=False):
     rows, until, releases = said
     if rows:
-        return simulate_in(tasks, settings.node_order(tasks, rows), until, releases, by_task), 0
-    return simulate_best(tasks, until, releases, by_task)
+        return simulate_in(tasks, settings.node_order(tasks, rows), until, releases, of_tasks), 0
+    return simulate_best(tasks, until, releases, of_tasks)
 
 
 @with_order
-def simulate_best(tasks, order, until, releases, by_task):
-    return simulate_in(tasks, order, until, releases, by_task)
+def simulate_best(tasks, order, until, releases, of_tasks):
+    return simulate_in(tasks, order, until, releases, of_tasks)
 
 
-def simulate_in(tasks, order, until, releases, by_task):
+def simulate_in(tasks, order, until, releases, of_tasks):
     """What is printed of a run in an order, passing or not."""
     kernel.check_releases(tasks, until, releases)
     slices, jobs = kernel.run(tasks, order, analysis.ceilings(tasks, order), until, releases)
     kernel.check_overruns(jobs)
-    if not by_task:
+    if not of_tasks:
         return kernel.simulated(slices, jobs)
     return "".join(kernel.came_to(tasks[i], bound, jobs) for i, bound in settings.bounds_in(tasks, order).items())
 
@@ -271,16 +295,32 @@ def script(tasks, team):
 
 
 def observe(tasks, said, tolerance=0):
-    order = analysis.best_order(tasks)
-    if order is None:
-        return admitted(tasks, None), INFEASIBLE
-    return observed.observe(tasks, order, *said, tolerance)
+    rows, *trace = said
+    if rows:
+        order = settings.node_order(tasks, rows)
+        if None in settings.bounds_in(tasks, order).values():
+            return settings.judge(tasks, order, rows)
+    else:
+        order = analysis.best_order(tasks)
+        if order is None:
+            return admitted(tasks, None), INFEASIBLE
+    return observed.observe(tasks, order, *trace, tolerance)
 
 
-def draw(tasks, said):
-    """Refusals as those of `simulate`; what a picture has to show is another module's."""
+def draw(tasks, said, **options):
+    """Refusals as those of `simulate`, then those of a view; what a picture has to show is another module's."""
     text, status = simulate(tasks, said)
-    return (DRAWN if status == 0 else text), status
+    view = picture.View(**options)
+    names = {task.name for task in tasks}
+    for word in view.named():
+        if word not in names:
+            raise no_such_task(word)
+    if status != 0:
+        return text, status
+    start, stop = view.window(said[1])
+    if start >= stop:
+        raise Refused(4, "EmptyWindow")
+    return DRAWN, 0
 
 
 def play(rows):
@@ -300,11 +340,13 @@ def on_set(run, *readers, number=(), options=PREFERS, by_file=()):
 
 
 KEEP = on_set(keep, settings.read_settings)
-WORST_AT, EXPLAIN_AT, LIMITS_AT = IN_ORDER = [
+WORST_AT, EXPLAIN_AT, LIMITS_AT = [
     on_set(at_settings(command), settings.read_settings, options=OF_TASK)
     for command in (worst.worst_at, explain_at, limits_at)
 ]
 AT = {**OF_TASK, "at": calls.any_word}
+TIME = calls.number_within(0, kernel.HORIZON)
+VIEW = {"from": TIME, "to": TIME, "width": calls.number_within(960, 16_000), "title": calls.any_word, "tasks": calls.any_word}
 
 
 COMMANDS = {
@@ -319,7 +361,7 @@ COMMANDS = {
     "simulate": on_set(simulate, kernel.read_releases, options={**PREFERS, "tasks": calls.FLAG}),
     "releases": on_set(releases, number=(0, kernel.HORIZON), options={**PREFERS, "seed": calls.number_within(0, 2**32 - 1)}),
     "worst": on_set(of_task(worst.worst), options=AT, by_file=("at", WORST_AT)),
-    "draw": on_set(draw, kernel.read_releases),
+    "draw": on_set(draw, kernel.read_releases, options={**PREFERS, **VIEW}),
     "observe": on_set(
         observe, observed.read_trace, options={**PREFERS, "tolerance": calls.number_within(0, observed.TOLERANCE_MOST)}
     ),
@@ -327,7 +369,7 @@ COMMANDS = {
     "play": calls.Command(play, (scripts.read_script,)),
     "rush": calls.Command(rush, (scripts.read_script,), (1, scripts.TEAMS)),
 }
-KEYWORDS = {"tasks": "by_task", "lower-is-higher": "lower_is_higher"}  # options by another name
+KEYWORDS = {"tasks": "of_tasks", "lower-is-higher": "lower_is_higher", "from": "start", "to": "stop"}  # options by another name
 OF_THE_ORDER = ("admit", "explain", "limits", "settings", "worst")  # commands whose answer speaks of the order alone
 OF_A_PREFERENCE = (teams.read_set, read_change)  # readers that are told it
 HELP = {(word,) for word in ("help", "-h", "--help", "-V", "--version")}
@@ -341,20 +383,20 @@ def answer(words, files, stdin=b""):
     try:
         call = calls.call_of(words, COMMANDS)
         said = read_inputs(call, files, stdin)
-        options = {KEYWORDS.get(name, name): value for name, value in call.options.items() if name != "prefer"}
-        text, status = call.command.run(*said, *call.numbers, **options)
+        text, status = call.command.run(*said, *call.numbers, **keywords(call))
     except calls.Wrong:
         return Answer("", 2, SAID)
     except Refused as refusal:
         return Answer(refusal.line, refusal.status, SAID)
     if call.command.readers[0] is not teams.read_set:
         return Answer(text, status, "")
-    choice = choice_note(call, said[0])
-    # (of two inputs nothing odd is noted beside a refusal)
-    if call.command in IN_ORDER and status == 4:
-        return Answer(text, status, choice)
-    told = choice + notes(call, said[0]) + no_note(call, said[0], status) + parted_note(call, text)
+    told = choice_note(call, said[0]) + notes(call, said[0]) + no_note(call, said[0], status) + parted_note(call, text)
     return Answer(text, status, told)
+
+
+def keywords(call):
+    """The options of a call but for what it prefers, by the names that functions know."""
+    return {KEYWORDS.get(name, name): value for name, value in call.options.items() if name != "prefer"}
 
 
 def choice_note(call, tasks):
@@ -381,7 +423,7 @@ def notes(call, tasks):
             lines.append(f"note: lock {lock} has one user, {users[0]}\n")
     names = {task.name for task in tasks}
     for task in tasks:
-        for name in task.outranks:
+        for name in task.named:
             if name not in names:
                 lines.append(f"note: {task.name} outranks {name}, which is no task of the set: that binds nothing\n")
     if not tasks and call.command is not COMMANDS["diff"]:

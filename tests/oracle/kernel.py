@@ -1,6 +1,5 @@
 """Release lists and the simulated kernel: DEFINITIONS.md, The simulated kernel; FORMATS.md, Release lists."""
 
-from itertools import takewhile
 from typing import NamedTuple
 
 import settings
@@ -24,9 +23,7 @@ class Release(NamedTuple):
 
 def read_releases(data):
     """The settings in front, until when, and the releases as they are written."""
-    lines = kept_lines(data)
-    front = list(takewhile(lambda line: line[1].split(" ")[0] in ("thread", "mutex"), lines))
-    rows, lines = settings.rows_of(front), lines[len(front) :]
+    rows, lines = settings.in_front(kept_lines(data))
     if not lines:
         raise Refused(4, "BadLine", len(all_lines(data)) + 1)
     (until,) = read_lines(lines[:1], read_until)

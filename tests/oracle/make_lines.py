@@ -11,7 +11,7 @@ import scripts
 import settings
 from certificate import Best, Fails, Level, Nothing
 from refusals import Refused
-from sets import by_rank
+from sets import ALL, by_rank
 
 NUMBERS = ["0", "1", "2", "8", "9", "32", "33", "999", "1000", "1001", "65", "00", "01", "-1", "+1", "9999999999", "10000000000",
            "60000000", "60000001", "10000000", "10000001", "1000000", "1000001", "1e3", "", "0x1", "4294967296"]  # fmt: skip
@@ -298,7 +298,9 @@ def put_words(rng, name, sheet, names, share):
     words = [name, sheet.weight, sheet.period, sheet.deadline, cost]
     if sheet.jitter or rng.random() < 0.03:
         words.append(f"j={sheet.jitter}")
-    if sheet.outranks:
+    if sheet.outranks == ALL or rng.random() < 0.02:
+        words.append(rng.choice(["over=*", "over=*", "over=*", "over=all"]))
+    elif sheet.outranks:
         others = [other for other in [*names, "absent"] if other != name]
         words.append("over=" + "+".join(rng.sample(others, min(len(others), rng.choice([1, 1, 2])))))
     words += [f"{'+'.join(section.locks)}@{section.at}:{section.len}" for section in sheet.sections]

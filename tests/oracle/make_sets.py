@@ -4,7 +4,7 @@ import copy
 
 import analysis
 import limits
-from sets import Section, Sheet, by_rank, sheet_fault
+from sets import ALL, Section, Sheet, by_rank, sheet_fault
 
 NAMES = [*"abcdefgh", "B", "Z9", "a-1", "a_1", "a1", "hi", "lo", "mid", "x" * 24, "until", "over", "thread", "end"]
 LOCKS = ["m", "n", "bus", "L-2", "a", "k" * 24]
@@ -31,7 +31,8 @@ def some_sheets(rng, most=12):
             sheet = sheet._replace(jitter=rng.randint(0, min(most_late, deadline - 1)))
         if bound and rng.random() < 0.4:
             others = [other for other in names if other != name] + ["absent"]
-            sheet = sheet._replace(outranks=tuple(rng.sample(others, min(len(others), rng.choice([1, 1, 2, 8])))))
+            named = tuple(rng.sample(others, min(len(others), rng.choice([1, 1, 2, 8]))))
+            sheet = sheet._replace(outranks=ALL if rng.random() < 0.25 else named)
         assert not sheet_fault(sheet)
         out.append(sheet)
     if out and rng.random() < 0.5:
@@ -87,6 +88,29 @@ def at_edge(rng, out):
     return [changed if sheet.name == task.name else sheet for sheet in out]
 
 
+def overheads(rng, sheets):
+    """What a node takes: little, or as much as some task has room for, or one more."""
+    out = {}
+    for key in rng.sample(["job", "lock", "late"], rng.choice([0, 1, 2, 3, 3, 3])):
+        room = [rng.choice([0, 1, 3, 20, 100])]
+        if sheets and rng.random() < 0.3:
+            sheet = rng.choice(sheets)
+            locks = sum(len(part.locks) for part in sheet.sections)
+            spare = {"job": sheet.period - sheet.cost, "late": sheet.limit - 1, "lock": (sheet.period - sheet.cost) // max(1, locks)}
+            room += [min(other.limit for other in sheets) - 1, spare[key], spare[key] + 1, spare[key] // 2]
+        out[key] = rng.choice(room)
+    return out
+
+
+def wrong_overheads(rng, node):
+    """One fault or two in what a node says it takes."""
+    node = dict(node)
+    for _ in range(rng.choice([1, 1, 2])):
+        key = rng.choice(["job", "lock", "late", "release", "interrupt", "Job", ""])
+        node[key] = copy.deepcopy(rng.choice(VALUES))
+    return rng.choice([node, node, node, node, *VALUES])
+
+
 # Changes of sets
 
 
@@ -127,7 +151,8 @@ def changed(rng, sheets):
 def without_order(rng, sheet):
     """The same locks and names to outrank in another order."""
     parts = [part._replace(locks=tuple(rng.sample(part.locks, len(part.locks)))) for part in sheet.sections]
-    return sheet._replace(sections=tuple(parts), outranks=tuple(rng.sample(sheet.outranks, len(sheet.outranks))))
+    named = ALL if sheet.outranks == ALL else tuple(rng.sample(sheet.outranks, len(sheet.outranks)))
+    return sheet._replace(sections=tuple(parts), outranks=named)
 
 
 # Documents of several teams
@@ -194,10 +219,19 @@ def folder(rng, parts, node=None):
 # As tables, with faults
 
 
-def table_of(sheet):
+def section_table(rng, section, end):
+    """Where the section before it ends its `at` is mostly left out, and elsewhere now and then, which moves it there."""
+    table = {"locks": list(section.locks), "at": section.at, "len": section.len}
+    if rng.random() < (0.6 if section.at == end else 0.03):
+        del table["at"]
+    return table
+
+
+def table_of(rng, sheet):
     table = {key: getattr(sheet, key) for key in ("name", "weight", "period", "deadline", "cost", "jitter")}
-    table["section"] = [{"locks": list(s.locks), "at": s.at, "len": s.len} for s in sheet.sections]
-    table["outranks"] = list(sheet.outranks)
+    ends = [0, *(it.end for it in sheet.sections)]
+    table["section"] = [section_table(rng, *it) for it in zip(sheet.sections, ends)]
+    table["outranks"] = ALL if sheet.outranks == ALL else list(sheet.outranks)
     for key in ("weight", "jitter", "section", "outranks"):
         if not table[key]:
             del table[key]
@@ -232,7 +266,8 @@ def past_limit(rng, task, whole):
         ("deadline", number("period") + 1), ("cost", 0), ("cost", number("period")), ("cost", number("period") + 1),
         ("jitter", number("deadline") - 1), ("jitter", number("deadline")), ("name", rng.choice(whole).get("name", "a")),
         ("name", "x" * 25), ("outranks", [f"z{k}" for k in range(rng.choice([8, 9]))]), ("outranks", ["z", "y", "z"]),
-        ("outranks", [task.get("name", "a")]), ("outranks", ["1z"]), *[("section", None)] * 6,
+        ("outranks", [task.get("name", "a")]), ("outranks", ["1z"]), ("outranks", rng.choice(["all", "all", "All", ["all"], "*"])),
+        *[("section", None)] * 6,
     ])  # fmt: skip
     task[key] = value if key != "section" else sections_past_limit(rng, number("cost"))
 
@@ -247,6 +282,9 @@ def sections_past_limit(rng, cost):
         ("locks", ["L1", "L2", "L3", "L4", "L5"]), ("locks", ["m", ""]), ("at", 2**63 - 1), ("len", 2**63 - 1),
     ])  # fmt: skip
     part[key] = value
+    if rng.random() < 0.3:
+        for other in parts[1:]:
+            del other["at"]
     return parts
 
 
@@ -286,13 +324,23 @@ def toml(rng, root):
     text = "" if plain else rng.choice(["", "# a set\n", "\n", "\ufeff"])
     tables = root.get("task")
     blocks = isinstance(tables, list) and all(isinstance(t, dict) for t in tables) and rng.random() < 0.8
+    heads = []
     for key, value in root.items():
-        if key != "task" or not blocks:
+        if key == "node" and isinstance(value, dict) and all(value) and rng.random() < 0.8:
+            lines = [f"{spelled_key(rng, name, plain)} = {spelled(rng, part, plain)}\n" for name, part in value.items()]
+            if lines and rng.random() < 0.2:
+                text += "".join(f"node.{line}" for line in lines)
+            else:
+                heads.append("[node]\n" + "".join(lines))
+        elif key != "task" or not blocks:
             text += f"{spelled_key(rng, key, plain)} = {spelled(rng, value, plain)}\n"
+    last = rng.random() < 0.3
+    text += "" if last or not (blocks and tables) else "".join(heads)
     if blocks and tables:
         text += "\n".join(block(rng, table, plain) for table in tables)
     elif blocks and rng.random() < 0.5 and "task" in root:
         text += "task = []\n"
+    text += "".join(heads) if last or not (blocks and tables) else ""
     if not plain and rng.random() < 0.1:
         text = text.replace("\n", "\r\n")
     return text.encode()

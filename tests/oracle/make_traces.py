@@ -4,6 +4,7 @@ import analysis
 import kernel
 import make_lines
 import make_sets
+import settings
 from observed import Job, Slice
 from refusals import Refused
 
@@ -11,17 +12,27 @@ FOREIGN = ["irq", "kworker_0", "a1", "Zed"]
 
 
 def trace_of(rng, tasks):
-    """Of the set in some order; mostly with one damage; at times with gaps between the lines, or other words in them."""
-    slices, jobs = run_of(rng, tasks)
+    """Of the set in some order, which may stand in front; mostly with one damage; at times with gaps between the lines, or
+    other words in them."""
+    front = make_lines.settings_of(rng, tasks) if rng.random() < 0.4 else b""
+    slices, jobs = run_of(rng, tasks, given(tasks, front))
     if rng.random() < 0.75 and slices:
         slices, jobs = rng.choice([longer, sooner, foreign, paused, swapped, stretched, unfinished])(rng, tasks, slices, jobs)
-    data = make_lines.with_gaps(rng, spelled(rng, slices, jobs).encode())
+    data = front + make_lines.with_gaps(rng, spelled(rng, slices, jobs).encode())
     return make_lines.damaged_lines(rng, data) if rng.random() < 0.2 else data
 
 
-def run_of(rng, tasks):
-    """The slices and jobs of a run, mostly in the best order."""
-    order = analysis.best_order(tasks)
+def given(tasks, front):
+    """The order that settings give, or the best one; None where there is none."""
+    try:
+        rows = settings.read_settings(front)
+        return settings.node_order(tasks, rows) if rows else analysis.best_order(tasks)
+    except Refused:
+        return None
+
+
+def run_of(rng, tasks, order):
+    """The slices and jobs of a run, mostly in this order."""
     if order is None or rng.random() < 0.15:
         order = rng.sample(range(len(tasks)), len(tasks))
     period = min((task.period for task in tasks), default=1000)

@@ -3,6 +3,7 @@
 from typing import NamedTuple
 
 import analysis
+import settings
 from lines import Faulty, kept_lines, name_in, number_in, read_lines
 from refusals import Refused
 
@@ -23,8 +24,8 @@ class Job(NamedTuple):
 
 
 def read_trace(data):
-    """The slices and the jobs, each with the number of its line."""
-    lines = kept_lines(data)
+    """The settings in front, the slices, each with the number of its line, and the jobs."""
+    said, lines = settings.in_front(kept_lines(data))
     rows = list(zip((number for number, _ in lines), read_lines(lines, read_row)))
     slices = [(line, row) for line, row in rows if isinstance(row, Slice)]
     jobs = [(line, row) for line, row in rows if isinstance(row, Job)]
@@ -36,7 +37,7 @@ def read_trace(data):
             raise Refused(4, "JobUnsorted", line)
     if len(slices) > SLICES_MOST or len(jobs) > JOBS_MOST:
         raise Refused(4, "TooManyLines")
-    return slices, [job for _, job in jobs]
+    return said, slices, [job for _, job in jobs]
 
 
 def read_row(words):
@@ -104,7 +105,7 @@ def owner_of(part, jobs):
 
 
 def observe(tasks, order, slices, jobs, tolerance):
-    """What is printed of a trace, the set's order being given, and the status."""
+    """What is printed of a trace, an order that passes being given, and the status."""
     levels = {tasks[i].name: level for level, i, _ in analysis.levels_of(order)}
     owned = []
     for line, part in slices:

@@ -4,7 +4,7 @@ from typing import NamedTuple
 
 from lines import Faulty, kept_lines, name_in, number_in
 from refusals import Refused
-from sets import Section, Sheet, sheet_fault
+from sets import ALL, Section, Sheet, sheet_fault
 
 TEAMS = 8
 
@@ -93,7 +93,8 @@ def counted(words, least, most=None):
 def read_sheet(line, words):
     name, weight, period, deadline, cost, *rest = words
     jitter = number_in(rest.pop(0)[2:]) if rest and rest[0].startswith("j=") else 0
-    outranks = tuple(map(name_in, rest.pop(0)[5:].split("+"))) if rest and rest[0].startswith("over=") else ()
+    over = rest.pop(0)[5:] if rest and rest[0].startswith("over=") else None
+    outranks = () if over is None else ALL if over == "*" else tuple(map(name_in, over.split("+")))
     numbers = map(number_in, (weight, period, deadline, cost))
     sheet = Sheet(name_in(name), *numbers, tuple(map(read_section, rest)), jitter, outranks)
     fault = sheet_fault(sheet)
@@ -106,7 +107,7 @@ def sheet_words(sheet):
     """What a put says of a sheet, as `script` writes it."""
     words = [sheet.name, sheet.weight, sheet.period, sheet.deadline, sheet.cost]
     words += [f"j={sheet.jitter}"] if sheet.jitter else []
-    words += [f"over={'+'.join(sheet.outranks)}"] if sheet.outranks else []
+    words += [f"over={'*' if sheet.outranks == ALL else '+'.join(sheet.outranks)}"] if sheet.outranks else []
     words += [f"{'+'.join(section.locks)}@{section.at}:{section.len}" for section in sheet.sections]
     return " ".join(map(str, words))
 

@@ -25,6 +25,10 @@ class Section(NamedTuple):
         return self.at + self.len
 
 
+# What a sheet says that outranks all others but those that say so, too.
+ALL = "all"
+
+
 class Sheet(NamedTuple):
     name: str
     weight: int
@@ -33,7 +37,7 @@ class Sheet(NamedTuple):
     cost: int
     sections: tuple = ()
     jitter: int = 0
-    outranks: tuple = ()
+    outranks: tuple = ()  # of names, or ALL
 
     @property
     def rank(self):
@@ -47,6 +51,14 @@ class Sheet(NamedTuple):
     @property
     def last_end(self):
         return self.sections[-1].end if self.sections else 0
+
+    @property
+    def named(self):
+        """The names of tasks that it outranks."""
+        return () if self.outranks == ALL else self.outranks
+
+    def must_outrank(self, other):
+        return other.outranks != ALL if self.outranks == ALL else other.name in self.outranks
 
 
 def sheet_fault(sheet):
@@ -82,11 +94,11 @@ def sheet_fault(sheet):
         end = section.end
     if sheet.jitter >= sheet.deadline:
         return ("BadJitter",)
-    if len(sheet.outranks) > 8:
+    if len(sheet.named) > 8:
         return ("TooManyOutranks",)
-    if len(set(sheet.outranks)) < len(sheet.outranks):
+    if len(set(sheet.named)) < len(sheet.named):
         return ("OutranksTwice",)
-    if sheet.name in sheet.outranks:
+    if sheet.name in sheet.named:
         return ("OutranksSelf",)
     return ()
 
@@ -103,12 +115,56 @@ def by_limits(tasks):
 
 
 PREFERENCES = ("weight", "deadline")
+NODE_KEYS = ("job", "lock", "late")
+
+
+class Node(NamedTuple):
+    """What the node takes of a job, of a lock, and how late a job may begin."""
+
+    job: int
+    lock: int
+    late: int
+
+
+def read_node(table):
+    if not isinstance(table, dict):
+        raise Refused(4, "WrongKind", 0, 0, "node")
+    if set(table) - set(NODE_KEYS):
+        raise Refused(4, "UnknownOverhead")
+    for key in NODE_KEYS:
+        if not is_number(table.get(key, 0)):
+            raise Refused(4, "WrongKind", 0, 0, key)
+    return Node(*(table.get(key, 0) for key in NODE_KEYS))
+
+
+def padded_sheet(sheet, node):
+    """A sheet with what the node takes, which may not be a valid one."""
+    calls = [node.lock * len(section.locks) for section in sheet.sections]
+    sections = tuple(
+        section._replace(at=section.at + node.job + sum(calls[:place]), len=section.len + calls[place])
+        for place, section in enumerate(sheet.sections)
+    )
+    return sheet._replace(cost=sheet.cost + node.job + sum(calls), jitter=sheet.jitter + node.late, sections=sections)
+
+
+def padded(sheets, node):
+    """The set with what the node takes, if there is one; or the first task, by rank, that has no room for it."""
+    if node is None:
+        return sheets
+    out = [padded_sheet(sheet, node) for sheet in by_rank(sheets)]
+    for sheet in out:
+        if sheet.cost > sheet.period:
+            raise Refused(4, "PaddedCost", sheet.name)
+        if sheet.jitter >= sheet.deadline:
+            raise Refused(4, "PaddedJitter", sheet.name)
+        assert not sheet_fault(sheet)
+    return out
 
 
 def read_document(data):
-    """What a document prefers, if it says so, and its sheets, as they stand; or the first refusal."""
+    """What a document prefers, and its node, if it says so, and its sheets, as they stand; or the first refusal."""
     tree = tree_of(data)
-    if set(tree) - {"task", "prefer"}:
+    if set(tree) - {"task", "prefer", "node"}:
         raise Refused(4, "UnknownKey", 0, 0)
     tables = tree.get("task", [])
     if not are(tables, dict):
@@ -118,6 +174,7 @@ def read_document(data):
         raise Refused(4, "WrongKind", 0, 0, "prefer")
     if prefer is not None and prefer not in PREFERENCES:
         raise Refused(4, "BadPreference")
+    node = read_node(tree["node"]) if "node" in tree else None
     sheets = [read_task(table, number) for number, table in enumerate(tables, 1)]
     names = [sheet.name for sheet in sheets]
     for number, name in enumerate(names, 1):
@@ -125,7 +182,7 @@ def read_document(data):
             raise Refused(4, "SameName", number)
     if len(sheets) > TASKS_MOST:
         raise Refused(4, "TooManyTasks")
-    return prefer, sheets
+    return prefer, node, sheets
 
 
 def are(value, kind):
@@ -145,7 +202,7 @@ KINDS = {
     "cost": is_number,
     "section": lambda value: are(value, dict),
     "jitter": is_number,
-    "outranks": lambda value: are(value, str),
+    "outranks": lambda value: value == ALL or are(value, str),
     "locks": lambda value: are(value, str),
     "at": is_number,
     "len": is_number,
@@ -153,6 +210,7 @@ KINDS = {
 TASK_KEYS = ("name", "weight", "period", "deadline", "cost", "section", "jitter", "outranks")
 NEEDED_KEYS = ("name", "period", "deadline", "cost")
 SECTION_KEYS = ("locks", "at", "len")
+NEEDED_SECTION_KEYS = ("locks", "len")
 
 
 def check_keys(table, task, section, allowed, needed):
@@ -166,24 +224,33 @@ def check_keys(table, task, section, allowed, needed):
             raise Refused(4, "WrongKind", task, section, key)
 
 
+def read_sections(tables):
+    """A section without `at` begins where the one before it ends, the first at 0."""
+    sections, end = [], 0
+    for part in tables:
+        sections.append(Section(tuple(part["locks"]), part.get("at", end), part["len"]))
+        end = sections[-1].end
+    return tuple(sections)
+
+
 def read_task(table, task):
     check_keys(table, task, 0, TASK_KEYS, NEEDED_KEYS)
     tables = table.get("section", [])
     for number, part in enumerate(tables, 1):
-        check_keys(part, task, number, SECTION_KEYS, SECTION_KEYS)
-    sections = tuple(Section(tuple(part["locks"]), part["at"], part["len"]) for part in tables)
+        check_keys(part, task, number, SECTION_KEYS, NEEDED_SECTION_KEYS)
+    sections = read_sections(tables)
     sheet = Sheet(
         *(table.get(key, 0) for key in ("name", "weight", "period", "deadline", "cost")),
         sections,
         table.get("jitter", 0),
-        tuple(table.get("outranks", ())),
+        ALL if table.get("outranks") == ALL else tuple(table.get("outranks", ())),
     )
     if not is_name(sheet.name):
         raise Refused(4, "BadName", task, 0)
     for number, section in enumerate(sections, 1):
         if not all(map(is_name, section.locks)):
             raise Refused(4, "BadName", task, number)
-    if not all(map(is_name, sheet.outranks)):
+    if not all(map(is_name, sheet.named)):
         raise Refused(4, "BadName", task, 0)
     fault = sheet_fault(sheet)
     if fault:

@@ -5,7 +5,7 @@ import re
 import analysis
 from lines import Faulty, NUMBER
 from refusals import Refused
-from sets import by_limits, by_rank, is_name, read_document, TASKS_MOST
+from sets import by_limits, by_rank, is_name, padded, read_document, TASKS_MOST
 from toml_tree import tree_of
 
 MARK = b"#% "
@@ -27,31 +27,35 @@ class Ranked(tuple):
 
 def read_set(data, preference=None):
     """The set that a text says, by what the call prefers, else the text, else by weights; or the first refusal."""
-    own, sheets, owners = read_teams(data) if data.startswith(MARK) else (*read_document(data), {})
+    own, node, sheets, owners = read_teams(data) if data.startswith(MARK) else (*read_document(data), {})
+    sheets = padded(sheets, node)
     tasks = Ranked(by_limits(sheets) if (preference or own) == "deadline" else by_rank(sheets))
     tasks.own, tasks.owners = own, owners
     return tasks
 
 
 def read_teams(data):
-    """What the documents prefer, if one says so, the sheets of all, document by document, and the team of each."""
+    """What the documents prefer, and their node, if one says so, the sheets of all, document by document, and the team of
+    each."""
     node, data = node_document(data)
     budgets = {} if node is None else read_budgets(node)
-    teams, part = [], 0
+    teams, preferring, overheads_of, part = [], [], [], 0
     while data:
         part += 1
         team, document, data = next_document(data, part)
         try:
-            prefer, sheets = read_document(document)
+            prefer, overheads, sheets = read_document(document)
         except Refused as refusal:
             raise refusal.behind("team", team) from None
-        teams.append((team, prefer, by_rank(sheets)))
-    preferring = [(team, prefer) for team, prefer, _ in teams if prefer is not None]
-    for team, prefer in preferring:
-        if prefer != preferring[0][1]:
-            raise Refused(4, "OtherPreference", team, preferring[0][0])
+        teams.append((team, by_rank(sheets)))
+        preferring += [(team, prefer)] * (prefer is not None)
+        overheads_of += [(team, overheads)] * (overheads is not None)
+    for said, refusal in (preferring, "OtherPreference"), (overheads_of, "OtherNode"):
+        for team, it in said:
+            if it != said[0][1]:
+                raise Refused(4, refusal, team, said[0][0])
     owner = {}
-    for team, _, sheets in teams:
+    for team, sheets in teams:
         for sheet in sheets:
             if sheet.name in owner:
                 raise Refused(4, "TakenName", team, sheet.name, owner[sheet.name])
@@ -59,8 +63,8 @@ def read_teams(data):
     if len(owner) > TASKS_MOST:
         raise Refused(4, "TooManyTasks")
     keep_budgets(budgets, teams)
-    own = preferring[0][1] if preferring else None
-    return own, [sheet for _, _, sheets in teams for sheet in sheets], owner
+    own, overheads = (said[0][1] if said else None for said in (preferring, overheads_of))
+    return own, overheads, [sheet for _, sheets in teams for sheet in sheets], owner
 
 
 def node_document(data):
@@ -101,10 +105,10 @@ def read_budgets(data):
 def keep_budgets(budgets, teams):
     """Refuses the first budget whose team has no document, or takes more."""
     for team, budget in sorted(budgets.items()):
-        if team not in {name for name, _, _ in teams}:
+        if team not in {name for name, _ in teams}:
             raise Refused(4, "NoSuchTeam", team)
-        own = [sheet for name, _, sheets in teams if name == team for sheet in sheets]
-        others = [sheet for name, _, sheets in teams if name != team for sheet in sheets]
+        own = [sheet for name, sheets in teams if name == team for sheet in sheets]
+        others = [sheet for name, sheets in teams if name != team for sheet in sheets]
         used = {lock for sheet in others for section in sheet.sections for lock in section.locks}
         load = analysis.load(own)
         if load > 1000 * budget.get("load", load):
