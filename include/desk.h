@@ -87,7 +87,8 @@ size_t desk_simulate(const uint8_t *set, size_t set_length, const uint8_t *relea
 size_t desk_draw(const uint8_t *set, size_t set_length, const uint8_t *releases, size_t releases_length, uint8_t *room,
                  size_t room_length, uint8_t *status);
 
-/* What a trace of a node shows of each task, and which promises it breaks; no time may be past what is promised. */
+/* What a trace of a node shows of each task, and which promises it breaks, at the levels of the best order or of that which
+ * the trace gives; no time may be past what is promised. */
 size_t desk_observe(const uint8_t *set, size_t set_length, const uint8_t *trace, size_t trace_length, uint8_t *room,
                     size_t room_length, uint8_t *status);
 

@@ -25,7 +25,8 @@ from types import SimpleNamespace
 
 NAME = "[A-Za-z][A-Za-z0-9_-]{0,23}"
 NUMBER = "(?:0|[1-9][0-9]{0,9})"
-SET = {"task": list, "prefer": str}
+SET = {"task": list, "prefer": str, "node": dict}
+NODE = {"job": int, "lock": int, "late": int}
 TASK = {"name": str, "weight": int, "period": int, "deadline": int, "cost": int, "jitter": int,
         "section": list, "outranks": list}
 SECTION = {"locks": list, "at": int, "len": int}
@@ -48,13 +49,40 @@ def are_names(words, most):
     return len(set(words)) == len(words) <= most and all(re.fullmatch(NAME, it) for it in words)
 
 
-def task_of(table):
-    """A task, if its sheet is valid. Its limit is the longest time that serves it, counted from the
-    latest instant at which it may become ready; its locks are those of all sections."""
+def sections_of(tables):
+    """Sections one of which, without `at`, begins where the one before it ends, the first at 0."""
+    sections, end = [], 0
+    for table in tables:
+        sections.append(values(table, SECTION, at=end))
+        end = sections[-1].at + sections[-1].len
+    return sections
+
+
+def task_of(table, node):
+    """A task with what the node takes, if its sheet is valid before and after that is put in. Its
+    limit is the longest time that serves it, counted from the latest instant at which it may become
+    ready; its locks are those of all sections."""
+    table = {**table}
+    is_above_all = table.get("outranks") == "all"
+    if is_above_all:
+        table["outranks"] = []
     it = values(table, TASK, weight=0, jitter=0, section=[], outranks=[])
-    it.section = [values(section, SECTION) for section in it.section]
-    it.limit = it.deadline - it.jitter
+    it.is_above_all = is_above_all
+    it.section = sections_of(it.section)
     it.locks = {lock for section in it.section for lock in section.locks}
+    check_task(it)
+    before = node.job
+    for section in it.section:
+        calls = node.lock * len(section.locks)
+        section.at, section.len, before = section.at + before, section.len + calls, before + calls
+    it.cost, it.jitter = it.cost + before, it.jitter + node.late
+    it.limit = it.deadline - it.jitter
+    check_task(it)
+    return it
+
+
+def check_task(it):
+    """Refuses a task whose sheet isn't valid."""
     ends = [0, *(section.at + section.len for section in it.section)]
     is_valid = (
         are_names([it.name], 1) and 0 <= it.weight <= 1000 and 1000 <= it.period <= 10_000_000
@@ -66,14 +94,17 @@ def task_of(table):
     )  # fmt: skip
     if not is_valid:
         raise ValueError
-    return it
 
 
 def read_set(text):
-    """The tasks by rank, which is by weight and then by name. Where deadlines are preferred, a
-    task's weight is the number of tasks of a longer limit."""
-    root = values(tomllib.loads(text.decode("utf-8-sig")), SET, task=[], prefer="weight")
-    tasks = [task_of(table) for table in root.task]
+    """The tasks by rank, which is by weight and then by name, each with what the node takes, if the
+    set says it. Where deadlines are preferred, a task's weight is the number of tasks of a longer
+    limit."""
+    root = values(tomllib.loads(text.decode("utf-8-sig")), SET, task=[], prefer="weight", node={})
+    node = values(root.node, NODE, job=0, lock=0, late=0)
+    if min(node.job, node.lock, node.late) < 0:
+        raise ValueError
+    tasks = [task_of(table, node) for table in root.task]
     if text.startswith(b"#% ") or root.prefer not in ("weight", "deadline") \
             or not are_names([it.name for it in tasks], 32):
         raise ValueError
@@ -134,11 +165,16 @@ def demand(tasks, task, above, time):
     return task.cost + blocking + sum(-(-(time + it.jitter) // it.period) * it.cost for it in above)
 
 
+def must_outrank(task, other):
+    """Whether the task must stand above the other one: that it names, or any that isn't above all, too."""
+    return not other.is_above_all if task.is_above_all else other.name in task.outranks
+
+
 def refutes(tasks, task, above, reason):
     """Whether a reason shows that the task can't stand below these: one of them that it must
     outrank, or a chain."""
     if isinstance(reason, str):
-        return reason in task.outranks and reason in [it.name for it in above]
+        return any(it.name == reason and must_outrank(task, it) for it in above)
     rises = all(a < b <= demand(tasks, task, above, a) for a, b in zip(reason, reason[1:]))
     return reason[0] == 1 and rises and max([0, *reason[:-1]]) <= task.limit < reason[-1]
 
@@ -147,7 +183,8 @@ def check(tasks, version, claim, rows):
     """What the certificate shows. Each rule goes over all of it before the next one."""
     named = {it.name: it for it in tasks}
     order = [named.get(row[0]) for row in rows]
-    if version == 1 and any(it.jitter or named.keys() & {*it.outranks} for it in tasks):
+    is_bound = any(must_outrank(it, other) for it in tasks for other in tasks)
+    if version == 1 and (is_bound or any(it.jitter for it in tasks)):
         raise Refused("WrongVersion")
     is_short = claim == "best" and len(rows) < len(tasks)
     if None in order or len({it.name for it in order}) < len(rows) or is_short:
@@ -174,7 +211,7 @@ def check(tasks, version, claim, rows):
     for level, (_, time, _) in enumerate(rows, 1):
         task, above = order[level - 1], order[level:]
         if not 1 <= time <= task.limit or demand(tasks, task, above, time) > time \
-                or {*task.outranks} & {it.name for it in above}:
+                or any(must_outrank(task, it) for it in above):
             raise Refused(f"BadPass {level}")
     for level, (_, _, reasons) in enumerate(rows, 1):
         refuse_wrong(level, order[level - 1 :], reasons)

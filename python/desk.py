@@ -23,6 +23,12 @@ valid. By deadlines:
 >>> len(desk.admit(SET).levels)
 2
 
+With what the node itself takes of a job and of a lock, and how late a job may begin:
+
+>>> padded = desk.admit(desk.toml(SHEETS, node=desk.Node(job=20, lock=2, late=15)))
+>>> [(it.task, it.response) for it in padded.levels]
+[('lo', 23103), ('hi', 5039)]
+
 A no is a value, too, and is false where a yes is true. A refused input is an exception, with the
 line that `desk` prints and a sentence:
 
@@ -69,11 +75,12 @@ class OutOfMemory(MemoryError):
 
 @dataclass(frozen=True)
 class Section:
-    """A critical section: the locks of a job from `at` on, for `len` of its execution."""
+    """A critical section: the locks of a job from `at` on, for `len` of its execution. Without `at`
+    it begins where the section before it ends, the first at 0."""
 
     locks: Sequence[str]
-    at: int
-    len: int
+    at: int | None = None
+    len: int = 0  # which no set may have
 
 
 @dataclass(frozen=True)
@@ -87,7 +94,7 @@ class Task:
     weight: int = 0
     jitter: int = 0
     sections: Sequence[Section] = ()
-    outranks: Sequence[str] = ()
+    outranks: Sequence[str] = ()  # names, or "all"
 
 
 @dataclass(frozen=True, kw_only=True)
@@ -146,7 +153,8 @@ class Checked(_Answer):
 @dataclass(frozen=True)
 class Part:
     """A part of a time: `kind` is cost, jitter, blocked (by `task`) or above (`jobs` of `task`). `team`
-    is whose that task is, where the set is documents of teams."""
+    is whose that task is, where the set is documents of teams. `ceiling_by` is a task above whose
+    use of the lock makes it block, where the task itself doesn't use it."""
 
     kind: str
     time: int
@@ -155,13 +163,15 @@ class Part:
     lock: str | None = None
     jobs: int | None = None
     team: str | None = None
+    ceiling_by: str | None = None
 
 
 @dataclass(frozen=True)
 class Response:
-    """A time of a task and its parts. `time` is None where the task must be above another, or where it
-    misses its deadline in an order; `number` is that of its thread, of `judge`; `team` whose it is, of
-    `explain`, where the set is documents of teams."""
+    """A time of a task and its parts: where it misses its deadline, what it needs at least. `time` is
+    None where the task must be above another, and, of `judge`, where it misses its deadline; `number`
+    is that of its thread, of `judge`; `team` whose it is, of `explain`, where the set is documents of
+    teams."""
 
     task: str
     time: int | None = None
@@ -184,7 +194,8 @@ class Explained(_Answer):
 @dataclass(frozen=True)
 class Conflict(_No):
     """Tasks none of which can be the lowest of them, and what each needs there; and what becomes of
-    each task in an `order` that passes where any does, the lowest level first."""
+    each task in an `order` that passes where any does, the lowest level first, with the parts of what
+    a task needs that misses its deadline."""
 
     obstruction: tuple[str, ...]
     tasks: tuple[str, ...]
@@ -397,12 +408,21 @@ class Played(_Answer):
     levels: tuple[Place, ...]
 
 
+@dataclass(frozen=True)
+class Node:
+    """What the node itself takes of a job and of each lock, and how late a job may begin."""
+
+    job: int = 0
+    lock: int = 0
+    late: int = 0
+
+
 # A set is a document, or tasks.
 Sheets = Text | Iterable[Task]
 
 
-def toml(tasks: Iterable[Task], prefer: str | None = None) -> str:
-    """The tasks as a document that the other functions read, and what it prefers."""
+def toml(tasks: Iterable[Task], prefer: str | None = None, node: Node | None = None) -> str:
+    """The tasks as a document that the other functions read, what it prefers, and its node."""
 
     def word(name: str) -> str:
         return json.dumps(name, ensure_ascii=False)
@@ -410,20 +430,25 @@ def toml(tasks: Iterable[Task], prefer: str | None = None) -> str:
     def words(names: Iterable[str]) -> str:
         return "[" + ", ".join(word(it) for it in names) + "]"
 
+    def section(it: Section) -> str:
+        at = "" if it.at is None else f"at = {it.at}, "
+        return f"{{ locks = {words(it.locks)}, {at}len = {it.len} }}"
+
     def lines(it: Task) -> Iterable[str]:
         yield "[[task]]"
         yield f"name = {word(it.name)}"
         for key in ("weight", "period", "deadline", "cost", "jitter"):
             yield f"{key} = {getattr(it, key)}"
         if it.sections:
-            rows = (
-                f"{{ locks = {words(s.locks)}, at = {s.at}, len = {s.len} }}" for s in it.sections
-            )
-            yield f"section = [{', '.join(rows)}]"
-        if it.outranks:
+            yield f"section = [{', '.join(map(section, it.sections))}]"
+        if it.outranks == "all":
+            yield 'outranks = "all"'
+        elif it.outranks:
             yield f"outranks = {words(it.outranks)}"
 
     head = [f"prefer = {word(prefer)}"] if prefer else []
+    if node is not None:
+        head += ["[node]", *(f"{key} = {getattr(node, key)}" for key in ("job", "lock", "late"))]
     return "".join(line + "\n" for line in [*head, *(line for it in tasks for line in lines(it))])
 
 
@@ -555,38 +580,49 @@ def _team(words: Sequence[str]) -> str | None:
 def _part(words: Sequence[str]) -> Part:
     if words[0] == "blocked":
         time, task, section, lock = int(words[1]), words[3], int(words[5]), words[7]
-        return Part("blocked", time, task, section, lock, team=_team(words))
+        user = words[10] if lock.endswith(",") else None
+        return Part(
+            "blocked", time, task, section, lock.rstrip(","), team=_team(words), ceiling_by=user
+        )
     if words[0] == "above":
         return Part("above", int(words[4]), words[1], jobs=int(words[2]), team=_team(words))
     return Part(words[0], int(words[1]))
 
 
-def _responses(lines: Iterable[str]) -> tuple[Response, ...]:
+def _parted(lines: Iterable[str]) -> list[tuple[list[str], tuple[Part, ...]]]:
+    """The words of each line, and the parts that stand below it."""
     found: list[tuple[list[str], list[Part]]] = []
     for line in lines:
         if line.startswith(" "):
             found[-1][1].append(_part(line.split()))
         else:
             found.append((line.split(), []))
+    return [(words, tuple(parts)) for words, parts in found]
+
+
+def _responses(lines: Iterable[str]) -> tuple[Response, ...]:
     out = []
-    for words, parts in found:
+    for words, parts in _parted(lines):
         level = int(words.pop(0)) if words[0].isdigit() else None
         if words[1] == "must":
             out.append(Response(words[0], level=level, must_be_above=words[4], team=_team(words)))
         else:
             time, deadline = int(words[1]), int(words[3])
-            out.append(Response(words[0], time, deadline, tuple(parts), level, team=_team(words)))
+            out.append(Response(words[0], time, deadline, parts, level, team=_team(words)))
     return tuple(out)
 
 
-def _in_order(words: Sequence[str]) -> Response:
+def _in_order(words: Sequence[str], parts: tuple[Part, ...] = ()) -> Response:
     """What becomes of a task in an order; the number of its thread, or its team, stands behind."""
     k, name, what, *more = words
     level, team, number = int(k), _team(words), int(more[-1]) if more[-2:-1] == ["at"] else None
     if what == "below":
         return Response(name, level=level, must_be_above=more[0], number=number)
-    time, deadline = (None, more[0]) if what == "misses" else (int(what), more[1])
-    return Response(name, time, int(deadline), level=level, number=number, team=team)
+    if what == "misses":
+        time, deadline = int(more[2]) if more[1:2] == ["needs"] else None, more[0]
+    else:
+        time, deadline = int(what), more[1]
+    return Response(name, time, int(deadline), parts, level, number=number, team=team)
 
 
 def explain(tasks: Sheets) -> Explained | Conflict:
@@ -603,7 +639,7 @@ def explain(tasks: Sheets) -> Explained | Conflict:
     if not status:
         return Explained(_responses(lines[:end]), load, text=said)
     tasks_left, *needs = lines[:end]
-    order = tuple(_in_order(it.split()) for it in lines[end + 1 :])
+    order = tuple(_in_order(words, parts) for words, parts in _parted(lines[end + 1 :]))
     conflict = tuple(tasks_left.split()[1:])
     return Conflict(tuple(first.split()[1:]), conflict, _responses(needs), load, order, text=said)
 
@@ -644,6 +680,13 @@ def settings(tasks: Sheets) -> Settings | Infeasible:
     return _set_to(said.splitlines())
 
 
+def _judged(said: str) -> Judged:
+    first, *lines = said.splitlines()
+    levels = tuple(_in_order(it.split()) for it in lines)
+    misses = tuple(first.split()[1:]) if first.startswith("misses") else ()
+    return Judged(misses, levels, text=said)
+
+
 def judge(tasks: Sheets, settings: Text | Settings) -> Judged:
     """Which deadlines hold at priorities that are there.
 
@@ -652,11 +695,7 @@ def judge(tasks: Sheets, settings: Text | Settings) -> Judged:
     >>> found.misses, [(it.task, it.number) for it in found.levels]
     (('b',), [('b', 10), ('a', 20)])
     """
-    said = _ask("judge", tasks, settings)[1]
-    first, *lines = said.splitlines()
-    levels = tuple(_in_order(it.split()) for it in lines)
-    misses = tuple(first.split()[1:]) if first.startswith("misses") else ()
-    return Judged(misses, levels, text=said)
+    return _judged(_ask("judge", tasks, settings)[1])
 
 
 def diff(tasks: Sheets, new: Sheets) -> Compared:
@@ -759,8 +798,10 @@ def draw(tasks: Sheets, releases: Text | Releases) -> str | Infeasible:
     return _no(said) if status else said
 
 
-def observe(tasks: Sheets, trace: Text | Run) -> Observed | Infeasible:
-    """Which promises of the set a trace of a node breaks, with no tolerance.
+def observe(tasks: Sheets, trace: Text | Run) -> Observed | Judged | Infeasible:
+    """Which promises of the set a trace of a node breaks, with no tolerance: in the order that it
+    gives, or else in the best one. In an order in which a task misses its deadline nothing is
+    promised, and the answer is that of `judge`.
 
     >>> observe([Task("a", 10_000, 10_000, 6000)], "0 7000 a\\njob a 0 7000\\n").broken[0]
     Broken(kind='cost', task='a', arrival=0, time=7000, limit=6000, by=None)
@@ -768,6 +809,8 @@ def observe(tasks: Sheets, trace: Text | Run) -> Observed | Infeasible:
     said = _ask("observe", tasks, trace)[1]
     if said.startswith("infeasible"):
         return _no(said)
+    if said.startswith("misses"):
+        return _judged(said)
     seen, broken = [], []
     for kind, name, *words in (it.split() for it in said.splitlines()):
         if kind == "task":

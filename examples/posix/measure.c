@@ -15,7 +15,8 @@
  *     -c CPU       the processor (else the last one that is allowed)
  *     -b PRIORITY  that of level 1 (else the least)
  *     -x N         a microsecond of the set lasts N microseconds here
- *     -t FILE      who executed from when to when, as `simulate` prints it, for `desk observe`
+ *     -t FILE      the lines `thread` and `mutex` of the input, then who executed from when to
+ *                  when, as `simulate` prints it: for `desk observe`
  *
  * First come the node's overheads; then how often and how long no task executed though a job was
  * ready (outside); then each task's greatest response from the arrival, rounded up, in
@@ -73,6 +74,7 @@ static int lock_count, task_count, job_count;
 /* How many nanoseconds a microsecond of the set lasts; the end of the run; when it began. */
 static int64_t scale = 1000, until, start;
 static atomic_int slice_count;
+static FILE *trace;
 
 /* ---- The run. ---- */
 
@@ -232,6 +234,13 @@ static int read_row(const char *line)
     return 1;
 }
 
+/* The trace says by which settings it was recorded. */
+static void trace_setting(const char *kind, const char *name, long number)
+{
+    if (trace != NULL)
+        fprintf(trace, "%s %s %ld\n", kind, name, number);
+}
+
 static int read_line(char *line)
 {
     char name[25];
@@ -242,10 +251,12 @@ static int read_line(char *line)
         if (find_task(name) != NULL)
             find_task(name)->level = (int)number;
         levels = number > levels ? (int)number : levels;
+        trace_setting("thread", name, number);
         return 1;
     }
     if (sscanf(line, "mutex %24s %ld", name, &number) == 2) {
         locks[find_lock(name)].level = (int)number;
+        trace_setting("mutex", name, number);
         return 1;
     }
     if (sscanf(line, "until %ld", &number) == 1) {
@@ -334,7 +345,6 @@ static int print_task(int number)
 /* ---- The process. ---- */
 
 static int cpu = -1;
-static FILE *trace;
 
 static void read_options(int count, char **words)
 {

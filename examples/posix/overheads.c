@@ -112,6 +112,20 @@ static void print_gauge(struct gauge *gauge)
                (long)sample[n / 2], (long)sample[n * 99 / 100], (long)sample[n - 1], gauge->text);
 }
 
+/* The greatest sample, in microseconds, rounded up. */
+static long greatest(const struct gauge *gauge)
+{
+    return gauge->count > 0 ? (long)((gauge->sample[gauge->count - 1] + 999) / 1000) : 0;
+}
+
+/* What a set may say of the node: the greatest of each that was seen here. */
+static void print_node(void)
+{
+    long busy = greatest(&late), asleep = greatest(&idle);
+    printf("[node] # the greatest seen, in us\njob = %ld\nlock = %ld\nlate = %ld\n", greatest(&job),
+           greatest(&lock), busy > asleep ? busy : asleep);
+}
+
 void print_overheads(void)
 {
     struct {
@@ -140,4 +154,5 @@ void print_overheads(void)
     printf("overhead   times   least  median     99%% greatest  in ns\n");
     for (size_t i = 0; i < sizeof gauges / sizeof gauges[0]; i++)
         print_gauge(gauges[i]);
+    print_node();
 }
