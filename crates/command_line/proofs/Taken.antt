@@ -8,7 +8,7 @@ use Rattle.clap.specs.Walk.{Rule, Text, nothing_held, rows_after}
 use Rattle.clap.proofs.OnLiterals.{clap_on_literals}
 use Rattle.command_line.specs.App.{command_app, desk_app}
 use Rattle.command_line.specs.Calls.{AllMayNumber, MayTake, SayChoices, SaysNumber}
-use Rattle.command_line.specs.Commands.{choice_name, commands, least_of, most_of, number_choices, number_name, takes_of}
+use Rattle.command_line.specs.Commands.{choice_id, commands, least_of, most_of, number_choices, number_name, takes_of}
 use Rattle.command_line.specs.declared.calls.Choice.{Choice}
 use Rattle.command_line.specs.declared.calls.Takes.{Takes}
 use Rattle.command_line.specs.declared.calls.Takes.TheVariants as takes
@@ -35,7 +35,7 @@ number_fits _ rules = true
 abbrev pub row_fits : Text × Verb × List Choice → Bool
 row_fits row =
     number_fits row.1 (shape row).rules
-    && list_all (λ c. takes_fit (choice_name c) (takes_of c) (shape row).rules) number_choices
+    && list_all (λ c. takes_fit (choice_id c) (takes_of c) (shape row).rules) number_choices
 
 -- the table is so
 pub all_fit : list_all row_fits commands ≡ true
@@ -48,12 +48,12 @@ may_take name (takes.Number least most) s fit words fine = level_may_say name le
 may_take name takes.Word s fit words fine = tt
 may_take name takes.Flag s fit words fine = tt
 
-may_choose : (choices : List Choice) (s : Shape) → list_all (λ c. takes_fit (choice_name c) (takes_of c) s.rules) choices ≡ true
+may_choose : (choices : List Choice) (s : Shape) → list_all (λ c. takes_fit (choice_id c) (takes_of c) s.rules) choices ≡ true
     → (words : List Text) → level_fault s [] nothing_held words false [] ≡ [] → AllMayNumber choices (rows_after s.rules [] words)
 may_choose [] s fit words fine = tt
 may_choose (c ∷ more) s fit words fine =
     let each = and_parts _ _ fit in
-    (may_take (choice_name c) (takes_of c) s each.0 words fine, may_choose more s each.1 words fine)
+    (may_take (choice_id c) (takes_of c) s each.0 words fine, may_choose more s each.1 words fine)
 
 says_number : (v : Verb) (s : Shape) → number_fits v s.rules ≡ true → (words : List Text)
     → level_fault s [] nothing_held words false [] ≡ [] → SaysNumber v (rows_after s.rules [] words)

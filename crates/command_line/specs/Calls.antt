@@ -3,7 +3,7 @@ use Rattle.std.specs.Prelude.{◌≡◌, ◌≢◌, ◌⊎◌, ◌≤◌, ℕ, L
 use Rattle.std.specs.Str.Parse.{digits_value, without_leading_plus}
 use Rattle.clap.specs.Words.{HasKind, IsUnsignedIn, Row, Text, fault_of, first_of, one_of, subcommand_of}
 use Rattle.command_line.specs.App.{desk_app}
-use Rattle.command_line.specs.Commands.{choice_name, input_of, least_of, most_of, number_choices, number_name, second_of, takes_of, verb_of, by_file}
+use Rattle.command_line.specs.Commands.{choice_id, input_of, least_of, most_of, number_choices, number_name, second_of, takes_of, verb_of, by_file}
 use Rattle.command_line.specs.declared.calls.TheConstants.{MOST_PRIORITY, MOST_SEED, MOST_TOLERANCE, LATEST_END, LEAST_WIDTH, MOST_WIDTH}
 use Rattle.command_line.specs.declared.calls.Choice.{Choice}
 use Rattle.command_line.specs.declared.calls.Choice.TheVariants.{Base, LowerIsHigher, Seed, Tasks, Tolerance, From, To, Width}
@@ -69,7 +69,7 @@ MayTake name _ rows = Unit {0}
 
 -- the same of an option by its name
 abbrev pub MayNumber : Choice → List Row → Type 0
-MayNumber c rows = MayTake (choice_name c) (takes_of c) rows
+MayNumber c rows = MayTake (choice_id c) (takes_of c) rows
 
 -- the same of each option of a list
 abbrev pub AllMayNumber : List Choice → List Row → Type 0
@@ -110,12 +110,12 @@ IsTaken _ text number = Unit {0}
 
 -- the number that an option is given
 abbrev pub IsNumberOf : Choice → List Row → Option ℕ → Type 0
-IsNumberOf c rows number = IsTaken (takes_of c) (first_of (choice_name c) rows) number
+IsNumberOf c rows number = IsTaken (takes_of c) (first_of (choice_id c) rows) number
 
 -- whether a flag is given, for which `clap` notes `true`
 abbrev pub Flags : Choice → List Row → Bool → Type 0
-Flags c rows true = first_of (choice_name c) rows ≡ Some (codes "true")
-Flags c rows false = first_of (choice_name c) rows ≢ Some (codes "true")
+Flags c rows true = first_of (choice_id c) rows ≡ Some (codes "true")
+Flags c rows false = first_of (choice_id c) rows ≢ Some (codes "true")
 
 -- what the words of a command choose
 pub record AreOptions (given : List Row) (options : OptionsData) : Type 0 where
@@ -130,7 +130,7 @@ pub record AreOptions (given : List Row) (options : OptionsData) : Type 0 where
   pub to : IsNumberOf To given options.to
   pub width : IsNumberOf Width given options.width
   pub title : option_map (λ s. s.now) options.title ≡ first_of (codes "title") given
-  pub rows : option_map (λ s. s.now) options.rows ≡ first_of (codes "tasks") given
+  pub rows : option_map (λ s. s.now) options.rows ≡ first_of (codes "rows") given
 
 -- nothing is chosen
 abbrev pub no_options : OptionsData
@@ -163,13 +163,13 @@ HaveNumbers options =
 -- the word of the option that names a command of one input a second one
 abbrev pub file_of : Option (Choice × OfTwo) → List Row → Option Text
 file_of None rows = None
-file_of (Some by) rows = first_of (choice_name by.0) rows
+file_of (Some by) rows = first_of (choice_id by.0) rows
 
 -- that option is given, makes this command of two inputs, and names this one
 abbrev pub NamesFile : Option (Choice × OfTwo) → List Row → OfTwo → Input → Type 0
 NamesFile None rows c second = ⊥
 NamesFile (Some by) rows c second =
-    (by.1 ≡ c) × (word : Text) × (first_of (choice_name by.0) rows ≡ Some word)
+    (by.1 ≡ c) × (word : Text) × (first_of (choice_id by.0) rows ≡ Some word)
     × Names (Some word) second
 
 -- a command of two inputs and its second one: they are of a verb of two; or an option gives one of one input a second

@@ -105,6 +105,11 @@ choice_name Width = codes "width"
 choice_name Title = codes "title"
 choice_name Rows = codes "tasks"
 
+-- the id under which `clap` keeps what an option is given: its word, but where that is another option's, too
+abbrev pub choice_id : Choice → Text
+choice_id Rows = codes "rows"
+choice_id c = choice_name c
+
 -- what an option takes
 abbrev pub takes_of : Choice → Takes
 takes_of Prefer = takes.Word

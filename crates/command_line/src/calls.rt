@@ -2,7 +2,7 @@
 ghost use Rattle.std.specs.Prelude.{◌≡◌, pos};
 ghost use Rattle.command_line.specs.Calls.{is_standard, is_twice};
 ghost use Rattle.command_line.specs.Calls.{no_options};
-ghost use Rattle.command_line.specs.Commands.{by_file, choice_name, input_of, least_of, most_of, number_name, second_of, takes_of};
+ghost use Rattle.command_line.specs.Commands.{by_file, choice_id, choice_name, input_of, least_of, most_of, number_name, second_of, takes_of};
 
 /// The most threads that test the set of a commit.
 pub const MOST_WORKERS: usize = 8;
@@ -300,6 +300,16 @@ impl Choice {
             Choice::Width => "width",
             Choice::Title => "title",
             Choice::Rows => "tasks",
+        }
+    }
+
+    // What `clap` keeps it under.
+    pub(crate) fn id<'a>(self) -> &'a str
+        ensures { result.now ≡ choice_id self }
+    {
+        match self {
+            Choice::Rows => "rows",
+            _ => self.name(),
         }
     }
 

@@ -265,8 +265,9 @@ fn choice_arg<'a>(alloc: Global, choice: Choice) -> Arg<'a>
     ensures rule { rule_of result ≡ choice_rule choice }
     ensures local { result.global ≡ false }
 {
-    let name = choice.name();
-    let named = Arg::new(alloc, name).long(name).help(choice.help());
+    let named = Arg::new(alloc, choice.id())
+        .long(choice.name())
+        .help(choice.help());
     match choice.takes() {
         Takes::Word => named.action(ArgAction::Set).value_name(choice.value_name()),
         Takes::Number { least, most } => named

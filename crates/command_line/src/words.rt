@@ -62,14 +62,14 @@ fn number_chosen(matches: &ArgMatches<'_>, choice: Choice) -> Option<usize>
     requires { MayNumber choice (rows_of (found_of matches.now)) }
     ensures { IsNumberOf choice (rows_of (found_of matches.now)) result }
 {
-    matches.get_one::<usize>(choice.name())
+    matches.get_one::<usize>(choice.id())
 }
 
 // Whether a flag is given.
 fn flag_chosen(matches: &ArgMatches<'_>, choice: Choice) -> bool
     ensures { Flags choice (rows_of (found_of matches.now)) result }
 {
-    match matches.get_str(choice.name()) {
+    match matches.get_str(choice.id()) {
         None => false,
         Some("true") => true,
         Some(_) => false,
@@ -95,7 +95,7 @@ fn options_at<'a>(matches: &ArgMatches<'a>) -> Option<Options<'a>>
         to: number_chosen(matches, Choice::To),
         width: number_chosen(matches, Choice::Width),
         title: matches.get_str("title"),
-        rows: matches.get_str("tasks"),
+        rows: matches.get_str("rows"),
     })
 }
 
@@ -118,7 +118,7 @@ fn second_named<'a>(command: OfOne, found: &ArgMatches<'a>) -> Option<(OfTwo, In
     ensures none { result ≡ None → file_of (by_file command) (rows_of (found_of found.now)) ≡ None }
 {
     let (choice, of_two) = command.by_file()?;
-    match found.get_str(choice.name()) {
+    match found.get_str(choice.id()) {
         None => None,
         Some("-") => Some((of_two, Input::Standard)),
         Some(path) => Some((of_two, Input::File(path))),

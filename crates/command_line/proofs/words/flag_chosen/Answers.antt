@@ -12,12 +12,12 @@ other_given said word some other given = let same : Some word ≡ Some (codes "t
 
 pub returns-in-None : goal.returns-in-None
 returns-in-None c =
-    not_given _ (rw (c.in-None.is, c.name.ensures) at c.get_str.ensures ∙ first_value-rows (found_of c.args.matches.now) _)
+    not_given _ (rw (c.in-None.is, c.id.ensures) at c.get_str.ensures ∙ first_value-rows (found_of c.args.matches.now) _)
 
 pub returns-in-Some-true : goal.returns-in-Some-true
 returns-in-Some-true c =
-    sym (rw (c.in-Some-true.is, c.in-Some-true.is-true, c.name.ensures) at c.get_str.ensures ∙ first_value-rows (found_of c.args.matches.now) _)
+    sym (rw (c.in-Some-true.is, c.in-Some-true.is-true, c.id.ensures) at c.get_str.ensures ∙ first_value-rows (found_of c.args.matches.now) _)
 
 pub returns-in-Some : goal.returns-in-Some
 returns-in-Some c =
-    other_given _ c.in-Some.field-0.now (rw (c.in-Some.is, c.name.ensures) at c.get_str.ensures ∙ first_value-rows (found_of c.args.matches.now) _) c.in-Some.not-true
+    other_given _ c.in-Some.field-0.now (rw (c.in-Some.is, c.id.ensures) at c.get_str.ensures ∙ first_value-rows (found_of c.args.matches.now) _) c.in-Some.not-true
