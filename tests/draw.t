@@ -1,6 +1,6 @@
 `desk draw SET RELEASES` draws what `desk simulate` prints, as one SVG document: a bar for each slice, a box for each job,
 one path for each kind of mark; above the rows a lane of all slices. Three more documents are compared whole in
-`picture_rows`.
+`picture_tests`.
 
   $ slices() { grep -c 'class="e .* us</title>' "$1"; }
   $ lane() { grep -c ' executes .* us</title>' "$1"; }

@@ -1,6 +1,0 @@
-use Rattle.task_sheet.specs.Indexes.{IsPart, indexes_of}
-use Rattle.task_sheet.specs.Orders.{all_of}
-use Rattle.analysis_rows.proofs.findings.left_of.Given as goal
-
-abbrev pub invariant-loop-task : goal.invariant-loop-task
-invariant-loop-task g l = IsPart (indexes_of l.left) (all_of l.set)
