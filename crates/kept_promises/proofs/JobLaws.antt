@@ -24,7 +24,7 @@ use Rattle.ceiling_kernel.proofs.FinishLaws.{finish_is, finish_later, finish_som
 use Rattle.ceiling_kernel.proofs.MachineLaws.{pending_parts, picked_is}
 use Rattle.ceiling_kernel.proofs.ReleaseLaws.{job_is, jobs_length}
 use Rattle.trace_text.specs.declared.rows.TraceJob.{TraceJob}
-use Rattle.observed.proofs.PlaceLaws.{best-within}
+use Rattle.observed.proofs.PlaceLaws.{order-within}
 use Rattle.observed.specs.Pieces.{is_of, level_of}
 use Rattle.observed.specs.Pieces as pieces
 use Rattle.observed.specs.Promises.{promises_of}
@@ -74,7 +74,7 @@ module _ {U : List Task} {places : List PlaceData} {lines : TraceLines} (run : A
   node = node_in U (tasks_of_places places)
 
   pub is_node : IsNode node
-  is_node = record { tasks = run.set; order = run.best.best.passing.each_once }
+  is_node = record { tasks = run.set; order = run.order }
 
   abbrev pub jobs : List Job
   jobs = jobs_of U rs
@@ -93,18 +93,18 @@ module _ {U : List Task} {places : List PlaceData} {lines : TraceLines} (run : A
 
   -- the jobs that the lines say
   abbrev pub all : List TraceJob
-  all = jobs_from (1 + length run.trace.slices.items) records
+  all = jobs_from (run.first + length run.trace.slices.items) records
 
   abbrev pub shown : ℕ → TraceJob
-  shown j = job_row (1 + length run.trace.slices.items + j) (record_of node jobs until j (release_at rs j))
+  shown j = job_row (run.first + length run.trace.slices.items + j) (record_of node jobs until j (release_at rs j))
 
   pub all_at : (j : ℕ) (d : TraceJob) → j < length rs → slice_index_or all j d ≡ shown j
   all_at j d lt =
       let z : 0 + j ≡ j = omega arith in
-      rows_at node jobs until (1 + length run.trace.slices.items) 0 rs j d lt ∙ ap (λ n. job_row (1 + length run.trace.slices.items + j) (record_of node jobs until n (release_at rs j))) z
+      rows_at node jobs until (run.first + length run.trace.slices.items) 0 rs j d lt ∙ ap (λ n. job_row (run.first + length run.trace.slices.items + j) (record_of node jobs until n (release_at rs j))) z
 
   pub all_length : length all ≡ length rs
-  all_length = rows_length node jobs until (1 + length run.trace.slices.items) 0 rs
+  all_length = rows_length node jobs until (run.first + length run.trace.slices.items) 0 rs
 
   -- ---- the task of a job
   abbrev pub task_of : ℕ → ℕ
@@ -128,9 +128,9 @@ module _ {U : List Task} {places : List PlaceData} {lines : TraceLines} (run : A
   -- its level
   pub placed : (i : ℕ) → i < length U → (level : ℕ) × IsPlaced U places i level
   placed i is =
-      let each : among (tasks_of_places places) ≡ all_of U = IsOrderOf-among (all_of U) (tasks_of_places places) run.best.best.passing.each_once in
+      let each : among (tasks_of_places places) ≡ all_of U = IsOrderOf-among (all_of U) (tasks_of_places places) run.order in
       let small : nat_lt i (length U) ≡ true = lt-ltb i (length U) is in
-      placed_in U run.set places i is (best-within U places run.best) (ap (λ (H : ℕ → Bool). H i) each ∙ small)
+      placed_in U run.set places i is (order-within U places run.order) (ap (λ (H : ℕ → Bool). H i) each ∙ small)
 
   pub level_named : (j : ℕ) → (lt : j < length rs) → level_of (promises_of U places) (release_at rs j).name ≡ Some (placed (task_of j) (task_in j lt)).0
   level_named j lt =

@@ -26,7 +26,7 @@ use Rattle.ceiling_kernel.proofs.NodeLaws.{after_is_above}
 use Rattle.ceiling_kernel.proofs.SliceLaws.{longest_runs}
 use Rattle.ceiling_kernel.proofs.SumLaws.{total}
 use Rattle.run_lines.specs.Responses.{DoneWithin}
-use Rattle.run_lines.proofs.ResponseLaws.{all_within}
+use Rattle.run_lines.proofs.ResponseLaws.{all_in_time}
 use Rattle.trace_text.specs.declared.fault.TraceFault.TheVariants as fault
 use Rattle.trace_text.specs.declared.reading.TraceLines.{TraceLines}
 use Rattle.trace_text.specs.declared.rows.TraceJob.{TraceJob}
@@ -88,7 +88,7 @@ module _ {U : List Task} {places : List PlaceData} {lines : TraceLines} (run : A
   turns = picked (node run) (jobs run)
 
   abbrev rows : List TraceSlice
-  rows = slices_from (records run) 1 slices
+  rows = slices_from (records run) run.first slices
 
   abbrev pieces : List Piece
   pieces = pieces_of promises (all run) rows
@@ -101,10 +101,10 @@ module _ {U : List Task} {places : List PlaceData} {lines : TraceLines} (run : A
 
   -- what the lines say
   rows_are : lines.slices.items ≡ rows
-  rows_are = run.say.slices ∙ ap₂ (λ (js : List JobRecord) (ss : List Slice). slices_from js 1 ss) run.runs.2.jobs run.runs.2.slices
+  rows_are = run.say.slices ∙ ap₂ (λ (js : List JobRecord) (ss : List Slice). slices_from js run.first ss) run.runs.2.jobs run.runs.2.slices
 
   jobs_said : lines.jobs.items ≡ all run
-  jobs_said = run.say.jobs ∙ ap (jobs_from (1 + length run.trace.slices.items)) run.runs.2.jobs
+  jobs_said = run.say.jobs ∙ ap (jobs_from (run.first + length run.trace.slices.items)) run.runs.2.jobs
 
   -- the level of a job, what is promised of it, and what is seen of it
   abbrev level_at : (j : ℕ) → j < length (rs run) → ℕ
@@ -146,7 +146,7 @@ module _ {U : List Task} {places : List PlaceData} {lines : TraceLines} (run : A
   pub housed : observed_fault promises lines ≡ None
   housed =
       ap₂ (λ (js : List TraceJob) (ss : List TraceSlice). option_map (λ l. fault.NoJob l) (homeless_line (pieces_of promises js ss))) jobs_said rows_are
-      ∙ ap (λ (o : Option Piece). option_map (λ l. fault.NoJob l) (option_map (λ (p : Piece). p.line) o)) (none_homeless 1 0 slices are_longest)
+      ∙ ap (λ (o : Option Piece). option_map (λ l. fault.NoJob l) (option_map (λ (p : Piece). p.line) o)) (none_homeless run.first 0 slices are_longest)
 
   -- ---- the end
   stop_in_run : (j : ℕ) → j < length (rs run) → until_of end (shown run j) ≤ until run
@@ -165,7 +165,7 @@ module _ {U : List Task} {places : List PlaceData} {lines : TraceLines} (run : A
 
       end_in_run : end ≤ until run
       end_in_run =
-          let stops : greatest_of (λ (s : TraceSlice). s.stop) rows ≤ until run = stops_within turns (until run) (records run) 1 0 slices are_longest in
+          let stops : greatest_of (λ (s : TraceSlice). s.stop) rows ≤ until run = stops_within turns (until run) (records run) run.first 0 slices are_longest in
           let lasts : greatest_of last_of (all run) ≤ until run = greatest_most last_of (until run) (all run) (shown run 0) (λ k within.
           let inside : k < length (rs run) = omega (arith, within, all_length run) in
           subst (λ (x : TraceJob). last_of x ≤ until run) (sym (all_at run k (shown run 0) inside)) (last_in_run k inside)) in
@@ -231,7 +231,7 @@ module _ {U : List Task} {places : List PlaceData} {lines : TraceLines} (run : A
     time_is : (counted : Piece → Bool) (lo hi : ℕ) (c : ℕ → Bool) → ((number : ℕ) (s : Slice) → IsRunSlice turns (until run) s → counted (piece turns (until run) promises (all run) (records run) number s) ≡ c s.job)
         → time_by counted lo hi pieces ≡ total (hits turns c lo hi) (until run)
     time_is counted lo hi c same =
-        let made = time_from turns (until run) promises (all run) (records run) counted lo hi c same 1 0 slices (omega arith) are_longest in
+        let made = time_from turns (until run) promises (all run) (records run) counted lo hi c same run.first 0 slices (omega arith) are_longest in
         omega (arith, made, total_start (hits turns c lo hi))
 
     -- ---- its cost
@@ -303,7 +303,7 @@ module _ {U : List Task} {places : List PlaceData} {lines : TraceLines} (run : A
     -- ---- its bound
     bound_kept : (sight j lt).lasted ≤ (sight j lt).promise.bound
     bound_kept =
-        let done : DoneWithin U at.place (rs run) (until run) run.trace = at.done (rs run) (until run) run.trace (all_within U places (rs run) (until run) run.trace run.set run.best run.runs).0 in
+        let done : DoneWithin U at.place (rs run) (until run) run.trace = at.done (rs run) (until run) run.trace (all_in_time U places (rs run) (until run) run.trace run.set run.order run.in_time run.runs).0 in
         elim (cases_lt (until run) ((release_at (rs run) j).time + at.place.response)) [
           | inl past ↦ omega (arith, past, stop_in_run j lt, bound_is)
           | inr in_run ↦

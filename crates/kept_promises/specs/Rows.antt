@@ -28,7 +28,8 @@ abbrev pub jobs_from : ℕ → List JobRecord → List TraceJob
 jobs_from line [] = []
 jobs_from line (job ∷ jobs) = job_row line job ∷ jobs_from (line + 1) jobs
 
--- the lines say the trace: the slices by time, and then the jobs in the order of the releases
-pub record Say (lines : TraceLines) (trace : Trace) : Type 0 where
-  pub slices : lines.slices.items ≡ slices_from trace.jobs.items 1 trace.slices.items
-  pub jobs : lines.jobs.items ≡ jobs_from (1 + length trace.slices.items) trace.jobs.items
+-- the lines, of which the first has a number, say the trace: the slices by time, and then the jobs in the order of the
+-- releases
+pub record Say (first : ℕ) (lines : TraceLines) (trace : Trace) : Type 0 where
+  pub slices : lines.slices.items ≡ slices_from trace.jobs.items first trace.slices.items
+  pub jobs : lines.jobs.items ≡ jobs_from (first + length trace.slices.items) trace.jobs.items

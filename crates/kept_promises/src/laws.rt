@@ -10,7 +10,8 @@ ghost use Rattle.observed_lines.specs.Broken.{broken_lines};
 ghost use Rattle.kept_promises.specs.Kept.{Keeps};
 ghost use Rattle.kept_promises.specs.OfRuns.{AreOfRun};
 
-/// In a run of an admitted set at the levels of its best order each job keeps all that is promised of it, to the tick.
+/// In a run of a set at the levels of an order that passes each job keeps all that is promised of it, to the tick: of the
+/// best order, and of another one that the node has.
 pub fn promises_are_kept()
     ensures { (U : List Task) (places : List PlaceData) (lines : TraceLines) → AreOfRun U places lines
         → All Keeps (observed_in (promises_of U places) lines) }

@@ -5,7 +5,7 @@ use Rattle.std.proofs.lemmas.List.{drop_more, get_or_default}
 use Rattle.task_sheet.specs.Sheet.{Task, no_task, task_at}
 use Rattle.std.specs.List.{AllByRecursion}
 use Rattle.task_sheet.specs.Indexes.{Indexes, with_index, among}
-use Rattle.task_sheet.specs.Orders.{all_of}
+use Rattle.task_sheet.specs.Orders.{all_of, IsOrder}
 use Rattle.task_sheet.proofs.IndexLaws.{order-below}
 use Rattle.assignment.specs.Places.{PlaceData}
 use Rattle.assignment.specs.Placings.{IsBestPlacing, tasks_of_places}
@@ -56,6 +56,10 @@ places-below n [] all k d lt = absurd (omega (arith, lt))
 places-below n (p ∷ places) all zero d lt = all.0
 places-below n (p ∷ places) all (suc k) d lt = places-below n places all.1 k d (omega (arith, lt))
 
--- the tasks of the best order are those of the set
+-- the tasks of an order are those of the set
+pub order-within : (U : List Task) (places : List PlaceData) → IsOrder U (tasks_of_places places) → All (λ (p : PlaceData). p.task < length U) places
+order-within U places each = places-below (length U) places (order-below (length U) (all_of U) (tasks_of_places places) each (λ k is. is))
+
+-- and so are those of the best one
 pub best-within : (U : List Task) (places : List PlaceData) → IsBestPlacing U places → All (λ (p : PlaceData). p.task < length U) places
-best-within U places best = places-below (length U) places (order-below (length U) (all_of U) (tasks_of_places places) best.best.passing.each_once (λ k is. is))
+best-within U places best = order-within U places best.best.passing.each_once

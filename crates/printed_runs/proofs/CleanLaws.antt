@@ -9,6 +9,7 @@ use Rattle.task_sheet.proofs.ObstructionLaws.{IsObstruction-fails}
 use Rattle.task_sheet.proofs.TaskLaws.{AllTasks-from_set}
 use Rattle.assignment.specs.Places.{PlaceData}
 use Rattle.assignment.specs.Placings.{IsBestPlacing, tasks_of_places}
+use Rattle.explain.proofs.AccountLaws.{best-in_time}
 use Rattle.ceiling_kernel.specs.Tick.{node_in}
 use Rattle.ceiling_kernel.specs.Runs.{Runs}
 use Rattle.ceiling_kernel.specs.declared.trace.Release.{Release}
@@ -40,11 +41,13 @@ module _ (U : List Task) (places : List PlaceData) (rs : List Release) (until : 
       let same : tasks_of_places places ≡ tasks_of_places others = IsBest-one U (tasks_of_places places) (tasks_of_places others) best.best is_best.best in
       record {
         set = set;
-        best = is_best;
+        order = is_best.best.passing.each_once;
+        in_time = best-in_time U others set is_best;
         releases = rs;
         until = until;
         trace = trace;
         runs = subst (λ (order : List ℕ). Runs (node_in U order) rs until (Ok trace)) same ran;
+        first = 1;
         say = says U (tasks_of_places places) rs until trace set ran lines read;
       }
 

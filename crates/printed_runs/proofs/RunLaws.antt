@@ -211,7 +211,7 @@ module _ (U : List Task) (order : List ℕ) (rs : List Release) (until : ℕ) (t
       ]
 
   -- and what it is read as says the trace
-  pub says : (lines : TraceLines) → IsTraceIn (trace_lines trace) lines → Say lines trace
+  pub says : (lines : TraceLines) → IsTraceIn (trace_lines trace) lines → Say 1 lines trace
   says lines is =
       let both : ◌≡◌ {A = Result (List TraceRow) ℕ} (Ok is.rows) (Ok (rows_of trace)) = sym is.read ∙ read_back in
       let same : is.rows ≡ rows_of trace = cc (both) in

@@ -196,8 +196,13 @@ pub all_kept : (U : List Task) (bounds : List TaskBound) (rs : List Release) (un
 all_kept U bounds rs until trace set each sound ran =
     kept_along U set (tasks_of_bounds bounds) each rs until trace ran (all_of U) bounds each ((order_iff (length U) (tasks_of_bounds bounds)).1 each).0 sound (λ x has. refl)
 
+-- each of an order in which all are in time
+pub all_in_time : (U : List Task) (places : List PlaceData) (rs : List Release) (until : ℕ) (trace : Trace) → IsTaskSet U → IsOrder U (tasks_of_places places) → AreInTime U places
+    → Runs (node_in U (tasks_of_places places)) rs until (Ok trace) → AllDoneWithin U places rs until trace × AllReachWithin U trace.jobs.items places
+all_in_time U places rs until trace set each in_time ran = along U set (tasks_of_places places) each rs until trace ran (all_of U) places each in_time (λ x has. refl)
+
 -- each of a set's best order
 pub all_within : (U : List Task) (places : List PlaceData) (rs : List Release) (until : ℕ) (trace : Trace) → IsTaskSet U → IsBestPlacing U places → Runs (node_in U (tasks_of_places places)) rs until (Ok trace)
     → AllDoneWithin U places rs until trace × AllReachWithin U trace.jobs.items places
 all_within U places rs until trace set best ran =
-    along U set (tasks_of_places places) best.best.passing.each_once rs until trace ran (all_of U) places best.best.passing.each_once (best-in_time U places set best) (λ x has. refl)
+    all_in_time U places rs until trace set best.best.passing.each_once (best-in_time U places set best) ran
