@@ -1,6 +1,6 @@
 -- Runs in an order that a release list gives.
 use Rattle.std.specs.Prelude.{IfOk}
-use Rattle.std.proofs.Common.{◌≡◌, ◌∙◌, ◌+◌, ◌<◌, ℕ, false, List, [], ◌∷◌, length, Result, Ok, Err, inl, inr, All, refl, sym, ap, ap₂, subst, arith}
+use Rattle.std.proofs.Common.{◌≡◌, ◌∙◌, ◌<◌, ℕ, false, List, [], ◌∷◌, length, Result, Ok, Err, inl, inr, All, refl, sym, ap, ap₂, subst, arith}
 use Rattle.task_sheet.specs.Sheet.{Task}
 use Rattle.task_sheet.specs.TaskSet.{IsTaskSet}
 use Rattle.task_sheet.specs.Indexes.{among}
@@ -21,7 +21,7 @@ use Rattle.judge.specs.declared.judging.Judgement.TheVariants.{Meets, Misses, Be
 use Rattle.judge.specs.declared.rows.SettingRow.{SettingRow}
 use Rattle.run_lines.specs.TaskBounds.{AreBounds, IsBoundBelow, tasks_of_bounds}
 use Rattle.run_lines.proofs.ResponseLaws.{all_kept}
-use Rattle.desk_cli.specs.Simulate.{IsInOrder, IsListedOrder, IsOrderedRun, IsSimulated, RunsOrder, SimulatesIn, SimulatesRead, bound_judged, bounds_judged, order_fault}
+use Rattle.desk_cli.specs.Simulate.{IsInOrder, IsOrderedRun, IsSimulated, RunsOrder, SimulatesIn, SimulatesRead, bound_judged, bounds_judged, order_fault}
 use Rattle.desk_cli.specs.declared.refusal.CommandRefusal.{CommandRefusal}
 use Rattle.desk_cli.specs.declared.refusal.CommandRefusal.TheVariants as refusal
 use Rattle.desk_cli.specs.declared.simulate.Simulated.{Simulated}

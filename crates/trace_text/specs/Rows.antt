@@ -1,7 +1,6 @@
 -- The lines of a trace, as a simulated run prints them: `START STOP NAME` for a slice, `job NAME ARRIVAL FINISH` for a job,
 -- with `-` where it has no finish. Times are whole microseconds.
 use Rattle.std.specs.Prelude.{ℕ, nat_le, nat_lt, List, [], ◌∷◌, ◌++◌, Option, Some, None, Result, Ok, Err, bytes_eq, codes, if◌then◌else◌}
-use Rattle.std.specs.Option.{option_map}
 use Rattle.lines.specs.Lines.{kept_from, kept_lines, lines_of}
 use Rattle.lines.specs.Words.{name_in, number_in, words}
 use Rattle.trace_text.specs.declared.rows.TraceRow.{TraceRow}

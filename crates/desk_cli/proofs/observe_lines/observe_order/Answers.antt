@@ -1,4 +1,4 @@
-use Rattle.std.proofs.Common.{◌≡◌, ◌∙◌, ◌<◌, false, length, List, Ok, All, inr, sym, subst, rules}
+use Rattle.std.proofs.Common.{◌≡◌, ◌∙◌, ◌<◌, false, length, List, All, inr, sym, subst, rules}
 use Rattle.assignment.specs.Places.{PlaceData}
 use Rattle.trace_text.specs.Faults.{IsTraceFault}
 use Rattle.observed.specs.Observed.{observed_fault}

@@ -1,4 +1,4 @@
-use Rattle.std.proofs.Common.{◌≡◌, ◌∙◌, ◌+◌, ℕ, List, length, Result, Ok, ap, ap₂, inl, subst}
+use Rattle.std.proofs.Common.{◌≡◌, ◌∙◌, ℕ, List, Result, Ok, ap, ap₂, inl, subst}
 use Rattle.lines.specs.Lines.{kept_from, lines_of}
 use Rattle.judge.specs.Front.{behind_front, front_of}
 use Rattle.judge.specs.Rows.{rows_from}

@@ -2,7 +2,6 @@ use Rattle.std.proofs.Common.{◌∙◌, ℕ, List, Ok, Err, ap, refl, sym, subs
 use Rattle.std.specs.Io.KnownBytes.{Appends}
 use Rattle.desk_cli.specs.OneTask.{no_such_task}
 use Rattle.desk_cli.specs.Refusals.{refusal_line, status_of}
-use Rattle.desk_cli.specs.declared.refusal.CommandRefusal.{CommandRefusal}
 use Rattle.desk_cli.specs.declared.refusal.CommandRefusal.TheVariants as refusal
 use Rattle.desk_cli.proofs.CarriedOut.{made_said, shown}
 use Rattle.desk_cli.proofs.one_task.say_task.Goals as goal
