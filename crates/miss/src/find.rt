@@ -11,12 +11,13 @@ ghost use Rattle.miss.specs.Shown.{IsShown, is_too_long, IsLeftOpen};
 ghost use Rattle.ceilings.specs.IsTableOf.{IsTableOf};
 
 use crate::fault::MissFault;
+use crate::orders::{kernel_of, place_of};
 use crate::reaching::is_of;
 use crate::reason::{members_above, why_not};
 use crate::shown::{Miss, NoRun, Shown};
 use crate::worst::{Run, worst_case};
 use assignment::least_over;
-use ceiling_kernel::{JobRecord, Kernel, KernelFault, Release, RunFault};
+use ceiling_kernel::{JobRecord, Kernel, Release, RunFault};
 use ceilings::LockTable;
 use response_time::passes;
 use std::alloc::Global;
@@ -85,21 +86,6 @@ fn missed_in(
     }
 }
 
-/// The place of a task in an order.
-pub(crate) fn place_of(order: &[usize], task: usize) -> usize
-    requires { (p : ℕ) × (p < length order.now) × (slice_index_or order.now p 0 ≡ task) }
-    ensures within { result < length order.now }
-    ensures is { slice_index_or order.now result 0 ≡ task }
-{
-    for place in 0..order.len() {
-        if order[place] == task {
-            return place;
-        }
-    }
-    // Some place has it.
-    0
-}
-
 // What is shown of the task at a place of an order.
 fn shown_at(
     alloc: Global,
@@ -154,11 +140,7 @@ pub fn show_miss(
     ensures order { IfErr result (λ fault. fault ≡ WrongOrder → ¬ IsOrder set.now order.now) }
     ensures many { IfErr result (λ fault. fault ≢ TooMany) }
 {
-    let kernel = match Kernel::new(alloc, set, order) {
-        Ok(kernel) => kernel,
-        Err(KernelFault::WrongOrder) => return Err(MissFault::WrongOrder),
-        Err(KernelFault::OutOfMemory) => return Err(MissFault::OutOfMemory),
-    };
+    let kernel = kernel_of(alloc, set, order)?;
     // The set is valid: the proof has it from its sheets.
     let _ = set.sheets();
     let table = LockTable::new(alloc, set)?;
@@ -188,11 +170,7 @@ pub fn find_miss(alloc: Global, set: &TaskSet, order: &[usize]) -> Result<Option
     ensures many { IfErr result (λ fault. fault ≡ TooMany
         → IsLeftOpen (node_in set.now order.now)) }
 {
-    let kernel = match Kernel::new(alloc, set, order) {
-        Ok(kernel) => kernel,
-        Err(KernelFault::WrongOrder) => return Err(MissFault::WrongOrder),
-        Err(KernelFault::OutOfMemory) => return Err(MissFault::OutOfMemory),
-    };
+    let kernel = kernel_of(alloc, set, order)?;
     // The set is valid: the proof has it from its sheets.
     let _ = set.sheets();
     let table = LockTable::new(alloc, set)?;

@@ -4,6 +4,7 @@
 mod fault;
 mod find;
 pub mod laws;
+mod orders;
 mod reaching;
 mod reason;
 mod shown;

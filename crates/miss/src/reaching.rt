@@ -10,9 +10,9 @@ ghost use Rattle.miss.specs.Misses.{IsRunOf};
 ghost use Rattle.miss.specs.Reached.{IsReadOf, IsFinishIn, IsReachedOf};
 
 use crate::fault::MissFault;
-use crate::find::place_of;
+use crate::orders::{kernel_of, place_of};
 use crate::worst::{Run, worst_case};
-use ceiling_kernel::{JobRecord, Kernel, KernelFault, Release, RunFault};
+use ceiling_kernel::{JobRecord, Kernel, Release, RunFault};
 use ceilings::LockTable;
 use std::alloc::Global;
 use task_sheet::TaskSet;
@@ -161,11 +161,7 @@ pub fn reach(
     ensures order { IfErr result (λ fault. fault ≡ WrongOrder → ¬ IsOrder set.now order.now) }
     ensures many { IfErr result (λ fault. fault ≢ TooMany) }
 {
-    let kernel = match Kernel::new(alloc, set, order) {
-        Ok(kernel) => kernel,
-        Err(KernelFault::WrongOrder) => return Err(MissFault::WrongOrder),
-        Err(KernelFault::OutOfMemory) => return Err(MissFault::OutOfMemory),
-    };
+    let kernel = kernel_of(alloc, set, order)?;
     // The set is valid: the proof has it from its sheets.
     let _ = set.sheets();
     let table = LockTable::new(alloc, set)?;
