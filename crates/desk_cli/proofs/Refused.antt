@@ -8,7 +8,7 @@ use Rattle.command_line.specs.declared.calls.OfTwo.TheVariants.{Check, Judge, Di
 use Rattle.command_line.specs.declared.calls.Options.{Options}
 use Rattle.task_sheet.specs.declared.prefer.Preference.{Preference}
 use Rattle.desk_cli.specs.Commands.{OneSays, TwoSay, preference_of, task_of}
-use Rattle.desk_cli.specs.OneTask.{AnswersOfTask, SaysLimitsOf, SaysReasonsOf, SaysWorstOf}
+use Rattle.desk_cli.specs.OneTask.{AnswersOfTask, SaysPart}
 use Rattle.desk_cli.specs.declared.one_task.TaskPart.{TaskPart}
 use Rattle.desk_cli.specs.declared.one_task.TaskPart.TheVariants as part
 use Rattle.desk_cli.specs.Simulate.{SaysSimulation}
@@ -25,25 +25,19 @@ module _ (before after : Option (List ℕ)) (s : Status) (r : CommandRefusal) (w
   no_set part word preference known (refusal.NoSuchTask name) why = absurd why
   no_set part word preference known _ why = why
 
-  limits_refused : (asked : Option (List ℕ)) (preference : Option Preference) (known : Option (List ℕ)) → HasNoSet known r → SaysLimitsOf asked preference known before after s
-  limits_refused None preference known why = (Err r, refusal_line r, why, (refl, is), wrote)
-  limits_refused (Some word) preference known why = (Err r, no_set part.Limits word preference known r why, wrote, is)
-
-  reasons_refused : (asked : Option (List ℕ)) (preference : Option Preference) (known : Option (List ℕ)) → HasNoSet known r → SaysReasonsOf asked preference known before after s
-  reasons_refused None preference known why = (Err r, why, wrote, is)
-  reasons_refused (Some word) preference known why = (Err r, no_set part.Reasons word preference known r why, wrote, is)
-
-  worst_refused : (asked : Option (List ℕ)) (preference : Option Preference) (known : Option (List ℕ)) → HasNoSet known r → SaysWorstOf asked preference known before after s
-  worst_refused None preference known why = (Err r, why, wrote, is)
-  worst_refused (Some word) preference known why = (Err r, no_set part.Worst word preference known r why, wrote, is)
+  part_refused : (p : TaskPart) (asked : Option (List ℕ)) (preference : Option Preference) (known : Option (List ℕ)) → HasNoSet known r → SaysPart p asked preference known before after s
+  part_refused part.Limits None preference known why = (Err r, refusal_line r, why, (refl, is), wrote)
+  part_refused part.Reasons None preference known why = (Err r, why, wrote, is)
+  part_refused part.Worst None preference known why = (Err r, why, wrote, is)
+  part_refused p (Some word) preference known why = (Err r, no_set p word preference known r why, wrote, is)
 
   pub one_refused : (c : OfOne) (options : Options) (known : Option (List ℕ)) → IsRefusalOf c known r → OneSays c options known before after s
   one_refused Admit options known why = (Err r, why, wrote, is)
   one_refused Certify options known why = (Err r, why, wrote, is)
-  one_refused Limits options known why = limits_refused (task_of options) (preference_of options) known why
+  one_refused Limits options known why = part_refused part.Limits (task_of options) (preference_of options) known why
   one_refused Settings options known why = (Err r, why, wrote, is)
-  one_refused Explain options known why = reasons_refused (task_of options) (preference_of options) known why
-  one_refused Worst options known why = worst_refused (task_of options) (preference_of options) known why
+  one_refused Explain options known why = part_refused part.Reasons (task_of options) (preference_of options) known why
+  one_refused Worst options known why = part_refused part.Worst (task_of options) (preference_of options) known why
   one_refused Play options known why = (refusal_line r, wrote, inl (r, why, refl, is))
 
   pub placed_refused : (c : OfOne) (options : Options) (known : Option (List ℕ)) → (c ≡ Play → ⊥) → HasNoSet known r → OneSays c options known before after s

@@ -20,11 +20,12 @@ use Rattle.desk_cli.specs.Judge.{SaysJudged}
 use Rattle.desk_cli.specs.LimitsAt.{SaysLimitsAt}
 use Rattle.desk_cli.specs.Observe.{SaysObserved, tolerance_of}
 use Rattle.desk_cli.specs.Keep.{SaysKeeping}
-use Rattle.desk_cli.specs.OneTask.{SaysLimitsOf, SaysReasonsOf, SaysWorstOf}
+use Rattle.desk_cli.specs.OneTask.{SaysPart}
 use Rattle.desk_cli.specs.Play.{SaysPlayed}
 use Rattle.desk_cli.specs.Settings.{settings_of}
 use Rattle.desk_cli.specs.Simulate.{SaysSimulation}
 use Rattle.desk_cli.specs.WorstAt.{SaysWorstAt}
+use Rattle.desk_cli.specs.declared.one_task.TaskPart.TheVariants as part
 use Rattle.desk_cli.specs.declared.status.Status.{Status}
 
 -- what a call prefers, where its words say so
@@ -59,13 +60,13 @@ OneSays Admit options known before after s =
 OneSays Certify options known before after s =
     Says certificate_lines (preference_of options) known before after s
 OneSays Limits options known before after s =
-    SaysLimitsOf (task_of options) (preference_of options) known before after s
+    SaysPart part.Limits (task_of options) (preference_of options) known before after s
 OneSays Settings options known before after s =
     Says (settings_of (base_of options)) (preference_of options) known before after s
 OneSays Explain options known before after s =
-    SaysReasonsOf (task_of options) (preference_of options) known before after s
+    SaysPart part.Reasons (task_of options) (preference_of options) known before after s
 OneSays Worst options known before after s =
-    SaysWorstOf (task_of options) (preference_of options) known before after s
+    SaysPart part.Worst (task_of options) (preference_of options) known before after s
 OneSays Play options known before after s = SaysPlayed known before after s
 
 -- the same of a command of two inputs

@@ -89,26 +89,20 @@ SaysTask part word preference known before after s =
     Prints (AnswersOfTask part word preference known) (task_said part)
     (λ d. placing_status d.placing) before after s
 
--- how far the numbers of all tasks may go, or those of the task that the words ask about
-abbrev pub SaysLimitsOf : Option (List ℕ) → Option Preference → Option (List ℕ)
+-- what is said of all tasks: how far their numbers may go, or what explains the placing; or the worst case of the one that the
+-- set's verdict is about
+abbrev pub SaysAll : TaskPart → Option Preference → Option (List ℕ)
     → (before after : Option (List ℕ)) → Status → Type 0
-SaysLimitsOf None preference known before after s = SaysLimits preference known before after s
-SaysLimitsOf (Some word) preference known before after s =
-    SaysTask Limits word preference known before after s
+SaysAll Limits preference known before after s = SaysLimits preference known before after s
+SaysAll Reasons preference known before after s = SaysExplained preference known before after s
+SaysAll Worst preference known before after s = SaysWorst preference known before after s
 
--- what explains the placing of all tasks, or of the task that the words ask about
-abbrev pub SaysReasonsOf : Option (List ℕ) → Option Preference → Option (List ℕ)
+-- that, or what is said of the task that the words ask about
+abbrev pub SaysPart : TaskPart → Option (List ℕ) → Option Preference → Option (List ℕ)
     → (before after : Option (List ℕ)) → Status → Type 0
-SaysReasonsOf None preference known before after s = SaysExplained preference known before after s
-SaysReasonsOf (Some word) preference known before after s =
-    SaysTask Reasons word preference known before after s
-
--- the worst case of the task that the words ask about; else that of the one that the set's verdict is about
-abbrev pub SaysWorstOf : Option (List ℕ) → Option Preference → Option (List ℕ)
-    → (before after : Option (List ℕ)) → Status → Type 0
-SaysWorstOf None preference known before after s = SaysWorst preference known before after s
-SaysWorstOf (Some word) preference known before after s =
-    SaysTask Worst word preference known before after s
+SaysPart part None preference known before after s = SaysAll part preference known before after s
+SaysPart part (Some word) preference known before after s =
+    SaysTask part word preference known before after s
 
 -- this is said of each reader that has a set, whose tasks these have
 abbrev pub OfPlaced :

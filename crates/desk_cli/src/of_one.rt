@@ -9,7 +9,7 @@ use crate::admit::{decide, place, placing_status};
 use crate::answer::{OrderPart, placing_text};
 use crate::audience::Audience;
 use crate::certify::print_verdict;
-use crate::one_task::{say_limits, say_reasons, say_worst};
+use crate::one_task::{TaskPart, say_part};
 use crate::output::{print_made, refuse};
 use crate::play::{lines_of, play};
 use crate::sets::{base_of, preference_of};
@@ -44,7 +44,15 @@ fn say_placing<W: Write + Drop>(
             let text = placing_text(alloc, OrderPart::Levels, set, placing);
             print_made(text, status, output)
         }
-        OfOne::Limits => say_limits(alloc, options.task, owners, set, placing, output),
+        OfOne::Limits => say_part(
+            alloc,
+            TaskPart::Limits,
+            options.task,
+            owners,
+            set,
+            placing,
+            output,
+        ),
         OfOne::Settings => {
             let part = OrderPart::Settings {
                 base: base_of(options),
@@ -52,8 +60,24 @@ fn say_placing<W: Write + Drop>(
             let text = placing_text(alloc, part, set, placing);
             print_made(text, status, output)
         }
-        OfOne::Explain => say_reasons(alloc, options.task, owners, set, placing, output),
-        OfOne::Worst => say_worst(alloc, options.task, owners, set, placing, output),
+        OfOne::Explain => say_part(
+            alloc,
+            TaskPart::Reasons,
+            options.task,
+            owners,
+            set,
+            placing,
+            output,
+        ),
+        OfOne::Worst => say_part(
+            alloc,
+            TaskPart::Worst,
+            options.task,
+            owners,
+            set,
+            placing,
+            output,
+        ),
         OfOne::Certify => unreachable!(),
         OfOne::Play => unreachable!(),
     }

@@ -7,7 +7,7 @@ ghost use Rattle.explain.specs.declared.explanation.Explanation.{Explanation};
 ghost use Rattle.limit_lines.specs.Lines.{AreTaskLines, places_in};
 ghost use Rattle.worst_lines.specs.Lines.{AreWorstLines};
 ghost use Rattle.desk_cli.specs.Explain.{AreDecided};
-ghost use Rattle.desk_cli.specs.OneTask.{AreLinesOf, OfPlaced, SaysLimitsOf, SaysReasonsOf, SaysTask, SaysWorstOf, asked_task, first_said, no_such_task, task_reasons};
+ghost use Rattle.desk_cli.specs.OneTask.{AreLinesOf, OfPlaced, SaysAll, SaysPart, SaysTask, asked_task, first_said, no_such_task, task_reasons};
 ghost use Rattle.desk_cli.specs.Outcomes.{IsSaidOn};
 
 use crate::admit::placing_status;
@@ -206,9 +206,34 @@ fn say_task<W: Write + Drop>(
     }
 }
 
-// Prints how far the numbers of all tasks of a placing may go, or those of the task that a word names.
-pub(crate) fn say_limits<W: Write + Drop>(
+// Prints it of all tasks of a placing; of worst cases that of the task that the placing is about.
+fn say_all<W: Write + Drop>(
     alloc: Global,
+    part: TaskPart,
+    owners: &[Owner],
+    set: &TaskSet,
+    placing: &Placing,
+    output: &mut Watched<W>,
+) -> Status
+    requires kept { IsTaskSet set.now }
+    requires placing { IsPlacingOf set.now placing.now }
+    ensures { IsSaidOn (OfPlaced (SaysAll part) owners.now set.now)
+        W.contents output.old output.new result }
+{
+    let status = placing_status(placing);
+    match part {
+        TaskPart::Limits => print_placing(alloc, set, placing, output),
+        TaskPart::Reasons => {
+            print_bytes(explained_text(alloc, owners, set, placing), status, output)
+        }
+        TaskPart::Worst => print_made(worst_text(alloc, set, placing, None), status, output),
+    }
+}
+
+// Prints that, or what is said of the task that a word names.
+pub(crate) fn say_part<W: Write + Drop>(
+    alloc: Global,
+    part: TaskPart,
     word: Option<&str>,
     owners: &[Owner],
     set: &TaskSet,
@@ -217,55 +242,11 @@ pub(crate) fn say_limits<W: Write + Drop>(
 ) -> Status
     requires kept { IsTaskSet set.now }
     requires placing { IsPlacingOf set.now placing.now }
-    ensures { IsSaidOn (OfPlaced (SaysLimitsOf (option_map (λ w. w.now) word.entry))
+    ensures { IsSaidOn (OfPlaced (SaysPart part (option_map (λ w. w.now) word.entry))
         owners.now set.now) W.contents output.old output.new result }
 {
     match word {
-        Some(word) => say_task(alloc, TaskPart::Limits, word, owners, set, placing, output),
-        None => print_placing(alloc, set, placing, output),
-    }
-}
-
-// Prints what explains a placing, or what does of the task that a word names.
-pub(crate) fn say_reasons<W: Write + Drop>(
-    alloc: Global,
-    word: Option<&str>,
-    owners: &[Owner],
-    set: &TaskSet,
-    placing: &Placing,
-    output: &mut Watched<W>,
-) -> Status
-    requires { IsPlacingOf set.now placing.now }
-    ensures { IsSaidOn (OfPlaced (SaysReasonsOf (option_map (λ w. w.now) word.entry))
-        owners.now set.now) W.contents output.old output.new result }
-{
-    match word {
-        Some(word) => say_task(alloc, TaskPart::Reasons, word, owners, set, placing, output),
-        None => {
-            let status = placing_status(placing);
-            print_bytes(explained_text(alloc, owners, set, placing), status, output)
-        }
-    }
-}
-
-// Prints the worst case of the task that a word names, or that of the one that the placing is about.
-pub(crate) fn say_worst<W: Write + Drop>(
-    alloc: Global,
-    word: Option<&str>,
-    owners: &[Owner],
-    set: &TaskSet,
-    placing: &Placing,
-    output: &mut Watched<W>,
-) -> Status
-    requires { IsPlacingOf set.now placing.now }
-    ensures { IsSaidOn (OfPlaced (SaysWorstOf (option_map (λ w. w.now) word.entry))
-        owners.now set.now) W.contents output.old output.new result }
-{
-    match word {
-        Some(word) => say_task(alloc, TaskPart::Worst, word, owners, set, placing, output),
-        None => {
-            let status = placing_status(placing);
-            print_made(worst_text(alloc, set, placing, None), status, output)
-        }
+        Some(word) => say_task(alloc, part, word, owners, set, placing, output),
+        None => say_all(alloc, part, owners, set, placing, output),
     }
 }

@@ -2,7 +2,8 @@
 use Rattle.std.specs.Prelude.{◌≡◌, ◌⊎◌, ℕ, List, [], ◌∷◌, Option, Some, None, IsUtf8}
 use Rattle.command_line.specs.Calls.{no_options}
 use Rattle.desk_cli.specs.Commands.{OneSays, TwoSay, preference_of}
-use Rattle.desk_cli.specs.OneTask.{SaysWorstOf}
+use Rattle.desk_cli.specs.OneTask.{SaysPart}
+use Rattle.desk_cli.specs.declared.one_task.TaskPart.TheVariants as part
 use Rattle.desk_cli.specs.Releases.{SaysList}
 use Rattle.desk_cli.specs.declared.status.Status.{Status}
 use Rattle.libdesk.specs.declared.asked.Asked.{Asked}
@@ -17,7 +18,7 @@ AsksAbout (byte ∷ bytes) word =
 -- the worst case of the task with a name, or that of the one that the set's verdict is about
 abbrev pub SaysWorstAsked : (set name : List ℕ) → (before after : Option (List ℕ)) → Status → Type 0
 SaysWorstAsked set name before after s =
-    (word : Option (List ℕ)) × AsksAbout name word × SaysWorstOf word None (Some set) before after s
+    (word : Option (List ℕ)) × AsksAbout name word × SaysPart part.Worst word None (Some set) before after s
 
 -- what a writer held, what it holds then, and the status, are those of the command's answer
 abbrev pub AskedSays : Asked → (before after : Option (List ℕ)) → Status → Type 0

@@ -28,10 +28,10 @@ returns-in-Settings g c =
     (λ v says. ap (λ (base : ℕ). settings_of base v) (sym c.base_of.ensures) ∙ says.settings c.base_of.result) c.placing_status-status.ensures told))
 
 pub returns-in-Explain : goal.returns-in-Explain
-returns-in-Explain g c = rw c.in-Explain.is (said_as c.say_reasons.ensures (λ told. λ known has. told _ known has))
+returns-in-Explain g c = rw c.in-Explain.is (said_as c.say_part-in-Explain.ensures (λ told. λ known has. told _ known has))
 
 pub returns-in-Limits : goal.returns-in-Limits
-returns-in-Limits g c = rw c.in-Limits.is (said_as c.say_limits.ensures (λ told. λ known has. told _ known has))
+returns-in-Limits g c = rw c.in-Limits.is (said_as c.say_part.ensures (λ told. λ known has. told _ known has))
 
 pub returns-in-Worst : goal.returns-in-Worst
-returns-in-Worst g c = rw c.in-Worst.is (said_as c.say_worst.ensures (λ told. λ known has. told _ known has))
+returns-in-Worst g c = rw c.in-Worst.is (said_as c.say_part-in-Worst.ensures (λ told. λ known has. told _ known has))
