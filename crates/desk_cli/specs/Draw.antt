@@ -1,16 +1,16 @@
 -- What `desk draw` answers and prints: the answer of `desk simulate`, as a picture.
-use Rattle.std.specs.Prelude.{◌≡◌, ℕ, true, false, List, [], ◌∷◌, ◌++◌, length, Option, Result, Ok, Err}
+use Rattle.std.specs.Prelude.{◌≡◌, ℕ, true, false, List, length, Option, Result, Ok, Err}
 use Rattle.task_sheet.specs.declared.prefer.Preference.{Preference}
-use Rattle.task_sheet.specs.Sheet.{Task, task_at}
+use Rattle.task_sheet.specs.Sheet.{Task}
 use Rattle.task_sheet.specs.Indexes.{indexes_of, listed_below}
 use Rattle.ceiling_kernel.specs.declared.trace.Release.{Release}
 use Rattle.ceiling_kernel.specs.declared.trace.Trace.{Trace}
 use Rattle.picture.specs.Document.{document}
-use Rattle.picture.specs.declared.rows.TaskRow.{TaskRow}
 use Rattle.picture.specs.declared.view.View.{View}
 use Rattle.command_line.specs.declared.calls.Options.{Options}
 use Rattle.run_lines.specs.TaskBounds.{bounds_of}
 use Rattle.run_lines.specs.declared.bounds.TaskBound.{TaskBound}
+use Rattle.drawn_runs.specs.Rows.{rows_of}
 use Rattle.desk_cli.specs.Lines.{infeasible_line}
 use Rattle.desk_cli.specs.Printed.{Prints}
 use Rattle.desk_cli.specs.Sets.{HaveBoth, OnBoth}
@@ -22,15 +22,6 @@ use Rattle.desk_cli.specs.declared.refusal.CommandRefusal.TheVariants as refusal
 use Rattle.desk_cli.specs.declared.simulate.Simulated.{Simulated}
 use Rattle.desk_cli.specs.declared.simulate.Simulated.TheVariants.{Infeasible, Ordered, Ran}
 use Rattle.desk_cli.specs.declared.status.Status.{Status}
-
--- the row of a level: its task, with the task's bound, if it has one
-abbrev pub drawn_row : List Task → TaskBound → TaskRow
-drawn_row U b = record { sheet = task_at U b.task; bound = b.bound }
-
--- the rows of an order, the highest level first
-abbrev pub rows_of : List Task → List TaskBound → List TaskRow
-rows_of U [] = []
-rows_of U (b ∷ bounds) = rows_of U bounds ++ drawn_row U b ∷ []
 
 -- the picture of a run in an order of a set, as a view has it
 abbrev pub picture_of : List Task → List TaskBound → View → ℕ → List Release → Trace → List ℕ

@@ -15,13 +15,15 @@ use Rattle.ceiling_kernel.specs.Runs.{no_record}
 use Rattle.ceiling_kernel.specs.declared.trace.JobRecord.{JobRecord}
 use Rattle.ceiling_kernel.specs.declared.trace.Release.{Release}
 use Rattle.ceiling_kernel.specs.declared.trace.Trace.{Trace}
+use Rattle.run_lines.specs.TaskBounds.{bounds_of}
 use Rattle.picture.specs.declared.rows.TaskRow.{TaskRow}
 use Rattle.picture.specs.declared.view.View.{View}
 use Rattle.picture.specs.Frame.{Frame, frame_of}
 use Rattle.picture.specs.Misses.{all_missed, is_late, is_late_at, misses}
 use Rattle.picture.specs.Rows.{no_row, record_at, row_at, row_named}
 use Rattle.picture.specs.View.{end_of_run}
-use Rattle.drawn_runs.specs.Late.{IsBestRun, IsRowOf, NoneIsLate, rows_of}
+use Rattle.drawn_runs.specs.Late.{IsBestRun, IsRowOf, NoneIsLate}
+use Rattle.drawn_runs.specs.Rows.{drawn_row, rows_of}
 use Rattle.drawn_runs.proofs.ListLaws.{kept_none}
 use Rattle.drawn_runs.proofs.RunLaws.{arrives, jobs_are, not_late}
 
@@ -67,11 +69,11 @@ module _ (U : List Task) (places : List PlaceData) (rs : List Release) (until : 
   none_missed = kept_none (misses frame rows) jobs no_record not_missed
 
 -- ---- the rows of the best order
-rows_in : (U : List Task) (places : List PlaceData) → AreInTime U places → All (IsRowOf U) (rows_of U places)
+rows_in : (U : List Task) (places : List PlaceData) → AreInTime U places → All (IsRowOf U) (rows_of U (bounds_of places))
 rows_in U [] each = All-nil (IsRowOf U)
 rows_in U (p ∷ places) each =
-    let row : TaskRow = record { sheet = task_at U p.task; bound = Some p.response } in
-    All-push (IsRowOf U) (rows_of U places) row (rows_in U places each.1) (p.task, each.0.in_set, refl)
+    let row : TaskRow = drawn_row U (record { task = p.task; bound = Some p.response }) in
+    All-push (IsRowOf U) (rows_of U (bounds_of places)) row (rows_in U places each.1) (p.task, each.0.in_set, refl)
 
-pub best_rows : (U : List Task) (places : List PlaceData) → IsTaskSet U → IsBestPlacing U places → All (IsRowOf U) (rows_of U places)
+pub best_rows : (U : List Task) (places : List PlaceData) → IsTaskSet U → IsBestPlacing U places → All (IsRowOf U) (rows_of U (bounds_of places))
 best_rows U places set best = rows_in U places (best-in_time U places set best)

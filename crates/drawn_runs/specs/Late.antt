@@ -1,5 +1,5 @@
 -- Rows of a run in a set's best order, and that no job of theirs is late.
-use Rattle.std.specs.Prelude.{◌≡◌, ℕ, ◌<◌, true, false, Some, Ok, List, [], ◌∷◌, ◌++◌, length, All}
+use Rattle.std.specs.Prelude.{◌≡◌, ℕ, ◌<◌, true, false, Ok, List, length, All}
 use Rattle.task_sheet.specs.Sheet.{Task, same_bytes, task_at}
 use Rattle.task_sheet.specs.TaskSet.{IsTaskSet}
 use Rattle.assignment.specs.Places.{PlaceData}
@@ -16,12 +16,6 @@ use Rattle.picture.specs.Misses.{is_late}
 -- the row is of a task of the set, with whatever bound
 abbrev pub IsRowOf : List Task → TaskRow → Type 0
 IsRowOf U row = (i : ℕ) × (i < length U) × (row.sheet ≡ task_at U i)
-
--- the rows of an order, the highest level first: each task, with its response as the bound
-abbrev pub rows_of : List Task → List PlaceData → List TaskRow
-rows_of U [] = []
-rows_of U (p ∷ places) =
-    rows_of U places ++ record { sheet = task_at U p.task; bound = Some p.response } ∷ []
 
 -- a run of an admitted set in its best order, and rows of the set's tasks
 pub record IsBestRun (U : List Task) (places : List PlaceData) (rs : List Release) (until : ℕ) (trace : Trace) (rows : List TaskRow) : Type 0 where

@@ -9,13 +9,15 @@ ghost use Rattle.ceiling_kernel.specs.Tick.{Node};
 ghost use Rattle.ceiling_kernel.specs.declared.trace.JobRecord.{JobRecord};
 ghost use Rattle.ceiling_kernel.specs.declared.trace.Release.{Release};
 ghost use Rattle.ceiling_kernel.specs.declared.trace.Trace.{Trace};
+ghost use Rattle.run_lines.specs.TaskBounds.{bounds_of};
 ghost use Rattle.picture.specs.declared.rows.TaskRow.{TaskRow};
 ghost use Rattle.picture.specs.declared.view.View.{View};
 ghost use Rattle.picture.specs.Frame.{Frame, frame_of};
 ghost use Rattle.picture.specs.Misses.{all_missed};
 ghost use Rattle.picture.specs.Document.{jobs_text};
 ghost use Rattle.picture.specs.Rows.{each};
-ghost use Rattle.drawn_runs.specs.Late.{IsBestRun, IsRowOf, NoneIsLate, rows_of};
+ghost use Rattle.drawn_runs.specs.Late.{IsBestRun, IsRowOf, NoneIsLate};
+ghost use Rattle.drawn_runs.specs.Rows.{rows_of};
 ghost use Rattle.drawn_runs.specs.Stand.{AreByArrival, IsSeenAt, StandsOnce, text_at};
 
 /// Of an admitted set in its best order no job is drawn as missed, in whatever view: none is late in the row of its task,
@@ -28,7 +30,7 @@ pub fn none_is_missed()
         (rows : List TaskRow) (v : View) → IsBestRun U places rs until trace rows
         → all_missed (frame_of rows v until) rows trace.jobs.items ≡ 0 }
     ensures rows { (U : List Task) (places : List PlaceData) → IsTaskSet U → IsBestPlacing U places
-        → All (IsRowOf U) (rows_of U places) }
+        → All (IsRowOf U) (rows_of U (bounds_of places)) }
 {}
 
 /// Each job of the window whose task's row is shown stands in exactly one place, alone or in one band; the box of that place

@@ -1,5 +1,5 @@
 use Rattle.std.proofs.Common.{◌≡◌, ◌-◌, length, drop}
-use Rattle.desk_cli.specs.Draw.{rows_of}
+use Rattle.drawn_runs.specs.Rows.{rows_of}
 use Rattle.desk_cli.proofs.draw.rows_of.Given as goal
 
 abbrev pub invariant-loop-i : goal.invariant-loop-i
