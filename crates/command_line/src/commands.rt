@@ -176,7 +176,7 @@ const COMMANDS: [Listed; 16] = [
         about: "Prints what a trace of a node shows of each task, and each promise that it breaks",
         example: example!(
             "observe examples/shared-lock.toml examples/shared-lock.trace",
-            "0 none is broken, 3 some is or infeasible, 4 the set or the trace is refused"
+            "0 each promise is kept, 3 one is broken, or nothing is promised, 4 the set or the trace is refused"
         ),
     },
     Listed {
