@@ -1,11 +1,11 @@
 //! Laws of sets with what the node takes. Each is the clause of a function that does nothing, and its names are defined in
 //! `specs/`.
 
-ghost use Rattle.std.specs.Prelude.{◌≡◌, ◌↔◌, ℕ, List, length, None, Some};
-ghost use Rattle.task_sheet.specs.Sheet.{Task, task_at};
+ghost use Rattle.std.specs.Prelude.{◌≡◌, ◌↔◌, List, length, None, Some};
+ghost use Rattle.task_sheet.specs.Sheet.{Task};
 ghost use Rattle.task_sheet.specs.TaskSet.{IsTaskSet, IsByRank};
 ghost use Rattle.task_sheet.specs.declared.node.Node.{Node};
-ghost use Rattle.overheads.specs.Padding.{no_overhead, padded_task, padded, padding_fault, IsPadded, IsLighter};
+ghost use Rattle.overheads.specs.Padding.{no_overhead, padded, padding_fault, IsPadded, IsLighter};
 
 /// Without a node nothing changes, nor with one that takes nothing, for which there is always room.
 pub fn no_node_is_plain()
