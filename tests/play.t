@@ -48,6 +48,50 @@ One name and two teams: the commit of a draft that was not tested is decided on 
   version 1
   level 1 a 1 1000
 
+A draft that removes a task comes to stand on a state where the name is another team's: it shows no task to remove, and a put
+of the name is refused as that team's.
+
+  $ desk play - << END
+  > open 1
+  > put 1 a 0 10000 10000 100
+  > test 1
+  > commit 1
+  > open 1
+  > remove 2 a
+  > open 1
+  > remove 3 a
+  > test 3
+  > commit 3
+  > open 2
+  > put 4 a 0 10000 10000 100
+  > test 4
+  > commit 4
+  > test 2
+  > commit 2
+  > remove 2 a
+  > put 2 a 0 10000 10000 100
+  > END
+  draft 1 version 0
+  ok
+  tested admitted
+  admitted 1
+  draft 2 version 1
+  ok
+  draft 3 version 1
+  ok
+  tested admitted
+  admitted 2
+  draft 4 version 2
+  ok
+  tested admitted
+  admitted 3
+  tested admitted
+  stale 3
+  refused NoSuchTask
+  refused NotYours
+  version 3
+  level 1 a 2 100
+
 Findings in any order over three tasks. A double is refused; so is a finding of another level; c is no candidate of
 level 2.
 
