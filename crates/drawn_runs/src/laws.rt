@@ -9,12 +9,12 @@ ghost use Rattle.ceiling_kernel.specs.Tick.{Node};
 ghost use Rattle.ceiling_kernel.specs.declared.trace.JobRecord.{JobRecord};
 ghost use Rattle.ceiling_kernel.specs.declared.trace.Release.{Release};
 ghost use Rattle.ceiling_kernel.specs.declared.trace.Trace.{Trace};
-ghost use Rattle.picture.specs.declared.rows.TaskRow.{TaskRow};
-ghost use Rattle.picture.specs.declared.view.View.{View};
-ghost use Rattle.picture.specs.Frame.{Frame, frame_of};
-ghost use Rattle.picture.specs.Misses.{all_missed};
-ghost use Rattle.picture.specs.Document.{jobs_text};
-ghost use Rattle.picture.specs.Rows.{each};
+ghost use Rattle.frames.specs.declared.rows.TaskRow.{TaskRow};
+ghost use Rattle.frames.specs.declared.view.View.{View};
+ghost use Rattle.frames.specs.Frame.{Frame, frame_of};
+ghost use Rattle.job_boxes.specs.Misses.{all_missed};
+ghost use Rattle.job_boxes.specs.Bands.{jobs_text};
+ghost use Rattle.frames.specs.Rows.{each};
 ghost use Rattle.drawn_runs.specs.Late.{IsBestRun, IsRowOf, NoneIsLate, rows_of};
 ghost use Rattle.drawn_runs.specs.Stand.{AreByArrival, IsSeenAt, StandsOnce, text_at};
 

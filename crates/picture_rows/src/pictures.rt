@@ -1,7 +1,8 @@
 //! Pictures of runs.
 use ceiling_kernel::{Kernel, Release, RunFault, Trace};
 use example_sets::{again, name, set_of};
-use picture::{DrawFault, TaskRow, View, draw};
+use frames::{TaskRow, View};
+use picture::{DrawFault, draw};
 use std::alloc::Global;
 use std::test::Fail;
 use streams::Watched;
