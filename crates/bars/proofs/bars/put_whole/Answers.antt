@@ -21,4 +21,4 @@ returns g c =
     let dark : ℕ → List ℕ = λ i. dark_text c.args.lane.now.frame c.args.lane.now.locks.now c.args.executed c.args.slice c.args.lane.now.spot.k row (nth_section row.sheet.sections i) in
     let all : c.loop-section.section-index ≡ length row.sheet.sections =
     omega (arith, c.loop-section.auto.section-index-end, c.loop-section-test.false, ap (λ (xs : List CriticalSection). length xs) c.sections-section-items.ensures) in
-    subst (λ (n : ℕ). Puts g.W.Write.contents c.args.self.now c.loop-section.out (Ok tt) (bar_text c.args.lane.now.frame c.args.slice c.args.lane.now.spot row ++ each n dark)) all c.loop-section.invariant
+    subst (λ (n : ℕ). Puts g.W.Write.contents c.args.out.now c.loop-section.out (Ok tt) (bar_text c.args.lane.now.frame c.args.slice c.args.lane.now.spot row ++ each n dark)) all c.loop-section.invariant
