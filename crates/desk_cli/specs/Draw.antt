@@ -6,7 +6,7 @@ use Rattle.task_sheet.specs.Indexes.{indexes_of, listed_below}
 use Rattle.ceiling_kernel.specs.declared.trace.Release.{Release}
 use Rattle.ceiling_kernel.specs.declared.trace.Trace.{Trace}
 use Rattle.picture.specs.Document.{document}
-use Rattle.picture.specs.declared.view.View.{View}
+use Rattle.frames.specs.declared.view.View.{View}
 use Rattle.command_line.specs.declared.calls.Options.{Options}
 use Rattle.run_lines.specs.TaskBounds.{bounds_of}
 use Rattle.run_lines.specs.declared.bounds.TaskBound.{TaskBound}

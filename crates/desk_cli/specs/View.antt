@@ -5,8 +5,8 @@ use Rattle.std.specs.Option.{unwrap_or}
 use Rattle.task_sheet.specs.Sheet.{Task}
 use Rattle.lines.specs.Words.{name_in}
 use Rattle.command_line.specs.declared.calls.Options.{Options}
-use Rattle.picture.specs.View.{is_empty}
-use Rattle.picture.specs.declared.view.View.{View}
+use Rattle.frames.specs.View.{is_empty}
+use Rattle.frames.specs.declared.view.View.{View}
 use Rattle.desk_cli.specs.OneTask.{asked_task}
 use Rattle.desk_cli.specs.declared.refusal.CommandRefusal.{CommandRefusal}
 use Rattle.desk_cli.specs.declared.refusal.CommandRefusal.TheVariants as refusal

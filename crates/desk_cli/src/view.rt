@@ -7,7 +7,7 @@ use crate::refusal::CommandRefusal;
 use crate::simulate::Simulated;
 use command_line::Options;
 use lines::{cut, name_of};
-use picture::View;
+use frames::View;
 use std::alloc::{AllocError, Global};
 use task_sheet::{Name, TaskSet};
 

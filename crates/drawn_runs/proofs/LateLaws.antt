@@ -16,12 +16,12 @@ use Rattle.ceiling_kernel.specs.declared.trace.JobRecord.{JobRecord}
 use Rattle.ceiling_kernel.specs.declared.trace.Release.{Release}
 use Rattle.ceiling_kernel.specs.declared.trace.Trace.{Trace}
 use Rattle.run_lines.specs.TaskBounds.{bounds_of}
-use Rattle.picture.specs.declared.rows.TaskRow.{TaskRow}
-use Rattle.picture.specs.declared.view.View.{View}
-use Rattle.picture.specs.Frame.{Frame, frame_of}
-use Rattle.picture.specs.Misses.{all_missed, is_late, is_late_at, misses}
-use Rattle.picture.specs.Rows.{no_row, record_at, row_at, row_named}
-use Rattle.picture.specs.View.{end_of_run}
+use Rattle.frames.specs.declared.rows.TaskRow.{TaskRow}
+use Rattle.frames.specs.declared.view.View.{View}
+use Rattle.frames.specs.Frame.{Frame, frame_of}
+use Rattle.job_boxes.specs.Misses.{all_missed, is_late, is_late_at, misses}
+use Rattle.frames.specs.Rows.{no_row, record_at, row_at, row_named}
+use Rattle.frames.specs.View.{end_of_run}
 use Rattle.drawn_runs.specs.Late.{IsBestRun, IsRowOf, NoneIsLate}
 use Rattle.drawn_runs.specs.Rows.{drawn_row, rows_of}
 use Rattle.drawn_runs.proofs.ListLaws.{kept_none}

@@ -1,5 +1,4 @@
 pub mod ListLaws
 pub mod RunLaws
 pub mod LateLaws
-pub mod PlaceLaws
 pub mod StandLaws

@@ -9,14 +9,14 @@ use Rattle.task_sheet.proofs.NameLaws.{same_own}
 use Rattle.ceiling_kernel.specs.Runs.{no_record}
 use Rattle.ceiling_kernel.specs.declared.trace.JobRecord.{JobRecord}
 use Rattle.pieces.specs.Bands.{arrival_of, band_of, is_banded, is_of, job_of, joins, next_of, stretch_of}
-use Rattle.picture.specs.declared.rows.TaskRow.{TaskRow}
-use Rattle.picture.specs.Bands.{band_text, gap_of, place_text, stand_text}
-use Rattle.picture.specs.Elements.{job_text, limit_of, seen_job}
-use Rattle.picture.specs.Frame.{Frame, sees}
-use Rattle.picture.specs.Rows.{in_spot, on_spot, record_at, row_at, spot_at, spot_of}
+use Rattle.frames.specs.declared.rows.TaskRow.{TaskRow}
+use Rattle.job_boxes.specs.Bands.{band_text, gap_of, place_text, stand_text}
+use Rattle.job_boxes.specs.Jobs.{job_text, limit_of, seen_job}
+use Rattle.frames.specs.Frame.{Frame, sees}
+use Rattle.frames.specs.Rows.{in_spot, on_spot, record_at, row_at, spot_at, spot_of}
 use Rattle.drawn_runs.specs.Stand.{AreByArrival, IsSeenAt, StandsOnce, band_at, count_at, drawn_at, latest_at, sees_job, sees_place, text_at}
 use Rattle.drawn_runs.proofs.ListLaws.{kept_most, kept_two}
-use Rattle.drawn_runs.proofs.PlaceLaws.{Place, place_of, stands_first}
+use Rattle.pieces.proofs.PlaceLaws.{Place, place_of, stands_first}
 
 -- where a job stands among those up to the next band
 in_stretch : (jobs : List JobRecord) (n d next : ℕ) → n + d < next → n + d < length jobs

@@ -2,7 +2,7 @@
 use Rattle.std.specs.Prelude.{List, [], ◌∷◌, ◌++◌}
 use Rattle.task_sheet.specs.Sheet.{Task, task_at}
 use Rattle.run_lines.specs.declared.bounds.TaskBound.{TaskBound}
-use Rattle.picture.specs.declared.rows.TaskRow.{TaskRow}
+use Rattle.frames.specs.declared.rows.TaskRow.{TaskRow}
 
 -- the row of a level: its task, with the task's bound, if it has one
 abbrev pub drawn_row : List Task → TaskBound → TaskRow

@@ -4,11 +4,11 @@ use Rattle.task_sheet.specs.Demand.{greatest_of}
 use Rattle.ceiling_kernel.specs.declared.trace.JobRecord.{JobRecord}
 use Rattle.run_lines.specs.Reached.{done_of, response_of}
 use Rattle.pieces.specs.Bands.{arrival_of, band_of, holds_job, is_banded, stretch_of}
-use Rattle.picture.specs.declared.rows.TaskRow.{TaskRow}
-use Rattle.picture.specs.Bands.{gap_of, place_text, seen_band}
-use Rattle.picture.specs.Elements.{limit_of, seen_job}
-use Rattle.picture.specs.Frame.{Frame, sees}
-use Rattle.picture.specs.Rows.{on_spot, place_in, record_at, row_at, row_named}
+use Rattle.frames.specs.declared.rows.TaskRow.{TaskRow}
+use Rattle.job_boxes.specs.Bands.{gap_of, place_text, seen_band}
+use Rattle.job_boxes.specs.Jobs.{limit_of, seen_job}
+use Rattle.frames.specs.Frame.{Frame, sees}
+use Rattle.frames.specs.Rows.{on_spot, place_in, record_at, row_at, row_named}
 
 -- the jobs stand by their arrivals
 abbrev pub AreByArrival : List JobRecord → Type 0

@@ -4,11 +4,11 @@ use Rattle.ceiling_kernel.specs.declared.trace.Release.{Release}
 use Rattle.ceiling_kernel.specs.declared.trace.JobRecord.{JobRecord}
 use Rattle.ceiling_kernel.specs.declared.trace.Slice.{Slice}
 use Rattle.ceiling_kernel.specs.declared.trace.Trace.{Trace}
-use Rattle.picture.specs.declared.rows.TaskRow.{TaskRow}
-use Rattle.picture.specs.declared.view.View.{View}
-use Rattle.picture.specs.Frame.{Frame, frame_of}
-use Rattle.picture.specs.Locks.{locks_of}
-use Rattle.picture.specs.View.{shown_of}
+use Rattle.frames.specs.declared.rows.TaskRow.{TaskRow}
+use Rattle.frames.specs.declared.view.View.{View}
+use Rattle.frames.specs.Frame.{Frame, frame_of}
+use Rattle.frames.specs.Locks.{locks_of}
+use Rattle.frames.specs.View.{shown_of}
 use Rattle.picture.specs.Document.{document, framed}
 
 pub document_of : (rows : List TaskRow) (v : View) (until : ℕ) (rs : List Release) (trace : Trace) (f : Frame) (title : List ℕ) (locks : List (List ℕ)) (shown : List ℕ) (jobs : List JobRecord) (slices : List Slice)

@@ -1,11 +1,3 @@
-pub mod Puts
-pub mod Counts
-pub mod Darker
-pub mod Widths
-mod Lanes
-mod Shown
+mod Darker
+mod Widths
 mod Documents
-mod Badges
-mod Quiet
-pub mod LockLaws
-mod BandLaws

@@ -1,7 +1,7 @@
 -- Where a deadline is missed, and how wide a picture is.
 use Rattle.std.proofs.Common.{◌≡◌, ℕ, ◌+◌, ◌*◌, ◌/◌, ◌<◌, ◌≤◌, arith, min, max}
 use Rattle.std.specs.Prelude.{Option, Some, None, nat_lt, nat_le, ◌-◌}
-use Rattle.picture.specs.Frame.{longest_name, left_of, span_of}
+use Rattle.frames.specs.Frame.{longest_name, left_of, span_of}
 use Rattle.picture.specs.Laws.{AreMissesShown, HasWidth}
 
 done_later : (finish arrival deadline : ℕ) → nat_lt deadline (finish - arrival) ≡ nat_lt (arrival + deadline) finish

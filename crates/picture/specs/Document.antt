@@ -1,32 +1,30 @@
 -- The document: what stands still, the jobs, the slices by time, and the marks of the releases.
-use Rattle.std.specs.Prelude.{ℕ, ◌+◌, ◌-◌, ◌*◌, ◌/◌, Bool, ◌&&◌, ◌==◌, if◌then◌else◌, Option, Some, None, List, [], ◌∷◌, ◌++◌, length, slice_get, codes}
+use Rattle.std.specs.Prelude.{ℕ, ◌+◌, ◌-◌, ◌*◌, ◌/◌, Bool, ◌&&◌, ◌==◌, if◌then◌else◌, List, [], ◌∷◌, ◌++◌, length, codes}
 use Rattle.std.specs.Fmt.{decimal}
 use Rattle.std.specs.List.{concat}
 use Rattle.ceiling_kernel.specs.declared.trace.Release.{Release}
 use Rattle.ceiling_kernel.specs.declared.trace.JobRecord.{JobRecord}
 use Rattle.ceiling_kernel.specs.declared.trace.Slice.{Slice}
 use Rattle.ceiling_kernel.specs.declared.trace.Trace.{Trace}
-use Rattle.ceiling_kernel.specs.Releases.{release_at}
-use Rattle.pieces.specs.Bands.{is_banded}
-use Rattle.picture.specs.declared.rows.TaskRow.{TaskRow}
-use Rattle.picture.specs.declared.view.View.{View}
-use Rattle.picture.specs.View.{shown_of}
+use Rattle.frames.specs.declared.rows.TaskRow.{TaskRow}
+use Rattle.frames.specs.declared.view.View.{View}
+use Rattle.frames.specs.View.{shown_of}
 use Rattle.picture.specs.Titles.{title_head}
-use Rattle.picture.specs.declared.marks.Mark.{Mark}
-use Rattle.picture.specs.declared.marks.Mark.TheVariants.{Arrival, Ready, Bound, Deadline}
 use Rattle.picture.specs.declared.style.TheConstants.{STYLE}
 use Rattle.picture.specs.declared.legend.TheConstants.{LEGEND}
-use Rattle.picture.specs.Frame.{Frame, frame_of, frame_end, step_of, steps_before, top_of}
-use Rattle.picture.specs.Rows.{each, row_at, record_at, on_row, on_spot, spot_in}
-use Rattle.picture.specs.Sections.{slice_at, executed_in}
-use Rattle.picture.specs.Numbers.{millis_text}
-use Rattle.picture.specs.Misses.{all_missed, badge_text, row_misses}
+use Rattle.frames.specs.Frame.{Frame, frame_of, frame_end, step_of, steps_before, top_of}
+use Rattle.frames.specs.Rows.{each, row_at, spot_in}
+use Rattle.frames.specs.Numbers.{millis_text}
+use Rattle.job_boxes.specs.Misses.{all_missed, badge_text, misses_text}
 use Rattle.picture.specs.Margin.{margin_text}
-use Rattle.picture.specs.Locks.{locks_of, locks_high, locks_group}
-use Rattle.picture.specs.WaitTexts.{waits_text}
-use Rattle.picture.specs.Lane.{lane_head, lane_line, lane_text}
-use Rattle.picture.specs.Bands.{gap_of, place_text}
-use Rattle.picture.specs.Elements.{time_head, tick_text, line_text, slice_text, mark_text, mark_head}
+use Rattle.frames.specs.Locks.{locks_of}
+use Rattle.bars.specs.Stripes.{locks_high, locks_group}
+use Rattle.reasons.specs.WaitTexts.{waits_text}
+use Rattle.bars.specs.Lane.{lane_head, lane_line, lanes_text}
+use Rattle.job_boxes.specs.Bands.{jobs_text}
+use Rattle.picture.specs.Scale.{time_head, tick_text, line_text}
+use Rattle.bars.specs.Bars.{slices_text}
+use Rattle.job_boxes.specs.Marks.{all_marks}
 
 -- how wide the picture is
 abbrev pub width_of : Frame → ℕ
@@ -138,70 +136,6 @@ abbrev pub ground_text : Frame → List ℕ → List (List ℕ) → List TaskRow
 ground_text f title locks rows shown jobs slices until =
     document_head f title (length locks) (length shown) (length rows) (length jobs) until
     ++ top_text f title rows jobs until ++ rows_text f locks rows shown jobs slices
-
--- each job, alone or in a band
-abbrev pub jobs_text : Frame → List TaskRow → (shown : List ℕ) → List JobRecord → List ℕ
-jobs_text f rows shown jobs =
-    each (length jobs)
-    (λ i. on_spot rows shown (record_at jobs i).name (λ s. place_text f jobs i s.k))
-
--- a text for a job, if there is one
-abbrev pub of_job : (JobRecord → List ℕ) → Option JobRecord → List ℕ
-of_job text None = []
-of_job text (Some job) = text job
-
--- a slice in the lane of the processor, of a job
-abbrev pub lane_by : Frame → List TaskRow → List JobRecord → Slice → List ℕ
-lane_by f rows jobs s =
-    of_job (λ job. on_row rows job.name (lane_text f s)) (slice_get jobs s.job)
-
--- each slice there, by time
-abbrev pub lanes_text : Frame → List TaskRow → List JobRecord → List Slice → List ℕ
-lanes_text f rows jobs slices =
-    each (length slices) (λ n. lane_by f rows jobs (slice_at slices n))
-
--- a slice in the row of its job's task, of a job that has executed e ticks before it
-abbrev pub slice_by : Frame → List (List ℕ) → List TaskRow → (shown : List ℕ) → List JobRecord → (e : ℕ) → Slice → List ℕ
-slice_by f locks rows shown jobs e s =
-    of_job (λ job. on_spot rows shown job.name (slice_text f locks e s)) (slice_get jobs s.job)
-
--- slice n
-abbrev pub slice_in : Frame → List (List ℕ) → List TaskRow → (shown : List ℕ) → List JobRecord → List Slice → ℕ → List ℕ
-slice_in f locks rows shown jobs slices n =
-    slice_by f locks rows shown jobs (executed_in slices n (slice_at slices n).job) (slice_at slices n)
-
--- each slice, by time
-abbrev pub slices_text : Frame → List (List ℕ) → List TaskRow → (shown : List ℕ) → List JobRecord → List Slice → List ℕ
-slices_text f locks rows shown jobs slices =
-    each (length slices) (slice_in f locks rows shown jobs slices)
-
--- what is missed in each row
-abbrev pub misses_text : Frame → List TaskRow → (shown : List ℕ) → List JobRecord → List ℕ
-misses_text f rows shown jobs =
-    each (length shown)
-    (λ k. row_misses f jobs (spot_in shown k).k (row_at rows (spot_in shown k).rank))
-
--- a mark of a kind for release i, whose job stands alone
-abbrev pub mark_alone : Frame → List TaskRow → (shown : List ℕ) → List JobRecord → Mark → (i : ℕ) → Release → List ℕ
-mark_alone f rows shown jobs mark i r =
-    if is_banded (gap_of f) jobs i then []
-    else on_spot rows shown r.name (λ s. mark_text f mark r s.k)
-
--- the same for each
-abbrev pub each_mark : Frame → List TaskRow → (shown : List ℕ) → List JobRecord → Mark → List Release → List ℕ
-each_mark f rows shown jobs mark rs =
-    each (length rs) (λ i. mark_alone f rows shown jobs mark i (release_at rs i))
-
--- the marks of a kind, as one path
-abbrev pub marks_text : Frame → List TaskRow → (shown : List ℕ) → List JobRecord → Mark → List Release → List ℕ
-marks_text f rows shown jobs mark rs =
-    mark_head mark ++ each_mark f rows shown jobs mark rs ++ codes "\"/>\n"
-
--- the marks of all kinds
-abbrev pub all_marks : Frame → List TaskRow → (shown : List ℕ) → List JobRecord → List Release → List ℕ
-all_marks f rows shown jobs rs =
-    marks_text f rows shown jobs Ready rs ++ marks_text f rows shown jobs Arrival rs
-    ++ marks_text f rows shown jobs Bound rs ++ marks_text f rows shown jobs Deadline rs
 
 -- the document in a frame: what stands still, the lane, the jobs, the marks, why jobs wait, the slices, and what is missed
 abbrev pub framed : Frame → List ℕ → List (List ℕ) → List TaskRow → (shown : List ℕ) → ℕ → List Release → List JobRecord → List Slice → List ℕ

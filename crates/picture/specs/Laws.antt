@@ -6,11 +6,12 @@ use Rattle.task_sheet.specs.Name.{IsName}
 use Rattle.ceiling_kernel.specs.Tick.{is_inside}
 use Rattle.ceiling_kernel.specs.declared.trace.Slice.{Slice}
 use Rattle.ceiling_kernel.specs.declared.trace.JobRecord.{JobRecord}
-use Rattle.picture.specs.declared.rows.TaskRow.{TaskRow}
-use Rattle.picture.specs.declared.view.View.{View}
-use Rattle.picture.specs.Frame.{Frame, frame_of}
-use Rattle.picture.specs.Sections.{ticks_of, dark_from, dark_to}
-use Rattle.picture.specs.Misses.{is_late}
+use Rattle.frames.specs.declared.rows.TaskRow.{TaskRow}
+use Rattle.frames.specs.declared.view.View.{View}
+use Rattle.frames.specs.Frame.{Frame, frame_of}
+use Rattle.frames.specs.Slices.{ticks_of}
+use Rattle.bars.specs.Sections.{dark_from, dark_to}
+use Rattle.job_boxes.specs.Misses.{is_late}
 use Rattle.picture.specs.Document.{width_of}
 
 -- a job's tick number e, from 0, is executed inside a section

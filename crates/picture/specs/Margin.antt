@@ -6,11 +6,11 @@ use Rattle.task_sheet.specs.Demand.{greatest_of}
 use Rattle.run_lines.specs.Lines.{greatest_words}
 use Rattle.run_lines.specs.Reached.{done_of, response_of}
 use Rattle.ceiling_kernel.specs.declared.trace.JobRecord.{JobRecord}
-use Rattle.picture.specs.declared.rows.TaskRow.{TaskRow}
-use Rattle.picture.specs.declared.rows.Spot.{Spot}
-use Rattle.picture.specs.Frame.{Frame, top_of, level_of, tone_of}
-use Rattle.picture.specs.Numbers.{millis_text, known_text}
-use Rattle.picture.specs.Misses.{missed_in}
+use Rattle.frames.specs.declared.rows.TaskRow.{TaskRow}
+use Rattle.frames.specs.declared.rows.Spot.{Spot}
+use Rattle.frames.specs.Frame.{Frame, top_of, level_of, tone_of}
+use Rattle.frames.specs.Numbers.{millis_text, known_text}
+use Rattle.job_boxes.specs.Misses.{missed_in}
 
 -- a row's level, and the tone of its task
 abbrev pub level_text : Frame → Spot → List ℕ

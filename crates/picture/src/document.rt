@@ -1,22 +1,20 @@
 //! The whole picture.
-ghost use Rattle.std.specs.Prelude.{◌≡◌, ◌+◌, ◌≤◌, ◌<◌, All, length, OnOk, OnErr, Err, IfOk, true};
-ghost use Rattle.task_sheet.specs.declared.set.TheConstants.{TASK_LIMIT};
-ghost use Rattle.picture.specs.Puts.{Puts};
 ghost use Rattle.std.specs.Io.KnownBytes.{Appends};
-ghost use Rattle.picture.specs.Sections.{AreUncounted};
-ghost use Rattle.picture.specs.declared.locks.TheConstants.{LOCKS_LIMIT};
-ghost use Rattle.picture.specs.Locks.{locks_of};
-ghost use Rattle.picture.specs.View.{shown_of};
-ghost use Rattle.picture.specs.Document.{framed, document};
+ghost use Rattle.std.specs.Prelude.{◌<◌, ◌≡◌, ◌≤◌, All, Err, IfOk, OnErr, OnOk, length, true};
+ghost use Rattle.streams.specs.Puts.{Puts};
+ghost use Rattle.task_sheet.specs.declared.set.TheConstants.{TASK_LIMIT};
+ghost use Rattle.bars.specs.Sections.{AreUncounted};
+ghost use Rattle.frames.specs.Locks.{locks_of};
+ghost use Rattle.frames.specs.View.{shown_of};
+ghost use Rattle.frames.specs.declared.locks.TheConstants.{LOCKS_LIMIT};
+ghost use Rattle.picture.specs.Document.{document, framed};
 
-use crate::chart::Chart;
-use crate::frame::frame_of;
-use crate::locks::locks_of;
-use crate::page::Page;
-use crate::rows::TaskRow;
-use crate::view::{View, shown_of};
-use crate::waits::starts_rise;
+use crate::ground::put_ground;
+use bars::{put_lanes, put_slices};
 use ceiling_kernel::{Release, Trace};
+use frames::{Chart, TaskRow, View, frame_of, locks_of, shown_of, starts_rise};
+use job_boxes::{put_all_marks, put_jobs, put_misses};
+use reasons::put_waits;
 use std::alloc::{AllocError, Global};
 use std::io::Write;
 use streams::{Outlet, Watched, WriteFailed};
@@ -40,24 +38,24 @@ fn no_ticks(alloc: Global, jobs: usize) -> Result<Vec<u64>, AllocError>
 
 // The document, with the counts of the ticks that each job executed.
 fn put_document<W: Write + Drop>(
-    page: &mut Page<'_, W>,
     chart: &Chart<'_>,
     executed: &mut [u64],
+    out: &mut Outlet<'_, W>,
 ) -> Result<(), WriteFailed>
     requires { AreUncounted executed.old (length chart.now.jobs.now) }
-    ensures { Puts W.contents page.old page.new result
+    ensures { Puts W.contents out.old out.new result
         (framed chart.now.frame chart.now.title.now chart.now.locks.now chart.now.rows.now
         chart.now.shown.now chart.now.until chart.now.releases.now chart.now.jobs.now
         chart.now.slices.now) }
 {
-    page.put_ground(chart)?;
-    page.put_lanes(chart)?;
-    page.put_jobs(chart)?;
-    page.put_all_marks(chart)?;
-    page.put_waits(chart)?;
-    page.put_slices(chart, executed)?;
-    page.put_misses(chart)?;
-    page.out.put(b"</svg>\n")
+    put_ground(chart, out)?;
+    put_lanes(chart, out)?;
+    put_jobs(chart, out)?;
+    put_all_marks(chart, out)?;
+    put_waits(chart, out)?;
+    put_slices(chart, executed, out)?;
+    put_misses(chart, out)?;
+    out.put(b"</svg>\n")
 }
 
 // The document, sent whole.
@@ -74,11 +72,9 @@ fn put_all<W: Write + Drop>(
     ensures ok { OnOk result (output.new.has_failed ≡ output.old.has_failed) }
     ensures failed { OnErr result (output.new.has_failed ≡ true) }
 {
-    let mut page = Page {
-        out: Outlet::new(output),
-    };
-    put_document(&mut page, chart, executed)?;
-    page.out.flush()
+    let mut out = Outlet::new(output);
+    put_document(chart, executed, &mut out)?;
+    out.flush()
 }
 
 // The picture, of rows with these locks, of which these are shown.

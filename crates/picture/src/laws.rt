@@ -1,5 +1,5 @@
 //! Laws of the picture.
-ghost use Rattle.picture.specs.Laws.{AreTicksDark, IsHeldBetween, AreMissesShown, HasWidth, AreNamesPlain};
+ghost use Rattle.picture.specs.Laws.{AreMissesShown, AreNamesPlain, AreTicksDark, HasWidth, IsHeldBetween};
 
 /// The darker ticks of a slice are those that its job executes inside the section.
 pub fn ticks_are_dark()

@@ -1,11 +1,10 @@
 //! The title, before what a picture says of its run.
-ghost use Rattle.std.specs.Prelude.{◌≡◌, ◌<◌, length, slice_index};
-ghost use Rattle.picture.specs.Puts.{Puts};
-ghost use Rattle.picture.specs.Titles.{shown_byte, is_barred, is_in_barred, shown_at, shown_bytes, title_head};
+ghost use Rattle.std.specs.Prelude.{◌<◌, ◌≡◌, length, slice_index};
+ghost use Rattle.streams.specs.Puts.{Puts};
+ghost use Rattle.picture.specs.Titles.{is_barred, is_in_barred, shown_at, shown_byte, shown_bytes, title_head};
 
-use crate::page::Page;
 use std::io::Write;
-use streams::WriteFailed;
+use streams::{Outlet, WriteFailed};
 
 // The byte at a place, or 0 behind the last.
 fn byte_at(bytes: &[u8], i: usize) -> u8
@@ -40,56 +39,61 @@ fn is_in_barred(bytes: &[u8], i: usize) -> bool
     (i >= 1 && is_barred(bytes, i - 1)) || (i >= 2 && is_barred(bytes, i - 2))
 }
 
-impl<W: Write + Drop> Page<'_, W> {
-    // A byte as text has it.
-    fn put_byte(&mut self, byte: u8) -> Result<(), WriteFailed>
-        ensures { Puts W.contents self.old self.new result (shown_byte byte) }
-    {
-        if byte == b'&' {
-            self.out.put(b"&amp;")
-        } else if byte == b'<' {
-            self.out.put(b"&lt;")
-        } else if byte == b'>' {
-            self.out.put(b"&gt;")
-        } else if byte < 32 {
-            self.out.put(b" ")
-        } else {
-            self.out.put(&[byte])
-        }
+// A byte as text has it.
+fn put_byte<W: Write + Drop>(byte: u8, out: &mut Outlet<'_, W>) -> Result<(), WriteFailed>
+    ensures { Puts W.contents out.old out.new result (shown_byte byte) }
+{
+    if byte == b'&' {
+        out.put(b"&amp;")
+    } else if byte == b'<' {
+        out.put(b"&lt;")
+    } else if byte == b'>' {
+        out.put(b"&gt;")
+    } else if byte < 32 {
+        out.put(b" ")
+    } else {
+        out.put(&[byte])
     }
+}
 
-    // The byte at a place.
-    fn put_byte_at(&mut self, bytes: &[u8], i: usize) -> Result<(), WriteFailed>
-        requires { i < length bytes.now }
-        ensures { Puts W.contents self.old self.new result (shown_at bytes.now i) }
-    {
-        if is_barred(bytes, i) {
-            self.out.put(b" ")
-        } else if is_in_barred(bytes, i) {
-            Ok(())
-        } else {
-            self.put_byte(bytes[i])
-        }
-    }
-
-    // Some bytes.
-    fn put_bytes(&mut self, bytes: &[u8]) -> Result<(), WriteFailed>
-        ensures { Puts W.contents self.old self.new result (shown_bytes bytes.now) }
-    {
-        for i in 0..bytes.len() {
-            self.put_byte_at(bytes, i)?;
-        }
+// The byte at a place.
+fn put_byte_at<W: Write + Drop>(
+    bytes: &[u8],
+    i: usize,
+    out: &mut Outlet<'_, W>,
+) -> Result<(), WriteFailed>
+    requires { i < length bytes.now }
+    ensures { Puts W.contents out.old out.new result (shown_at bytes.now i) }
+{
+    if is_barred(bytes, i) {
+        out.put(b" ")
+    } else if is_in_barred(bytes, i) {
         Ok(())
+    } else {
+        put_byte(bytes[i], out)
     }
+}
 
-    // A title, where it isn't empty.
-    pub(crate) fn put_title_head(&mut self, title: &[u8]) -> Result<(), WriteFailed>
-        ensures { Puts W.contents self.old self.new result (title_head title.now) }
-    {
-        if title.is_empty() {
-            return Ok(());
-        }
-        self.put_bytes(title)?;
-        self.out.put(b": ")
+// Some bytes.
+fn put_bytes<W: Write + Drop>(bytes: &[u8], out: &mut Outlet<'_, W>) -> Result<(), WriteFailed>
+    ensures { Puts W.contents out.old out.new result (shown_bytes bytes.now) }
+{
+    for i in 0..bytes.len() {
+        put_byte_at(bytes, i, out)?;
     }
+    Ok(())
+}
+
+// A title, where it isn't empty.
+pub(crate) fn put_title_head<W: Write + Drop>(
+    title: &[u8],
+    out: &mut Outlet<'_, W>,
+) -> Result<(), WriteFailed>
+    ensures { Puts W.contents out.old out.new result (title_head title.now) }
+{
+    if title.is_empty() {
+        return Ok(());
+    }
+    put_bytes(title, out)?;
+    out.put(b": ")
 }

@@ -1,8 +1,9 @@
 //! Pictures of runs.
 use ceiling_kernel::{Kernel, Release, RunFault, Trace};
 use example_sets::{again, name, set_of};
-use picture::{DrawFault, TaskRow, View, draw};
-use std::alloc::Global;
+use frames::{TaskRow, View};
+use picture::{DrawFault, draw};
+use std::alloc::{AllocError, Global};
 use std::test::Fail;
 use streams::Watched;
 use task_sheet::{TASK_LIMIT, TaskSet};
@@ -44,11 +45,29 @@ const LEGEND: &str =
 <path class=\"x\" d=\"M4330 880h1\"/><path class=\"y\" d=\"M4330 880m-38-38l76 76m0-76l-76 76\"/><text x=\"4450\" y=\"918\">missed</text>
 ";
 
-// What differs from picture to picture: ten times the height, the title, and what stands above and below the legend.
+// The lines of two rows, below that of the processor, and what begins the margin.
+const TWO_ROWS: &str = "<path class=\"l\" d=\"M1960 1570H9400\"/>
+<path class=\"g\" d=\"M100 1690H9400\"/><path class=\"l\" d=\"M1960 2035H9400\"/>
+<path class=\"g\" d=\"M100 2170H9400\"/><path class=\"l\" d=\"M1960 2515H9400\"/>
+<g id=\"n\">
+<text x=\"500\" y=\"1200\">time in us</text>
+";
+
+// The same of none.
+const NO_ROW: &str = "<path class=\"l\" d=\"M1960 1570H9400\"/>
+<g id=\"n\">
+<text x=\"500\" y=\"1200\">time in us</text>
+";
+
+// What differs from picture to picture: ten times the height, the title, and what stands above the legend; below it how far
+// down the scale goes, where each of its lines lies and the time there, the lines of the rows, and the rest.
 struct Parts {
     height: u64,
     title: &'static str,
     above: &'static str,
+    bottom: u64,
+    scale: &'static [(u64, u64)],
+    rows: &'static str,
     below: &'static str,
 }
 
@@ -59,19 +78,18 @@ const PICTURE: Parts = Parts {
     above: "<text class=\"t\" x=\"100\" y=\"200\">no deadline missed</text>
 <text x=\"100\" y=\"390\">tasks: 2, jobs: 3, until 1.3 ms</text>
 ",
-    below: "<path class=\"g\" d=\"M1960 1230V2650\"/><text class=\"s\" x=\"1960\" y=\"1200\">0</text>
-<path class=\"g\" d=\"M3104 1230V2650\"/><text class=\"s\" x=\"3104\" y=\"1200\">200</text>
-<path class=\"g\" d=\"M4249 1230V2650\"/><text class=\"s\" x=\"4249\" y=\"1200\">400</text>
-<path class=\"g\" d=\"M5393 1230V2650\"/><text class=\"s\" x=\"5393\" y=\"1200\">600</text>
-<path class=\"g\" d=\"M6538 1230V2650\"/><text class=\"s\" x=\"6538\" y=\"1200\">800</text>
-<path class=\"g\" d=\"M7683 1230V2650\"/><text class=\"s\" x=\"7683\" y=\"1200\">1000</text>
-<path class=\"g\" d=\"M8827 1230V2650\"/><text class=\"s\" x=\"8827\" y=\"1200\">1200</text>
-<path class=\"l\" d=\"M1960 1570H9400\"/>
-<path class=\"g\" d=\"M100 1690H9400\"/><path class=\"l\" d=\"M1960 2035H9400\"/>
-<path class=\"g\" d=\"M100 2170H9400\"/><path class=\"l\" d=\"M1960 2515H9400\"/>
-<g id=\"n\">
-<text x=\"500\" y=\"1200\">time in us</text>
-<text class=\"n\" x=\"500\" y=\"1460\">processor</text><text x=\"500\" y=\"1580\">busy 88.4 %</text>
+    bottom: 2650,
+    scale: &[
+        (1960, 0),
+        (3104, 200),
+        (4249, 400),
+        (5393, 600),
+        (6538, 800),
+        (7683, 1000),
+        (8827, 1200),
+    ],
+    rows: TWO_ROWS,
+    below: "<text class=\"n\" x=\"500\" y=\"1460\">processor</text><text x=\"500\" y=\"1580\">busy 88.4 %</text>
 <text class=\"v\" x=\"300\" y=\"1920\">2</text><rect class=\"f0\" x=\"350\" y=\"1820\" width=\"100\" height=\"100\" rx=\"20\"/>
 <text class=\"n\" x=\"500\" y=\"1920\"><title>done: 1, greatest response: 450, bound: 550 us</title>a</text>
 <text x=\"500\" y=\"2045\">bound 0.55 of 0.9 ms</text>
@@ -139,19 +157,18 @@ const LATE: Parts = Parts {
 <text class=\"t q\" x=\"320\" y=\"200\">deadlines missed: 1</text>
 <text x=\"100\" y=\"390\">tasks: 2, jobs: 3, until 1.25 ms</text>
 ",
-    below: "<path class=\"g\" d=\"M1960 1230V2650\"/><text class=\"s\" x=\"1960\" y=\"1200\">0</text>
-<path class=\"g\" d=\"M3150 1230V2650\"/><text class=\"s\" x=\"3150\" y=\"1200\">200</text>
-<path class=\"g\" d=\"M4340 1230V2650\"/><text class=\"s\" x=\"4340\" y=\"1200\">400</text>
-<path class=\"g\" d=\"M5531 1230V2650\"/><text class=\"s\" x=\"5531\" y=\"1200\">600</text>
-<path class=\"g\" d=\"M6721 1230V2650\"/><text class=\"s\" x=\"6721\" y=\"1200\">800</text>
-<path class=\"g\" d=\"M7912 1230V2650\"/><text class=\"s\" x=\"7912\" y=\"1200\">1000</text>
-<path class=\"g\" d=\"M9102 1230V2650\"/><text class=\"s\" x=\"9102\" y=\"1200\">1200</text>
-<path class=\"l\" d=\"M1960 1570H9400\"/>
-<path class=\"g\" d=\"M100 1690H9400\"/><path class=\"l\" d=\"M1960 2035H9400\"/>
-<path class=\"g\" d=\"M100 2170H9400\"/><path class=\"l\" d=\"M1960 2515H9400\"/>
-<g id=\"n\">
-<text x=\"500\" y=\"1200\">time in us</text>
-<text class=\"n\" x=\"500\" y=\"1460\">processor</text><text x=\"500\" y=\"1580\">busy 92.0 %</text>
+    bottom: 2650,
+    scale: &[
+        (1960, 0),
+        (3150, 200),
+        (4340, 400),
+        (5531, 600),
+        (6721, 800),
+        (7912, 1000),
+        (9102, 1200),
+    ],
+    rows: TWO_ROWS,
+    below: "<text class=\"n\" x=\"500\" y=\"1460\">processor</text><text x=\"500\" y=\"1580\">busy 92.0 %</text>
 <text class=\"v\" x=\"300\" y=\"1920\">2</text><rect class=\"f0\" x=\"350\" y=\"1820\" width=\"100\" height=\"100\" rx=\"20\"/>
 <text class=\"n\" x=\"500\" y=\"1920\"><title>done: 1, greatest response: 600, bound: - us</title>b</text>
 <text x=\"500\" y=\"2045\">deadline 2 ms</text>
@@ -201,12 +218,10 @@ const EMPTY_PICTURE: Parts = Parts {
     above: "<text class=\"t\" x=\"100\" y=\"200\">no deadline missed</text>
 <text x=\"100\" y=\"390\">tasks: 0, jobs: 0, until 0 ms</text>
 ",
-    below: "<path class=\"g\" d=\"M1960 1230V1690\"/><text class=\"s\" x=\"1960\" y=\"1200\">0</text>
-<path class=\"g\" d=\"M9400 1230V1690\"/><text class=\"s\" x=\"9400\" y=\"1200\">1</text>
-<path class=\"l\" d=\"M1960 1570H9400\"/>
-<g id=\"n\">
-<text x=\"500\" y=\"1200\">time in us</text>
-<text class=\"n\" x=\"500\" y=\"1460\">processor</text><text x=\"500\" y=\"1580\">busy 0.0 %</text>
+    bottom: 1690,
+    scale: &[(1960, 0), (9400, 1)],
+    rows: NO_ROW,
+    below: "<text class=\"n\" x=\"500\" y=\"1460\">processor</text><text x=\"500\" y=\"1580\">busy 0.0 %</text>
 </g>
 <g id=\"k\">
 </g>
@@ -310,21 +325,37 @@ fn drawn(
     picture_of(alloc, &rows, until, releases, &trace)
 }
 
+// The scale.
+fn push_scale(text: &mut String, bottom: u64, scale: &[(u64, u64)]) -> Result<(), AllocError> {
+    for (x, time) in scale {
+        write!(
+            text,
+            "<path class=\"g\" d=\"M{x} 1230V{bottom}\"/><text class=\"s\" x=\"{x}\" y=\"1200\">{time}</text>\n"
+        )?;
+    }
+    Ok(())
+}
+
 // The whole picture of these parts, which is ten times as fine as it is large.
 fn whole(alloc: Global, parts: &Parts) -> Result<String, Fail> {
     let Parts {
         height,
         title,
         above,
+        bottom,
+        scale,
+        rows,
         below,
     } = parts;
     let pixels = height / 10;
-    let text = format!(in alloc;
+    let mut text = format!(in alloc;
         "<?xml version=\"1.0\" encoding=\"UTF-8\"?>
 <svg xmlns=\"http://www.w3.org/2000/svg\" version=\"1.1\" width=\"960\" height=\"{pixels}\" viewBox=\"0 0 9600 {height}\">
 <title>{title}</title>
-{STYLE}{above}{LEGEND}{below}"
+{STYLE}{above}{LEGEND}"
     )?;
+    push_scale(&mut text, *bottom, scale)?;
+    write!(text, "{rows}{below}")?;
     Ok(text)
 }
 

@@ -1,4 +1,5 @@
 mod Cover
 mod BandSteps
 mod BandSums
+pub mod PlaceLaws
 mod BandLaws

@@ -1,7 +1,7 @@
 use Rattle.std.proofs.Common.{◌∙◌, List, inl, refl, subst}
 use Rattle.std.specs.Io.KnownBytes.{Appends}
 use Rattle.picture.specs.Document.{document}
-use Rattle.picture.specs.declared.rows.TaskRow.{TaskRow}
+use Rattle.frames.specs.declared.rows.TaskRow.{TaskRow}
 use Rattle.desk_cli.proofs.CarriedOut.{done_ends, said_sound}
 use Rattle.desk_cli.proofs.draw.draw_run.Goals as goal
 

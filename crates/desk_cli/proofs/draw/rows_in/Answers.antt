@@ -4,7 +4,7 @@ use Rattle.task_sheet.specs.Sheet.{Task}
 use Rattle.run_lines.specs.TaskBounds.{tasks_of_bounds}
 use Rattle.run_lines.specs.declared.bounds.TaskBound.{TaskBound}
 use Rattle.ceiling_kernel.proofs.OrderLaws.{order_iff, order_length}
-use Rattle.picture.specs.declared.rows.TaskRow.{TaskRow}
+use Rattle.frames.specs.declared.rows.TaskRow.{TaskRow}
 use Rattle.drawn_runs.specs.Rows.{drawn_row, rows_of}
 use Rattle.desk_cli.proofs.draw.rows_in.Goals as goal
 

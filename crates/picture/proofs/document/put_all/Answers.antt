@@ -1,7 +1,7 @@
 use Rattle.std.proofs.Common.{rules, OnOk}
 use Rattle.std.specs.Io.KnownBytes.{Appends}
 use Rattle.picture.specs.Document.{framed}
-use Rattle.picture.proofs.Puts.{all_sent}
+use Rattle.frames.proofs.Puts.{all_sent}
 use Rattle.picture.proofs.document.put_all.Goals as goal
 
 pub returns-clause-sent : goal.returns-clause-sent
@@ -12,5 +12,5 @@ returns-clause-sent g c =
     let text = framed chart.frame chart.title.now chart.locks.now chart.rows.now chart.shown.now chart.until chart.releases.now chart.jobs.now chart.slices.now in
     let sent = rw c.new.ensures.empty at (rw c.new.ensures.writer at c.in_ok-put_document.ensures.writes.sent) in
     let whole : OnOk c.flush.result (Appends first last text) =
-    all_sent c.flush.result first (g.W.Write.contents c.put_document.new.page.out.out.now.inner) last c.put_document.new.page.out.held text sent c.flush.ensures.sent in
+    all_sent c.flush.result first (g.W.Write.contents c.put_document.new.out.out.now.inner) last c.put_document.new.out.held text sent c.flush.ensures.sent in
     search (rules, whole)

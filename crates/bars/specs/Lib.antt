@@ -1,0 +1,4 @@
+pub mod Sections
+pub mod Stripes
+pub mod Bars
+pub mod Lane

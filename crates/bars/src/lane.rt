@@ -1,0 +1,262 @@
+//! The lane of the processor.
+ghost use Rattle.std.specs.Fmt.{decimal};
+ghost use Rattle.std.specs.Prelude.{◌*◌, ◌+◌, ◌≡◌, ◌≤◌};
+ghost use Rattle.streams.specs.Puts.{Puts};
+ghost use Rattle.bars.specs.Lane.{busy_from, busy_of, busy_with, edge_class, lane_bar, lane_by, lane_head, lane_label, lane_line, lane_right, lane_text, lane_word, lanes_text, level_room, seen_lane};
+ghost use Rattle.frames.specs.Rows.{on_row};
+ghost use Rattle.frames.specs.declared.frame.TheConstants.{RIGHTMOST};
+
+use ceiling_kernel::{JobRecord, Slice};
+use frames::{
+    Bar, Chart, Frame, Lane, Spot, TaskRow, end_of, find_row, has_room, level_of, sees, start_of,
+    tone_of, x_of,
+};
+use std::io::Write;
+use streams::{Outlet, WriteFailed};
+
+// For how long a slice executes in the window, and what was before.
+fn busy_with(frame: Frame, before: u64, slice: Slice) -> u64
+    ensures { result ≡ busy_with frame before slice }
+{
+    let start = slice.start.max(frame.from);
+    let stop = slice.stop.min(frame.to);
+    before.min(slice.start) + stop.saturating_sub(start)
+}
+
+// For how long slices do.
+fn busy_in(frame: Frame, slices: &[Slice]) -> u64
+    ensures { result ≡ busy_from frame 0 slices.now }
+{
+    let mut busy = 0;
+    for slice in slices {
+        busy = busy_with(frame, busy, *slice);
+    }
+    busy
+}
+
+// For how much of the window, in thousandths.
+fn busy_of(frame: Frame, slices: &[Slice]) -> u64
+    ensures { result ≡ busy_of frame slices.now }
+{
+    let len = frame.to - frame.from;
+    1_000 * busy_in(frame, slices).min(len) / len
+}
+
+// Where a slice's bar ends.
+fn lane_right(frame: Frame, slice: Slice) -> u64
+    ensures value { result ≡ lane_right frame slice }
+    ensures within { result ≤ RIGHTMOST + 1 }
+{
+    x_of(frame, slice.stop).max(x_of(frame, slice.start) + 1)
+}
+
+// An edge round a bar that has room for it.
+fn edge_class(wide: u64) -> &'static str
+    ensures { result.now ≡ edge_class wide }
+{
+    if wide < 60 { "" } else { " o" }
+}
+
+// How much room a level needs.
+fn level_room(level: u64) -> u64
+    ensures { result ≡ level_room level }
+{
+    if level < 10 { 106 } else { 172 }
+}
+
+/// The lane's name, and how busy it is.
+pub fn put_lane_head<W: Write + Drop>(
+    chart: &Chart<'_>,
+    out: &mut Outlet<'_, W>,
+) -> Result<(), WriteFailed>
+    ensures { Puts W.contents out.old out.new result
+        (lane_head chart.now.frame chart.now.slices.now) }
+{
+    let busy = busy_of(chart.frame, chart.slices);
+    let (whole, tenths) = (busy / 10, busy % 10);
+    write!(
+        out,
+        "<text class=\"n\" x=\"500\" y=\"1460\">processor</text><text x=\"500\" y=\"1580\">busy {whole}.{tenths} %</text>\n"
+    )
+}
+
+/// Its line.
+pub fn put_lane_line<W: Write + Drop>(
+    frame: Frame,
+    out: &mut Outlet<'_, W>,
+) -> Result<(), WriteFailed>
+    ensures { Puts W.contents out.old out.new result (lane_line frame) }
+{
+    let left = start_of(frame);
+    let end = end_of(frame);
+    write!(out, "<path class=\"l\" d=\"M{left} 1570H{end}\"/>\n")
+}
+
+// The bar of a slice.
+fn put_lane_bar<W: Write + Drop>(
+    slice: Slice,
+    lane: &Lane<'_>,
+    out: &mut Outlet<'_, W>,
+) -> Result<(), WriteFailed>
+    ensures { Puts W.contents out.old out.new result
+        (lane_bar lane.now.frame slice lane.now.spot.rank lane.now.row.now) }
+{
+    let x = x_of(lane.frame, slice.start);
+    let right = lane_right(lane.frame, slice);
+    let tone = tone_of(lane.spot.rank);
+    let edge = edge_class(right.saturating_sub(x));
+    let bar = Bar {
+        x,
+        right,
+        y: 1_350,
+        high: 220,
+    };
+    let name = lane.row.sheet.name();
+    let start = slice.start;
+    let stop = slice.stop;
+    write!(
+        out,
+        "<path class=\"f{tone}{edge}\" d=\"{bar}\"><title>{name} executes {start} to {stop} us</title></path>\n"
+    )
+}
+
+// A task's name in the middle of a bar.
+fn put_lane_name<W: Write + Drop>(
+    x: u64,
+    right: u64,
+    row: &TaskRow,
+    out: &mut Outlet<'_, W>,
+) -> Result<(), WriteFailed>
+    requires { x + right ≤ 2 * RIGHTMOST + 1 }
+    ensures { Puts W.contents out.old out.new result
+        (lane_word x right row.now.sheet.name) }
+{
+    let middle = (x + right) / 2;
+    let name = row.sheet.name();
+    write!(
+        out,
+        "<text class=\"u\" x=\"{middle}\" y=\"1498\">{name}</text>\n"
+    )
+}
+
+// A level in the middle of a bar.
+fn put_lane_level<W: Write + Drop>(
+    x: u64,
+    right: u64,
+    level: u64,
+    out: &mut Outlet<'_, W>,
+) -> Result<(), WriteFailed>
+    requires { x + right ≤ 2 * RIGHTMOST + 1 }
+    ensures { Puts W.contents out.old out.new result
+        (lane_word x right (decimal level)) }
+{
+    let middle = (x + right) / 2;
+    write!(
+        out,
+        "<text class=\"u\" x=\"{middle}\" y=\"1498\">{level}</text>\n"
+    )
+}
+
+// The task's name where a bar has room for it, else its level, else nothing.
+fn put_lane_label<W: Write + Drop>(
+    x: u64,
+    right: u64,
+    level: u64,
+    row: &TaskRow,
+    out: &mut Outlet<'_, W>,
+) -> Result<(), WriteFailed>
+    requires { x + right ≤ 2 * RIGHTMOST + 1 }
+    ensures { Puts W.contents out.old out.new result (lane_label x right level row.now) }
+{
+    let wide = right.saturating_sub(x);
+    if has_room(row.sheet.name(), wide) {
+        put_lane_name(x, right, row, out)
+    } else if wide >= level_room(level) {
+        put_lane_level(x, right, level, out)
+    } else {
+        Ok(())
+    }
+}
+
+// A slice of a row's task, in the window.
+fn put_seen_lane<W: Write + Drop>(
+    slice: Slice,
+    lane: &Lane<'_>,
+    out: &mut Outlet<'_, W>,
+) -> Result<(), WriteFailed>
+    ensures { Puts W.contents out.old out.new result
+        (seen_lane lane.now.frame slice lane.now.spot.rank lane.now.row.now) }
+{
+    put_lane_bar(slice, lane, out)?;
+    let x = x_of(lane.frame, slice.start);
+    let right = lane_right(lane.frame, slice);
+    put_lane_label(
+        x,
+        right,
+        level_of(lane.frame, lane.spot.rank),
+        lane.row,
+        out,
+    )
+}
+
+// The same of any slice.
+fn put_lane_slice<W: Write + Drop>(
+    slice: Slice,
+    lane: &Lane<'_>,
+    out: &mut Outlet<'_, W>,
+) -> Result<(), WriteFailed>
+    ensures { Puts W.contents out.old out.new result
+        (lane_text lane.now.frame slice lane.now.spot.rank lane.now.row.now) }
+{
+    if sees(lane.frame, slice.start, slice.stop) {
+        put_seen_lane(slice, lane, out)
+    } else {
+        Ok(())
+    }
+}
+
+// A slice of a job, in the tone of the row of its task.
+fn put_lane_job<W: Write + Drop>(
+    chart: &Chart<'_>,
+    slice: Slice,
+    job: &JobRecord,
+    out: &mut Outlet<'_, W>,
+) -> Result<(), WriteFailed>
+    ensures { Puts W.contents out.old out.new result
+        (on_row chart.now.rows.now job.now.name (lane_text chart.now.frame slice)) }
+{
+    match find_row(chart.rows, job.name) {
+        None => Ok(()),
+        Some(rank) => put_lane_slice(slice, &chart.lane(Spot { rank, k: rank }), out),
+    }
+}
+
+// A slice of a job, if there is one.
+fn put_lane_by<W: Write + Drop>(
+    chart: &Chart<'_>,
+    slice: Slice,
+    out: &mut Outlet<'_, W>,
+) -> Result<(), WriteFailed>
+    ensures { Puts W.contents out.old out.new result
+        (lane_by chart.now.frame chart.now.rows.now chart.now.jobs.now slice) }
+{
+    match chart.jobs.get(slice.job) {
+        None => Ok(()),
+        Some(job) => put_lane_job(chart, slice, job, out),
+    }
+}
+
+/// Each slice, by time.
+pub fn put_lanes<W: Write + Drop>(
+    chart: &Chart<'_>,
+    out: &mut Outlet<'_, W>,
+) -> Result<(), WriteFailed>
+    ensures { Puts W.contents out.old out.new result
+        (lanes_text chart.now.frame chart.now.rows.now chart.now.jobs.now
+        chart.now.slices.now) }
+{
+    for slice in chart.slices {
+        put_lane_by(chart, *slice, out)?;
+    }
+    Ok(())
+}

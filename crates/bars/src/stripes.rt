@@ -1,0 +1,181 @@
+//! Stripes of locks over bars, and what tells of them.
+ghost use Rattle.std.specs.Prelude.{◌*◌, ◌<◌, ◌≡◌, ◌≤◌, length};
+ghost use Rattle.streams.specs.Puts.{Puts};
+ghost use Rattle.task_sheet.specs.declared.set.TheConstants.{TASK_LIMIT};
+ghost use Rattle.bars.specs.Stripes.{lock_left, lock_text, lock_texts, lock_upper, locks_group, locks_head, locks_high, per_line, stripe_text, stripe_top, stripes_text};
+ghost use Rattle.frames.specs.declared.frame.TheConstants.{RIGHTMOST};
+ghost use Rattle.frames.specs.declared.locks.TheConstants.{LOCKS_LIMIT};
+
+use frames::{Bar, Chart, Frame, end_of, lock_tone, top_of};
+use std::io::Write;
+use streams::{Outlet, WriteFailed};
+use task_sheet::Name;
+
+// Where stripe i of n begins, in a bar.
+fn stripe_top(n: usize, i: usize) -> u64
+    ensures value { result ≡ stripe_top n i }
+    ensures within { result ≤ 32_400 }
+{
+    180 * (i as u64).min(180) / (n as u64).max(1)
+}
+
+// How many locks the legend has in a line.
+fn per_line(frame: Frame) -> u64
+    ensures value { result ≡ per_line frame }
+    ensures some { 0 < result }
+    ensures within { result ≤ 84 }
+{
+    ((end_of(frame) - 900) / 1_900).max(1)
+}
+
+/// How high the legend is, of so many locks.
+pub fn locks_high(frame: Frame, n: usize) -> u64
+    requires { n ≤ LOCKS_LIMIT }
+    ensures value { result ≡ locks_high frame n }
+    ensures within { result ≤ 260_000 }
+{
+    if n == 0 {
+        return 0;
+    }
+    100 + 250 * ((n as u64 - 1) / per_line(frame) + 1)
+}
+
+// Where lock i begins in it.
+fn lock_left(frame: Frame, i: usize) -> u64
+    ensures value { result ≡ lock_left frame i }
+    ensures within { result ≤ 160_500 }
+{
+    900 + 1_900 * (i as u64 % per_line(frame))
+}
+
+// And where its upper edge lies.
+fn lock_upper(frame: Frame, bottom: u64, i: usize) -> u64
+    requires place { i ≤ LOCKS_LIMIT }
+    requires row { bottom ≤ 2 * RIGHTMOST }
+    ensures value { result ≡ lock_upper frame bottom i }
+    ensures within { result ≤ 600_000 }
+{
+    bottom + 250 * (i as u64 / per_line(frame))
+}
+
+// The stripe of a lock, number i of n, over a part of a bar.
+fn put_stripe<W: Write + Drop>(
+    locks: &[Name],
+    x: u64,
+    right: u64,
+    k: usize,
+    n: usize,
+    i: usize,
+    name: Name,
+    out: &mut Outlet<'_, W>,
+) -> Result<(), WriteFailed>
+    requires row { k ≤ TASK_LIMIT }
+    requires place { i < n }
+    ensures { Puts W.contents out.old out.new result
+        (stripe_text locks.now x right k n i name) }
+{
+    let tone = lock_tone(locks, name);
+    let start = stripe_top(n, i);
+    let stripe = Bar {
+        x,
+        right,
+        y: top_of(k) + 165 + start,
+        high: stripe_top(n, i + 1).saturating_sub(start),
+    };
+    write!(out, "<path class=\"k{tone}\" d=\"{stripe}\"/>\n")
+}
+
+// The stripes of some locks.
+pub(crate) fn put_stripes<W: Write + Drop>(
+    locks: &[Name],
+    x: u64,
+    right: u64,
+    k: usize,
+    names: &[Name],
+    out: &mut Outlet<'_, W>,
+) -> Result<(), WriteFailed>
+    requires { k ≤ TASK_LIMIT }
+    ensures { Puts W.contents out.old out.new result
+        (stripes_text locks.now x right k names.now) }
+{
+    for i in 0..names.len() {
+        put_stripe(locks, x, right, k, names.len(), i, names[i], out)?;
+    }
+    Ok(())
+}
+
+// Lock i in the legend.
+fn put_lock<W: Write + Drop>(
+    frame: Frame,
+    bottom: u64,
+    i: usize,
+    name: Name,
+    out: &mut Outlet<'_, W>,
+) -> Result<(), WriteFailed>
+    requires place { i ≤ LOCKS_LIMIT }
+    requires row { bottom ≤ 2 * RIGHTMOST }
+    ensures { Puts W.contents out.old out.new result (lock_text frame bottom i name) }
+{
+    let tone = i % 6;
+    let x = lock_left(frame, i);
+    let y = lock_upper(frame, bottom, i);
+    let lock = Bar {
+        x,
+        right: x + 200,
+        y,
+        high: 180,
+    };
+    let (left, base) = (x + 250, y + 128);
+    write!(
+        out,
+        "<path class=\"k{tone}\" d=\"{lock}\"/><text class=\"c\" x=\"{left}\" y=\"{base}\">{name}</text>\n"
+    )
+}
+
+// The locks, each once.
+fn put_lock_texts<W: Write + Drop>(
+    frame: Frame,
+    bottom: u64,
+    locks: &[Name],
+    out: &mut Outlet<'_, W>,
+) -> Result<(), WriteFailed>
+    requires few { length locks.now ≤ LOCKS_LIMIT }
+    requires row { bottom ≤ 2 * RIGHTMOST }
+    ensures { Puts W.contents out.old out.new result (lock_texts frame bottom locks.now) }
+{
+    for i in 0..locks.len() {
+        put_lock(frame, bottom, i, locks[i], out)?;
+    }
+    Ok(())
+}
+
+// What stands before them, where there are some.
+fn put_locks_head<W: Write + Drop>(
+    bottom: u64,
+    n: usize,
+    out: &mut Outlet<'_, W>,
+) -> Result<(), WriteFailed>
+    requires { bottom ≤ 2 * RIGHTMOST }
+    ensures { Puts W.contents out.old out.new result (locks_head bottom n) }
+{
+    if n == 0 {
+        return Ok(());
+    }
+    let y = bottom + 128;
+    write!(out, "<text x=\"100\" y=\"{y}\">holds a lock:</text>\n")
+}
+
+/// The legend of the locks, as a group.
+pub fn put_locks_group<W: Write + Drop>(
+    chart: &Chart<'_>,
+    out: &mut Outlet<'_, W>,
+) -> Result<(), WriteFailed>
+    ensures { Puts W.contents out.old out.new result
+        (locks_group chart.now.frame (length chart.now.shown.now) chart.now.locks.now) }
+{
+    let bottom = top_of(chart.shown.len()) + 120;
+    out.put(b"<g id=\"k\">\n")?;
+    put_locks_head(bottom, chart.locks.len(), out)?;
+    put_lock_texts(chart.frame, bottom, chart.locks, out)?;
+    out.put(b"</g>\n")
+}

@@ -1,0 +1,5 @@
+pub mod Puts
+pub mod Lanes
+pub mod Executed
+mod Shown
+mod LockLaws

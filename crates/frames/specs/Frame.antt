@@ -1,0 +1,150 @@
+-- How time and rows lie in the picture, in units of which ten are a pixel.
+use Rattle.std.specs.Prelude.{ℕ, ◌+◌, ◌-◌, ◌*◌, ◌/◌, ◌%◌, ◌<◌, ◌≤◌, min, max, Bool, ◌&&◌, nat_le, nat_lt, ◌==◌, if◌then◌else◌, Option, Some, None, List, [], ◌∷◌, length, codes}
+use Rattle.ceiling_kernel.specs.declared.accept.TheConstants.{HORIZON}
+use Rattle.task_sheet.specs.declared.set.TheConstants.{TASK_LIMIT}
+use Rattle.frames.specs.declared.frame.TheConstants.{LONGEST_PERIOD, NARROWEST, WIDEST, RIGHTMOST, WIDEST_MARGIN, WIDEST_DECADE}
+use Rattle.frames.specs.declared.rows.TaskRow.{TaskRow}
+use Rattle.frames.specs.declared.view.View.{View}
+use Rattle.frames.specs.View.{end_of_run, window_end}
+use Rattle.std.specs.Option.{unwrap_or}
+use Rattle.ceiling_kernel.specs.declared.trace.JobRecord.{JobRecord}
+
+-- when a run ends, and the window of it, in microseconds; where the window begins and how wide it is, and how many
+-- tasks there are
+pub record Frame : Type 0 where
+  pub until : ℕ
+  pub from : ℕ
+  pub to : ℕ
+  pub left : ℕ
+  pub span : ℕ
+  pub count : ℕ
+
+-- there is some time in the window, which ends with the run, within the horizon, and the picture's width is within its
+-- limits
+pub record IsFrame (f : Frame) : Type 0 where
+  pub some : f.from < f.to
+  pub inside : f.to ≤ f.until
+  pub within : f.until ≤ HORIZON
+  pub margin : f.left ≤ WIDEST_MARGIN
+  pub wide : NARROWEST ≤ f.left + f.span
+  pub narrow : f.left + f.span ≤ RIGHTMOST
+  pub few : f.count ≤ TASK_LIMIT
+
+-- the shortest period, or one that was found before
+abbrev pub least_period : ℕ → List TaskRow → ℕ
+least_period least [] = least
+least_period least (row ∷ rows) = least_period (min least row.sheet.period) rows
+
+-- how many letters the longest name has, or one that was found before
+abbrev pub longest_name : ℕ → List TaskRow → ℕ
+longest_name most [] = most
+longest_name most (row ∷ rows) = longest_name (max most (length row.sheet.name)) rows
+
+-- where time begins, to the right of names with so many letters
+abbrev pub left_of : ℕ → ℕ
+left_of letters = min (620 + max (78 * letters) 1340) WIDEST_MARGIN
+
+-- how wide so much time is, to the right of a margin: so many pixels in all, where that is said; else the shortest period
+-- is 24 pixels wide where the picture is from 960 to 1,600 then
+abbrev pub span_of : (width : Option ℕ) → (left least time : ℕ) → ℕ
+span_of None left least time = max (min (240 * time / least) (WIDEST - left)) (NARROWEST - left)
+span_of (Some width) left least time = max (min (10 * width - 200) RIGHTMOST) NARROWEST - left
+
+-- the frame of a run up to a time, and of a window of it
+abbrev pub frame_in : (width : Option ℕ) → (count left least until from to : ℕ) → Frame
+frame_in width count left least until from to = record {
+  until = until;
+  from = from;
+  to = to;
+  left = left;
+  span = span_of width left least (to - from);
+  count = count;
+}
+
+-- where the window ends, and where it begins: there is some time between
+abbrev pub frame_to : View → (until : ℕ) → ℕ
+frame_to v until = max (window_end v until) 1
+
+abbrev pub frame_from : View → (until : ℕ) → ℕ
+frame_from v until = min v.from (frame_to v until - 1)
+
+-- the frame of a view of a run of these rows
+abbrev pub frame_of : List TaskRow → View → (until : ℕ) → Frame
+frame_of rows v until =
+    frame_in v.width (length rows) (left_of (longest_name 0 rows))
+    (max (least_period LONGEST_PERIOD rows) 1) (end_of_run until) (frame_from v until)
+    (frame_to v until)
+
+-- where a time lies; those before the window lie at its beginning, and those behind it at its end
+abbrev pub x_of : Frame → ℕ → ℕ
+x_of f time = f.left + (min (max time f.from) f.to - f.from) * f.span / (f.to - f.from)
+
+-- a time is in the window
+abbrev pub is_in : Frame → (time : ℕ) → Bool
+is_in f time = nat_le f.from time && nat_le time f.to
+
+-- a span of time that has a tick is partly in it
+abbrev pub sees : Frame → (start stop : ℕ) → Bool
+sees f start stop = nat_lt start f.to && nat_lt f.from stop
+
+-- where the end lies
+abbrev pub frame_end : Frame → ℕ
+frame_end f = f.left + f.span
+
+-- where a bar ends, which is at least half a pixel wide
+abbrev pub right_of : Frame → ℕ → ℕ → ℕ
+right_of f start stop = max (x_of f stop) (x_of f start + 5)
+
+-- where a row begins, from 0
+abbrev pub top_of : ℕ → ℕ
+top_of k = 1690 + 480 * k
+
+-- the level of a task by its rank, from the highest level down
+abbrev pub level_of : Frame → (rank : ℕ) → ℕ
+level_of f rank = f.count - rank
+
+-- its tone, of ten
+abbrev pub tone_of : (rank : ℕ) → ℕ
+tone_of rank = rank % 10
+
+-- ---- the scale
+-- a step is at least 80 pixels wide
+abbrev pub is_wide : Frame → ℕ → Bool
+is_wide f step = nat_le (800 * (f.to - f.from)) (step * f.span)
+
+-- the least power of ten of which five are wide enough; a second, where none is less
+abbrev pub decade_of : Frame → ℕ
+decade_of f =
+    if is_wide f 5 then 1
+    else if is_wide f 50 then 10
+    else if is_wide f 500 then 100
+    else if is_wide f 5000 then 1000
+    else if is_wide f 50000 then 10000
+    else if is_wide f 500000 then 100000
+    else WIDEST_DECADE
+
+-- the first of a power of ten, two of it and five of it that is wide enough; five of it where the others aren't
+abbrev pub step_in : Frame → ℕ → ℕ
+step_in f power =
+    if is_wide f power then power else if is_wide f (2 * power) then 2 * power else 5 * power
+
+-- the scale's step, in microseconds: the first of 1, 2, 5, 10, 20, 50 .. that is wide enough
+abbrev pub step_of : Frame → ℕ
+step_of f = step_in f (decade_of f)
+
+-- how many steps lie before the window
+abbrev pub steps_before : Frame → (step : ℕ) → ℕ
+steps_before f step = (f.from + step - 1) / step
+
+-- how many microseconds the scale's unit has: the step is a whole number of it
+abbrev pub unit_of : ℕ → ℕ
+unit_of step = if step % 1000000 == 0 then 1000000 else if step % 1000 == 0 then 1000 else 1
+
+-- the unit's name
+abbrev pub unit_name : ℕ → List ℕ
+unit_name step =
+    if step % 1000000 == 0 then codes "s" else if step % 1000 == 0 then codes "ms" else codes "us"
+
+-- when a job is done, or the end of the run
+abbrev pub ended : Frame → JobRecord → ℕ
+ended f job = unwrap_or job.finish f.until

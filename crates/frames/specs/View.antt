@@ -1,0 +1,45 @@
+-- What part of a run is drawn, and how.
+use Rattle.std.specs.Prelude.{ℕ, zero, suc, min, max, Bool, ◌||◌, ◌==◌, nat_le, if◌then◌else◌, List, [], ◌∷◌, ◌++◌, length}
+use Rattle.std.specs.List.{list_any}
+use Rattle.std.specs.Option.{unwrap_or}
+use Rattle.task_sheet.specs.Sheet.{same_bytes}
+use Rattle.ceiling_kernel.specs.declared.accept.TheConstants.{HORIZON}
+use Rattle.frames.specs.declared.rows.TaskRow.{TaskRow}
+use Rattle.frames.specs.declared.view.View.{View}
+use Rattle.frames.specs.Rows.{name_in}
+
+-- ---- the window
+-- a run ends within the horizon, and takes at least a microsecond
+abbrev pub end_of_run : (until : ℕ) → ℕ
+end_of_run until = max (min until HORIZON) 1
+
+-- the window ends where that is said, and at the latest with the run
+abbrev pub window_end : View → (until : ℕ) → ℕ
+window_end v until = min (unwrap_or v.to (end_of_run until)) (end_of_run until)
+
+-- nothing lies in it
+abbrev pub is_empty : View → (until : ℕ) → Bool
+is_empty v until = nat_le (window_end v until) v.from
+
+-- ---- the rows
+-- some names have one among them
+abbrev pub is_among : List (List ℕ) → List ℕ → Bool
+is_among names name = list_any (λ n. same_bytes n name) names
+
+-- a task has a row: it is named, or none is
+abbrev pub is_chosen : List (List ℕ) → List ℕ → Bool
+is_chosen names name = (length names == 0) || is_among names name
+
+-- some ranks, and one more where its row is shown
+abbrev pub noted_rank : List ℕ → (rank : ℕ) → Bool → List ℕ
+noted_rank ranks rank shown = if shown then ranks ++ rank ∷ [] else ranks
+
+-- of the first n rows those that are shown, by their ranks from 0
+unfoldable pub shown_below : List (List ℕ) → List TaskRow → ℕ → List ℕ
+shown_below names rows zero = []
+shown_below names rows (suc n) =
+    noted_rank (shown_below names rows n) n (is_chosen names (name_in rows n))
+
+-- of all rows
+abbrev pub shown_of : List (List ℕ) → List TaskRow → List ℕ
+shown_of names rows = shown_below names rows (length rows)

@@ -1,0 +1,84 @@
+//! A run in a frame.
+ghost use Rattle.std.specs.Prelude.{◌<◌, ◌≡◌, ◌≤◌, All, IfSome, length};
+ghost use Rattle.task_sheet.specs.declared.set.TheConstants.{TASK_LIMIT};
+ghost use Rattle.frames.specs.Rows.{row_at, spot_in, spot_named};
+ghost use Rattle.frames.specs.Slices.{rises};
+ghost use Rattle.frames.specs.declared.locks.TheConstants.{LOCKS_LIMIT};
+
+use crate::frame::Frame;
+use crate::rows::{Spot, TaskRow, find_spot, spot_in};
+use ceiling_kernel::{JobRecord, Release, Slice};
+use task_sheet::Name;
+
+/// What is drawn: how time lies, the title, the rows, the highest level first, and which of them are shown, when the run
+/// ends, what happened in it, and the locks.
+#[derive(Drop)]
+pub struct Chart<'a> {
+    pub frame: Frame,
+    pub title: &'a [u8],
+    pub rows: &'a [TaskRow],
+    pub shown: &'a [usize],
+    pub until: u64,
+    pub releases: &'a [Release],
+    pub jobs: &'a [JobRecord],
+    pub slices: &'a [Slice],
+    /// Whether slices begin one after the other.
+    pub rising: bool,
+    pub locks: &'a [Name],
+    ghost few: { length rows.now ≤ TASK_LIMIT },
+    ghost few_shown: { length shown.now ≤ TASK_LIMIT },
+    ghost ranks: { All (λ rank. rank < length rows.now) shown.now },
+    ghost some_locks: { length locks.now ≤ LOCKS_LIMIT },
+    ghost rises: { rising ≡ rises 0 slices.now },
+}
+
+/// A row of it, and where it stands.
+#[derive(Drop)]
+pub struct Lane<'a> {
+    pub frame: Frame,
+    pub spot: Spot,
+    pub row: &'a TaskRow,
+    pub locks: &'a [Name],
+    ghost within: { spot.k ≤ TASK_LIMIT },
+}
+
+impl Chart<'_> {
+    ghost use Rattle.std.specs.Prelude.{IfSome};
+    ghost use Rattle.frames.specs.Rows.{row_at, spot_in, spot_named};
+
+    /// The row at a spot.
+    pub fn lane(&self, spot: Spot) -> Lane<'_>
+        requires row { spot.rank < length self.now.rows.now }
+        requires place { spot.k ≤ TASK_LIMIT }
+        ensures frame { result.frame ≡ self.now.frame }
+        ensures spot { result.spot ≡ spot }
+        ensures locks { result.locks.now ≡ self.now.locks.now }
+        ensures row { result.row.now ≡ row_at self.now.rows.now spot.rank }
+    {
+        Lane {
+            frame: self.frame,
+            spot,
+            row: &self.rows[spot.rank],
+            locks: self.locks,
+        }
+    }
+
+    /// The spot at a place.
+    pub fn spot(&self, k: usize) -> Spot
+        requires { k < length self.now.shown.now }
+        ensures spot { result ≡ spot_in self.now.shown.now k }
+        ensures row { result.rank < length self.now.rows.now }
+        ensures place { result.k ≤ TASK_LIMIT }
+    {
+        spot_in(self.shown, k)
+    }
+
+    /// The spot of the task with a name, if it is shown.
+    pub fn spot_of(&self, name: Name) -> Option<Spot>
+        ensures spot { result ≡ spot_named self.now.rows.now self.now.shown.now name }
+        ensures row { IfSome result (λ s. s.rank < length self.now.rows.now) }
+        ensures place { IfSome result (λ s. s.k ≤ TASK_LIMIT) }
+    {
+        find_spot(self.rows, self.shown, name)
+    }
+}

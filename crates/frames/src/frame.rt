@@ -1,0 +1,337 @@
+//! How time and rows lie in the picture.
+ghost use Rattle.std.specs.Prelude.{◌+◌, ◌<◌, ◌≡◌, ◌≤◌, length, nat_le, nat_lt};
+ghost use Rattle.ceiling_kernel.specs.declared.accept.TheConstants.{HORIZON};
+ghost use Rattle.task_sheet.specs.declared.set.TheConstants.{TASK_LIMIT};
+ghost use Rattle.frames.specs.Frame.{Frame, IsFrame, decade_of, ended, frame_end, frame_of, is_in, is_wide, least_period, left_of, level_of, longest_name, sees, span_of, step_in, step_of, steps_before, tone_of, top_of, unit_name, unit_of, x_of};
+ghost use Rattle.frames.specs.declared.frame.TheConstants.{LONGEST_PERIOD, LOWEST_TOP, NARROWEST, RIGHTMOST, WIDEST_DECADE, WIDEST_MARGIN, WIDEST_STEP};
+
+use crate::rows::TaskRow;
+use crate::view::{View, end_of_run, frame_from, frame_to};
+use ceiling_kernel::JobRecord;
+use std::marker::Model;
+
+// The longest period that a sheet may have, in microseconds.
+const LONGEST_PERIOD: u64 = 10_000_000;
+
+// How far to the right time ends at least.
+const NARROWEST: u64 = 9_400;
+
+// How far to the right it ends at most, where no width is said.
+const WIDEST: u64 = 15_800;
+
+/// How far to the right it ends at most.
+pub const RIGHTMOST: u64 = 159_800;
+
+// How wide the margin to the left of it is at most.
+const WIDEST_MARGIN: u64 = 2_500;
+
+/// No row begins further down.
+pub const LOWEST_TOP: u64 = 17_050;
+
+// The widest power of ten of the scale, in microseconds.
+const WIDEST_DECADE: u64 = 1_000_000;
+
+/// The widest step of the scale, in microseconds.
+pub const WIDEST_STEP: u64 = 5 * WIDEST_DECADE;
+
+/// When a run ends, and the window of it, in microseconds; where the window begins and how wide it is, and how many tasks
+/// there are.
+#[derive(Clone, Copy)]
+pub struct Frame {
+    pub until: u64,
+    pub from: u64,
+    pub to: u64,
+    pub left: u64,
+    pub span: u64,
+    pub count: u64,
+}
+
+impl Model for Frame {
+    ghost Value = { Frame };
+
+    ghost view = { λ f. record { until = f.until; from = f.from; to = f.to; left = f.left; span = f.span; count = f.count } };
+
+    ghost inverse = { λ f. record { until = f.until; from = f.from; to = f.to; left = f.left; span = f.span; count = f.count } };
+
+    ghost invariant = { λ f. IsFrame (record { until = f.until; from = f.from; to = f.to; left = f.left; span = f.span; count = f.count }) };
+}
+
+// The shortest period of the rows.
+fn least_period(rows: &[TaskRow]) -> u64
+    ensures { result ≡ least_period LONGEST_PERIOD rows.now }
+{
+    let mut least = LONGEST_PERIOD;
+    for row in rows {
+        least = row.sheet.period().min(least);
+    }
+    least
+}
+
+// How many letters the longest name of the rows has.
+fn longest_name(rows: &[TaskRow]) -> u64
+    ensures { result ≡ longest_name 0 rows.now }
+{
+    let mut most = 0;
+    for row in rows {
+        most = (row.sheet.name().bytes().len() as u64).max(most);
+    }
+    most
+}
+
+// Where time begins, to the right of names with so many letters.
+fn left_of(letters: u64) -> u64
+    ensures value { result ≡ left_of letters }
+    ensures within { result ≤ WIDEST_MARGIN }
+{
+    let letters = letters.min(WIDEST_MARGIN);
+    (620 + (78 * letters).max(1_340)).min(WIDEST_MARGIN)
+}
+
+// How wide so much time is, to the right of a margin.
+fn span_of(width: Option<u64>, left: u64, least: u64, time: u64) -> u64
+    requires margin { left ≤ WIDEST_MARGIN }
+    requires period { 0 < least }
+    requires within { time ≤ HORIZON }
+    ensures value { result ≡ span_of width left least time }
+    ensures wide { NARROWEST ≤ left + result }
+    ensures narrow { left + result ≤ RIGHTMOST }
+{
+    match width {
+        None => (240 * time / least)
+            .min(WIDEST - left)
+            .max(NARROWEST - left),
+        Some(width) => {
+            let right = 10 * width.min(RIGHTMOST);
+            right.saturating_sub(200).min(RIGHTMOST).max(NARROWEST) - left
+        }
+    }
+}
+
+/// The frame of a view of a run of the rows.
+pub fn frame_of(rows: &[TaskRow], view: &View, until: u64) -> Frame
+    requires { length rows.now ≤ TASK_LIMIT }
+    ensures { result ≡ frame_of rows.now view.now until }
+{
+    let left = left_of(longest_name(rows));
+    let least = least_period(rows).max(1);
+    let end = end_of_run(until);
+    let from = frame_from(view, until);
+    let to = frame_to(view, until);
+    let span = span_of(view.width, left, least, to - from);
+    let count = rows.len() as u64;
+    Frame {
+        until: end,
+        from,
+        to,
+        left,
+        span,
+        count,
+    }
+}
+
+/// Where a time lies.
+pub fn x_of(frame: Frame, time: u64) -> u64
+    ensures value { result ≡ x_of frame time }
+    ensures within { result ≤ RIGHTMOST }
+{
+    let len = frame.to - frame.from;
+    let gone = time.max(frame.from).min(frame.to) - frame.from;
+    frame.left + gone * frame.span / len
+}
+
+/// Whether a time is in the window.
+pub fn is_in(frame: Frame, time: u64) -> bool
+    ensures { result ≡ is_in frame time }
+{
+    frame.from <= time && time <= frame.to
+}
+
+/// Whether it is before it.
+pub fn is_before(frame: Frame, time: u64) -> bool
+    ensures { result ≡ nat_lt time frame.from }
+{
+    time < frame.from
+}
+
+/// Whether a span of time that has a tick is partly in it.
+pub fn sees(frame: Frame, start: u64, stop: u64) -> bool
+    ensures { result ≡ sees frame start stop }
+{
+    start < frame.to && frame.from < stop
+}
+
+/// The same of a span that ends so long after a time.
+pub fn sees_up_to(frame: Frame, start: u64, time: u64, len: u64) -> bool
+    ensures { result ≡ sees frame start (time + len) }
+{
+    start < frame.to && (frame.from < time || frame.from - time < len)
+}
+
+/// The same of the span of a time and so much more.
+pub fn sees_from(frame: Frame, time: u64, len: u64) -> bool
+    ensures { result ≡ sees frame time (time + len) }
+{
+    sees_up_to(frame, time, time, len)
+}
+
+/// Where the time lies that comes so long after another.
+pub fn x_after(frame: Frame, time: u64, len: u64) -> u64
+    ensures value { result ≡ x_of frame (time + len) }
+    ensures within { result ≤ RIGHTMOST }
+{
+    let time = time.min(frame.to);
+    let rest = frame.to - time;
+    x_of(frame, time + len.min(rest))
+}
+
+/// Where the beginning lies.
+pub fn start_of(frame: Frame) -> u64
+    ensures { result ≡ frame.left }
+{
+    frame.left
+}
+
+/// Where the end lies.
+pub fn end_of(frame: Frame) -> u64
+    ensures value { result ≡ frame_end frame }
+    ensures within { result ≤ RIGHTMOST }
+{
+    frame.left + frame.span
+}
+
+/// Where a row begins.
+pub fn top_of(k: usize) -> u64
+    requires { k ≤ TASK_LIMIT }
+    ensures value { result ≡ top_of k }
+    ensures within { result ≤ LOWEST_TOP }
+{
+    1690 + 480 * k as u64
+}
+
+/// Whether the time that comes so long after another isn't behind the window.
+pub fn is_by_end(frame: Frame, time: u64, len: u64) -> bool
+    ensures { result ≡ nat_le (time + len) frame.to }
+{
+    time <= frame.to && len <= frame.to - time
+}
+
+/// Whether it isn't before it.
+pub fn is_from_start(frame: Frame, time: u64, len: u64) -> bool
+    ensures { result ≡ nat_le frame.from (time + len) }
+{
+    frame.from <= time || frame.from - time <= len
+}
+
+/// The level of a task by its rank, from the highest level down.
+pub fn level_of(frame: Frame, rank: usize) -> u64
+    ensures { result ≡ level_of frame rank }
+{
+    frame.count.saturating_sub(rank as u64)
+}
+
+/// Its tone.
+pub fn tone_of(rank: usize) -> usize
+    ensures { result ≡ tone_of rank }
+{
+    rank % 10
+}
+
+// Whether a step is wide enough.
+fn is_wide(frame: Frame, step: u64) -> bool
+    requires step { step ≤ WIDEST_STEP }
+    ensures { result ≡ is_wide frame step }
+{
+    step * frame.span >= 800 * (frame.to - frame.from)
+}
+
+// The least power of ten of which five are wide enough.
+fn decade_of(frame: Frame) -> u64
+    ensures value { result ≡ decade_of frame }
+    ensures some { 0 < result }
+    ensures within { result ≤ WIDEST_DECADE }
+{
+    if is_wide(frame, 5) {
+        1
+    } else if is_wide(frame, 50) {
+        10
+    } else if is_wide(frame, 500) {
+        100
+    } else if is_wide(frame, 5_000) {
+        1_000
+    } else if is_wide(frame, 50_000) {
+        10_000
+    } else if is_wide(frame, 500_000) {
+        100_000
+    } else {
+        WIDEST_DECADE
+    }
+}
+
+// The first of a power of ten, two of it and five of it that is wide enough.
+fn step_in(frame: Frame, power: u64) -> u64
+    requires some { 0 < power }
+    requires within { power ≤ WIDEST_DECADE }
+    ensures value { result ≡ step_in frame power }
+    ensures some { 0 < result }
+    ensures within { result ≤ WIDEST_STEP }
+{
+    if is_wide(frame, power) {
+        power
+    } else if is_wide(frame, 2 * power) {
+        2 * power
+    } else {
+        5 * power
+    }
+}
+
+/// The scale's step.
+pub fn step_of(frame: Frame) -> u64
+    ensures value { result ≡ step_of frame }
+    ensures some { 0 < result }
+    ensures within { result ≤ WIDEST_STEP }
+{
+    step_in(frame, decade_of(frame))
+}
+
+/// How many steps lie before the window.
+pub fn steps_before(frame: Frame, step: u64) -> u64
+    requires some { 0 < step }
+    requires within { step ≤ WIDEST_STEP }
+    ensures { result ≡ steps_before frame step }
+{
+    (frame.from + step - 1) / step
+}
+
+/// How many microseconds the scale's unit has.
+pub fn unit_of(step: u64) -> u64
+    ensures value { result ≡ unit_of step }
+    ensures some { 0 < result }
+{
+    if step % 1_000_000 == 0 {
+        1_000_000
+    } else if step % 1_000 == 0 {
+        1_000
+    } else {
+        1
+    }
+}
+
+/// The unit's name.
+pub fn unit_name(step: u64) -> &'static str
+    ensures { result.now ≡ unit_name step }
+{
+    if step % 1_000_000 == 0 {
+        "s"
+    } else if step % 1_000 == 0 {
+        "ms"
+    } else {
+        "us"
+    }
+}
+
+/// When a job is done, or the end of the run.
+pub fn ended(frame: Frame, job: &JobRecord) -> u64
+    ensures { result ≡ ended frame job.now }
+{
+    job.finish.unwrap_or(frame.until)
+}

@@ -1,0 +1,24 @@
+//! Where everything lies in a picture of a run: the window of time, the rows that are shown and the locks of their tasks.
+#![tactic(auto)]
+
+mod boxes;
+mod chart;
+mod frame;
+mod locks;
+mod numbers;
+mod rows;
+mod slices;
+mod view;
+
+pub use boxes::{Bar, bar_of, has_room};
+pub use chart::{Chart, Lane};
+pub use frame::{
+    Frame, LOWEST_TOP, RIGHTMOST, WIDEST_STEP, end_of, ended, frame_of, is_before, is_by_end,
+    is_from_start, is_in, level_of, sees, sees_from, sees_up_to, start_of, step_of, steps_before,
+    tone_of, top_of, unit_name, unit_of, x_after, x_of,
+};
+pub use locks::{LOCKS_LIMIT, lock_tone, locks_of};
+pub use numbers::{Known, Millis};
+pub use rows::{Spot, TaskRow, find_row, job_at, name_in, name_of, place_in};
+pub use slices::{executed_after, executed_with, slice_at, starts_rise, ticks_of};
+pub use view::{View, shown_of};

@@ -1,0 +1,2 @@
+mod Badges
+mod BandLaws

@@ -1,0 +1,4 @@
+pub mod Jobs
+pub mod Bands
+pub mod Marks
+pub mod Misses

@@ -1,0 +1,277 @@
+//! Jobs that miss their deadlines.
+ghost use Rattle.std.specs.Prelude.{◌+◌, ◌≡◌, nat_le};
+ghost use Rattle.streams.specs.Puts.{Puts};
+ghost use Rattle.frames.specs.Frame.{top_of, x_of};
+ghost use Rattle.job_boxes.specs.Misses.{all_missed, badge_after, badge_text, due_badge, due_words, has_badge, hatch_text, is_clear, is_late, is_seen_late, is_seen_miss, late_signs, miss_text, missed_in, missed_text, misses, misses_in, misses_text, row_misses};
+
+use crate::jobs::{limit_of, put_arrival_words, put_back, put_finish_words, put_on};
+use ceiling_kernel::JobRecord;
+use frames::{
+    Bar, Chart, Frame, Lane, TaskRow, ended, find_row, is_by_end, is_from_start, job_at, sees_from,
+    top_of, x_after, x_of,
+};
+use std::io::Write;
+use streams::{Outlet, WriteFailed};
+
+// Whether a job of a row's task misses its deadline.
+fn is_late(frame: Frame, row: &TaskRow, job: &JobRecord) -> bool
+    ensures { result ≡ is_late frame row.now job.now }
+{
+    let deadline = row.sheet.deadline();
+    match job.finish {
+        Some(finish) => finish.saturating_sub(job.release) > deadline,
+        None => frame.until.saturating_sub(job.release) >= deadline,
+    }
+}
+
+// Whether it is one of a row's task, too.
+fn misses_in(frame: Frame, row: &TaskRow, job: &JobRecord) -> bool
+    ensures { result ≡ misses_in frame row.now job.now }
+{
+    job.name == row.sheet.name() && is_late(frame, row, job)
+}
+
+/// How many jobs of a row's task do.
+pub fn missed_in(frame: Frame, row: &TaskRow, jobs: &[JobRecord]) -> usize
+    ensures { result ≡ missed_in frame row.now jobs.now }
+{
+    let mut count = 0;
+    for job in jobs {
+        if misses_in(frame, row, job) {
+            count += 1;
+        }
+    }
+    count
+}
+
+// Whether a job does.
+fn misses(frame: Frame, rows: &[TaskRow], job: &JobRecord) -> bool
+    ensures { result ≡ misses frame rows.now job.now }
+{
+    match find_row(rows, job.name) {
+        None => false,
+        Some(k) => is_late(frame, &rows[k], job),
+    }
+}
+
+/// How many jobs of all do.
+pub fn all_missed(frame: Frame, rows: &[TaskRow], jobs: &[JobRecord]) -> usize
+    ensures { result ≡ all_missed frame rows.now jobs.now }
+{
+    let mut count = 0;
+    for job in jobs {
+        if misses(frame, rows, job) {
+            count += 1;
+        }
+    }
+    count
+}
+
+// Whether the deadline of a job isn't before the window.
+fn is_due_from_start(frame: Frame, row: &TaskRow, job: &JobRecord) -> bool
+    ensures { result ≡ nat_le frame.from (job.now.release + row.now.sheet.deadline) }
+{
+    is_from_start(frame, job.release, row.sheet.deadline())
+}
+
+// Whether a job of a row's task misses its deadline in the window.
+fn is_seen_late(frame: Frame, row: &TaskRow, job: &JobRecord) -> bool
+    ensures { result ≡ is_seen_late frame row.now job.now }
+{
+    is_late(frame, row, job)
+        && is_by_end(frame, job.release, row.sheet.deadline())
+        && frame.from < ended(frame, job)
+}
+
+// Whether it is one of its task, too.
+fn is_seen_miss(frame: Frame, row: &TaskRow, job: &JobRecord) -> bool
+    ensures { result ≡ is_seen_miss frame row.now job.now }
+{
+    job.name == row.sheet.name() && is_seen_late(frame, row, job)
+}
+
+// Whether the last badge, if there is one, is 18 pixels before a place.
+fn is_clear(last: Option<u64>, x: u64) -> bool
+    ensures { result ≡ is_clear last x }
+{
+    match last {
+        None => true,
+        Some(last) => x >= 180 && last <= x - 180,
+    }
+}
+
+// Whether the deadline of a job has a badge.
+fn has_badge(frame: Frame, row: &TaskRow, last: Option<u64>, job: &JobRecord) -> bool
+    ensures { result ≡ has_badge frame last (job.now.release + row.now.sheet.deadline) }
+{
+    let x = x_after(frame, job.release, row.sheet.deadline());
+    is_due_from_start(frame, row, job) && is_clear(last, x)
+}
+
+// The last badge behind a job.
+fn badge_after(frame: Frame, row: &TaskRow, last: Option<u64>, job: &JobRecord) -> Option<u64>
+    ensures { result ≡ badge_after frame row.now last job.now }
+{
+    if is_seen_miss(frame, row, job) && has_badge(frame, row, last, job) {
+        Some(x_after(frame, job.release, row.sheet.deadline()))
+    } else {
+        last
+    }
+}
+
+/// A disc with a cross.
+pub fn put_badge<W: Write + Drop>(
+    x: u64,
+    y: u64,
+    out: &mut Outlet<'_, W>,
+) -> Result<(), WriteFailed>
+    ensures { Puts W.contents out.old out.new result (badge_text x y) }
+{
+    write!(
+        out,
+        "<path class=\"x\" d=\"M{x} {y}h1\"/><path class=\"y\" d=\"M{x} {y}m-38-38l76 76m0-76l-76 76\"/>\n"
+    )
+}
+
+// From the deadline up to the finish, or to the end.
+fn put_hatch<W: Write + Drop>(
+    lane: &Lane<'_>,
+    job: &JobRecord,
+    out: &mut Outlet<'_, W>,
+) -> Result<(), WriteFailed>
+    ensures { Puts W.contents out.old out.new result
+        (hatch_text lane.now.frame lane.now.spot.k lane.now.row.now job.now) }
+{
+    let x = x_after(lane.frame, job.release, lane.row.sheet.deadline());
+    let hatch = Bar {
+        x,
+        right: x_of(lane.frame, ended(lane.frame, job)).max(x + 20),
+        y: top_of(lane.spot.k) + 145,
+        high: 220,
+    };
+    write!(out, "<path class=\"z\" d=\"{hatch}\"><title>")
+}
+
+// The deadline, behind when the job arrives and is done.
+fn put_due_words<W: Write + Drop>(row: &TaskRow, out: &mut Outlet<'_, W>) -> Result<(), WriteFailed>
+    ensures { Puts W.contents out.old out.new result (due_words row.now) }
+{
+    let deadline = row.sheet.deadline();
+    write!(out, "deadline {deadline} us missed</title></path>\n")
+}
+
+// A badge at the deadline.
+fn put_badge_at<W: Write + Drop>(
+    lane: &Lane<'_>,
+    job: &JobRecord,
+    out: &mut Outlet<'_, W>,
+) -> Result<(), WriteFailed>
+    ensures { Puts W.contents out.old out.new result
+        (badge_text (x_of lane.now.frame (job.now.release + lane.now.row.now.sheet.deadline))
+        (top_of lane.now.spot.k + 85)) }
+{
+    let x = x_after(lane.frame, job.release, lane.row.sheet.deadline());
+    put_badge(x, top_of(lane.spot.k) + 85, out)
+}
+
+// The same, where that has a badge.
+fn put_due_badge<W: Write + Drop>(
+    lane: &Lane<'_>,
+    last: Option<u64>,
+    job: &JobRecord,
+    out: &mut Outlet<'_, W>,
+) -> Result<(), WriteFailed>
+    ensures { Puts W.contents out.old out.new result
+        (due_badge lane.now.frame lane.now.spot.k last
+        (job.now.release + lane.now.row.now.sheet.deadline)) }
+{
+    if has_badge(lane.frame, lane.row, last, job) {
+        put_badge_at(lane, job, out)
+    } else {
+        Ok(())
+    }
+}
+
+// Signs where a job goes on before and behind the window, whose box isn't in it.
+fn put_late_signs<W: Write + Drop>(
+    lane: &Lane<'_>,
+    job: &JobRecord,
+    out: &mut Outlet<'_, W>,
+) -> Result<(), WriteFailed>
+    ensures { Puts W.contents out.old out.new result
+        (late_signs lane.now.frame lane.now.spot.k lane.now.row.now job.now) }
+{
+    if sees_from(lane.frame, job.release, limit_of(lane.row)) {
+        return Ok(());
+    }
+    put_back(lane, job, out)?;
+    put_on(lane, job, out)
+}
+
+// That, with what is told of it, a badge at the deadline, and those signs.
+fn put_missed<W: Write + Drop>(
+    lane: &Lane<'_>,
+    last: Option<u64>,
+    job: &JobRecord,
+    out: &mut Outlet<'_, W>,
+) -> Result<(), WriteFailed>
+    ensures { Puts W.contents out.old out.new result
+        (missed_text lane.now.frame lane.now.spot.k lane.now.row.now last job.now) }
+{
+    put_hatch(lane, job, out)?;
+    put_arrival_words(job, out)?;
+    put_finish_words(job, out)?;
+    put_due_words(lane.row, out)?;
+    put_due_badge(lane, last, job, out)?;
+    put_late_signs(lane, job, out)
+}
+
+// A job in a row, if it misses its deadline in the window.
+fn put_miss<W: Write + Drop>(
+    lane: &Lane<'_>,
+    last: Option<u64>,
+    job: &JobRecord,
+    out: &mut Outlet<'_, W>,
+) -> Result<(), WriteFailed>
+    ensures { Puts W.contents out.old out.new result
+        (miss_text lane.now.frame lane.now.spot.k lane.now.row.now last job.now) }
+{
+    if is_seen_miss(lane.frame, lane.row, job) {
+        put_missed(lane, last, job, out)
+    } else {
+        Ok(())
+    }
+}
+
+// Those of a row.
+fn put_row_misses<W: Write + Drop>(
+    lane: &Lane<'_>,
+    jobs: &[JobRecord],
+    out: &mut Outlet<'_, W>,
+) -> Result<(), WriteFailed>
+    ensures { Puts W.contents out.old out.new result
+        (row_misses lane.now.frame jobs.now lane.now.spot.k lane.now.row.now) }
+{
+    let mut last = None;
+    for i in 0..jobs.len() {
+        let job = job_at(jobs, i);
+        put_miss(lane, last, &job, out)?;
+        last = badge_after(lane.frame, lane.row, last, &job);
+    }
+    Ok(())
+}
+
+/// Those of each row.
+pub fn put_misses<W: Write + Drop>(
+    chart: &Chart<'_>,
+    out: &mut Outlet<'_, W>,
+) -> Result<(), WriteFailed>
+    ensures { Puts W.contents out.old out.new result
+        (misses_text chart.now.frame chart.now.rows.now chart.now.shown.now
+        chart.now.jobs.now) }
+{
+    for k in 0..chart.shown.len() {
+        put_row_misses(&chart.lane(chart.spot(k)), chart.jobs, out)?;
+    }
+    Ok(())
+}

@@ -1,7 +1,0 @@
-use Rattle.std.proofs.Common.{◌≡◌, drop}
-use Rattle.picture.specs.Frame.{least_period}
-use Rattle.picture.specs.declared.frame.TheConstants.{LONGEST_PERIOD}
-use Rattle.picture.proofs.frame.least_period.Given as goal
-
-abbrev pub invariant-loop-row : goal.invariant-loop-row
-invariant-loop-row l = least_period l.least (drop l.row-index l.rows) ≡ least_period LONGEST_PERIOD l.fn.rows

@@ -1,6 +1,0 @@
-use Rattle.std.proofs.Common.{◌≡◌, drop}
-use Rattle.picture.specs.Locks.{noted_sections}
-use Rattle.picture.proofs.locks.note_sections.Given as goal
-
-abbrev pub invariant-loop-section : goal.invariant-loop-section
-invariant-loop-section l = noted_sections l.locks.items (drop l.section-index l.sections) ≡ noted_sections l.fn.locks.items l.fn.sections

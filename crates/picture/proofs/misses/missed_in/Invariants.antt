@@ -1,9 +1,0 @@
-use Rattle.std.proofs.Common.{◌≡◌, ◌+◌, ◌≤◌, drop}
-use Rattle.picture.specs.Misses.{missed_in}
-use Rattle.picture.proofs.misses.missed_in.Given as goal
-
-abbrev pub invariant-loop-job : goal.invariant-loop-job
-invariant-loop-job l = record {
-  within : l.count ≤ l.job-index;
-  counted : l.count + missed_in l.frame l.row (drop l.job-index l.jobs) ≡ missed_in l.frame l.row l.jobs;
-}

@@ -1,7 +1,0 @@
-use Rattle.std.proofs.Common.{ℕ, ◌∙◌, sym}
-use Rattle.picture.specs.Bands.{bracket_at}
-use Rattle.picture.proofs.Lanes.{puts_same}
-use Rattle.picture.proofs.page.Page.put_bracket.Goals as goal
-
-pub returns : goal.returns
-returns g c = rw (sym c.is_shown.ensures ∙ c.if-not-is_shown.false) (puts_same (λ (x : ℕ). bracket_at x c.args.k) c.x_after.ensures.value c.put_bracket_at.ensures)

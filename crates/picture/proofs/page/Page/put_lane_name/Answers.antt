@@ -1,4 +1,0 @@
-use Rattle.picture.proofs.page.Page.put_lane_name.Goals as goal
-
-pub returns : goal.returns
-returns g c = rw c.name-name.ensures.same at c.write.ensures.put

@@ -1,4 +1,0 @@
-use Rattle.picture.proofs.page.Page.put_limit_words.Goals as goal
-
-pub returns : goal.returns
-returns g c = rw (← c.deadline-deadline.ensures) c.write.ensures.put

@@ -1,4 +1,0 @@
-use Rattle.picture.proofs.page.Page.put_lock.Goals as goal
-
-pub returns : goal.returns
-returns g c = rw (← c.lock_left-x.ensures.value) (rw (← c.lock_upper-y.ensures.value) c.write.ensures.put)

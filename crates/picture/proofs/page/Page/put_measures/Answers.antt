@@ -1,4 +1,0 @@
-use Rattle.picture.proofs.page.Page.put_measures.Goals as goal
-
-pub returns : goal.returns
-returns g c = rw (← c.end_of.ensures.value) c.write.ensures.put

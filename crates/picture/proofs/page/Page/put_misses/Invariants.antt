@@ -1,8 +1,0 @@
-use Rattle.std.specs.Prelude.{Ok}
-use Rattle.picture.specs.Rows.{each, row_at, spot_in}
-use Rattle.picture.specs.Puts.{Puts}
-use Rattle.picture.specs.Misses.{row_misses}
-use Rattle.picture.proofs.page.Page.put_misses.Given as goal
-
-abbrev pub invariant-loop-k : goal.invariant-loop-k
-invariant-loop-k g l = Puts g.W.Write.contents l.fn.self l.self (Ok tt) (each l.k (λ k. row_misses l.fn.chart.frame l.fn.chart.jobs.now (spot_in l.fn.chart.shown.now k).k (row_at l.fn.chart.rows.now (spot_in l.fn.chart.shown.now k).rank)))

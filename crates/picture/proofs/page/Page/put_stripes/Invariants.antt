@@ -1,8 +1,0 @@
-use Rattle.std.specs.Prelude.{Ok, length, slice_index_or, []}
-use Rattle.picture.specs.Rows.{each}
-use Rattle.picture.specs.Puts.{Puts}
-use Rattle.picture.specs.Locks.{stripe_text}
-use Rattle.picture.proofs.page.Page.put_stripes.Given as goal
-
-abbrev pub invariant-loop-i : goal.invariant-loop-i
-invariant-loop-i g l = Puts g.W.Write.contents l.fn.self l.self (Ok tt) (each l.i (λ i. stripe_text l.fn.locks l.fn.x l.fn.right l.fn.k (length l.fn.names) i (slice_index_or l.fn.names i [])))

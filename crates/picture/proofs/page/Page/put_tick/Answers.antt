@@ -1,4 +1,0 @@
-use Rattle.picture.proofs.page.Page.put_tick.Goals as goal
-
-pub returns : goal.returns
-returns g c = rw (← c.x_of-x.ensures.value) (rw (← c.unit_of.ensures.value) (rw (← c.number_x-middle.ensures) c.write.ensures.put))

@@ -1,9 +1,0 @@
-use Rattle.std.specs.Prelude.{◌++◌, Ok}
-use Rattle.picture.specs.Rows.{each}
-use Rattle.picture.specs.Puts.{Puts}
-use Rattle.picture.specs.Elements.{bar_text, dark_text}
-use Rattle.picture.specs.Sections.{nth_section}
-use Rattle.picture.proofs.page.Page.put_whole.Given as goal
-
-abbrev pub invariant-loop-section : goal.invariant-loop-section
-invariant-loop-section g l = Puts g.W.Write.contents l.fn.self l.self (Ok tt) (bar_text l.fn.lane.frame l.fn.slice l.fn.lane.spot l.fn.lane.row.now ++ each l.section-index (λ i. dark_text l.fn.lane.frame l.fn.lane.locks.now l.fn.executed l.fn.slice l.fn.lane.spot.k l.fn.lane.row.now (nth_section l.fn.lane.row.now.sheet.sections i)))

@@ -1,6 +1,0 @@
-use Rattle.std.proofs.Common.{◌≡◌}
-use Rattle.picture.specs.View.{shown_below}
-use Rattle.picture.proofs.view.shown_of.Given as goal
-
-abbrev pub invariant-loop-rank : goal.invariant-loop-rank
-invariant-loop-rank l = l.shown.items ≡ shown_below l.names l.rows l.rank
