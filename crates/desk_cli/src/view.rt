@@ -6,8 +6,8 @@ ghost use Rattle.desk_cli.specs.View.{AsksRows, IsViewOf, Notes, is_unseen, know
 use crate::refusal::CommandRefusal;
 use crate::simulate::Simulated;
 use command_line::Options;
-use lines::{cut, name_of};
 use frames::View;
+use lines::{cut, name_of};
 use std::alloc::{AllocError, Global};
 use task_sheet::{Name, TaskSet};
 
