@@ -274,7 +274,7 @@ Certificates
   standard input: none without members shows nothing
   [5]
   $ said check examples/jitter.toml examples/three-tasks.cert
-  examples/three-tasks.cert: it is of version 1, which is for sets without jitter and outranks; this set has one of them
+  examples/three-tasks.cert: it is of version 1, which is for sets without jitter, late of [node] and outranks; this set has one of them
   [5]
   $ certificate 'desk-certificate 1\nbest 0\nend\n'
   standard input: its levels don't name each task of the set once, or a member is no task or named twice

@@ -134,7 +134,7 @@ its place:
   refused: PaddedCost b
   [4]
   $ cat said
-  wrong.toml: b: with job and lock of [node] the cost is past the period
+  wrong.toml: line 5, task 1 (b): with job and lock of [node] the cost is past the period: cost 10, job 9223372036854775807 and 0 times lock 9223372036854775807 make 9223372036854775817, period 1000
   $ refused '[node]\njob = 9223372036854775807\n'
   admitted 0
 
@@ -144,6 +144,12 @@ Sentences:
   wrong.toml: unknown key release; [node] has job, lock, late
   $ refused '[node]\nlate = "x"\n' > /dev/null || cat said
   wrong.toml: late has to be a whole number of microseconds from 0, without quotes; it is the string "x"
+  $ refused "[node]\njob = 9\nlock = 251\n$two" > /dev/null || cat said
+  wrong.toml: line 8, task 2 (a): with job and lock of [node] the cost is past the period: cost 500, job 9 and 2 times lock 251 make 1011, period 1000
+  $ refused "[node]\nlock = 9223372036854775807\n$two" > /dev/null || cat said
+  wrong.toml: line 7, task 2 (a): with job and lock of [node] the cost is past the period: cost 500, job 0 and 2 times lock 9223372036854775807, period 1000
+  $ refused "[node]\nlate = 100\n$two" > /dev/null || cat said
+  wrong.toml: line 3, task 1 (b): with late of [node] the jitter isn't below the deadline: jitter 0 and late 100 make 100, deadline 100
 
 Of several teams' documents those that say a node must say the same, and it holds for the tasks of all; a budget bounds what
 a document says, here 50 thousandths and no more.
@@ -166,4 +172,21 @@ a document says, here 50 thousandths and no more.
   [4]
   $ desk admit teams 2>&1 > /dev/null
   teams: two.toml: another [node] than base.toml; one team says it for all
+  [4]
+
+What the node takes has no room in another team's task; and `[node]` isn't what `node.toml` has:
+
+  $ printf '[node]\njob = 99\nlock = 0\n[[task]]\nname = "c"\nperiod = 10000\ndeadline = 10000\ncost = 9902\n' > teams/base.toml
+  $ printf '[[task]]\nname = "b"\nperiod = 10000\ndeadline = 10000\ncost = 500\n' > teams/two.toml
+  $ desk admit teams
+  (on standard error) teams: base.toml: line 4, task 1 (c): with job and lock of [node] the cost is past the period: cost 9902, job 99 and 0 times lock 0 make 10001, period 10000
+  refused: PaddedCost c
+  [4]
+  $ printf '[node]\njob = 9501\n' > teams/base.toml
+  $ desk admit teams 2>&1 > /dev/null
+  teams: one.toml: line 1, task 1 (a): with job and lock of [node] the cost is past the period: cost 500, job 9501 and 0 times lock 0 make 10001, period 10000
+  [4]
+  $ printf '[node]\njob = 99\n' > teams/node.toml
+  $ desk admit teams 2>&1 > /dev/null
+  teams: node.toml: unknown key node; it has budgets of teams alone, each headed by [team.NAME]; [node] stands in a team's document
   [4]

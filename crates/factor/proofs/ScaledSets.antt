@@ -1,19 +1,16 @@
 -- A set with each task scaled has the same ranks, and asks no more with a lesser factor.
-use Rattle.std.proofs.Common.{◌≡◌, ◌↔◌, ℕ, zero, suc, ◌+◌, inl, inr, ◌<◌, ◌≤◌, false, None, List, [], ◌∷◌, ◌++◌, length, get_or, take, cond, Less, refl, sym, ◌∙◌, ap, subst, arith, map}
-use Rattle.std.proofs.Math.ListN.{get_or-eq_default}
-use Rattle.std.specs.List.{AllByRecursion, All}
-use Rattle.std.specs.List.Sorted.{IsStrictlySortedBy}
+use Rattle.std.proofs.Common.{◌≡◌, ◌↔◌, ℕ, zero, suc, ◌+◌, inl, inr, ◌<◌, ◌≤◌, None, List, [], ◌∷◌, ◌++◌, length, get_or, take, cond, refl, sym, ◌∙◌, ap, subst, arith, map}
+use Rattle.std.specs.List.{AllByRecursion}
 use Rattle.std.proofs.lemmas.Bool.{cases_lt}
-use Rattle.std.proofs.lemmas.List.{length-map, get_or-map, get_or_default, map_more}
-use Rattle.std.proofs.lemmas.List.Elements.{All-from_recursion, recursion_from_All}
-use Rattle.std.proofs.lemmas.List.Sorted.{IsPermutation-refl}
-use Rattle.task_sheet.specs.Sheet.{Task, IsValidSheet, AllTasks, no_task, task_at}
-use Rattle.task_sheet.specs.TaskSet.{rank_cmp, same_name, AreDistinct, IsTaskSet, IsByRank}
+use Rattle.std.proofs.lemmas.List.{get_or_default}
+use Rattle.std.proofs.lemmas.List.Elements.{recursion_from_All}
+use Rattle.task_sheet.specs.Sheet.{Task, IsValidSheet, no_task, task_at}
+use Rattle.task_sheet.specs.TaskSet.{IsTaskSet, IsByRank}
 use Rattle.task_sheet.specs.SheetsFault.{sheets_fault}
 use Rattle.task_sheet.specs.Indexes.{below}
 use Rattle.task_sheet.specs.Orders.{IsOrder, IsPassingOrder, IsFeasible}
-use Rattle.task_sheet.proofs.SetLaws.{by_rank_one, no_fault}
 use Rattle.task_sheet.proofs.TaskLaws.{AllTasks-from_set, valid_at}
+use Rattle.overheads.proofs.MappedSets.{KeepsRanks, count-mapped, mapped-at, mapped-past, mapped-more, IsByRank-mapped, no_fault-mapped, set-mapped}
 use Rattle.limits.specs.Easier.{AreEasier}
 use Rattle.limits.proofs.EasierLaws.{IsPassingOrder-easier, IsFeasible-easier}
 use Rattle.limits.proofs.NumberLaws.{easier-same}
@@ -22,52 +19,34 @@ use Rattle.factor.proofs.ScaledTasks.{scaled_cost-mono, scaled_task-same, within
 
 -- ---- one factor
 module _ (f : ℕ) where
+  keeps-ranks : KeepsRanks (scaled_task f)
+  keeps-ranks = record { ranks = λ x y. refl; names = λ x y. refl }
+
   pub count-scaled : (U : List Task) → length (scaled f U) ≡ length U
-  count-scaled U = length-map U (scaled_task f)
-
-  -- what rests on names and weights alone holds of each task as before
-  all-scaled : (P : Task → Type 0) → ((y : Task) → P y → P (scaled_task f y)) → (U : List Task) → AllByRecursion P U → AllByRecursion P (scaled f U)
-  all-scaled P kept [] h = tt
-  all-scaled P kept (y ∷ ys) h = (kept y h.0, all-scaled P kept ys h.1)
-
-  ranked-scaled : (U : List Task) → IsStrictlySortedBy rank_cmp U → IsStrictlySortedBy rank_cmp (scaled f U)
-  unfolding IsStrictlySortedBy
-  ranked-scaled [] h = tt
-  ranked-scaled (y ∷ ys) h = (all-scaled (λ z. rank_cmp y z ≡ Less) (λ z before. before) ys h.0, ranked-scaled ys h.1)
+  count-scaled U = count-mapped (scaled_task f) U
 
   pub IsByRank-scaled : (U V : List Task) → IsTaskSet U → IsByRank (scaled f U) V → V ≡ scaled f U
-  IsByRank-scaled U V valid by_rank =
-      let sheets = scaled f U in
-      let own : IsByRank sheets sheets = record { permutation = IsPermutation-refl sheets; ranked = ranked-scaled U valid.ranked } in
-      by_rank_one sheets sheets V sheets (IsPermutation-refl sheets) by_rank own
-
-  distinct-scaled : (U : List Task) → AreDistinct same_name U → AreDistinct same_name (scaled f U)
-  distinct-scaled [] h = tt
-  distinct-scaled (y ∷ ys) h = (all-scaled (λ z. same_name y z ≡ false) (λ z apart. apart) ys h.0, distinct-scaled ys h.1)
+  IsByRank-scaled U V set by_rank = IsByRank-mapped (scaled_task f) keeps-ranks U V set by_rank
 
   -- the sheets are no fault
   pub no_fault-scaled : (U : List Task) → IsTaskSet U → sheets_fault (scaled f U) ≡ None
-  no_fault-scaled U valid = no_fault (scaled f U) (distinct-scaled U valid.distinct) (omega (arith, valid.few, count-scaled U))
+  no_fault-scaled U set = no_fault-mapped (scaled_task f) keeps-ranks U set
 
   -- the task at an index
   pub scaled-at : (U : List Task) (k : ℕ) → k < length U → task_at (scaled f U) k ≡ scaled_task f (task_at U k)
-  scaled-at U k lt = get_or-map (scaled_task f) U k no_task no_task lt
+  scaled-at U k lt = mapped-at (scaled_task f) U k lt
 
   pub scaled-past : (U : List Task) (k : ℕ) → length U ≤ k → task_at (scaled f U) k ≡ no_task
-  scaled-past U k past = get_or-eq_default (scaled f U) no_task (omega (arith, count-scaled U))
+  scaled-past U k past = mapped-past (scaled_task f) U k past
 
   pub valid-at : (U : List Task) (k : ℕ) → IsTaskSet U → MayScale U f → k < length U → IsValidSheet (scaled_task f (task_at U k))
   valid-at U k set may lt = valid-scaled f (task_at U k) (valid_at U k set lt) may.some (may.within k no_task lt)
 
   pub set-scaled : (U : List Task) → IsTaskSet U → MayScale U f → IsTaskSet (scaled f U)
-  set-scaled U set may = record {
-    valid = λ k d lt.
-        let within : k < length U = omega (arith, lt, count-scaled U) in
-        subst IsValidSheet (sym (scaled-at U k within) ∙ get_or_default (scaled f U) k no_task d lt) (valid-at U k set may within);
-    ranked = ranked-scaled U set.ranked;
-    distinct = distinct-scaled U set.distinct;
-    few = omega (arith, set.few, count-scaled U);
-  }
+  set-scaled U set may =
+      set-mapped (scaled_task f) keeps-ranks U set (λ k d lt.
+      let within : k < length U = omega (arith, lt, count-scaled U) in
+      subst IsValidSheet (sym (scaled-at U k within) ∙ get_or_default (scaled f U) k no_task d lt) (valid-at U k set may within))
 
 -- what rests on limits, names and tasks to outrank alone
 pub keeps-scaled : {R : Type 0} (of : Task → R) → ((factor : ℕ) (t : Task) → of (scaled_task factor t) ≡ of t) → (U : List Task) (factor k : ℕ) → of (task_at (scaled factor U) k) ≡ of (task_at U k)
@@ -78,8 +57,7 @@ keeps-scaled of kept (t ∷ ts) factor (suc k) = keeps-scaled of kept ts factor 
 -- one sheet more
 pub scaled-more : (f : ℕ) (U xs ys : List Task) (i : ℕ) (x y : Task) → i < length U → x ≡ get_or U i x → y ≡ scaled_task f x → xs ≡ map (scaled_task f) (take i U)
     → ys ≡ xs ++ y ∷ [] → ys ≡ map (scaled_task f) (take (i + 1) U)
-scaled-more f U xs ys i x y lt is scales before pushed =
-    pushed ∙ rw (before, scales, is) (sym (map_more (scaled_task f) U i x lt))
+scaled-more f U xs ys i x y lt is scales before pushed = mapped-more (scaled_task f) U xs ys i x y lt is scales before pushed
 
 -- ---- two factors
 pub AreEasier-scaled : (U : List Task) (low high : ℕ) → low ≤ high → AreEasier (scaled low U) (scaled high U)

@@ -1,3 +1,4 @@
+pub mod MappedSets
 pub mod PaddedSections
 pub mod PaddedTasks
 pub mod PaddedSets

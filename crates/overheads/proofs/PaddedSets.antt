@@ -1,56 +1,39 @@
 -- A set with what the node takes has the same ranks, and is a set where there is room for it.
-use Rattle.std.proofs.Common.{◌≡◌, ℕ, ◌+◌, ◌<◌, ◌≤◌, false, Option, Some, None, List, [], ◌∷◌, ◌++◌, length, get_or, take, drop, Less, refl, sym, ◌∙◌, ap, arith, map}
-use Rattle.std.proofs.Math.ListN.{get_or-eq_default}
+use Rattle.std.proofs.Common.{◌≡◌, ℕ, ◌+◌, ◌<◌, ◌≤◌, Option, Some, None, List, [], ◌∷◌, ◌++◌, length, get_or, take, drop, refl, sym, ◌∙◌, ap, arith, map}
 use Rattle.std.specs.List.{AllByRecursion}
-use Rattle.std.specs.List.Sorted.{IsStrictlySortedBy}
 use Rattle.std.specs.Option.{option_or}
-use Rattle.std.proofs.lemmas.List.{length-map, get_or-map, map_more, drop_more}
+use Rattle.std.proofs.lemmas.List.{drop_more}
 use Rattle.std.proofs.lemmas.List.Elements.{All-from_recursion, recursion_from_All}
-use Rattle.std.proofs.lemmas.List.Sorted.{IsPermutation-refl}
 use Rattle.task_sheet.specs.Sheet.{Task, IsValidSheet, no_task, task_at}
-use Rattle.task_sheet.specs.TaskSet.{rank_cmp, same_name, AreDistinct, IsTaskSet, IsByRank}
+use Rattle.task_sheet.specs.TaskSet.{IsTaskSet, IsByRank}
 use Rattle.task_sheet.specs.SheetsFault.{sheets_fault}
 use Rattle.task_sheet.specs.declared.node.Node.{Node}
-use Rattle.task_sheet.proofs.SetLaws.{by_rank_one, no_fault}
 use Rattle.overheads.specs.Padding.{no_overhead, padded_task, padded, task_fault, padding_fault, IsLighter}
 use Rattle.overheads.specs.declared.padding.PadFault.{PadFault}
+use Rattle.overheads.proofs.MappedSets.{KeepsRanks, count-mapped, mapped-at, mapped-past, mapped-more, IsByRank-mapped, no_fault-mapped, set-mapped}
 use Rattle.overheads.proofs.PaddedTasks.{room_of, valid-padded, room-lighter, task-none, room-none}
 
 -- ---- ranks
 module _ (node : Node) where
+  keeps-padded : KeepsRanks (padded_task node)
+  keeps-padded = record { ranks = λ x y. refl; names = λ x y. refl }
+
   pub count-padded : (U : List Task) → length (padded node U) ≡ length U
-  count-padded U = length-map U (padded_task node)
-
-  -- what rests on names and weights alone holds of each task as before
-  all-padded : (P : Task → Type 0) → ((y : Task) → P y → P (padded_task node y)) → (U : List Task) → AllByRecursion P U → AllByRecursion P (padded node U)
-  all-padded P kept [] h = tt
-  all-padded P kept (y ∷ ys) h = (kept y h.0, all-padded P kept ys h.1)
-
-  ranked-padded : (U : List Task) → IsStrictlySortedBy rank_cmp U → IsStrictlySortedBy rank_cmp (padded node U)
-  unfolding IsStrictlySortedBy
-  ranked-padded [] h = tt
-  ranked-padded (y ∷ ys) h = (all-padded (λ z. rank_cmp y z ≡ Less) (λ z before. before) ys h.0, ranked-padded ys h.1)
+  count-padded U = count-mapped (padded_task node) U
 
   pub IsByRank-padded : (U V : List Task) → IsTaskSet U → IsByRank (padded node U) V → V ≡ padded node U
-  IsByRank-padded U V valid by_rank =
-      let sheets = padded node U in
-      let own : IsByRank sheets sheets = record { permutation = IsPermutation-refl sheets; ranked = ranked-padded U valid.ranked } in
-      by_rank_one sheets sheets V sheets (IsPermutation-refl sheets) by_rank own
-
-  distinct-padded : (U : List Task) → AreDistinct same_name U → AreDistinct same_name (padded node U)
-  distinct-padded [] h = tt
-  distinct-padded (y ∷ ys) h = (all-padded (λ z. same_name y z ≡ false) (λ z apart. apart) ys h.0, distinct-padded ys h.1)
+  IsByRank-padded U V set by_rank = IsByRank-mapped (padded_task node) keeps-padded U V set by_rank
 
   -- the sheets are no fault
   pub no_fault-padded : (U : List Task) → IsTaskSet U → sheets_fault (padded node U) ≡ None
-  no_fault-padded U valid = no_fault (padded node U) (distinct-padded U valid.distinct) (omega (arith, valid.few, count-padded U))
+  no_fault-padded U set = no_fault-mapped (padded_task node) keeps-padded U set
 
   -- the task at an index
   pub padded-at : (U : List Task) (k : ℕ) → k < length U → task_at (padded node U) k ≡ padded_task node (task_at U k)
-  padded-at U k lt = get_or-map (padded_task node) U k no_task no_task lt
+  padded-at U k lt = mapped-at (padded_task node) U k lt
 
   pub padded-past : (U : List Task) (k : ℕ) → length U ≤ k → task_at (padded node U) k ≡ no_task
-  padded-past U k past = get_or-eq_default (padded node U) no_task (omega (arith, count-padded U))
+  padded-past U k past = mapped-past (padded_task node) U k past
 
 -- ---- room
 pub first_none : (o p : Option PadFault) → option_or o p ≡ None → (o ≡ None) × (p ≡ None)
@@ -65,12 +48,9 @@ valid-each node (t ∷ ts) valid room =
     (valid-padded node t valid.0 own.cost own.jitter, valid-each node ts valid.1 both.1)
 
 pub set-padded : (U : List Task) (node : Node) → IsTaskSet U → padding_fault node U ≡ None → IsTaskSet (padded node U)
-set-padded U node set room = record {
-  valid = All-from_recursion IsValidSheet (padded node U) (valid-each node U (recursion_from_All IsValidSheet U set.valid) room);
-  ranked = ranked-padded node U set.ranked;
-  distinct = distinct-padded node U set.distinct;
-  few = omega (arith, set.few, count-padded node U);
-}
+set-padded U node set room =
+    let valid = All-from_recursion IsValidSheet (padded node U) (valid-each node U (recursion_from_All IsValidSheet U set.valid) room) in
+    set-mapped (padded_task node) (keeps-padded node) U set valid
 
 pub fault-lighter : (U : List Task) (light heavy : Node) → IsLighter light heavy → padding_fault heavy U ≡ None → padding_fault light U ≡ None
 fault-lighter [] light heavy is none = refl
@@ -96,8 +76,7 @@ lightest node = record { job = omega arith; lock = omega arith; late = omega ari
 -- ---- one sheet more
 pub padded-more : (node : Node) (U xs ys : List Task) (i : ℕ) (x y : Task) → i < length U → x ≡ get_or U i x → y ≡ padded_task node x → xs ≡ map (padded_task node) (take i U)
     → ys ≡ xs ++ y ∷ [] → ys ≡ map (padded_task node) (take (i + 1) U)
-padded-more node U xs ys i x y lt is pads before pushed =
-    pushed ∙ rw (before, pads, is) (sym (map_more (padded_task node) U i x lt))
+padded-more node U xs ys i x y lt is pads before pushed = mapped-more (padded_task node) U xs ys i x y lt is pads before pushed
 
 pub fault-step : (node : Node) (U : List Task) (i : ℕ) (x : Task) → i < length U → x ≡ get_or U i x → task_fault node x ≡ None → padding_fault node (drop i U) ≡ padding_fault node (drop (i + 1) U)
 fault-step node U i x lt is none =

@@ -1,12 +1,13 @@
 //! Why a set's text is no task set.
 
 use crate::node::{of_budget, of_node, of_stranger};
-use crate::padding::of_padding;
+use crate::padding::{of_padding, task_of};
 use crate::sets::of_set;
 use crate::texts::push_unseen;
 use crate::told::told;
+use overheads::PadFault;
 use std::alloc::{AllocError, Global};
-use task_sheet::{Name, SetFault, read_set};
+use task_sheet::{Document, Name, Node, SetFault, read_document};
 use teams::{TeamsFault, first_part, node_part};
 
 /// What a person is told of the fault of a set's text, from its bytes; none where memory is wanting. What is said of a
@@ -37,7 +38,7 @@ pub fn of_set_text(alloc: Global, bytes: &[u8], fault: TeamsFault) -> Option<Str
             number,
             limit,
         } => of_budget(alloc, node_in(bytes), team, quantity, number, limit),
-        TeamsFault::Padded { fault } => of_padding(alloc, fault),
+        TeamsFault::Padded { fault } => of_padded(alloc, bytes, fault),
         TeamsFault::TooManyTasks => {
             String::from_str(alloc, "the teams have more than 32 tasks together").ok()
         }
@@ -81,20 +82,46 @@ fn push_head(text: &mut String, bytes: &[u8], part: usize) -> Result<(), AllocEr
     push_unseen(text, part_at(bytes, part), 1)
 }
 
-// The document is one of the team, and is no set.
-fn is_faulty(alloc: Global, owner: Name, text: &[u8], team: Name) -> bool {
-    owner == team && read_set(alloc, text).is_err()
+// What is looked for among the documents of teams.
+#[derive(Clone, Copy)]
+enum Sought {
+    // A document of the team that is no set.
+    Faulty(Name),
+    // One that says a node.
+    Node,
+    // That of the task of a name.
+    Task(Name),
 }
 
-// The team's first document that is no set.
-fn document_of<'a>(alloc: Global, bytes: &'a [u8], team: Name) -> Option<&'a [u8]> {
+// Whether a set's document is sought.
+fn says(document: &Document, sought: Sought) -> bool {
+    match sought {
+        Sought::Faulty(_) => false,
+        Sought::Node => document.node.is_some(),
+        Sought::Task(name) => document.set.find(name).is_some(),
+    }
+}
+
+// Whether a team's document is sought.
+fn is_sought(alloc: Global, team: Name, text: &[u8], sought: Sought) -> bool {
+    match read_document(alloc, text) {
+        Ok(document) => says(&document, sought),
+        Err(_) => match sought {
+            Sought::Faulty(owner) => owner == team,
+            Sought::Node | Sought::Task(_) => false,
+        },
+    }
+}
+
+// The first document that is sought, with its team.
+fn document_of<'a>(alloc: Global, bytes: &'a [u8], sought: Sought) -> Option<(Name, &'a [u8])> {
     let mut rest = bytes;
     while !rest.is_empty() {
         let Some((part, after)) = first_part(rest) else {
             return None;
         };
-        if is_faulty(alloc, part.team, part.text, team) {
-            return Some(part.text);
+        if is_sought(alloc, part.team, part.text, sought) {
+            return Some((part.team, part.text));
         }
         rest = after;
     }
@@ -103,7 +130,42 @@ fn document_of<'a>(alloc: Global, bytes: &'a [u8], team: Name) -> Option<&'a [u8
 
 // What a person is told of the fault of a team's document.
 fn of_document(alloc: Global, bytes: &[u8], team: Name, fault: SetFault) -> Option<String> {
-    let document = document_of(alloc, bytes, team)?;
+    let (_, document) = document_of(alloc, bytes, Sought::Faulty(team))?;
     let said = of_set(alloc, document, fault)?;
     format!(in alloc; "{team}.toml: {said}").ok()
+}
+
+// ---- what the node takes
+
+// The node that a document says.
+fn node_said(alloc: Global, document: &[u8]) -> Option<Node> {
+    match read_document(alloc, document) {
+        Ok(document) => document.node,
+        Err(_) => None,
+    }
+}
+
+// What a person is told where one document's set has no room for what its node takes.
+fn of_padded_alone(alloc: Global, bytes: &[u8], fault: PadFault) -> Option<String> {
+    let node = node_said(alloc, bytes)?;
+    of_padding(alloc, bytes, node, fault)
+}
+
+// The same of documents of teams, of the one with the task; another one may say the node.
+fn of_padded_teams(alloc: Global, bytes: &[u8], fault: PadFault) -> Option<String> {
+    let task = task_of(fault)?;
+    let (_, saying) = document_of(alloc, bytes, Sought::Node)?;
+    let node = node_said(alloc, saying)?;
+    let (team, document) = document_of(alloc, bytes, Sought::Task(task))?;
+    let said = of_padding(alloc, document, node, fault)?;
+    format!(in alloc; "{team}.toml: {said}").ok()
+}
+
+// What a person is told where a set's text has no room for what its node takes.
+fn of_padded(alloc: Global, bytes: &[u8], fault: PadFault) -> Option<String> {
+    if bytes.starts_with(b"#% ") {
+        of_padded_teams(alloc, teams_in(bytes), fault)
+    } else {
+        of_padded_alone(alloc, bytes, fault)
+    }
 }

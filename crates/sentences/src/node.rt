@@ -152,8 +152,13 @@ fn push_fault(
     match fault {
         NodeFault::UnknownRoot => {
             text.push_str("node.toml: unknown key ")?;
-            push_key(text, other_key(&["team"], root))?;
-            text.push_str("; it has budgets of teams alone, each headed by [team.NAME]")
+            let key = other_key(&["team"], root);
+            push_key(text, key)?;
+            text.push_str("; it has budgets of teams alone, each headed by [team.NAME]")?;
+            if key == Some("node") {
+                return text.push_str("; [node] stands in a team's document");
+            }
+            Ok(())
         }
         NodeFault::NoTeams => {
             text.push_str(

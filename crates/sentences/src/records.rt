@@ -55,7 +55,7 @@ pub fn of_check(alloc: Global, fault: CheckFault) -> Option<String> {
 fn push_check_fault(text: &mut String, fault: CheckFault) -> Result<(), AllocError> {
     match fault {
         CheckFault::WrongVersion => text.push_str(
-            "it is of version 1, which is for sets without jitter and outranks; this set has one of them",
+            "it is of version 1, which is for sets without jitter, late of [node] and outranks; this set has one of them",
         ),
         CheckFault::WrongTasks { level } => push_tasks(text, level),
         CheckFault::BadPass { level } => write!(

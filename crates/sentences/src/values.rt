@@ -46,6 +46,17 @@ fn count_at(key: Key, table: &Table) -> Option<u64> {
     }
 }
 
+/// How many locks a task's sections have together.
+pub(crate) fn locks_in(table: &Table) -> u64 {
+    let mut count = 0u64;
+    for section in items_at(Key::Section, table).unwrap_or(&[]) {
+        if let Some(section) = section.as_table() {
+            count = count.saturating_add(count_at(Key::Locks, section).unwrap_or(0));
+        }
+    }
+    count
+}
+
 /// Those of a task's table.
 pub(crate) fn numbers_in(table: &Table) -> Numbers {
     Numbers {
