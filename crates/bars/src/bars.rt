@@ -103,7 +103,7 @@ fn put_slice<W: Write + Drop>(
     }
 }
 
-/// Each slice, by time. The ticks that each job has executed are counted; none were before.
+/// Puts each slice into its row, by time. The ticks that each job has executed are counted; none were before.
 pub fn put_slices<W: Write + Drop>(
     chart: &Chart<'_>,
     executed: &mut [u64],

@@ -64,7 +64,7 @@ fn level_room(level: u64) -> u64
     if level < 10 { 106 } else { 172 }
 }
 
-/// The lane's name, and how busy it is.
+/// Puts the name of the processor's lane, and how busy it is.
 pub fn put_lane_head<W: Write + Drop>(
     chart: &Chart<'_>,
     out: &mut Outlet<'_, W>,
@@ -80,7 +80,7 @@ pub fn put_lane_head<W: Write + Drop>(
     )
 }
 
-/// Its line.
+/// Puts its line.
 pub fn put_lane_line<W: Write + Drop>(
     frame: Frame,
     out: &mut Outlet<'_, W>,
@@ -246,7 +246,7 @@ fn put_lane_by<W: Write + Drop>(
     }
 }
 
-/// Each slice, by time.
+/// Puts each slice into it, by time.
 pub fn put_lanes<W: Write + Drop>(
     chart: &Chart<'_>,
     out: &mut Outlet<'_, W>,

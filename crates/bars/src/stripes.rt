@@ -28,7 +28,7 @@ fn per_line(frame: Frame) -> u64
     ((end_of(frame) - 900) / 1_900).max(1)
 }
 
-/// How high the legend is, of so many locks.
+/// How high the legend of so many locks is.
 pub fn locks_high(frame: Frame, n: usize) -> u64
     requires { n ≤ LOCKS_LIMIT }
     ensures value { result ≡ locks_high frame n }
@@ -165,7 +165,7 @@ fn put_locks_head<W: Write + Drop>(
     write!(out, "<text x=\"100\" y=\"{y}\">holds a lock:</text>\n")
 }
 
-/// The legend of the locks, as a group.
+/// Puts the legend of the locks, as a group.
 pub fn put_locks_group<W: Write + Drop>(
     chart: &Chart<'_>,
     out: &mut Outlet<'_, W>,

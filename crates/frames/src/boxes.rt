@@ -48,7 +48,7 @@ pub fn bar_of(x: u64, end: u64, k: usize) -> Bar
     }
 }
 
-/// Whether a name has room.
+/// Whether a name has room where it is so wide.
 pub fn has_room(name: Name, wide: u64) -> bool
     ensures { result ≡ nat_le (66 * length name + 60) wide }
 {

@@ -19,7 +19,7 @@ const NARROWEST: u64 = 9_400;
 // How far to the right it ends at most, where no width is said.
 const WIDEST: u64 = 15_800;
 
-/// How far to the right it ends at most.
+/// How far to the right time ends at most, in tenths of a pixel as are all places.
 pub const RIGHTMOST: u64 = 159_800;
 
 // How wide the margin to the left of it is at most.
@@ -129,7 +129,7 @@ pub fn frame_of(rows: &[TaskRow], view: &View, until: u64) -> Frame
     }
 }
 
-/// Where a time lies.
+/// Where a time lies: where the window begins or ends, if it isn't in it.
 pub fn x_of(frame: Frame, time: u64) -> u64
     ensures value { result ≡ x_of frame time }
     ensures within { result ≤ RIGHTMOST }
@@ -146,28 +146,28 @@ pub fn is_in(frame: Frame, time: u64) -> bool
     frame.from <= time && time <= frame.to
 }
 
-/// Whether it is before it.
+/// Whether a time is before the window.
 pub fn is_before(frame: Frame, time: u64) -> bool
     ensures { result ≡ nat_lt time frame.from }
 {
     time < frame.from
 }
 
-/// Whether a span of time that has a tick is partly in it.
+/// Whether a span of time that has a tick is partly in the window.
 pub fn sees(frame: Frame, start: u64, stop: u64) -> bool
     ensures { result ≡ sees frame start stop }
 {
     start < frame.to && frame.from < stop
 }
 
-/// The same of a span that ends so long after a time.
+/// Whether a span is that ends so long after a time.
 pub fn sees_up_to(frame: Frame, start: u64, time: u64, len: u64) -> bool
     ensures { result ≡ sees frame start (time + len) }
 {
     start < frame.to && (frame.from < time || frame.from - time < len)
 }
 
-/// The same of the span of a time and so much more.
+/// Whether the span of a time and so much more is.
 pub fn sees_from(frame: Frame, time: u64, len: u64) -> bool
     ensures { result ≡ sees frame time (time + len) }
 {
@@ -184,14 +184,14 @@ pub fn x_after(frame: Frame, time: u64, len: u64) -> u64
     x_of(frame, time + len.min(rest))
 }
 
-/// Where the beginning lies.
+/// Where the window begins.
 pub fn start_of(frame: Frame) -> u64
     ensures { result ≡ frame.left }
 {
     frame.left
 }
 
-/// Where the end lies.
+/// Where it ends.
 pub fn end_of(frame: Frame) -> u64
     ensures value { result ≡ frame_end frame }
     ensures within { result ≤ RIGHTMOST }
@@ -199,7 +199,7 @@ pub fn end_of(frame: Frame) -> u64
     frame.left + frame.span
 }
 
-/// Where a row begins.
+/// Where row k begins, from above.
 pub fn top_of(k: usize) -> u64
     requires { k ≤ TASK_LIMIT }
     ensures value { result ≡ top_of k }
@@ -215,7 +215,7 @@ pub fn is_by_end(frame: Frame, time: u64, len: u64) -> bool
     time <= frame.to && len <= frame.to - time
 }
 
-/// Whether it isn't before it.
+/// Whether that time isn't before the window.
 pub fn is_from_start(frame: Frame, time: u64, len: u64) -> bool
     ensures { result ≡ nat_le frame.from (time + len) }
 {
@@ -229,7 +229,7 @@ pub fn level_of(frame: Frame, rank: usize) -> u64
     frame.count.saturating_sub(rank as u64)
 }
 
-/// Its tone.
+/// The tone of a task by its rank.
 pub fn tone_of(rank: usize) -> usize
     ensures { result ≡ tone_of rank }
 {
@@ -316,7 +316,7 @@ pub fn unit_of(step: u64) -> u64
     }
 }
 
-/// The unit's name.
+/// The name of that unit.
 pub fn unit_name(step: u64) -> &'static str
     ensures { result.now ≡ unit_name step }
 {

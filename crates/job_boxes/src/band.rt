@@ -342,7 +342,7 @@ pub(crate) fn put_place<W: Write + Drop>(
     put_stand(lane, &first, stretch_of(gap, jobs, i), out)
 }
 
-/// The greatest response of jobs that are done, or `-` for none.
+/// Puts the greatest response of jobs that are done, or `-` for none.
 pub fn put_greatest<W: Write + Drop>(
     outcome: Outcome,
     out: &mut Outlet<'_, W>,

@@ -224,7 +224,7 @@ fn put_job<W: Write + Drop>(
     }
 }
 
-/// Each job.
+/// Puts each job, alone or in a band.
 pub fn put_jobs<W: Write + Drop>(
     chart: &Chart<'_>,
     out: &mut Outlet<'_, W>,

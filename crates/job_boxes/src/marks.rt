@@ -200,7 +200,7 @@ fn put_marks<W: Write + Drop>(
     out.put(b"\"/>\n")
 }
 
-/// The marks of all kinds.
+/// Puts the marks of all kinds.
 pub fn put_all_marks<W: Write + Drop>(
     chart: &Chart<'_>,
     out: &mut Outlet<'_, W>,

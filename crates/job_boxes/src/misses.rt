@@ -31,7 +31,7 @@ fn misses_in(frame: Frame, row: &TaskRow, job: &JobRecord) -> bool
     job.name == row.sheet.name() && is_late(frame, row, job)
 }
 
-/// How many jobs of a row's task do.
+/// How many jobs of a row's task miss their deadlines.
 pub fn missed_in(frame: Frame, row: &TaskRow, jobs: &[JobRecord]) -> usize
     ensures { result ≡ missed_in frame row.now jobs.now }
 {
@@ -54,7 +54,7 @@ fn misses(frame: Frame, rows: &[TaskRow], job: &JobRecord) -> bool
     }
 }
 
-/// How many jobs of all do.
+/// How many of all jobs do.
 pub fn all_missed(frame: Frame, rows: &[TaskRow], jobs: &[JobRecord]) -> usize
     ensures { result ≡ all_missed frame rows.now jobs.now }
 {
@@ -119,7 +119,7 @@ fn badge_after(frame: Frame, row: &TaskRow, last: Option<u64>, job: &JobRecord) 
     }
 }
 
-/// A disc with a cross.
+/// Puts a disc with a cross.
 pub fn put_badge<W: Write + Drop>(
     x: u64,
     y: u64,
@@ -261,7 +261,7 @@ fn put_row_misses<W: Write + Drop>(
     Ok(())
 }
 
-/// Those of each row.
+/// Puts what is missed in each row.
 pub fn put_misses<W: Write + Drop>(
     chart: &Chart<'_>,
     out: &mut Outlet<'_, W>,

@@ -418,7 +418,7 @@ fn put_job_waits<W: Write + Drop>(
     }
 }
 
-/// The waits of each job.
+/// Puts the waits of each job into the row of its task.
 pub fn put_waits<W: Write + Drop>(
     chart: &Chart<'_>,
     out: &mut Outlet<'_, W>,
