@@ -145,9 +145,9 @@ Sentences:
   $ refused '[node]\nlate = "x"\n' > /dev/null || cat said
   wrong.toml: late has to be a whole number of microseconds from 0, without quotes; it is the string "x"
   $ refused "[node]\njob = 9\nlock = 251\n$two" > /dev/null || cat said
-  wrong.toml: line 8, task 2 (a): with job and lock of [node] the cost is past the period: cost 500, job 9 and 2 times lock 251 make 1011, period 1000
+  wrong.toml: line 9, task 2 (a): with job and lock of [node] the cost is past the period: cost 500, job 9 and 2 times lock 251 make 1011, period 1000
   $ refused "[node]\nlock = 9223372036854775807\n$two" > /dev/null || cat said
-  wrong.toml: line 7, task 2 (a): with job and lock of [node] the cost is past the period: cost 500, job 0 and 2 times lock 9223372036854775807, period 1000
+  wrong.toml: line 8, task 2 (a): with job and lock of [node] the cost is past the period: cost 500, job 0 and 2 times lock 9223372036854775807, period 1000
   $ refused "[node]\nlate = 100\n$two" > /dev/null || cat said
   wrong.toml: line 3, task 1 (b): with late of [node] the jitter isn't below the deadline: jitter 0 and late 100 make 100, deadline 100
 
@@ -179,8 +179,8 @@ What the node takes has no room in another team's task; and `[node]` isn't what 
   $ printf '[node]\njob = 99\nlock = 0\n[[task]]\nname = "c"\nperiod = 10000\ndeadline = 10000\ncost = 9902\n' > teams/base.toml
   $ printf '[[task]]\nname = "b"\nperiod = 10000\ndeadline = 10000\ncost = 500\n' > teams/two.toml
   $ desk admit teams
-  (on standard error) teams: base.toml: line 4, task 1 (c): with job and lock of [node] the cost is past the period: cost 9902, job 99 and 0 times lock 0 make 10001, period 10000
   refused: PaddedCost c
+  (on standard error) teams: base.toml: line 4, task 1 (c): with job and lock of [node] the cost is past the period: cost 9902, job 99 and 0 times lock 0 make 10001, period 10000
   [4]
   $ printf '[node]\njob = 9501\n' > teams/base.toml
   $ desk admit teams 2>&1 > /dev/null
