@@ -27,7 +27,7 @@ const { PAGE, SCENES } = process.env;
 
 try {
   sow(seed);
-  expect(statSync(PAGE).size < 400000, `the page has ${statSync(PAGE).size} bytes`);
+  expect(statSync(PAGE).size < 450000, `the page has ${statSync(PAGE).size} bytes`);
   await browser.looks(1400, 1000, 'light');
   await browser.open(PAGE_URL);
   const first = await look();

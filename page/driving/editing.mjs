@@ -236,8 +236,8 @@ export async function long_texts() {
   const set = `${about.repeat(400)}${example('robot-mended')}`;
   const area = () => browser.run(() => {
     const { value, readOnly, scrollTop } = document.getElementById('set');
-    const line = Math.round(scrollTop / 18.85);
-    return { value, is_part: readOnly, lines: value.split('\n').slice(line, line + 10).join('\n') };
+    const first = Math.round(scrollTop / 18.85), seen = value.split('\n').slice(first, first + 12);
+    return { value, is_part: readOnly, lines: seen.join('\n') };
   });
   await put({ set });
   equal((await area()).value, set, 'a long text that is typed stays');
