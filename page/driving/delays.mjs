@@ -7,9 +7,8 @@ import { soon } from './hand.mjs';
 import { longest_chains, many_notes, many_sections, ordinary, too_much } from './heavy.mjs';
 import { PAGE_URL, browser, cell, equal, expect, is_firefox } from './page.mjs';
 
-// Milliseconds; and the rounds of an edit. (Firefox doesn't tell of its tasks: there the measure
-// has what comes between two messages of the page, often several tasks, and what paints them.)
-const AIM = is_firefox ? 100 : 50, ROUNDS = 6;
+// Milliseconds; and the rounds of an edit.
+const AIM = 50, ROUNDS = 6;
 
 const held = [];
 // Each round begins with `before`, which isn't measured; of `act`, with what follows once the edits
@@ -63,8 +62,7 @@ async function edits(name, set) {
   };
   await try_it('opened', () => paste(ordinary()), async round => {
     writeFileSync(path, `${set}# ${round}\n`);
-    await browser.give_file('#file', path);
-    await soon(200);
+    await browser.give('#file', path);
   });
   await try_it('typed into the table', () => in_table(set), type);
   await try_it('typed into the text', in_text, type);
