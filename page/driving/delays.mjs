@@ -37,6 +37,7 @@ async function typed(...keys) {
   }
 }
 const paste = set => browser.run(set => {
+  if (desk.state.text === set) return;
   const it = document.getElementById('set');
   it.value = set;
   it.dispatchEvent(new Event('input'));
