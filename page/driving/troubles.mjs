@@ -13,7 +13,7 @@ const A_BINARY = process.execPath;
 export async function skipping() {
   const none = { CHROMIUM: '/nowhere/chromium', FIREFOX: '/nowhere/firefox' };
   const { stdout, status } = spawnSync(new URL('../test', import.meta.url).pathname,
-    { env: { ...process.env, ...none } });
+    { env: { ...process.env, ...none }, timeout: 60000 });
   equal(`${status} ${stdout.toString().split('\n').slice(-2).join('|')}`,
     "0 page/test: skipped: /nowhere/chromium isn't here: 0 passed, 0 failed|",
     'a test without a browser');
