@@ -82,4 +82,4 @@ try {
 }
 console.log('sets: ' + Object.entries(kinds).map(it => it.join(' ')).join(', '));
 console.log(`${tally.passed} passed, ${tally.failed} failed`);
-process.exitCode = tally.failed ? 1 : 0;
+process.exit(tally.failed ? 1 : 0);

@@ -64,8 +64,11 @@ export class Chromium extends Hand {
     this.trace = [];
     await this.send('Tracing.start', { transferMode: 'ReportEvents',
       traceConfig: { includedCategories: [TASKS], excludedCategories: ['*'] } });
-    await act();
-    await Promise.all([this.answer_to('Tracing.tracingComplete'), this.send('Tracing.end')]);
+    try {
+      await act();
+    } finally {
+      await Promise.all([this.answer_to('Tracing.tracingComplete'), this.send('Tracing.end')]);
+    }
     const { trace } = this, of = it => `${it.pid} ${it.tid}`;
     const threads = new Set(trace.filter(it => it.args?.name === 'CrRendererMain').map(of));
     const tasks = trace

@@ -8,7 +8,7 @@ import { longest_chains, many_notes, many_sections, ordinary, too_much } from '.
 import { PAGE_URL, browser, cell, equal, expect, is_firefox } from './page.mjs';
 
 // Milliseconds; the rounds of an edit; and how many of all edits are no first ones.
-const AIM = 50, ROUNDS = 6, SPARE = 30;
+const AIM = 50, ROUNDS = 6, SPARE = 20;
 
 const held = [];
 let spare = SPARE;

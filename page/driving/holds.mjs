@@ -18,6 +18,18 @@ export async function longest_hold(browser, process, act) {
   const looks = [], look = () =>
     looks.push({ time: Date.now(), worked: worked(`${process}/task/${process}`) });
   const looking = setInterval(look, LOOK);
+  let gaps;
+  try {
+    gaps = await gaps_while(browser, act);
+  } finally {
+    clearInterval(looking);
+  }
+  look();
+  const own = gaps.map(([from, to]) => Math.min(to - from, worked_between(looks, from, to)));
+  return { own: Math.max(0, ...own), clock: Math.max(0, ...gaps.map(([from, to]) => to - from)) };
+}
+// From when to when the page had no message.
+async function gaps_while(browser, act) {
   await browser.run(long => {
     const it = window.watched = { gaps: [], last: Date.now() };
     const { port1, port2 } = new MessageChannel();
@@ -30,13 +42,9 @@ export async function longest_hold(browser, process, act) {
     port2.postMessage(null);
   }, LONG);
   await act();
-  const gaps = await browser.run(() => {
+  return browser.run(() => {
     const { gaps, last } = window.watched;
     window.watched.is_over = true;
     return [...gaps, [last, Date.now()]];
   });
-  look();
-  clearInterval(looking);
-  const own = gaps.map(([from, to]) => Math.min(to - from, worked_between(looks, from, to)));
-  return { own: Math.max(0, ...own), clock: Math.max(0, ...gaps.map(([from, to]) => to - from)) };
 }
