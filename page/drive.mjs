@@ -24,6 +24,13 @@ import { worst_cases } from './driving/worst.mjs';
 
 const [count = '100', seed = String(Date.now() % 1000000)] = process.argv.slice(2);
 const { PAGE, SCENES } = process.env;
+// Milliseconds. What isn't begun by then fails: the page hangs, or the machine has no time for it.
+const END = Date.now() + 1200000;
+const is_in_time = what => {
+  const is_so = Date.now() < END;
+  if (!is_so) expect(false, `no time is left for ${what}`);
+  return is_so;
+};
 
 try {
   sow(seed);
@@ -41,13 +48,14 @@ try {
     grips, all_execution, conflicts, mending, of_a_node, baseline, kept_baselines, judging, teams,
     files, the_run, slices, worst_cases, tracing, keys, looks, delays, ...in_chromium];
   for (const scene of scenes.filter(it => !SCENES || SCENES.split(',').includes(it.name))) {
-    const before = tally.failed;
+    const before = tally.failed, begun = Date.now();
     try {
-      await scene();
+      if (is_in_time(scene.name)) await scene();
     } catch (error) {
       expect(false, `${scene.name}: ${error.stack}`);
     }
-    console.log(`${scene.name}: ${tally.failed > before ? 'failed' : 'passed'}`);
+    const fate = tally.failed > before ? 'failed' : 'passed';
+    console.log(`${scene.name}: ${fate}, ${((Date.now() - begun) / 1000).toFixed(1)} s`);
   }
   const files_of_examples = SCENES ? [] : readdirSync(EXAMPLES);
   for (const file of files_of_examples.filter(it => /\.(toml|script)$/.test(it))) {
@@ -58,7 +66,7 @@ try {
       same(file, answers.play, native('play', [text]), shown.play);
     }
   }
-  for (let i = 0; i < count; i++) {
+  for (let i = 0; i < count && is_in_time(`set ${i} of ${count}`); i++) {
     const set = random_set(), script = random_script(), found = await put({ set, script });
     compare_set(`seed ${seed}, set ${i}`, set, found);
     same(`seed ${seed}, script ${i}`, found.answers.play, native('play', [script]),
@@ -74,4 +82,4 @@ try {
 }
 console.log('sets: ' + Object.entries(kinds).map(it => it.join(' ')).join(', '));
 console.log(`${tally.passed} passed, ${tally.failed} failed`);
-process.exitCode = tally.failed ? 1 : 0;
+process.exit(tally.failed ? 1 : 0);

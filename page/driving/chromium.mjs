@@ -1,8 +1,5 @@
 // Chromium without a window, over the DevTools protocol.
-import { spawn } from 'child_process';
-import { mkdtempSync, rmSync, writeFileSync } from 'fs';
-import { tmpdir } from 'os';
-import { join } from 'path';
+import { writeFileSync } from 'fs';
 import { Hand, soon } from './hand.mjs';
 
 const WORDS = ['--headless=new', '--no-sandbox', '--disable-gpu', '--remote-debugging-pipe'];
@@ -14,30 +11,25 @@ const TASKS = 'disabled-by-default-devtools.timeline';
 const TOUCHES = { down: 'touchStart', drag: 'touchMove', up: 'touchEnd' };
 
 export class Chromium extends Hand {
-  static async started(program) {
-    const it = new Chromium();
-    it.room = mkdtempSync(join(tmpdir(), 'page-'));
-    it.process = spawn(program, [...WORDS, `--user-data-dir=${it.room}/profile`, 'about:blank'],
+  async start(program) {
+    Object.assign(this, { heard: '', trace: [] });
+    this.spawn(program, [...WORDS, `--user-data-dir=${this.room}/profile`, 'about:blank'],
       { stdio: ['ignore', 'ignore', 'ignore', 'pipe', 'pipe'] });
-    it.listen();
-    const { targetId } = await it.send('Target.createTarget', { url: 'about:blank' });
-    it.session = (await it.send('Target.attachToTarget', { targetId, flatten: true })).sessionId;
-    for (const domain of ['Runtime', 'Page', 'DOM'])
-      await it.send(`${domain}.enable`);
-    await it.send('Browser.setDownloadBehavior', { behavior: 'allow', downloadPath: it.room });
-    return it;
+    this.process.stdio[3].on('error', () => {});
+    this.process.stdio[4].setEncoding('utf8').on('data', it => this.hear(it));
+    const { targetId } = await this.send('Target.createTarget', { url: 'about:blank' });
+    this.session =
+      (await this.send('Target.attachToTarget', { targetId, flatten: true })).sessionId;
+    for (const domain of ['Runtime', 'Page', 'DOM', 'Inspector'])
+      await this.send(`${domain}.enable`);
+    await this.send('Browser.setDownloadBehavior',
+      { behavior: 'allow', downloadPath: this.room });
   }
   // Messages end with a byte 0, on two pipes.
-  listen() {
-    Object.assign(this, { waiting: new Map(), complaints: [], heard: '', number: 0, trace: null });
-    this.process.stdio[4].setEncoding('utf8').on('data', data => {
-      const messages = (this.heard + data).split('\0');
-      this.heard = messages.pop();
-      for (const it of messages) this.take(JSON.parse(it));
-    });
-    this.process.on('exit', () => {
-      for (const it of this.waiting.values()) it.reject(Error('the browser ended'));
-    });
+  hear(data) {
+    const messages = (this.heard + data).split('\0');
+    this.heard = messages.pop();
+    for (const it of messages) this.take(JSON.parse(it));
   }
   take({ id, result, error, method, params }) {
     if (method === 'Runtime.exceptionThrown')
@@ -45,24 +37,15 @@ export class Chromium extends Hand {
         params.exceptionDetails.text);
     if (method === 'Runtime.consoleAPICalled' && params.type === 'error')
       this.complaints.push(params.args.map(it => it.description ?? it.value).join(' '));
-    if (method === 'Tracing.dataCollected') this.trace.events.push(...params.value);
-    if (method === 'Tracing.tracingComplete') this.trace.over();
-    const it = this.waiting.get(id);
-    this.waiting.delete(id);
-    if (it) error ? it.reject(Error(error.message)) : it.resolve(result);
+    if (method === 'Inspector.targetCrashed') this.process.kill();
+    if (method === 'Tracing.dataCollected') this.trace.push(...params.value);
+    this.answer(method ?? id, error?.message, result);
   }
   send(method, params = {}) {
-    return new Promise((resolve, reject) => {
-      this.waiting.set(++this.number, { resolve, reject });
-      this.process.stdio[3].write(
-        JSON.stringify({ id: this.number, method, params, sessionId: this.session }) + '\0');
-    });
-  }
-  async ended() {
-    this.process.kill();
-    await new Promise(it => this.process.exitCode === null && this.process.signalCode === null ?
-      this.process.on('exit', it) : it());
-    rmSync(this.room, { recursive: true, force: true, maxRetries: 5 });
+    const id = ++this.number, answer = this.answer_to(id);
+    this.process.stdio[3].write(
+      JSON.stringify({ id, method, params, sessionId: this.session }) + '\0');
+    return answer;
   }
 
   async evaluate(expression) {
@@ -78,15 +61,17 @@ export class Chromium extends Hand {
   // How long the longest task takes that the page's own thread has while something is done: the
   // milliseconds that a processor is at it, and those by the clock, which may be other programs'.
   async longest_hold(act) {
+    this.trace = [];
     await this.send('Tracing.start', { transferMode: 'ReportEvents',
       traceConfig: { includedCategories: [TASKS], excludedCategories: ['*'] } });
-    const over = new Promise(over => { this.trace = { events: [], over }; });
-    await act();
-    await this.send('Tracing.end');
-    await over;
-    const { events } = this.trace, of = it => `${it.pid} ${it.tid}`;
-    const threads = new Set(events.filter(it => it.args?.name === 'CrRendererMain').map(of));
-    const tasks = events
+    try {
+      await act();
+    } finally {
+      await Promise.all([this.answer_to('Tracing.tracingComplete'), this.send('Tracing.end')]);
+    }
+    const { trace } = this, of = it => `${it.pid} ${it.tid}`;
+    const threads = new Set(trace.filter(it => it.args?.name === 'CrRendererMain').map(of));
+    const tasks = trace
       .filter(it => it.name === 'RunTask' && it.ph === 'X' && threads.has(of(it)));
     const longest = key => Math.max(0, ...tasks.map(it => it[key] ?? it.dur)) / 1000;
     return { own: longest('tdur'), clock: longest('dur') };

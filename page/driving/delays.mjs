@@ -1,22 +1,23 @@
 // Scenes of how long an edit holds the page up, however long the desk takes. What is judged is the
 // page's own time, which other programs of the machine don't lengthen; the time by the clock is
-// printed beside it. An edit is tried again where it took longer, since its round may have had work
-// of the browser itself in it.
+// printed beside it. An edit is tried again where it took longer: its round may have had work of
+// the browser itself in it, and a processor that others use, too, is slower.
 import { writeFileSync } from 'fs';
 import { soon } from './hand.mjs';
 import { longest_chains, many_notes, many_sections, ordinary, too_much } from './heavy.mjs';
 import { PAGE_URL, browser, cell, equal, expect, is_firefox } from './page.mjs';
 
-// Milliseconds; and the rounds of an edit. (Firefox doesn't tell of its tasks: there the measure
-// has what comes between two messages of the page, often several tasks, and what paints them.)
-const AIM = is_firefox ? 100 : 50, ROUNDS = 6;
+// Milliseconds; the rounds of an edit; and how many of all edits are no first ones.
+const AIM = 50, ROUNDS = 6, SPARE = 20;
 
 const held = [];
+let spare = SPARE;
 // Each round begins with `before`, which isn't measured; of `act`, with what follows once the edits
 // have stopped, the least of the rounds counts.
 async function held_up(what, before, act) {
   let least = { own: Infinity };
   for (let round = 0; round < ROUNDS && least.own > AIM; round++) {
+    if (round > 0 && spare-- <= 0) break;
     await before(round);
     await browser.settled();
     await soon(100);
@@ -38,6 +39,7 @@ async function typed(...keys) {
   }
 }
 const paste = set => browser.run(set => {
+  if (desk.state.text === set) return;
   const it = document.getElementById('set');
   it.value = set;
   it.dispatchEvent(new Event('input'));
@@ -63,8 +65,7 @@ async function edits(name, set) {
   };
   await try_it('opened', () => paste(ordinary()), async round => {
     writeFileSync(path, `${set}# ${round}\n`);
-    await browser.give_file('#file', path);
-    await soon(200);
+    await browser.give('#file', path);
   });
   await try_it('typed into the table', () => in_table(set), type);
   await try_it('typed into the text', in_text, type);
@@ -89,6 +90,7 @@ async function edits(name, set) {
 }
 export async function delays() {
   held.length = 0;
+  spare = SPARE;
   await browser.open(PAGE_URL);
   const sets = [['sections', many_sections()], ['long chains', longest_chains()],
     ['notes', many_notes()]];

@@ -236,15 +236,16 @@ export async function long_texts() {
   const set = `${about.repeat(400)}${example('robot-mended')}`;
   const area = () => browser.run(() => {
     const { value, readOnly, scrollTop } = document.getElementById('set');
-    const line = Math.round(scrollTop / 18.85);
-    return { value, is_part: readOnly, lines: value.split('\n').slice(line, line + 10).join('\n') };
+    const first = Math.round(scrollTop / 18.85), seen = value.split('\n').slice(first, first + 12);
+    return { value, is_part: readOnly, lines: seen.join('\n') };
   });
   await put({ set });
   equal((await area()).value, set, 'a long text that is typed stays');
   await browser.run(() => { document.getElementById('set').scrollTop = 18.85 * 398; });
   const before = await area();
   await browser.write(cell(0, 'cost'), '151');
-  await soon(50);
+  const is_part = () => browser.comes(`document.getElementById('set').readOnly`);
+  await is_part();
   let seen = await area();
   expect(seen.is_part && seen.value.length < set.length / 2, `a part: ${seen.value.length}`);
   const edited = it => it.replace('cost = 150\n', 'cost = 151\n');
@@ -265,8 +266,7 @@ export async function long_texts() {
   compare_set('a long text', edited(set), await look());
   // What is refused is led to, in the part that isn't there.
   await browser.write(cell(8, 'deadline'), '9999999');
-  await soon(50);
-  expect((await area()).is_part, 'a part again');
+  expect(await is_part(), 'a part again');
   await browser.click('#set-place button');
   const chosen = await browser.run(() => {
     const { value, selectionStart, selectionEnd } = document.getElementById('set');

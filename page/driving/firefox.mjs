@@ -1,8 +1,6 @@
 // Firefox without a window, over Marionette: messages with their length before them, on a socket.
-import { spawn } from 'child_process';
-import { existsSync, mkdirSync, mkdtempSync, readFileSync, rmSync, writeFileSync } from 'fs';
+import { existsSync, mkdirSync, readFileSync, writeFileSync } from 'fs';
 import { connect } from 'net';
-import { tmpdir } from 'os';
 import { join } from 'path';
 import { Hand, soon } from './hand.mjs';
 import { longest_hold } from './holds.mjs';
@@ -25,66 +23,49 @@ const HELD = { shift: '\ue008', ctrl: '\ue009', alt: '\ue00a' };
 const STEPS = { move: 'pointerMove', drag: 'pointerMove', down: 'pointerDown', up: 'pointerUp' };
 
 export class Firefox extends Hand {
-  static async started(program) {
-    const it = new Firefox();
-    Object.assign(it, { waiting: new Map(), complaints: [], heard: Buffer.alloc(0), number: 0 });
-    it.room = mkdtempSync(join(tmpdir(), 'page-'));
-    const profile = join(it.room, 'profile'), port = join(profile, 'MarionetteActivePort');
+  async start(program) {
+    this.heard = Buffer.alloc(0);
+    const profile = join(this.room, 'profile'), port = join(profile, 'MarionetteActivePort');
     mkdirSync(profile);
-    const settings = { ...SETTINGS, 'browser.download.dir': it.room };
+    const settings = { ...SETTINGS, 'browser.download.dir': this.room };
     writeFileSync(join(profile, 'user.js'), Object.entries(settings)
       .map(two => `user_pref(${two.map(it => JSON.stringify(it)).join(', ')});\n`).join(''));
-    it.process = spawn(program, [...WORDS, '--profile', profile],
-      { stdio: 'ignore', env: { ...process.env, HOME: it.room } });
+    this.spawn(program, [...WORDS, '--profile', profile],
+      { stdio: 'ignore', env: { ...process.env, HOME: this.room } });
     for (let tries = 0; tries < 600 && !existsSync(port); tries++) await soon(100);
-    await it.connected(Number(readFileSync(port, 'utf8')));
+    await this.connected(Number(readFileSync(port, 'utf8')));
     const capabilities = { acceptInsecureCerts: false };
-    await it.send('WebDriver:NewSession', { capabilities: { alwaysMatch: capabilities } });
-    await it.send('WebDriver:SetTimeouts', { script: 120000 });
-    return it;
+    await this.send('WebDriver:NewSession', { capabilities: { alwaysMatch: capabilities } });
+    await this.send('WebDriver:SetTimeouts', { script: 120000 });
   }
   connected(port) {
     this.socket = connect(port, '127.0.0.1');
-    return new Promise((resolve, reject) => {
-      this.socket.on('error', reject);
-      this.socket.on('data', data => this.take(data, resolve));
-      this.socket.on('close', () => {
-        for (const it of this.waiting.values()) it.reject(Error('the browser ended'));
-      });
-    });
+    this.socket.on('data', data => this.hear(data));
+    for (const it of ['error', 'close']) this.socket.on(it, () => this.process.kill());
+    return this.answer_to('greeting');
   }
   // `LENGTH:[1, NUMBER, ERROR, RESULT]`; the first message greets.
-  take(data, greeted) {
+  hear(data) {
     this.heard = Buffer.concat([this.heard, data]);
     for (;;) {
       const colon = this.heard.indexOf(':'), end = colon + 1 + parseInt(this.heard);
       if (colon < 0 || this.heard.length < end) return;
       const said = JSON.parse(this.heard.subarray(colon + 1, end));
       this.heard = this.heard.subarray(end);
-      if (!Array.isArray(said)) { greeted(); continue; }
-      const [, id, error, result] = said, it = this.waiting.get(id);
-      this.waiting.delete(id);
-      if (error) it?.reject(Error(`${error.error}: ${error.message}`));
-      else it?.resolve(result?.value ?? result);
+      const [, id, error, result] = Array.isArray(said) ? said : [1, 'greeting'];
+      this.answer(id, error && `${error.error}: ${error.message}`,
+        result && 'value' in result ? result.value : result);
     }
   }
   send(command, parameters = {}) {
-    return new Promise((resolve, reject) => {
-      this.waiting.set(++this.number, { resolve, reject });
-      const text = JSON.stringify([0, this.number, command, parameters]);
-      this.socket.write(`${Buffer.byteLength(text)}:${text}`);
-    });
-  }
-  async ended() {
-    this.process.kill();
-    await new Promise(it => this.process.exitCode === null && this.process.signalCode === null ?
-      this.process.on('exit', it) : it());
-    rmSync(this.room, { recursive: true, force: true, maxRetries: 5 });
+    const id = ++this.number, answer = this.answer_to(id);
+    const text = JSON.stringify([0, id, command, parameters]);
+    this.socket.write(`${Buffer.byteLength(text)}:${text}`);
+    return answer;
   }
 
   evaluate(expression) {
-    return this.send('WebDriver:ExecuteScript', { script: `return (${expression})`, args: [] })
-      .then(it => it?.value === undefined ? it : it.value);
+    return this.send('WebDriver:ExecuteScript', { script: `return (${expression})`, args: [] });
   }
   navigate(url) {
     return this.send('WebDriver:Navigate', { url });

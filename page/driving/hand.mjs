@@ -1,33 +1,38 @@
 // What a user does with a page, over what each browser has for it: a hand that scrolls to what it
 // touches, and that waits until each question is answered.
 //
-// A browser gives `evaluate` (an expression of the page), `navigate`, `mouse`, `finger`, `press`,
-// `give_file`, `looks`, `picture` and `ended`; `room` is a folder of its own, `complaints` what the
+// A browser gives `start`, `evaluate` (an expression of the page), `navigate`, `mouse`, `finger`,
+// `press`, `give_file`, `looks` and `picture`; `room` is a folder of its own, `complaints` what the
 // page complained of.
+import { Browser } from './browser.mjs';
+
+// Milliseconds that a page has to come to what is waited for.
+const PATIENCE = 60000;
 export const soon = milliseconds => new Promise(it => setTimeout(it, milliseconds));
 
-export class Hand {
+export class Hand extends Browser {
   // A function of the page, on these values.
   run(act, ...values) {
     return this.evaluate(`(${act})(${values.map(it => JSON.stringify(it)).join(', ')})`);
   }
+  // Whether an expression of the page comes to be true.
+  async comes(expression) {
+    for (const end = Date.now() + PATIENCE; Date.now() < end; await soon(15))
+      if (await this.evaluate(expression)) return true;
+    return false;
+  }
   async open(url) {
     await this.navigate('about:blank');
     await this.navigate(url);
-    for (let tries = 0; tries < 600 &&
-      !await this.evaluate(`document.readyState === 'complete' && !!window.desk`); tries++)
-      await soon(50);
+    if (!await this.comes(`document.readyState === 'complete' && !!window.desk`))
+      throw Error('the page does not open');
     await this.settled();
   }
   async settled() {
-    for (let tries = 0; tries < 4000; tries++) {
-      if (await this.evaluate(
-        `!desk.lanes.some(it => it.is_busy) && !desk.is_drawing() && (!!desk.state.answers.admit ||
-          document.getElementById('trouble').textContent !== '')`))
-        return;
-      await soon(15);
-    }
-    throw Error('the page answers no more');
+    if (!await this.comes(
+      `!desk.lanes.some(it => it.is_busy) && !desk.is_drawing() && (!!desk.state.answers.admit ||
+        document.getElementById('trouble').textContent !== '')`))
+      throw Error('the page answers no more');
   }
   async place(selector, across = .5) {
     const found = await this.run((selector, across) => {
@@ -89,6 +94,12 @@ export class Hand {
       await soon(20);
     }
     await this.finger('up', [x + by[0], y + by[1]]);
+    await this.settled();
+  }
+  // A file, by the input that takes one: the page empties that again.
+  async give(selector, path) {
+    await this.give_file(selector, path);
+    await this.comes(`!document.querySelector('${selector}').files.length`);
     await this.settled();
   }
   // Types over what a field has, key by key, and leaves it.

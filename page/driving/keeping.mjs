@@ -47,15 +47,9 @@ export async function baseline() {
   await browser.click('#unpin');
   expect(await browser.evaluate(`document.getElementById('compared').hidden`), 'unpinned');
 }
-// A file comes to a page by its input.
-async function give_file(selector, path) {
-  await browser.give_file(selector, path);
-  await soon(200);
-  await browser.settled();
-}
 async function saved(path) {
   const size = () => statSync(path, { throwIfNoEntry: false })?.size ?? 0;
-  for (let tries = 0; tries < 60 && size() === 0; tries++) await soon(50);
+  for (let tries = 0; tries < 400 && size() === 0; tries++) await soon(50);
   return readFileSync(path, 'utf8');
 }
 // A baseline is there after a reload, goes to a file, and comes from one.
@@ -75,14 +69,14 @@ export async function kept_baselines() {
     'a baseline as a file');
   const path = `${browser.room}/before.toml`;
   writeFileSync(path, example('robot'));
-  await give_file('#baseline-file', path);
+  await browser.give('#baseline-file', path);
   seen = await look();
   expect(/Baseline before.toml: No order passes: motor/.test(seen.shown.both),
     `a baseline from a file: ${seen.shown.both}`);
   expect(seen.shown.changes.includes('battery') && seen.set.includes('cost = 140\n'),
     `a no as the baseline: ${seen.shown.changes}`);
   writeFileSync(path, 'x = 1\n');
-  await give_file('#baseline-file', path);
+  await browser.give('#baseline-file', path);
   seen = await look();
   expect(/before.toml is no baseline/.test(seen.shown.notice) &&
     await browser.evaluate(`document.getElementById('compared').hidden`),
@@ -95,7 +89,7 @@ export async function files() {
   const crlf = '\ufeff' + example('shared-lock').replaceAll('\n', '\r\n');
   const path = `${browser.room}/node-7.toml`;
   writeFileSync(path, crlf);
-  await give_file('#file', path);
+  await browser.give('#file', path);
   let seen = await look();
   equal(seen.set, example('shared-lock'), 'an opened file');
   expect(seen.shown.lines.includes('desk admit node-7.toml\n'), 'its name in the command lines');
@@ -106,8 +100,7 @@ export async function files() {
     'a saved file keeps its mark and its line ends');
   // A link.
   await browser.click('#share');
-  for (let tries = 0; tries < 60 && !await browser.evaluate(`location.hash`); tries++)
-    await soon(50);
+  await browser.comes(`location.hash !== ''`);
   const link = await browser.evaluate('location.href'), text = (await look()).set;
   expect(link.includes('#set='), `a link: ${link.slice(0, 80)}`);
   await browser.evaluate('sessionStorage.clear()');

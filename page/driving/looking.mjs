@@ -1,7 +1,8 @@
 // Scenes of how the page is reached and looks: keys, names, contrast, both widths.
-import { PAGE_URL, browser, equal, example, expect, put } from './page.mjs';
+import { PAGE_URL, browser, equal, example, expect, is_firefox, put } from './page.mjs';
 
 const { SHOTS } = process.env;
+const shot_of = name => `${SHOTS}/${is_firefox ? 'firefox-' : ''}${name}.png`;
 
 // By keys alone each field is reached, and parts are shown.
 export async function keys() {
@@ -90,7 +91,7 @@ export async function looks() {
     for (const [name, set] of Object.entries(sets)) await look_at(name, set, width, scheme);
     await browser.click('#tab-teams');
     await fits(`teams ${width} ${scheme}`, width);
-    if (SHOTS) await browser.picture(`${SHOTS}/teams-${width}-${scheme}.png`, true);
+    if (SHOTS) await browser.picture(shot_of(`teams-${width}-${scheme}`), true);
   }
   await browser.looks(1400, 1000, 'light');
   await browser.open(PAGE_URL);
@@ -105,8 +106,8 @@ async function look_at(name, set, width, scheme) {
   expect(scheme === 'dark' ? ink > 200 && paper < 60 : ink < 60 && paper > 200,
     `${scheme}: ink ${ink} on ${paper}`);
   if (!SHOTS) return;
-  await browser.picture(`${SHOTS}/${name}-${width}-${scheme}.png`);
-  await browser.picture(`${SHOTS}/${name}-${width}-${scheme}-whole.png`, true);
+  await browser.picture(shot_of(`${name}-${width}-${scheme}`));
+  await browser.picture(shot_of(`${name}-${width}-${scheme}-whole`), true);
 }
 async function fits(what, width) {
   expect(await browser.evaluate('document.documentElement.scrollWidth') <= width,

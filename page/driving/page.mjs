@@ -26,7 +26,7 @@ export function native(command, inputs, words = []) {
   });
   const { stdout, stderr, status } =
     spawnSync(DESK, [command, ...files, '-', ...words],
-    { input: inputs.at(-1), maxBuffer: 1 << 28 });
+    { input: inputs.at(-1), maxBuffer: 1 << 28, timeout: 300000 });
   return { text: stdout.toString('utf8'), status, told: stderr.toString('utf8') };
 }
 async function looked() {

@@ -1,7 +1,6 @@
 // Scenes of a node's trace: what it breaks, the trace as a picture, and the run beside it.
 import { readFileSync } from 'fs';
 import { same, sentence } from './comparing.mjs';
-import { soon } from './hand.mjs';
 import { EXAMPLES, browser, digits, equal, example, expect, native, put } from './page.mjs';
 
 const drawn = () => browser.run(() => {
@@ -37,7 +36,7 @@ async function moved_together() {
   expect(trace.wide > 1.3 * before && Math.abs(trace.wide - run.wide) < 2,
     `zoomed together: ${before}, ${trace.wide}, ${run.wide}`);
   await browser.run(() => { document.getElementById('arrivals').scrollLeft = 90; });
-  await soon(200);
+  await browser.comes(`document.getElementById('traced').scrollLeft === 90`);
   [trace, run] = await both();
   equal(`${trace.left} ${run.left}`, '90 90', 'scrolled together');
 }

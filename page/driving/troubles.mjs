@@ -4,7 +4,7 @@ import { readFileSync, writeFileSync } from 'fs';
 import { gunzipSync, gzipSync } from 'zlib';
 import { compare_set, same } from './comparing.mjs';
 import { soon } from './hand.mjs';
-import { browser, equal, expect, is_firefox, look, native, put } from './page.mjs';
+import { browser, equal, expect, is_firefox, native, put } from './page.mjs';
 
 const { PAGE } = process.env;
 const A_BINARY = process.execPath;
@@ -13,7 +13,7 @@ const A_BINARY = process.execPath;
 export async function skipping() {
   const none = { CHROMIUM: '/nowhere/chromium', FIREFOX: '/nowhere/firefox' };
   const { stdout, status } = spawnSync(new URL('../test', import.meta.url).pathname,
-    { env: { ...process.env, ...none } });
+    { env: { ...process.env, ...none }, timeout: 60000 });
   equal(`${status} ${stdout.toString().split('\n').slice(-2).join('|')}`,
     "0 page/test: skipped: /nowhere/chromium isn't here: 0 passed, 0 failed|",
     'a test without a browser');
@@ -82,8 +82,8 @@ export async function troubles() {
     script.textContent = "setTimeout(() => { throw Error('a planted fault'); })";
     document.body.append(script);
   });
-  await soon(100);
-  expect(/a planted fault.*The text is kept/.test((await look()).trouble),
+  expect(await browser.comes(
+    `/a planted fault.*The text is kept/.test(document.getElementById('trouble').textContent)`),
     'an error of the script is shown');
   expect(is_firefox || browser.complaints.length > 0, 'and stands in the console');
   browser.complaints.length = 0;
@@ -110,13 +110,11 @@ export async function troubles() {
     it.value = '# forever\n';
     it.dispatchEvent(new Event('input'));
   });
-  await soon(900);
-  expect(await browser.evaluate(
+  expect(await browser.comes(
     `!document.getElementById('busy').hidden &&
       document.getElementById('verdict').textContent === '…'`), 'what takes long is told of');
   await browser.evaluate(`document.getElementById('stop').click()`);
-  await soon(50);
-  expect(/Stopped/.test(await browser.evaluate(`document.getElementById('notice').textContent`)),
+  expect(await browser.comes(`/Stopped/.test(document.getElementById('notice').textContent)`),
     'and can be stopped');
   await goes_on('a stop');
   await browser.run(() => {
@@ -134,8 +132,7 @@ export async function troubles() {
   expect(/memory/.test(trouble) && verdict === 'no answer', `small memory: ${trouble}, ${verdict}`);
   await goes_on('want of memory');
   await browser.navigate(variant('broken', it => it.subarray(0, it.length >> 1)));
-  await soon(1500);
-  expect(/The module failed/.test(
-    await browser.evaluate(`document.getElementById('trouble').textContent`)), 'half a module');
+  expect(await browser.comes(
+    `/The module failed/.test(document.getElementById('trouble')?.textContent)`), 'half a module');
   browser.complaints.length = 0;
 }

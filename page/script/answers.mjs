@@ -3,7 +3,7 @@
 const lines_of = text => text.split('\n').filter(it => it);
 const number = word => word === '-' || word === undefined ? null : Number(word);
 
-export function read_refusal(text) {
+function read_refusal(text) {
   const [head, name, ...fields] = text.trim().split(' ');
   return head === 'refused:' ? { name, fields } : null;
 }

@@ -56,7 +56,7 @@ function show_part() {
   area.scrollTop = top;
 }
 // The whole text, where somebody goes to it.
-export function fill_area() {
+function fill_area() {
   clearTimeout(area_timer);
   const area = at('set'), was_at = first_line;
   if (was_at === null && area.value === state.text) return;

@@ -9,7 +9,7 @@ import { Turns } from './turns.mjs';
 const LETTER = 7.4;
 const percent = (time, deadline) => `${(100 * time / deadline).toFixed(1)} %`;
 
-export function part_told(part) {
+function part_told(part) {
   if (part.kind === 'above')
     return `${part.by} above: ${plural(part.jobs, 'job')}, ${us(part.time)}`;
   if (part.kind === 'blocked')

@@ -39,7 +39,7 @@ const BROKEN = {
   idle: it => `waits ${us(it.value)} while nobody executes`,
 };
 export const broken_words = it => BROKEN[it.kind](it);
-export const broken_told = it => `${it.name}, arrived at ${us(it.time)}: ${broken_words(it)}`;
+const broken_told = it => `${it.name}, arrived at ${us(it.time)}: ${broken_words(it)}`;
 const MANY = 100;
 export function broken_rows({ breaks }) {
   const rows = breaks.slice(0, MANY).map(it => element('li', broken_told(it)));

@@ -2,7 +2,7 @@
 // moved is laid out anew, and loses the focus.
 
 // The places of a longest run of growing numbers in a list.
-export function growing(numbers) {
+function growing(numbers) {
   // (`ends[n]` is the place of the least number that such a run of n + 1 of those so far ends with)
   const ends = [], before = [];
   numbers.forEach((it, place) => {

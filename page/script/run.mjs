@@ -27,7 +27,7 @@ const COMES_TO = {
   'within-a-tick': ({ name }) => `${name} doesn't pass, by no more than the first µs of the ` +
     'section that blocks it, which is over in a run: none shows a miss.',
 };
-export function worst_told(found) {
+function worst_told(found) {
   const { name, fate, other } = found;
   if (name === null) return '';
   return COMES_TO[fate]?.(found) ?? [name, fate, other ?? ''].join(' ').trim();

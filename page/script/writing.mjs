@@ -2,7 +2,7 @@
 import { show_text, show_text_soon } from './area.mjs';
 import { ask } from './asking.mjs';
 import { at } from './dom.mjs';
-import { opened, text_of_fragment } from './files.mjs';
+import { text_of_fragment } from './files.mjs';
 import { keep_set } from './keeping.mjs';
 import { learn_pads, pad_of } from './padding.mjs';
 import { show_lines } from './printing.mjs';
