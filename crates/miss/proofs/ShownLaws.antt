@@ -19,7 +19,7 @@ use Rattle.miss.specs.declared.shown.Shown.TheVariants as shown
 use Rattle.miss.specs.declared.shown.NoRun.TheVariants as why
 use Rattle.miss.specs.Exact.{EndsLow}
 use Rattle.miss.specs.Misses.{MustMiss}
-use Rattle.miss.specs.Shown.{PassesThere, IsTooLong, IsLowestFailing, AboveAllPass, IsShown, is_too_long, IsLeftOpen}
+use Rattle.miss.specs.Shown.{PassesThere, IsTooLong, IsLowestFailing, AboveAllPass, IsShown, NoneAboveMisses, is_too_long, IsLeftOpen}
 use Rattle.miss.proofs.MemberLaws.{among_at, among_place}
 use Rattle.miss.proofs.OrderLaws.{place_known, rest_known, place_of, rest_is, above_is}
 
@@ -171,6 +171,14 @@ module _ (U : List Task) (order : List ℕ) (is : IsOrder U order) (tasks : IsTa
           | inr here ↦ (let t = too_long (node_in U order) (get_or order (place - 1) 0) s shows here in (place - 1, omega (arith, so.within), t.0, t.1))
         ];
       }
+
+  -- of those above the task at the next place
+  pub none_above : (place : ℕ) (long : Bool) → IsSofar U order place long → 0 < place → NoneAboveMisses node (get_or order (place - 1) 0)
+  none_above place long so some h small on must =
+      let w : (r : ℕ) × (r < length order) × (get_or order r 0 ≡ h) = place_of U order is h small in
+      let on' : above_of node (get_or order (place - 1) 0) (get_or order w.0 0) ≡ true = subst (λ x. above_of node (get_or order (place - 1) 0) x ≡ true) (sym w.2) on in
+      let later : place - 1 < w.0 = later_place (place - 1) w.0 (omega (arith, so.within, some)) w.1 on' in
+      subst (λ x. IsTooLong U x (after_of order x)) w.2 (so.needs w.0 (omega (arith, later)) w.1 (subst (λ x. MustMiss (node_in U order) x) (sym w.2) must))
 
   pub left_open : (place : ℕ) (long : Bool) → IsSofar U order place long → place ≡ 0 → long ≡ true → IsLeftOpen node
   left_open place long so end on =

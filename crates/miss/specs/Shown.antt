@@ -13,6 +13,7 @@ use Rattle.ceiling_kernel.specs.Tick.{Node, job_at, is_inside, executed_before}
 use Rattle.ceiling_kernel.specs.Waits.{Overruns}
 use Rattle.ceiling_kernel.specs.Releases.{task_number, jobs_of, release_at}
 use Rattle.ceiling_kernel.specs.Bounds.{above_of, after_of, CoversBy}
+use Rattle.miss.specs.declared.shown.Miss.{Miss}
 use Rattle.miss.specs.declared.shown.Shown.{Shown}
 use Rattle.miss.specs.declared.shown.Shown.TheVariants as shown
 use Rattle.miss.specs.declared.shown.NoRun.{NoRun}
@@ -91,10 +92,22 @@ IsNoRun node i why.WithinTick =
     (¬ PassesThere node i) × IsDoneInTime node i × AboveAllPass node i × EndsLow node i
     × ((t : ℕ) × CoversBy node i t)
 
--- it may stand there, or it misses its deadline in a run, or there is none
+-- the worst case of task i is a run in which it misses its deadline
+pub record IsWorstMiss (node : Node) (i : ℕ) (m : Miss) : Type 0 where
+  pub task : m.task ≡ i
+  pub case : IsWorstCase node.tasks i (after_of node.order i) m.releases.items m.until
+  pub miss : IsMiss node m
+
+-- none above task i must miss its deadline, but where its worst case is too long
+abbrev pub NoneAboveMisses : Node → ℕ → Type 0
+NoneAboveMisses node i =
+    (h : ℕ) → h < length node.tasks → above_of node i h ≡ true → MustMiss node h
+    → IsTooLong node.tasks h (after_of node.order h)
+
+-- it may stand there, or it misses its deadline in its worst case, or there is no run
 abbrev pub IsShown : Node → ℕ → Shown → Type 0
 IsShown node i shown.Stands = Stands node.tasks i (above_of node i)
-IsShown node i (shown.Misses m) = (m.task ≡ i) × IsMiss node m
+IsShown node i (shown.Misses m) = IsWorstMiss node i m
 IsShown node i (shown.NoRun reason) = IsNoRun node i reason
 
 -- its worst case is too long

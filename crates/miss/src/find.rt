@@ -6,8 +6,8 @@ ghost use Rattle.ceiling_kernel.specs.Releases.{release_at};
 ghost use Rattle.miss.specs.declared.fault.MissFault.TheVariants.{WrongOrder, TooMany, OutOfMemory};
 ghost use Rattle.task_sheet.specs.Orders.{IsOrder};
 ghost use Rattle.miss.specs.Misses.{IsMissOf, HasMiss, MustMiss, IsLockFree, AllPass};
-ghost use Rattle.miss.specs.Found.{IsMissed, record_at, IsMiss};
-ghost use Rattle.miss.specs.Shown.{IsShown, is_too_long, IsLeftOpen};
+ghost use Rattle.miss.specs.Found.{IsMissed, record_at};
+ghost use Rattle.miss.specs.Shown.{IsShown, IsWorstMiss, NoneAboveMisses, is_too_long, IsLeftOpen};
 ghost use Rattle.ceilings.specs.IsTableOf.{IsTableOf};
 
 use crate::fault::MissFault;
@@ -161,7 +161,10 @@ fn is_too_long(shown: &Shown) -> bool
 /// highest task that misses it there. None only where no task must miss its deadline; so, without locks, where each passes.
 /// `TooMany` only where none is found, and the worst case of a task that doesn't pass has more than 10,000 releases.
 pub fn find_miss(alloc: Global, set: &TaskSet, order: &[usize]) -> Result<Option<Miss>, MissFault>
-    ensures found { IfOk result (λ found. IfSome found (IsMiss (node_in set.now order.now))) }
+    ensures found { IfOk result (λ found. IfSome found (λ miss.
+        IsWorstMiss (node_in set.now order.now) miss.task miss)) }
+    ensures highest { IfOk result (λ found. IfSome found (λ miss.
+        NoneAboveMisses (node_in set.now order.now) miss.task)) }
     ensures none { IfOk result (λ found. IfNone found ((i : ℕ) → i < length set.now
         → ¬ MustMiss (node_in set.now order.now) i)) }
     ensures lock_free { IfOk result (λ found. IfNone found (IsLockFree set.now

@@ -1,13 +1,14 @@
-use Rattle.std.proofs.Common.{◌+◌, ◌-◌, length, get_or, take, drop, subst, arith}
-use Rattle.std.specs.Prelude.{IfNone}
+use Rattle.std.proofs.Common.{◌+◌, ◌-◌, ℕ, length, get_or, take, drop, refl, subst, arith}
+use Rattle.std.specs.Prelude.{IfSome, IfNone}
 use Rattle.std.proofs.lemmas.Bool.{both_ways}
 use Rattle.task_sheet.specs.Indexes.{indexes_of}
-use Rattle.miss.specs.Misses.{HasMiss}
+use Rattle.ceiling_kernel.specs.Tick.{Node}
+use Rattle.miss.specs.Misses.{HasMiss, IsMissOf}
 use Rattle.miss.specs.Shown.{IsTooLong}
 use Rattle.miss.proofs.OrderLaws.{place_known}
 use Rattle.miss.proofs.ShownLaws.{part_in}
 use Rattle.miss.proofs.PlaceLaws.{passes_there, fails_there, stands_there, least_there, long_there, need_not_there, run_is}
-use Rattle.miss.proofs.NoneLaws.{none_there}
+use Rattle.miss.proofs.NoneLaws.{case_there, none_there}
 use Rattle.miss.proofs.find.shown_at.Goals as goal
 
 pub passes-requires-clause-task : goal.passes-requires-clause-task
@@ -39,6 +40,18 @@ returns-in_default-clause-shown c = (
 
 pub missed_in-requires-clause-task : goal.missed_in-requires-clause-task
 missed_in-requires-clause-task c = place_known c.args.set.now c.args.order.now c.requires.order c.args.place c.requires.place
+
+pub returns-in-Some-3-clause-shown : goal.returns-in-Some-3-clause-shown
+returns-in-Some-3-clause-shown c =
+    let i : ℕ = get_or c.args.order.now c.args.place 0 in
+    let case = run_is c.args.set.now i (take (length c.args.order.now - (c.args.place + 1)) (drop (c.args.place + 1) c.args.order.now)) c.in_ok-run.field-0 c.in-Some-2.run' c.in-Some-2.is c.in_ok-run.ensures.some in
+    let missed : IsMissOf c.args.kernel.now c.in-Some-2.run'.releases.items c.in-Some-2.run'.until i c.in-Some-3.job =
+    subst (λ o. IfSome o (IsMissOf c.args.kernel.now c.in-Some-2.run'.releases.items c.in-Some-2.run'.until i)) c.in-Some-3.is c.in_ok-job.ensures.some in
+    record {
+      task = refl;
+      case = case_there c.args.set.now c.args.order.now c.requires.order c.sheets.ensures.kept c.args.place (c.args.place + 1) c.requires.place (omega arith) c.in-Some-2.run'.releases.items c.in-Some-2.run'.until case.0;
+      miss = subst (λ (x : Node). IsMissOf x c.in-Some-2.run'.releases.items c.in-Some-2.run'.until i c.in-Some-3.job) c.requires.kernel missed;
+    }
 
 pub why_not-requires-clause-fails : goal.why_not-requires-clause-fails
 why_not-requires-clause-fails c =
