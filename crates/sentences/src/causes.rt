@@ -72,7 +72,7 @@ pub(crate) fn push_jitter(text: &mut String, numbers: &Numbers) -> Result<(), Al
 }
 
 // A cost with what the node takes of a job and of so many locks, where that is a number of 64 bits.
-fn padded_cost(numbers: &Numbers, node: Node, locks: u64) -> Option<u64> {
+fn padded_cost(numbers: &Numbers, node: &Node, locks: u64) -> Option<u64> {
     let calls = node.lock.checked_mul(locks)?;
     numbers.cost?.checked_add(node.job)?.checked_add(calls)
 }
@@ -81,7 +81,7 @@ fn padded_cost(numbers: &Numbers, node: Node, locks: u64) -> Option<u64> {
 pub(crate) fn push_padded_cost(
     text: &mut String,
     numbers: &Numbers,
-    node: Node,
+    node: &Node,
     locks: u64,
 ) -> Result<(), AllocError> {
     let (job, lock) = (node.job, node.lock);

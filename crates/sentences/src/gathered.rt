@@ -94,44 +94,49 @@ enum Sought {
 }
 
 // Whether a set's document is sought.
-fn says(document: &Document, sought: Sought) -> bool {
+fn says(document: &Document, sought: &Sought) -> bool {
     match sought {
         Sought::Faulty(_) => false,
         Sought::Node => document.node.is_some(),
-        Sought::Task(name) => document.set.find(name).is_some(),
+        Sought::Task(name) => document.set.find(*name).is_some(),
     }
 }
 
 // Whether a team's document is sought.
-fn is_sought(alloc: Global, team: Name, text: &[u8], sought: Sought) -> bool {
+fn is_sought(alloc: Global, team: Name, text: &[u8], sought: &Sought) -> bool {
     match read_document(alloc, text) {
         Ok(document) => says(&document, sought),
         Err(_) => match sought {
-            Sought::Faulty(owner) => owner == team,
+            Sought::Faulty(owner) => *owner == team,
             Sought::Node | Sought::Task(_) => false,
         },
     }
 }
 
-// The first document that is sought, with its team.
-fn document_of<'a>(alloc: Global, bytes: &'a [u8], sought: Sought) -> Option<(Name, &'a [u8])> {
+// The place, from 1, of the first document that is sought.
+fn place_of(alloc: Global, bytes: &[u8], sought: &Sought) -> Option<usize> {
     let mut rest = bytes;
+    let mut place = 1usize;
     while !rest.is_empty() {
         let Some((part, after)) = first_part(rest) else {
             return None;
         };
         if is_sought(alloc, part.team, part.text, sought) {
-            return Some((part.team, part.text));
+            return Some(place);
         }
         rest = after;
+        place = place.saturating_add(1);
     }
     None
 }
 
 // What a person is told of the fault of a team's document.
 fn of_document(alloc: Global, bytes: &[u8], team: Name, fault: SetFault) -> Option<String> {
-    let (_, document) = document_of(alloc, bytes, Sought::Faulty(team))?;
-    let said = of_set(alloc, document, fault)?;
+    let place = place_of(alloc, bytes, &Sought::Faulty(team))?;
+    let Some((part, _)) = first_part(part_at(bytes, place)) else {
+        return None;
+    };
+    let said = of_set(alloc, part.text, fault)?;
     format!(in alloc; "{team}.toml: {said}").ok()
 }
 
@@ -145,19 +150,31 @@ fn node_said(alloc: Global, document: &[u8]) -> Option<Node> {
     }
 }
 
+// The node that one of the documents of teams says.
+fn node_of_teams(alloc: Global, bytes: &[u8]) -> Option<Node> {
+    let place = place_of(alloc, bytes, &Sought::Node)?;
+    match first_part(part_at(bytes, place)) {
+        Some((part, _)) => node_said(alloc, part.text),
+        None => None,
+    }
+}
+
 // What a person is told where one document's set has no room for what its node takes.
 fn of_padded_alone(alloc: Global, bytes: &[u8], fault: PadFault) -> Option<String> {
     let node = node_said(alloc, bytes)?;
-    of_padding(alloc, bytes, node, fault)
+    of_padding(alloc, bytes, &node, &fault)
 }
 
 // The same of documents of teams, of the one with the task; another one may say the node.
 fn of_padded_teams(alloc: Global, bytes: &[u8], fault: PadFault) -> Option<String> {
-    let task = task_of(fault)?;
-    let (_, saying) = document_of(alloc, bytes, Sought::Node)?;
-    let node = node_said(alloc, saying)?;
-    let (team, document) = document_of(alloc, bytes, Sought::Task(task))?;
-    let said = of_padding(alloc, document, node, fault)?;
+    let node = node_of_teams(alloc, bytes)?;
+    let task = task_of(&fault)?;
+    let place = place_of(alloc, bytes, &Sought::Task(task))?;
+    let Some((part, _)) = first_part(part_at(bytes, place)) else {
+        return None;
+    };
+    let said = of_padding(alloc, part.text, &node, &fault)?;
+    let team = part.team;
     format!(in alloc; "{team}.toml: {said}").ok()
 }
 

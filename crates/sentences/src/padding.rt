@@ -13,8 +13,8 @@ use toml::Table;
 pub(crate) fn of_padding(
     alloc: Global,
     bytes: &[u8],
-    node: Node,
-    fault: PadFault,
+    node: &Node,
+    fault: &PadFault,
 ) -> Option<String> {
     match toml::table_from_slice(alloc, bytes) {
         Ok(root) => told(alloc, |text| push_padding(text, alloc, bytes, &root, node, fault)),
@@ -23,9 +23,9 @@ pub(crate) fn of_padding(
 }
 
 /// The task that a fault names.
-pub(crate) fn task_of(fault: PadFault) -> Option<Name> {
+pub(crate) fn task_of(fault: &PadFault) -> Option<Name> {
     match fault {
-        PadFault::CostPastPeriod { task } | PadFault::JitterPastDeadline { task } => Some(task),
+        PadFault::CostPastPeriod { task } | PadFault::JitterPastDeadline { task } => Some(*task),
         PadFault::OutOfMemory => None,
     }
 }
@@ -36,8 +36,8 @@ fn push_padding(
     alloc: Global,
     bytes: &[u8],
     root: &Table,
-    node: Node,
-    fault: PadFault,
+    node: &Node,
+    fault: &PadFault,
 ) -> Result<(), AllocError> {
     let Some(place) = place_of(root, fault) else {
         return Err(AllocError);
@@ -51,7 +51,7 @@ fn push_padding(
 }
 
 // The place, from 1, of the task that a fault names.
-fn place_of(root: &Table, fault: PadFault) -> Option<usize> {
+fn place_of(root: &Table, fault: &PadFault) -> Option<usize> {
     let task = task_of(fault)?;
     place_of_name(root, task.as_str())
 }
@@ -60,8 +60,8 @@ fn place_of(root: &Table, fault: PadFault) -> Option<usize> {
 fn push_fault(
     text: &mut String,
     table: &Table,
-    node: Node,
-    fault: PadFault,
+    node: &Node,
+    fault: &PadFault,
 ) -> Result<(), AllocError> {
     let numbers = numbers_in(table);
     match fault {
