@@ -6,7 +6,6 @@ ghost use Rattle.desk_cli.specs.Saying.{SaysOfBoth};
 ghost use Rattle.desk_cli.specs.Outcomes.{IsCarriedOutOnBoth, IsSaidOn};
 
 use crate::admit::placing_status;
-use crate::answer::print_stuck;
 use crate::audience::{Audience, Which};
 use crate::check::{check_text, line_of};
 use crate::diff_lines::{Compared, compare_text, compared_text};
@@ -20,7 +19,7 @@ use crate::observe_lines::{Observation, observe_text, print_observation, toleran
 use crate::output::{print, print_bytes, print_made, refuse};
 use crate::refusal::CommandRefusal;
 use crate::sets::{base_of, preference_of, read_two, tell};
-use crate::simulate::{Simulated, ordered_text, reached_text, simulate_text};
+use crate::simulate::{Simulated, print_reached, print_simulated, simulate_text};
 use crate::status::Status;
 use crate::worst_at::worst_at;
 use cert_checker::Checked;
@@ -28,7 +27,6 @@ use command_line::{OfTwo, Options};
 use judge::{JudgedNode, judged_text};
 use kept_order::Keeping;
 use owners::Owner;
-use printed_runs::trace_text;
 use std::alloc::Global;
 use std::io::{Read, Write};
 use streams::Watched;
@@ -127,25 +125,9 @@ fn print_found<W: Write + Drop>(
             judged_status(&node.judged),
             output,
         ),
-        Found::Simulated(Simulated::Ran(run)) => {
-            print_made(trace_text(alloc, &run.trace), Status::Done, output)
-        }
-        Found::Reached(Simulated::Ran(run)) => {
-            print_made(reached_text(alloc, tasks, run), Status::Done, output)
-        }
+        Found::Simulated(answer) => print_simulated(alloc, tasks, answer, output),
+        Found::Reached(answer) => print_reached(alloc, tasks, answer, output),
         Found::Drawn(drawing) => print_drawing(alloc, tasks, drawing, output),
-        Found::Simulated(Simulated::Ordered(run)) => {
-            print_made(trace_text(alloc, &run.trace), Status::Done, output)
-        }
-        Found::Reached(Simulated::Ordered(run)) => {
-            print_made(ordered_text(alloc, tasks, run), Status::Done, output)
-        }
-        Found::Simulated(Simulated::Infeasible(members)) => {
-            print_stuck(alloc, tasks, *members, output)
-        }
-        Found::Reached(Simulated::Infeasible(members)) => {
-            print_stuck(alloc, tasks, *members, output)
-        }
         Found::Observed(tolerance, shown) => {
             print_observation(alloc, tasks, *tolerance, shown, output)
         }

@@ -7,17 +7,25 @@ ghost use Rattle.judge.specs.Judgements.{order_judged};
 ghost use Rattle.run_lines.specs.Lines.{task_lines};
 ghost use Rattle.run_lines.specs.TaskBounds.{bounds_of, tasks_of_bounds};
 ghost use Rattle.desk_cli.specs.ReleasesText.{list_at};
-ghost use Rattle.desk_cli.specs.Simulate.{IsInOrder, RunsOrder, SimulatesIn, SimulatesRead, SimulatesText, bound_judged, bounds_judged};
+ghost use Rattle.desk_cli.specs.Outcomes.{IsSaidOn};
+ghost use Rattle.desk_cli.specs.Printed.{IsPrinted};
+ghost use Rattle.desk_cli.specs.Simulate.{IsInOrder, RunsOrder, SimulatesIn, SimulatesRead, SimulatesText, bound_judged, bounds_judged, reached_said, simulation_said, simulation_status};
 
+use crate::answer::print_stuck;
+use crate::output::print_made;
 use crate::refusal::CommandRefusal;
 use crate::release_text::read_releases;
+use crate::status::Status;
 use assignment::{Place, Placing, place_all, tasks_of_places};
 use ceiling_kernel::{Kernel, KernelFault, Release, Trace};
 use ceilings::LockTable;
 use judge::{Front, JudgedTask, Judgement, SettingRow, judge_order, order_of_rows, read_front};
 use lines::TextPlace;
+use printed_runs::trace_text;
 use run_lines::{TaskBound, bounds_of, tasks_text};
 use std::alloc::{AllocError, Global};
+use std::io::Write;
+use streams::Watched;
 use task_sheet::{Members, TaskSet};
 
 /// A run of a set's tasks at the levels of their best order.
@@ -237,7 +245,7 @@ pub(crate) fn bounds_judged(
 }
 
 // The lines of what the tasks of a set came to in a run of its best order.
-pub(crate) fn reached_text(alloc: Global, set: &TaskSet, run: &Run) -> Result<String, AllocError>
+fn reached_text(alloc: Global, set: &TaskSet, run: &Run) -> Result<String, AllocError>
     requires { IsOrder set.now (tasks_of_places run.now.places.items) }
     ensures { IfOk result (λ text. string_bytes text
         ≡ task_lines set.now run.now.trace.jobs.items (bounds_of run.now.places.items)) }
@@ -247,15 +255,50 @@ pub(crate) fn reached_text(alloc: Global, set: &TaskSet, run: &Run) -> Result<St
 }
 
 // The same of a run in a given order.
-pub(crate) fn ordered_text(
-    alloc: Global,
-    set: &TaskSet,
-    run: &OrderedRun,
-) -> Result<String, AllocError>
+fn ordered_text(alloc: Global, set: &TaskSet, run: &OrderedRun) -> Result<String, AllocError>
     requires { IsOrder set.now (order_judged run.now.judged.items) }
     ensures { IfOk result (λ text. string_bytes text
         ≡ task_lines set.now run.now.trace.jobs.items (bounds_judged run.now.judged.items)) }
 {
     let bounds = bounds_judged(alloc, &run.judged)?;
     tasks_text(alloc, set, &bounds, &run.trace.jobs)
+}
+
+// Prints the lines of its trace, or why there is none.
+pub(crate) fn print_simulated<W: Write + Drop>(
+    alloc: Global,
+    tasks: &TaskSet,
+    answer: &Simulated,
+    output: &mut Watched<W>,
+) -> Status
+    ensures { IsSaidOn (λ before after s. IsPrinted before after (simulation_said tasks.now answer.now)
+        (simulation_status answer.now) s) W.contents output.old output.new result }
+{
+    match answer {
+        Simulated::Ran(run) => print_made(trace_text(alloc, &run.trace), Status::Done, output),
+        Simulated::Ordered(run) => print_made(trace_text(alloc, &run.trace), Status::Done, output),
+        Simulated::Infeasible(members) => print_stuck(alloc, tasks, *members, output),
+    }
+}
+
+// Prints what the tasks came to in it, or why there is none.
+pub(crate) fn print_reached<W: Write + Drop>(
+    alloc: Global,
+    tasks: &TaskSet,
+    answer: &Simulated,
+    output: &mut Watched<W>,
+) -> Status
+    requires { IsInOrder tasks.now answer.now }
+    ensures { IsSaidOn (λ before after s. IsPrinted before after (reached_said tasks.now answer.now)
+        (simulation_status answer.now) s) W.contents output.old output.new result }
+{
+    match answer {
+        Simulated::Ran(run) => print_made(reached_text(alloc, tasks, run), Status::Done, output),
+        Simulated::Ordered(run) => print_made(
+            ordered_text(alloc, tasks, run),
+            Status::Done,
+            output,
+        ),
+        Simulated::Infeasible(members) => print_stuck(alloc, tasks, *members, output),
+    }
 }
