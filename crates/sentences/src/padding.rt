@@ -17,7 +17,10 @@ pub(crate) fn of_padding(
     fault: &PadFault,
 ) -> Option<String> {
     match toml::table_from_slice(alloc, bytes) {
-        Ok(root) => told(alloc, |text| push_padding(text, alloc, bytes, &root, node, fault)),
+        Ok(root) => told(
+            alloc,
+            |text| push_padding(text, alloc, bytes, &root, node, fault),
+        ),
         Err(_) => None,
     }
 }
