@@ -1,20 +1,19 @@
 //! `desk draw`.
-ghost use Rattle.std.specs.Prelude.{◌≡◌, ◌<◌, ◌≤◌, length, IfOk, All};
+ghost use Rattle.std.specs.Prelude.{◌≡◌, ◌<◌, ◌≤◌, List, length, IfOk, All};
 ghost use Rattle.task_sheet.specs.Orders.{IsOrder};
 ghost use Rattle.task_sheet.specs.declared.set.TheConstants.{TASK_LIMIT};
-ghost use Rattle.assignment.specs.Placings.{tasks_of_places};
 ghost use Rattle.desk_cli.specs.Printed.{IsPrinted};
-ghost use Rattle.judge.specs.Judgements.{order_judged};
-ghost use Rattle.run_lines.specs.TaskBounds.{bounds_of, tasks_of_bounds};
+ghost use Rattle.run_lines.specs.TaskBounds.{tasks_of_bounds};
+ghost use Rattle.run_lines.specs.declared.bounds.TaskBound.{TaskBound};
 ghost use Rattle.drawn_runs.specs.Rows.{drawn_row, rows_of};
 ghost use Rattle.desk_cli.specs.Draw.{DrawsText, drawing_said, picture_of};
 ghost use Rattle.desk_cli.specs.Outcomes.{IsSaidOn};
-ghost use Rattle.desk_cli.specs.Simulate.{IsInOrder, bounds_judged, simulation_status};
+ghost use Rattle.desk_cli.specs.Simulate.{IsInOrder, simulation_status};
 
 use crate::answer::print_stuck;
 use crate::output::refuse;
 use crate::refusal::CommandRefusal;
-use crate::simulate::{OrderedRun, Run, Simulated, bounds_judged, simulate_text};
+use crate::simulate::{Simulated, bounds_judged, simulate_text};
 use crate::status::Status;
 use crate::view::{is_unseen, view_of};
 use ceiling_kernel::{Release, Trace};
@@ -100,60 +99,25 @@ fn draw_run<W: Write + Drop>(
     }
 }
 
-// Draws a run in the best order of a set.
-fn draw_best<W: Write + Drop>(
+// Draws a run in an order of a set whose bounds were made, or says that there was no memory for them.
+fn draw_made<W: Write + Drop>(
     alloc: Global,
     set: &TaskSet,
-    run: &Run,
+    made: Result<Vec<TaskBound>, AllocError>,
     view: &View,
+    until: u64,
+    releases: &[Release],
+    trace: &Trace,
     output: &mut Watched<W>,
 ) -> Status
-    requires { IsOrder set.now (tasks_of_places run.now.places.items) }
-    ensures { IsSaidOn (λ before after s. IsPrinted before after
-        (picture_of set.now (bounds_of run.now.places.items) view.now run.now.until
-        run.now.releases.items run.now.trace) Status.Done s)
+    requires { IfOk made (λ bounds. IsOrder set.now (tasks_of_bounds bounds.items)) }
+    ensures { (bounds : List TaskBound) → IfOk made (λ made. made.items ≡ bounds)
+        → IsSaidOn (λ before after s. IsPrinted before after
+        (picture_of set.now bounds view.now until releases.now trace.now) Status.Done s)
         W.contents output.old output.new result }
 {
-    match bounds_of(alloc, &run.places) {
-        Ok(bounds) => draw_run(
-            alloc,
-            set,
-            &bounds,
-            view,
-            run.until,
-            &run.releases,
-            &run.trace,
-            output,
-        ),
-        Err(_) => refuse(CommandRefusal::OutOfMemory, output),
-    }
-}
-
-// Draws a run in a given order of a set.
-fn draw_ordered<W: Write + Drop>(
-    alloc: Global,
-    set: &TaskSet,
-    run: &OrderedRun,
-    view: &View,
-    output: &mut Watched<W>,
-) -> Status
-    requires { IsOrder set.now (order_judged run.now.judged.items) }
-    ensures { IsSaidOn (λ before after s. IsPrinted before after
-        (picture_of set.now (bounds_judged run.now.judged.items) view.now run.now.until
-        run.now.releases.items run.now.trace) Status.Done s)
-        W.contents output.old output.new result }
-{
-    match bounds_judged(alloc, &run.judged) {
-        Ok(bounds) => draw_run(
-            alloc,
-            set,
-            &bounds,
-            view,
-            run.until,
-            &run.releases,
-            &run.trace,
-            output,
-        ),
+    match made {
+        Ok(bounds) => draw_run(alloc, set, &bounds, view, until, releases, trace, output),
         Err(_) => refuse(CommandRefusal::OutOfMemory, output),
     }
 }
@@ -189,8 +153,26 @@ pub(crate) fn print_drawing<W: Write + Drop>(
 {
     let view = &drawing.view;
     match &drawing.answer {
-        Simulated::Ran(run) => draw_best(alloc, tasks, run, view, output),
-        Simulated::Ordered(run) => draw_ordered(alloc, tasks, run, view, output),
+        Simulated::Ran(run) => draw_made(
+            alloc,
+            tasks,
+            bounds_of(alloc, &run.places),
+            view,
+            run.until,
+            &run.releases,
+            &run.trace,
+            output,
+        ),
+        Simulated::Ordered(run) => draw_made(
+            alloc,
+            tasks,
+            bounds_judged(alloc, &run.judged),
+            view,
+            run.until,
+            &run.releases,
+            &run.trace,
+            output,
+        ),
         Simulated::Infeasible(members) => print_stuck(alloc, tasks, *members, output),
     }
 }

@@ -41,11 +41,10 @@ responses-add_up U L (p ∷ places) (a ∷ accounts) each part times are =
       responses-add_up U (without_index L p.task) places accounts rest part' times.1 are.1,
     )
 
-need-adds_up : (U : List Task) (i : ℕ) (H : Indexes) (a : Account) → IsPart H (all_of U) → IsNeedsAccount U i H a → a.time ≡ total_of a.parts
-need-adds_up U i H a part is =
+pub need-adds_up : (U : List Task) (i : ℕ) (H : Indexes) (order : List ℕ) (a : Account) → IsNeedsAccount U i H order a → IsOrderOf H order → IsPart H (all_of U) → a.time ≡ total_of a.parts
+need-adds_up U i H order a is each part =
     let step = ends-step (demand_of U i H) (limit_of (task_at U i)) is.before is.last is.chain is.full is.ends in
-    let listed = listed_below (length U) H in
-    let sum = parts-demand U i H (reverse listed) is.before a.parts is.parts (order-reverse H listed (listed-order (length U) H part)) part in
+    let sum = parts-demand U i H order is.before a.parts is.parts each part in
     omega (arith, is.time, step.demanded, sum)
 
 needs-add_up : (U : List Task) (C : Indexes) (tasks : List ℕ) (needs : List Need) → IsPart C (all_of U) → AreNeedsOf U C tasks needs → AllByRecursion NeedAddsUp needs
@@ -53,7 +52,10 @@ needs-add_up U C [] [] part are = tt
 needs-add_up U C [] (n ∷ needs) part are = absurd are
 needs-add_up U C (i ∷ tasks) [] part are = absurd are
 needs-add_up U C (i ∷ tasks) (Needs a ∷ needs) part are =
-    (need-adds_up U i (without_index C i) a (without-part_of (length U) C i part) are.0.1, needs-add_up U C tasks needs part are.1)
+    let H = without_index C i in
+    let rest = without-part_of (length U) C i part in
+    let listed = listed_below (length U) H in
+    (need-adds_up U i H (reverse listed) a are.0.1 (order-reverse H listed (listed-order (length U) H rest)) rest, needs-add_up U C tasks needs part are.1)
 needs-add_up U C (i ∷ tasks) (MustBeAbove task other ∷ needs) part are = (tt, needs-add_up U C tasks needs part are.1)
 
 pub explanation-adds_up : (U : List Task) (placing : Placing) (explanation : Explanation) → IsTaskSet U → IsPlacingOf U placing → Explains U placing explanation → AddsUp explanation

@@ -15,9 +15,9 @@ use Rattle.explain.specs.declared.needs.Need.TheVariants.{Needs, MustBeAbove}
 abbrev pub EndsWith : List ℕ → ℕ → ℕ → Type 0
 EndsWith numbers before last = (rest : List ℕ) × (numbers ≡ rest ++ before ∷ last ∷ [])
 
--- the last number of the full chain of task i with the tasks H above it, with its jitter: its parts at the number
--- before, those above by rank, the last first
-pub record IsNeedsAccount (U : List Task) (i : ℕ) (H : Indexes) (a : Account) : Type 0 where
+-- what task i needs at least with the tasks H above it, where it doesn't pass with them: the last number of its full chain,
+-- with its jitter; its parts at the number before, those above in an order (Audsley et al. 1993)
+pub record IsNeedsAccount (U : List Task) (i : ℕ) (H : Indexes) (order : List ℕ) (a : Account) : Type 0 where
   pub chain : List ℕ
   pub before : ℕ
   pub last : ℕ
@@ -26,13 +26,17 @@ pub record IsNeedsAccount (U : List Task) (i : ℕ) (H : Indexes) (a : Account) 
   pub task : a.task ≡ i
   pub time : a.time ≡ last + (task_at U i).jitter
   pub deadline : a.deadline ≡ (task_at U i).deadline
-  pub parts : IsPartsOf U i H (reverse (listed_below (length U) H)) before a.parts
+  pub parts : IsPartsOf U i H order before a.parts
+
+-- the same, those above by rank, the last first
+abbrev pub IsNeedsByRank : List Task → ℕ → Indexes → Account → Type 0
+IsNeedsByRank U i H a = IsNeedsAccount U i H (reverse (listed_below (length U) H)) a
 
 -- why task i of C may not stand below the others of C: where it must stand above some of them, the one of least rank,
 -- else what it needs
 abbrev pub IsNeedOf : List Task → Indexes → ℕ → Need → Type 0
 IsNeedOf U C i (Needs a) =
-    IsFalse (is_bound U i (without_index C i)) × IsNeedsAccount U i (without_index C i) a
+    IsFalse (is_bound U i (without_index C i)) × IsNeedsByRank U i (without_index C i) a
 IsNeedOf U C i (MustBeAbove task other) = (task ≡ i) × IsLeastOver U i (without_index C i) other
 
 -- why each of these tasks of C may not

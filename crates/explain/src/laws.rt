@@ -12,6 +12,8 @@ ghost use Rattle.assignment.specs.declared.placing.Placing.{Placing};
 ghost use Rattle.explain.specs.Conflict.{HoldsObstruction, IsLeastConflict, IsLeftOf};
 ghost use Rattle.explain.specs.Parts.{PartsData, total_of, IsPartsOf};
 ghost use Rattle.explain.specs.Explanations.{Explains, AddsUp};
+ghost use Rattle.explain.specs.Needs.{IsNeedsAccount};
+ghost use Rattle.explain.specs.declared.accounts.Account.{Account};
 ghost use Rattle.explain.specs.declared.explanation.Explanation.{Explanation};
 
 /// Each obstruction has a least conflict in it; what is left of it once all tasks are gone through is one, and there is
@@ -37,7 +39,7 @@ pub fn conflict_refutes()
 {}
 
 /// The parts add up: to the demand in the window and the jitter, and so, in the window that is its own demand, to the
-/// response.
+/// response; and to what a task needs that doesn't pass with those above it.
 pub fn parts_add_up()
     ensures demand { (U : List Task) (i : ℕ) (H : Indexes) (order : List ℕ) (time : ℕ)
         (parts : PartsData)
@@ -49,6 +51,9 @@ pub fn parts_add_up()
         (past_jitter (task_at U i) response) parts
         → IsOrderOf H order → IsPart H (all_of U)
         → total_of parts ≡ response }
+    ensures need { (U : List Task) (i : ℕ) (H : Indexes) (order : List ℕ) (account : Account)
+        → IsNeedsAccount U i H order account → IsOrderOf H order → IsPart H (all_of U)
+        → account.time ≡ total_of account.parts }
 {}
 
 /// In what explains a placing each time is what its parts come to: each response, and what each task of a conflict needs.

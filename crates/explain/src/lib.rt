@@ -17,7 +17,7 @@ pub use crate::accounts::Account;
 pub use crate::blocker::{Blocker, first_blocker};
 pub use crate::conflict::{greatest_within, least_conflict};
 pub use crate::explanation::{Explanation, explain};
-pub use crate::needs::Need;
+pub use crate::needs::{Need, needs_account};
 pub use crate::one_task::task_text;
 pub use crate::parts::{Above, Parts, parts_of};
 pub use crate::shares::load;

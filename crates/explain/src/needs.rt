@@ -1,17 +1,18 @@
 //! What the tasks of a conflict need.
-ghost use Rattle.std.specs.Prelude.{◌≡◌, ◌<◌, ◌≤◌, length, reverse, IfOk, IsTrue};
+ghost use Rattle.std.specs.Prelude.{◌≡◌, ◌<◌, ◌≤◌, length, reverse, All, IfOk, IsTrue};
 ghost use Rattle.task_sheet.specs.Sheet.{task_at};
 ghost use Rattle.task_sheet.specs.Indexes.{indexes_of, listed_below, IsPart};
 ghost use Rattle.task_sheet.specs.Responses.{IsFullChain};
-ghost use Rattle.task_sheet.specs.Demand.{demand_of, limit_of};
-ghost use Rattle.task_sheet.specs.Orders.{all_of};
+ghost use Rattle.task_sheet.specs.Demand.{Passes, demand_of, limit_of};
 ghost use Rattle.task_sheet.specs.Levels.{IsObstruction};
+ghost use Rattle.ceilings.specs.IsTableOf.{IsTableOf};
 ghost use Rattle.explain.specs.Needs.{AreNeedsOf, EndsWith, IsNeedOf, IsNeedsAccount};
 
 use crate::accounts::Account;
 use crate::parts::parts_of;
 use crate::tabled::TabledSet;
 use assignment::least_over;
+use ceilings::LockTable;
 use response_time::{Answer, respond};
 use std::alloc::{AllocError, Global};
 use task_sheet::{Members, TaskSet};
@@ -49,31 +50,56 @@ fn falling(alloc: Global, set: &TaskSet, tasks: Members) -> Result<Vec<usize>, A
     Ok(order)
 }
 
-// The account of the last number of a task's full chain.
-fn needs_account(
+// What a task needs at least with these above it, who are listed in an order, by its full chain.
+fn chain_account(
     alloc: Global,
-    tabled: TabledSet<'_>,
+    set: &TaskSet,
+    table: &LockTable,
     task: usize,
     above: Members,
+    order: &[usize],
     chain: &[u64],
 ) -> Result<Account, AllocError>
-    requires task { task < length tabled.set.now }
-    requires chain { IsFullChain (demand_of tabled.set.now task (indexes_of above))
-        (limit_of (task_at tabled.set.now task)) chain.now }
+    requires table { IsTableOf set.now table.now }
+    requires task { task < length set.now }
+    requires within { All (λ index. index < length set.now) order.now }
+    requires chain { IsFullChain (demand_of set.now task (indexes_of above))
+        (limit_of (task_at set.now task)) chain.now }
     ensures { IfOk result (λ account.
-        IsNeedsAccount tabled.entry.set.now task (indexes_of above) account) }
+        IsNeedsAccount set.now task (indexes_of above) order.now account) }
 {
-    let set = tabled.set;
     let sheet = &set.sheets()[task];
     let (before, last) = last_two(chain);
-    let order = falling(alloc, set, above)?;
-    let parts = parts_of(alloc, set, tabled.table, task, above, &order, before)?;
+    let parts = parts_of(alloc, set, table, task, above, order, before)?;
     Ok(Account {
         task,
         time: last + sheet.jitter(),
         deadline: sheet.deadline(),
         parts,
     })
+}
+
+/// What a task needs at least with these above it, where it doesn't pass with them; they are listed in an order. The table is
+/// that of the set. The error is want of memory.
+pub fn needs_account(
+    alloc: Global,
+    set: &TaskSet,
+    table: &LockTable,
+    task: usize,
+    above: Members,
+    order: &[usize],
+) -> Result<Account, AllocError>
+    requires table { IsTableOf set.now table.now }
+    requires task { task < length set.now }
+    requires within { All (λ index. index < length set.now) order.now }
+    requires fails { ¬ Passes set.now task (indexes_of above) }
+    ensures { IfOk result (λ account.
+        IsNeedsAccount set.now task (indexes_of above) order.now account) }
+{
+    match respond(alloc, set, table, task, above)?.answer {
+        Answer::Fail { chain } => chain_account(alloc, set, table, task, above, order, &chain),
+        Answer::Pass { .. } => unreachable!(),
+    }
 }
 
 // Why a task of a conflict may not stand below the others.
@@ -93,13 +119,9 @@ fn need_of(
     if let Some(other) = least_over(tabled.set, tabled.table, task, above) {
         return Ok(Need::MustBeAbove { task, other });
     }
-    match respond(alloc, tabled.set, tabled.table, task, above)?.answer {
-        Answer::Fail { chain } => {
-            let account = needs_account(alloc, tabled, task, above, &chain)?;
-            Ok(Need::Needs(account))
-        }
-        Answer::Pass { .. } => unreachable!(),
-    }
+    let order = falling(alloc, tabled.set, above)?;
+    let account = needs_account(alloc, tabled.set, tabled.table, task, above, &order)?;
+    Ok(Need::Needs(account))
 }
 
 /// Why each task of a conflict may not stand below the others, by rank. The error is want of memory.

@@ -1,12 +1,7 @@
 -- The lines of an order's levels, one after the other.
-use Rattle.std.proofs.Common.{◌≡◌, ◌∙◌, ℕ, suc, ◌+◌, ◌<◌, ◌≤◌, List, [], ◌∷◌, ◌++◌, length, All, Option, append-nil, append_assoc, codes, refl, sym, ap, subst, arith}
-use Rattle.std.proofs.lemmas.Bool.{eq-eqb}
-use Rattle.std.proofs.lemmas.Fmt.{decimal_digit}
+use Rattle.std.proofs.Common.{◌≡◌, ◌∙◌, ℕ, suc, ◌+◌, ◌<◌, ◌≤◌, List, [], ◌∷◌, ◌++◌, length, All, Option, append_assoc, refl, sym, ap, subst, arith}
 use Rattle.std.proofs.lemmas.List.{get_or-map, length-map}
 use Rattle.task_sheet.specs.Sheet.{Task}
-use Rattle.explain.specs.Lines.{account_lines}
-use Rattle.explain.specs.TaskLines.{level_lines_of, response_lines_of}
-use Rattle.explain.specs.declared.accounts.Account.{Account}
 use Rattle.judge.specs.Explained.{AreAskedLines, AreLevels, is_asked}
 use Rattle.judge.specs.Judgements.{order_judged}
 use Rattle.judge.specs.declared.explained.Parted.{Parted}
@@ -37,11 +32,3 @@ pub order_within : (n m : ℕ) (judged : List JudgedTask) → n ≤ m → All (�
 order_within n m judged le all k d lt =
     let inside : k < length judged = omega (arith, lt, length-map judged (λ (j : JudgedTask). j.task)) in
     omega (arith, le, all k no_judged inside, get_or-map (λ (j : JudgedTask). j.task) judged k no_judged d inside)
-
--- an order of one level has the number 1
-level_is : (U : List Task) (a : Account) → level_lines_of U a.task 1 a ≡ 49 ∷ 32 ∷ account_lines U a
-level_is U a = rw (eq-eqb a.task a.task refl) (ap (λ (d : List ℕ). d ++ codes " " ++ account_lines U a) (decimal_digit 1 (omega arith)))
-
-pub alone_is : (U : List Task) (a : Account) (accounts : List Account) → accounts ≡ a ∷ [] → response_lines_of U a.task 1 accounts ≡ 49 ∷ 32 ∷ account_lines U a
-alone_is U a accounts is =
-    ap (λ (one : List Account). response_lines_of U a.task 1 one) is ∙ append-nil (level_lines_of U a.task 1 a) ∙ level_is U a

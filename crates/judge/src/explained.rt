@@ -1,12 +1,12 @@
 //! The lines that explain what becomes of the tasks of an order.
-ghost use Rattle.std.specs.Prelude.{◌≡◌, ◌++◌, ◌<◌, ◌≤◌, length, codes, All, IfOk, OnOk, string_bytes};
+ghost use Rattle.std.specs.Prelude.{◌≡◌, ◌++◌, ◌<◌, ◌≤◌, length, All, IfOk, OnOk, string_bytes};
 ghost use Rattle.task_sheet.specs.Sheet.{task_at};
 ghost use Rattle.task_sheet.specs.Indexes.{among};
 ghost use Rattle.task_sheet.specs.Demand.{IsResponseOf};
 ghost use Rattle.task_sheet.specs.Orders.{IsOrder};
 ghost use Rattle.ceilings.specs.IsTableOf.{IsTableOf};
 ghost use Rattle.explain.specs.Accounts.{IsResponseAccount};
-ghost use Rattle.explain.specs.Lines.{account_lines, level_account_lines};
+ghost use Rattle.explain.specs.Lines.{level_account_lines};
 ghost use Rattle.judge.specs.Explained.{AreAskedLines, AreExplained, AreLevelLines, AreLevels, AreMetLines, is_asked, judged_line, load_asked};
 ghost use Rattle.judge.specs.Judgements.{AllJudged, IsJudgementOf, order_judged};
 
@@ -14,7 +14,8 @@ use crate::judging::{JudgedTask, Judgement, members_of};
 use crate::missed::{missed_account, missed_text};
 use crate::text::push_judged;
 use ceilings::LockTable;
-use explain::{Account, Explanation, load, parts_of, task_text};
+use explain::{Account, load, parts_of, parts_text};
+use lines::push_name;
 use std::alloc::{AllocError, Global};
 use task_sheet::TaskSet;
 
@@ -69,21 +70,6 @@ fn account_of(
     })
 }
 
-// The lines of a response as those of an order of this level alone, whose number is 1.
-pub(crate) fn alone_text(
-    alloc: Global,
-    set: &TaskSet,
-    account: Account,
-) -> Result<String, AllocError>
-    ensures { IfOk result (λ text. string_bytes text
-        ≡ codes "1" ++ codes " " ++ account_lines set.now account) }
-{
-    let task = account.task;
-    let mut accounts = Vec::with_capacity(alloc, 1)?;
-    accounts.push(account)?;
-    task_text(alloc, set, &Explanation::Responses(accounts), task)
-}
-
 // The lines of a response at a level, which has a number.
 fn account_text(
     alloc: Global,
@@ -94,12 +80,14 @@ fn account_text(
     ensures { IfOk result (λ text. string_bytes text
         ≡ level_account_lines set.now number account) }
 {
-    let alone = alone_text(alloc, set, account)?;
-    let mut text = format!(in alloc; "{number}")?;
-    match alone.as_str().strip_prefix('1') {
-        Some(lines) => text.push_str(lines)?,
-        None => unreachable!(),
-    }
+    let task = account.task;
+    let time = account.time;
+    let deadline = account.deadline;
+    let parts = parts_text(alloc, set, &account)?;
+    let mut text = format!(in alloc; "{number} ")?;
+    push_name(&mut text, set, task)?;
+    writeln!(text, " {time} of {deadline}")?;
+    text.push_str(parts.as_str())?;
     Ok(text)
 }
 

@@ -1,32 +1,15 @@
-use Rattle.std.proofs.Common.{◌∙◌, ◌<◌, ◌≤◌, ℕ, List, length, All, ap, sym, subst, arith}
-use Rattle.task_sheet.specs.Sheet.{Task, task_at}
+use Rattle.std.proofs.Common.{subst, arith}
+use Rattle.task_sheet.specs.Sheet.{task_at}
 use Rattle.task_sheet.specs.Indexes.{indexes_of}
-use Rattle.task_sheet.specs.Demand.{demand_of, limit_of}
-use Rattle.task_sheet.proofs.DemandFits.{limit-fits, demand-fits}
-use Rattle.task_sheet.proofs.TaskLaws.{task_read, valid_at}
-use Rattle.explain.proofs.NeedLaws.{ends-step, falling-within}
+use Rattle.task_sheet.specs.Demand.{past_jitter}
+use Rattle.response_time.specs.Answers.{IsAnswer}
+use Rattle.response_time.specs.declared.Answer.{Answer}
 use Rattle.explain.proofs.needs.needs_account.Goals as goal
 
-pub parts_of-requires-clause-within : goal.parts_of-requires-clause-within
-parts_of-requires-clause-within c =
-    subst (λ (ns : List ℕ). All (λ k. k < length c.args.tabled.set.now) ns) (sym (c.deref.ensures.value ∙ c.in_ok-order.ensures))
-    (falling-within (length c.args.tabled.set.now) (indexes_of c.args.above))
-
-pub parts_of-requires-clause-time : goal.parts_of-requires-clause-time
-parts_of-requires-clause-time c =
-    let U = c.args.tabled.set.now in
+-- a response within the deadline covers its demand
+pub unreachable-requires : goal.unreachable-requires
+unreachable-requires c =
+    let U = c.args.set.now in
     let i = c.args.task in
-    let step = ends-step (demand_of U i (indexes_of c.args.above)) (limit_of (task_at U i)) c.last_two-before.result.0 c.last_two-before.result.1 c.args.chain.now c.requires.chain c.last_two-before.ensures in
-    omega (arith, step.within, limit-fits U c.sheets.ensures.kept i c.requires.task)
-
-pub overflow_add-result : goal.overflow_add-result
-overflow_add-result c =
-    let U = c.args.tabled.set.now in
-    let i = c.args.task in
-    let H = indexes_of c.args.above in
-    let step = ends-step (demand_of U i H) (limit_of (task_at U i)) c.last_two-before.result.0 c.last_two-before.result.1 c.args.chain.now c.requires.chain c.last_two-before.ensures in
-    let within : c.last_two-before.result.0 ≤ 10000000 = omega (arith, step.within, limit-fits U c.sheets.ensures.kept i c.requires.task) in
-    let valid = valid_at U i c.sheets.ensures.kept c.requires.task in
-    let read = task_read U c.sheets.result.now i c.index-sheets-task.result c.sheets.ensures.same c.requires.task c.index-sheets-task.is in
-    let jitter = c.jitter.ensures ∙ ap (λ (t : Task). t.jitter) read in
-    omega (arith, step.demanded, demand-fits U c.sheets.ensures.kept i H c.last_two-before.result.0 c.requires.task within, valid.jitter, valid.deadline_to, valid.period_to, jitter)
+    let passes = subst (λ (a : Answer). IsAnswer U i (indexes_of c.args.above) a) c.in-Pass.is c.in_ok-chain.ensures.answer in
+    c.requires.fails (past_jitter (task_at U i) c.in-Pass.response, passes.0.positive, omega (arith, passes.1), omega (arith, passes.0.fixed))

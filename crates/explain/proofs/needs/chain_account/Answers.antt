@@ -5,7 +5,7 @@ use Rattle.task_sheet.specs.Demand.{demand_of, limit_of}
 use Rattle.task_sheet.proofs.DemandFits.{limit-fits, demand-fits}
 use Rattle.task_sheet.proofs.TaskLaws.{task_read, valid_at}
 use Rattle.explain.proofs.NeedLaws.{ends-step, full-two}
-use Rattle.judge.proofs.missed.chain_account.Goals as goal
+use Rattle.explain.proofs.needs.chain_account.Goals as goal
 
 pub last_two-before-requires : goal.last_two-before-requires
 last_two-before-requires c =
