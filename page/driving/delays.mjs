@@ -7,8 +7,9 @@ import { soon } from './hand.mjs';
 import { longest_chains, many_notes, many_sections, ordinary, too_much } from './heavy.mjs';
 import { PAGE_URL, browser, cell, equal, expect, is_firefox } from './page.mjs';
 
-// Milliseconds; the rounds of an edit; and how many of all edits are no first ones.
-const AIM = 50, ROUNDS = 6, SPARE = 20;
+// Milliseconds (what Firefox is measured by may have several tasks in it: holds.mjs); the rounds of
+// an edit; and how many of all edits are no first ones.
+const AIM = is_firefox ? 75 : 50, ROUNDS = 6, SPARE = 20;
 
 const held = [];
 let spare = SPARE;
