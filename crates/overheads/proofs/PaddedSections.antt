@@ -1,11 +1,12 @@
 -- Sections with what the node takes: one after the other, as many, and as they were where it takes nothing.
-use Rattle.std.proofs.Common.{◌≡◌, ℕ, zero, suc, ◌+◌, ◌<◌, ◌≤◌, List, [], ◌∷◌, ◌++◌, length, get_or, take, refl, sym, ◌∙◌, ap, subst, arith}
+use Rattle.std.proofs.Common.{◌≡◌, ℕ, zero, suc, ◌+◌, ◌-◌, ◌<◌, ◌≤◌, List, [], ◌∷◌, ◌++◌, length, get_or, take, refl, sym, ◌∙◌, ap, subst, arith}
 use Rattle.std.proofs.Math.Nat.{mul-le-mul_right, zero-mul}
 use Rattle.std.proofs.lemmas.List.{take_more}
 use Rattle.std.proofs.lemmas.List.Sums.{sum_by-cons, sum_by_more, sum_by_more_le}
-use Rattle.task_sheet.specs.Sheet.{CriticalSection, Task, AreSections, IsValidSheet}
+use Rattle.task_sheet.specs.Sheet.{CriticalSection, Task, AreSections, IsValidSheet, no_overhead}
+use Rattle.task_sheet.specs.Overheads.{calls, calls_in}
 use Rattle.task_sheet.specs.declared.node.Node.{Node}
-use Rattle.overheads.specs.Padding.{no_overhead, calls, calls_in, padded_section, padded_sections, padded_cost}
+use Rattle.overheads.specs.Padding.{padded_section, padded_sections, padded_cost}
 
 -- ---- the calls
 pub calls-more : (node : Node) (xs : List CriticalSection) (i : ℕ) (x : CriticalSection) → i < length xs → x ≡ get_or xs i x
@@ -102,7 +103,7 @@ section-within from cost (y ∷ ys) (suc i) x are lt is = section-within (y.at +
 
 -- and what is put into it, within the longest period
 pub section-fits : (node : Node) (t : Task) (items : List CriticalSection) (i : ℕ) (x : CriticalSection) (before : ℕ) → IsValidSheet t → padded_cost node t ≤ t.period → items ≡ t.sections → i < length items
-    → x ≡ get_or items i x → before ≡ node.job + calls_in node (take i items) → x.at + x.len + (before + calls node x) ≤ 10000000
+    → x ≡ get_or items i x → before ≡ node.job - node.release + calls_in node (take i items) → x.at + x.len + (before + calls node x) ≤ 10000000
 section-fits node t items i x before valid room same lt is begins =
     let are : AreSections 0 t.cost items = subst (λ (xs : List CriticalSection). AreSections 0 t.cost xs) (sym same) valid.sections in
     let whole : calls_in node items ≡ calls_in node t.sections = ap (calls_in node) same in

@@ -1,14 +1,15 @@
 -- A set with what the node takes has the same ranks, and is a set where there is room for it.
-use Rattle.std.proofs.Common.{◌≡◌, ℕ, ◌+◌, ◌<◌, ◌≤◌, Option, Some, None, List, [], ◌∷◌, ◌++◌, length, get_or, take, drop, refl, sym, ◌∙◌, ap, arith, map}
+use Rattle.std.proofs.Common.{◌≡◌, ℕ, ◌+◌, ◌<◌, ◌≤◌, Option, Some, None, IfSome, List, [], ◌∷◌, ◌++◌, length, get_or, take, drop, refl, sym, ◌∙◌, ap, arith, map}
 use Rattle.std.specs.List.{AllByRecursion}
 use Rattle.std.specs.Option.{option_or}
 use Rattle.std.proofs.lemmas.List.{drop_more}
 use Rattle.std.proofs.lemmas.List.Elements.{All-from_recursion, recursion_from_All}
-use Rattle.task_sheet.specs.Sheet.{Task, IsValidSheet, no_task, task_at}
-use Rattle.task_sheet.specs.TaskSet.{IsTaskSet, IsByRank}
+use Rattle.task_sheet.specs.Sheet.{Task, AreOverheads, IsValidSheet, no_overhead, no_task, task_at}
+use Rattle.task_sheet.specs.Rank.{IsByRank}
+use Rattle.task_sheet.specs.TaskSet.{IsTaskSet}
 use Rattle.task_sheet.specs.SheetsFault.{sheets_fault}
 use Rattle.task_sheet.specs.declared.node.Node.{Node}
-use Rattle.overheads.specs.Padding.{no_overhead, padded_task, padded, task_fault, padding_fault, IsLighter}
+use Rattle.overheads.specs.Padding.{padded_task, padded, task_fault, padding_fault, padded_by, fault_by, IsUnpadded, IsLighter}
 use Rattle.overheads.specs.declared.padding.PadFault.{PadFault}
 use Rattle.overheads.proofs.MappedSets.{KeepsRanks, count-mapped, mapped-at, mapped-past, mapped-more, IsByRank-mapped, no_fault-mapped, set-mapped}
 use Rattle.overheads.proofs.PaddedTasks.{room_of, valid-padded, room-lighter, task-none, room-none}
@@ -40,17 +41,22 @@ pub first_none : (o p : Option PadFault) → option_or o p ≡ None → (o ≡ N
 first_none None p e = (refl, e)
 first_none (Some f) p e = absurd (cc)
 
-valid-each : (node : Node) (U : List Task) → AllByRecursion IsValidSheet U → padding_fault node U ≡ None → AllByRecursion IsValidSheet (padded node U)
-valid-each node [] valid room = tt
-valid-each node (t ∷ ts) valid room =
+valid-each : (node : Node) (U : List Task) → AreOverheads node → AllByRecursion IsValidSheet U → padding_fault node U ≡ None → AllByRecursion IsValidSheet (padded node U)
+valid-each node [] limits valid room = tt
+valid-each node (t ∷ ts) limits valid room =
     let both = first_none (task_fault node t) (padding_fault node ts) room in
     let own = room_of node t both.0 in
-    (valid-padded node t valid.0 own.cost own.jitter, valid-each node ts valid.1 both.1)
+    (valid-padded node t limits valid.0 own.cost own.jitter, valid-each node ts limits valid.1 both.1)
 
-pub set-padded : (U : List Task) (node : Node) → IsTaskSet U → padding_fault node U ≡ None → IsTaskSet (padded node U)
-set-padded U node set room =
-    let valid = All-from_recursion IsValidSheet (padded node U) (valid-each node U (recursion_from_All IsValidSheet U set.valid) room) in
+pub set-padded : (U : List Task) (node : Node) → IsTaskSet U → AreOverheads node → padding_fault node U ≡ None → IsTaskSet (padded node U)
+set-padded U node set limits room =
+    let valid = All-from_recursion IsValidSheet (padded node U) (valid-each node U limits (recursion_from_All IsValidSheet U set.valid) room) in
     set-mapped (padded_task node) (keeps-padded node) U set valid
+
+-- the same where there may be no node
+pub set-padded_by : (U : List Task) (said : Option Node) → IsTaskSet U → IfSome said AreOverheads → fault_by said U ≡ None → IsTaskSet (padded_by said U)
+set-padded_by U None set limits room = set
+set-padded_by U (Some node) set limits room = set-padded U node set limits room
 
 pub fault-lighter : (U : List Task) (light heavy : Node) → IsLighter light heavy → padding_fault heavy U ≡ None → padding_fault light U ≡ None
 fault-lighter [] light heavy is none = refl
@@ -59,9 +65,12 @@ fault-lighter (t ∷ ts) light heavy is none =
     rw (room-lighter light heavy t is both.0) (fault-lighter ts light heavy is both.1)
 
 -- ---- nothing
-pub padded-none : (U : List Task) → padded no_overhead U ≡ U
-padded-none [] = refl
-padded-none (t ∷ ts) = ap (λ (y : Task). y ∷ padded no_overhead ts) (task-none t) ∙ ap (λ (ys : List Task). t ∷ ys) (padded-none ts)
+none-each : (U : List Task) → AllByRecursion (λ t. t.node ≡ no_overhead) U → padded no_overhead U ≡ U
+none-each [] none = refl
+none-each (t ∷ ts) none = ap (λ (y : Task). y ∷ padded no_overhead ts) (task-none t none.0) ∙ ap (λ (ys : List Task). t ∷ ys) (none-each ts none.1)
+
+pub padded-none : (U : List Task) → IsUnpadded U → padded no_overhead U ≡ U
+padded-none U none = none-each U (recursion_from_All (λ t. t.node ≡ no_overhead) U none)
 
 room-each : (U : List Task) → AllByRecursion IsValidSheet U → padding_fault no_overhead U ≡ None
 room-each [] valid = refl
@@ -71,7 +80,7 @@ pub fault-none : (U : List Task) → IsTaskSet U → padding_fault no_overhead U
 fault-none U set = room-each U (recursion_from_All IsValidSheet U set.valid)
 
 pub lightest : (node : Node) → IsLighter no_overhead node
-lightest node = record { job = omega arith; lock = omega arith; late = omega arith }
+lightest node = record { job = omega arith; lock = omega arith; release = omega arith; late = omega arith }
 
 -- ---- one sheet more
 pub padded-more : (node : Node) (U xs ys : List Task) (i : ℕ) (x y : Task) → i < length U → x ≡ get_or U i x → y ≡ padded_task node x → xs ≡ map (padded_task node) (take i U)

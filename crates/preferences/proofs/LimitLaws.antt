@@ -11,7 +11,7 @@ use Rattle.std.proofs.lemmas.List.Elements.{All-from_recursion, recursion_from_A
 use Rattle.std.proofs.lemmas.List.Sorted.{All-permutation, sum_by-IsPermutation, IsPermutation-refl}
 use Rattle.std.proofs.lemmas.Map.Keys.{Less-from_sorted}
 use Rattle.task_sheet.specs.Sheet.{Task, weighing, no_task, task_at}
-use Rattle.task_sheet.specs.TaskSet.{rank_cmp, IsByRank}
+use Rattle.task_sheet.specs.Rank.{rank_cmp, IsByRank}
 use Rattle.task_sheet.specs.Demand.{limit_of}
 use Rattle.task_sheet.specs.Orders.{IsBetter}
 use Rattle.preferences.specs.Preferences.{longer_limits, reweighed_in, reweighed}

@@ -3,7 +3,7 @@ use Rattle.std.proofs.Common.{◌≡◌, ℕ, ◌<◌, ◌≤◌, inl, inr, true
 use Rattle.std.specs.List.{AllByRecursion}
 use Rattle.std.proofs.lemmas.Bool.{cases_eq, cases_order, eq-eqb, ne_eqb, or_cases, or_left, or_right, ltb-true}
 use Rattle.task_sheet.specs.Sheet.{Task, AllTasks, task_at}
-use Rattle.task_sheet.specs.TaskSet.{IsByRank}
+use Rattle.task_sheet.specs.Rank.{IsByRank}
 use Rattle.task_sheet.specs.Indexes.{Indexes, IsPart, among, without_index}
 use Rattle.task_sheet.specs.Demand.{limit_of}
 use Rattle.task_sheet.specs.Orders.{all_of, Stands, IsOrderOf, AllStand, IsPassingOrder, IsBetter, IsBest}

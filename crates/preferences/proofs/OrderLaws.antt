@@ -2,7 +2,7 @@
 use Rattle.std.proofs.Common.{◌≡◌, ◌↔◌, ℕ, ◌<◌, ◌⊎◌, inl, inr, List, length}
 use Rattle.std.specs.List.{AllByRecursion}
 use Rattle.task_sheet.specs.Sheet.{Task}
-use Rattle.task_sheet.specs.TaskSet.{IsByRank}
+use Rattle.task_sheet.specs.Rank.{IsByRank}
 use Rattle.task_sheet.specs.Orders.{all_of, IsOrder, IsPassingOrder, IsBetter, IsBest}
 use Rattle.task_sheet.proofs.IndexLaws.{order-below}
 use Rattle.task_sheet.proofs.LevelLaws.{compare_orders}

@@ -7,7 +7,7 @@ use Rattle.std.proofs.lemmas.List.Sums.{sum_by-cons}
 use Rattle.task_sheet.specs.Sheet.{CriticalSection, Task, weighing, task_at}
 use Rattle.task_sheet.specs.Indexes.{Indexes, below, among, with_index, sum_below, greatest_below, some_below}
 use Rattle.task_sheet.specs.Locks.{shares_lock, reaches}
-use Rattle.task_sheet.specs.Demand.{greatest_of, longest_reached, blocking_of, interference_of, demand_of, limit_of}
+use Rattle.task_sheet.specs.Demand.{greatest_of, longest_reached, blocking_of, interference_of, interrupts_of, interrupts_within, demand_of, limit_of}
 use Rattle.task_sheet.specs.Orders.{must_outrank, is_bound, Stands, AllStand, IsPassingOrder, IsFeasible}
 use Rattle.preferences.specs.Preferences.{order_names, KeepsOrders}
 use Rattle.task_sheet.proofs.Below.{greatest_below-le, le-greatest_below, some_below-at, some_below-witness, some_below-none}
@@ -110,6 +110,13 @@ module _ (turn : ℕ → ℕ) (U V : List Task) (are : AreRenumbered turn U V) w
       ∙ ap (λ (f : ℕ → ℕ). sum_below (length U) f) (fun_ext (λ h. ap (λ (x : Task). cond (H (turn h)) (interference_of x t) 0) (are.same h).1))
       ∙ are.turns.sums (λ h. cond (H h) (interference_of (task_at U h) t) 0)
 
+  interrupts-turned : (t : ℕ) → interrupts_within V t ≡ interrupts_within U t
+  unfolding interrupts_within
+  interrupts-turned t =
+      ap (λ m. sum_below m (λ k. interrupts_of t (task_at V k))) are.count
+      ∙ ap (λ (f : ℕ → ℕ). sum_below (length U) f) (fun_ext (λ k. ap (λ (x : Task). interrupts_of t x) (are.same k).1))
+      ∙ are.turns.sums (λ k. interrupts_of t (task_at U k))
+
   own : (i : ℕ) → (weight : ℕ) × (task_at V (turn i) ≡ weighing (task_at U i) weight)
   own i =
       let there = are.same (turn i) in
@@ -117,7 +124,7 @@ module _ (turn : ℕ → ℕ) (U V : List Task) (are : AreRenumbered turn U V) w
 
   demand-turned : (i : ℕ) (H : Indexes) (t : ℕ) → demand_of V (turn i) (λ k. H (turn k)) t ≡ demand_of U i H t
   unfolding demand_of
-  demand-turned i H t = omega (arith, ap (λ (x : Task). x.cost) (own i).1, blocking-turned i H, interference-turned H t)
+  demand-turned i H t = omega (arith, ap (λ (x : Task). x.cost) (own i).1, blocking-turned i H, interference-turned H t, interrupts-turned t)
 
   bound-turned : (i : ℕ) (H : Indexes) → is_bound V (turn i) (λ k. H (turn k)) ≡ is_bound U i H
   unfolding is_bound

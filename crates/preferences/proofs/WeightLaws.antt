@@ -5,7 +5,8 @@ use Rattle.std.proofs.lemmas.List.{length-map, map_more}
 use Rattle.std.proofs.lemmas.List.Elements.{All-from_recursion, recursion_from_All}
 use Rattle.std.proofs.lemmas.List.Sorted.{IsPermutation-refl, All-permutation}
 use Rattle.task_sheet.specs.Sheet.{Task, IsTask, AllTasks, weighing}
-use Rattle.task_sheet.specs.TaskSet.{same_name, AreDistinct, IsTaskSet, IsByRank}
+use Rattle.task_sheet.specs.Rank.{IsByRank}
+use Rattle.task_sheet.specs.TaskSet.{same_name, AreDistinct, IsTaskSet}
 use Rattle.task_sheet.specs.SheetsFault.{sheets_fault}
 use Rattle.task_sheet.proofs.SetLaws.{no_fault, by_rank_one}
 use Rattle.teams.specs.ReadsText.{ReadsText}

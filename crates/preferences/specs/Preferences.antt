@@ -2,7 +2,7 @@
 -- set the best is the one nearest to limit-monotonic (Leung, Whitehead 1982; with jitter Zuhily, Burns 2007).
 use Rattle.std.specs.Prelude.{◌≡◌, ℕ, nat_lt, List, map, count_by}
 use Rattle.task_sheet.specs.Sheet.{Task, weighing, task_at}
-use Rattle.task_sheet.specs.TaskSet.{IsByRank}
+use Rattle.task_sheet.specs.Rank.{IsByRank}
 use Rattle.task_sheet.specs.Demand.{limit_of}
 use Rattle.task_sheet.specs.Orders.{IsPassingOrder}
 use Rattle.task_sheet.specs.declared.prefer.Preference.{Preference}

@@ -1,7 +1,7 @@
 //! Sets by a preference.
 ghost use Rattle.std.specs.Prelude.{◌≡◌, ◌≤◌, length, IfOk, IfErr};
 ghost use Rattle.task_sheet.specs.declared.set.TheConstants.{TASK_LIMIT};
-ghost use Rattle.task_sheet.specs.TaskSet.{IsByRank};
+ghost use Rattle.task_sheet.specs.Rank.{IsByRank};
 ghost use Rattle.preferences.specs.Preferences.{longer_limits, reweighed_in, reweighed, IsPreferred};
 ghost use Rattle.preferences.specs.ReadsPreferred.{ReadsPreferred};
 

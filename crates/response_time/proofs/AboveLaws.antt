@@ -3,10 +3,11 @@ use Rattle.std.proofs.Common.{◌≡◌, ℕ, ◌+◌, ◌≤◌, true, false, c
 use Rattle.std.proofs.lemmas.Bool.{cond-true, cond-false}
 use Rattle.task_sheet.specs.Sheet.{Task, task_at, IsValidSheet}
 use Rattle.task_sheet.specs.Indexes.{Indexes, sum_below}
-use Rattle.task_sheet.specs.Demand.{interference_of, blocking_of, demand_of}
+use Rattle.task_sheet.specs.Demand.{interference_of, blocking_of, interrupts_within, demand_of}
 use Rattle.task_sheet.proofs.Below.{sum_step}
 use Rattle.task_sheet.proofs.Releases.{cost-le-interference}
 use Rattle.task_sheet.proofs.TaskLaws.{IsTask-from_valid}
+use Rattle.response_time.specs.Workload.{work_of}
 
 -- of the first n tasks of U those among H
 abbrev pub interference_first : List Task → Indexes → ℕ → ℕ → ℕ
@@ -30,6 +31,14 @@ module _ (U : List Task) (H : Indexes) (time n : ℕ) where
 
 -- all tasks
 pub first-all : (U V : List Task) (i : ℕ) (H : Indexes) (time n : ℕ) → V ≡ U → n ≡ length V
-    → (task_at U i).cost + blocking_of U i H + interference_first V H time n ≡ demand_of U i H time
-unfolding demand_of
+    → (task_at U i).cost + blocking_of U i H + interference_first V H time n ≡ work_of U i H time
 first-all U V i H time n same all = rw (all, same) refl
+
+-- a demand is the work, and what timers and interrupts take
+pub demand-parts : (U : List Task) (i : ℕ) (H : Indexes) (time : ℕ) → demand_of U i H time ≡ work_of U i H time + interrupts_within U time
+unfolding demand_of
+demand-parts U i H time = refl
+
+-- the next number of a walk is the demand
+pub next-is : (U : List Task) (i : ℕ) (H : Indexes) (time next work : ℕ) → next ≡ work + interrupts_within U time → work ≡ work_of U i H time → next ≡ demand_of U i H time
+next-is U i H time next work is same = omega (arith, is, same, demand-parts U i H time)

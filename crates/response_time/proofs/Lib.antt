@@ -3,3 +3,4 @@ pub mod LeastWindows
 pub mod FirstCovers
 pub mod Walks
 pub mod AboveLaws
+pub mod InterruptSums

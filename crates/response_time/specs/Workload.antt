@@ -1,9 +1,15 @@
--- The demand of a task in a window, from its parts, and how it is carried from a window to a longer
--- one.
+-- The work of a task in a window, which is its demand but for timers and interrupts, from its parts, and how it is
+-- carried from a window to a longer one.
 use Rattle.std.specs.Prelude.{◌≡◌, ℕ, ◌+◌, ◌-◌, ◌*◌, ◌<◌, ◌≤◌, List, All, sum_by}
 use Rattle.std.specs.Int.{div_ceil}
-use Rattle.task_sheet.specs.Demand.{jobs_within}
+use Rattle.task_sheet.specs.Sheet.{Task, task_at}
+use Rattle.task_sheet.specs.Indexes.{Indexes}
+use Rattle.task_sheet.specs.Demand.{jobs_within, blocking_of, interference_within}
 use Rattle.response_time.specs.declared.workload.TheConstants.{WINDOW_LIMIT}
+
+-- the work of a task i of the set U with the tasks H above it: its cost, its blocking, and their interference
+abbrev pub work_of : List Task → ℕ → Indexes → ℕ → ℕ
+work_of U i H time = (task_at U i).cost + blocking_of U i H + interference_within U H time
 
 -- how often a task above comes, how late at most, what it takes each time, and the longest window
 -- within which no job is released but those that are counted
@@ -21,8 +27,8 @@ pub record IsShare (s : ShareData) : Type 0 where
   pub within : s.cost ≤ s.period
   pub reach : s.due ≤ 3 * WINDOW_LIMIT
 
--- what is executed once, the shares of the tasks above that release more and more, and the demand
--- in the last window
+-- what is executed once, the shares of the tasks above that release more and more, and the work in
+-- the last window
 pub record WorkloadData : Type 0 where
   pub always : ℕ
   pub shares : List ShareData
@@ -33,7 +39,7 @@ pub record WorkloadData : Type 0 where
 abbrev pub share_within : ℕ → ShareData → ℕ
 share_within time s = jobs_within s.period s.jitter time * s.cost
 
--- the demand in a window: what is executed once, and what the shares take
+-- the work in a window: what is executed once, and what the shares take
 abbrev pub work_within : ℕ → WorkloadData → ℕ
 work_within time w = w.always + sum_by (share_within time) w.shares
 
@@ -63,7 +69,7 @@ pub record IsCountedTo (time : ℕ) (s : ShareData) : Type 0 where
   pub within : s.cost ≤ s.period
   pub all : s.due + s.jitter ≡ jobs_within s.period s.jitter time * s.period
 
--- the demand is that of the last window
+-- the total is the work in the last window
 pub record IsCarried (w : WorkloadData) : Type 0 where
   pub counted : All (IsCountedTo w.time) w.shares
   pub total : w.total ≡ work_within w.time w

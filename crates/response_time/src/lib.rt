@@ -2,19 +2,23 @@
 //! microseconds.
 #![tactic(auto)]
 
-ghost use Rattle.std.specs.Prelude.{◌≡◌, ◌≤◌, ◌<◌, ◌↔◌, ℕ, List, length, IsTrue, IfOk, IfSome, IfNone};
+ghost use Rattle.std.specs.Prelude.{◌≡◌, ◌+◌, ◌≤◌, ◌<◌, ◌↔◌, ℕ, List, length, IsTrue, IfOk, IfSome, IfNone};
+ghost use Rattle.std.specs.Bool.{OnFalse};
 ghost use Rattle.task_sheet.specs.Sheet.{task_at};
 ghost use Rattle.task_sheet.specs.TaskSet.{IsTaskSet};
 ghost use Rattle.response_time.specs.declared.workload.TheConstants.{WINDOW_LIMIT};
 ghost use Rattle.task_sheet.specs.Indexes.{indexes_of};
 ghost use Rattle.task_sheet.specs.Responses.{IsTrail};
-ghost use Rattle.task_sheet.specs.Demand.{demand_of, limit_of, IsResponseOf, Passes, evaluation_bound};
+ghost use Rattle.task_sheet.specs.Demand.{interrupts_within, IsUninterrupted, demand_of, limit_of, IsResponseOf, Passes, evaluation_bound};
 ghost use Rattle.ceilings.specs.IsTableOf.{IsTableOf};
 ghost use Rattle.response_time.specs.Answers.{IsAnswer};
+ghost use Rattle.response_time.specs.Workload.{work_within};
 
+mod interrupts;
 pub mod laws;
 mod workload;
 
+use crate::interrupts::{has_interrupts, interrupts_within};
 use crate::workload::Workload;
 use ceilings::LockTable;
 use std::alloc::{AllocError, Global};
@@ -57,15 +61,34 @@ fn jitter_of(set: &TaskSet, task: usize) -> u64
     set.sheets()[task].jitter()
 }
 
-/// The demand of a task in a window of `time` microseconds, with these above it: its cost, its blocking, and the cost
-/// of each job of these that is released within the window (Audsley et al. 1993). The table is that of the set.
+/// The demand of a task in a window of `time` microseconds, with these above it: its cost, its blocking, the cost of each
+/// job of these that is released within the window (Audsley et al. 1993), and what the timers and the interrupts of all
+/// tasks take of it (Burns, Wellings). The table is that of the set.
 pub fn demand(set: &TaskSet, table: &LockTable, task: usize, above: Members, time: u64) -> u64
     requires table { IsTableOf set.now table.now }
     requires task { task < length set.now }
     requires time { time ≤ WINDOW_LIMIT }
     ensures { result ≡ demand_of set.now task (indexes_of above) time }
 {
-    Workload::new(set, table, task, above, time, time).advance(time)
+    let work = Workload::new(set, table, task, above, time, time).advance(time);
+    work + interrupts_within(set, time)
+}
+
+// The demand in a window that is no shorter than the last one: the work, and what timers and interrupts take where the
+// set has some.
+fn next_demand(set: &TaskSet, work: &mut Workload, has_some: bool, time: u64) -> u64
+    requires time { time ≤ WINDOW_LIMIT }
+    requires longer { work.old.time ≤ time }
+    requires some { OnFalse has_some (IsUninterrupted set.now) }
+    ensures is { result ≡ work_within time work.old + interrupts_within set.now time }
+    ensures same { (t : ℕ) → work_within t work.new ≡ work_within t work.old }
+    ensures time { work.new.time ≡ time }
+{
+    let next = work.advance(time);
+    if !has_some {
+        return next;
+    }
+    next + interrupts_within(set, time)
 }
 
 // What a task and those above it execute once, in microseconds. Each window has at least this demand.
@@ -104,10 +127,11 @@ pub fn response_in_time(
     if least_demand(set, task, above) > limit {
         return None;
     }
+    let has_some = has_interrupts(set);
     let mut work = Workload::new(set, table, task, above, 1, limit);
     let mut window = work.first_window(limit);
     while window <= limit {
-        let next = work.advance(window);
+        let next = next_demand(set, &mut work, has_some, window);
         if next <= window {
             return Some(window + jitter_of(set, task));
         }
@@ -149,12 +173,13 @@ pub fn respond(
         ≤ evaluation_bound set.now (indexes_of above) (limit_of (task_at set.now task))) }
 {
     let limit = limit_of(set, task);
+    let has_some = has_interrupts(set);
     let mut work = Workload::new(set, table, task, above, 1, limit);
     let mut numbers = Vec::new(alloc);
     let mut time = 1;
     while time <= limit {
         numbers.push(time)?;
-        let next = work.advance(time);
+        let next = next_demand(set, &mut work, has_some, time);
         if next == time {
             let response = time + jitter_of(set, task);
             return Ok(Response {

@@ -1,12 +1,12 @@
-//! The demand of one task below others, carried from a window to a longer one.
+//! The work of one task below others, carried from a window to a longer one.
 ghost use Rattle.std.specs.Prelude.{◌≡◌, ◌+◌, ◌*◌, ◌<◌, ◌≤◌, [], ℕ, length, map, sum_by, take};
 ghost use Rattle.task_sheet.specs.Sheet.{IsValidSheet};
 ghost use Rattle.task_sheet.specs.declared.set.TheConstants.{TASK_LIMIT};
 ghost use Rattle.task_sheet.specs.Indexes.{indexes_of};
-ghost use Rattle.task_sheet.specs.Demand.{interference_of, demand_of};
+ghost use Rattle.task_sheet.specs.Demand.{interference_of};
 ghost use Rattle.ceilings.specs.IsTableOf.{IsTableOf};
 ghost use Rattle.response_time.specs.declared.workload.TheConstants.{WHOLE, WINDOW_LIMIT};
-ghost use Rattle.response_time.specs.Workload.{share_within, work_within, further_work, counted_to, IsCountedTo, ShareData, IsShare, WorkloadData, IsCarried};
+ghost use Rattle.response_time.specs.Workload.{share_within, work_within, work_of, further_work, counted_to, IsCountedTo, ShareData, IsShare, WorkloadData, IsCarried};
 
 use blocking::blocking;
 use ceilings::LockTable;
@@ -132,9 +132,9 @@ fn count_all(shares: &mut [Share], time: u64) -> u64
     work
 }
 
-/// What must be executed for a task: at least once its cost and its blocking, and the shares of the tasks above it. The
-/// demand is carried from a window to a longer one, so that only what is released between the two is counted. A task
-/// above that releases nothing more up to a limit has no share: its jobs count once.
+/// What must be executed for a task: at least once its cost and its blocking, and the shares of the tasks above it. That is
+/// its demand but for timers and interrupts. It is carried from a window to a longer one, so that only what is released
+/// between the two is counted. A task above that releases nothing more up to a limit has no share: its jobs count once.
 #[derive(Drop)]
 pub(crate) struct Workload {
     always: u64,
@@ -165,7 +165,7 @@ impl Model for Workload {
 }
 
 impl Workload {
-    /// The demand of a task with these above it, in windows from the first one up to a limit. The table is that of the
+    /// The work of a task with these above it, in windows from the first one up to a limit. The table is that of the
     /// set.
     pub(crate) fn new(
         set: &TaskSet,
@@ -179,7 +179,7 @@ impl Workload {
         requires task { task < length set.now }
         requires first { first ≤ WINDOW_LIMIT }
         ensures is { (time : ℕ) → first ≤ time → time ≤ limit →
-            work_within time result ≡ demand_of set.now task (indexes_of above) time }
+            work_within time result ≡ work_of set.now task (indexes_of above) time }
         ensures start { result.time ≡ first }
     {
         let sheets = set.sheets();
@@ -229,11 +229,12 @@ impl Workload {
         }
     }
 
-    /// The demand in a window of some microseconds, which is no shorter than the last one.
+    /// The work in a window of some microseconds, which is no shorter than the last one.
     pub(crate) fn advance(&mut self, time: u64) -> u64
         requires time { time ≤ WINDOW_LIMIT }
         requires longer { self.old.time ≤ time }
         ensures is { result ≡ work_within time self.old }
+        ensures fits { result ≤ (2 + 6 * TASK_LIMIT) * WINDOW_LIMIT }
         ensures same { (t : ℕ) → work_within t self.new ≡ work_within t self.old }
         ensures time { self.new.time ≡ time }
     {
@@ -263,7 +264,7 @@ impl Workload {
         (once, parts)
     }
 
-    /// A window below which none covers its demand. Each window has to hold what is executed once beside the parts of
+    /// A window below which none covers its work. Each window has to hold what is executed once beside the parts of
     /// it that the rest takes.
     pub(crate) fn least_window(&self, split: u64) -> u64
         ensures { (time : ℕ) → 1 ≤ time → work_within time self.now ≤ time → result ≤ time }
@@ -275,7 +276,7 @@ impl Workload {
         (once * WHOLE).div_ceil(WHOLE - parts)
     }
 
-    /// A window below which none covers the demand: the first that its own least window is not past, or one past the
+    /// A window below which none covers the work: the first that its own least window is not past, or one past the
     /// limit.
     pub(crate) fn first_window(&self, limit: u64) -> u64
         requires { limit ≤ WINDOW_LIMIT }

@@ -1,14 +1,17 @@
 -- The script of a set says the set.
-use Rattle.std.proofs.Common.{◌≡◌, ◌∙◌, ◌==◌, ◌+◌, ◌<◌, ◌≤◌, ◌^◌, ℕ, zero, suc, true, false, List, [], ◌∷◌, ◌++◌, map, length, codes, bytes_eq, Option, Some, None, Ok, refl, sym, ap, subst, arith, append_assoc}
+use Rattle.std.proofs.Common.{◌≡◌, ◌∙◌, ◌==◌, ◌+◌, ◌<◌, ◌≤◌, ◌^◌, ℕ, zero, suc, Bool, true, false, List, [], ◌∷◌, ◌++◌, map, length, codes, bytes_eq, Option, Some, None, Ok, if◌then◌else◌, refl, sym, ap, subst, arith, append_assoc}
 use Rattle.std.specs.List.{slice_split, join_with_byte, AllByRecursion}
 use Rattle.std.specs.Char.{is_ascii_digit}
 use Rattle.std.specs.Fmt.{decimal}
 use Rattle.std.proofs.lemmas.Bool.{le-leb, lt-ltb}
+use Rattle.std.proofs.lemmas.Bool.Decides.{nat_tests}
 use Rattle.std.proofs.Math.Dec.{eqb-suc-zero}
 use Rattle.std.proofs.lemmas.Fmt.{decimal_digit}
 use Rattle.std.proofs.lemmas.List.Elements.{recursion_from_All}
 use Rattle.task_sheet.specs.Name.{IsName, is_name_byte}
-use Rattle.task_sheet.specs.Sheet.{CriticalSection, OutranksData, Named, AllOthers, Task, MayOutrank, AreSections, IsValidSheet, names_said, task_of, with_jitter}
+use Rattle.task_sheet.specs.declared.node.Node.{Node}
+use Rattle.task_sheet.specs.declared.node.Interrupt.{Interrupt}
+use Rattle.task_sheet.specs.Sheet.{CriticalSection, OutranksData, Named, AllOthers, Task, MayOutrank, AreOverheads, AreSections, IsInterrupt, IsValidSheet, names_said, no_overhead, same_node, task_of, with_jitter}
 use Rattle.task_sheet.specs.TaskSet.{IsTaskSet}
 use Rattle.task_sheet.proofs.SheetLaws.{sheet_valid, outranks_valid}
 use Rattle.lines.specs.Lines.{kept_from, lines_of}
@@ -17,10 +20,11 @@ use Rattle.lines.specs.Words.{number_in, words}
 use Rattle.lines.proofs.NumberLaws.{number_again}
 use Rattle.lines.proofs.Parts.{line_cut}
 use Rattle.drafts.specs.declared.team.TheConstants.{TEAM_LIMIT}
-use Rattle.scripts.specs.Rows.{each_in, field_case, made_in, all_sign, over_in, over_or_none, next_draft, next_field, next_name, next_number, only_draft, open_in, or_bad, pair_of, put_in, round, row_in, section_in, sections_in, sheet_in, sheet_with_jitter, up_to, value_of, value_or_zero, word_names}
+use Rattle.scripts.specs.Rows.{each_in, field_case, made_in, all_sign, interrupt_in, interrupts_or_none, node_of, node_or_none, over_in, over_or_none, next_draft, next_field, next_name, next_number, only_draft, open_in, or_bad, pair_of, put_in, round, row_in, section_in, sections_in, sheet_in, sheet_with_jitter, up_to, value_of, value_or_zero, word_names}
 use Rattle.scripts.specs.Script.{script_from, script_in}
+use Rattle.scripts.proofs.Nodes.{overheads_tested, interrupts_tested}
 use Rattle.scripts.specs.declared.line.Row.TheVariants.{Open, Put, Commit}
-use Rattle.scripted.specs.Scripted.{delay_words, lines_from, lines_of_set, over_words, plus_names, put_line, put_lines, script_of, section_word, section_words, spaced, value_words}
+use Rattle.scripted.specs.Scripted.{delay_words, interrupt_word, interrupt_words, lines_from, lines_of_set, node_numbers, node_words, over_words, plus_names, put_line, put_lines, script_of, section_word, section_words, spaced, value_words}
 use Rattle.scripted.proofs.Spelled.{Lacks, cut_at, joined_again, joined_lacks, lacks_append, name_lacks, number_lacks, uncut}
 
 -- ---- first words
@@ -85,6 +89,7 @@ record IsApart (c : ℕ) : Type 0 where
   plus : (43 == c) ≡ false
   sign : (64 == c) ≡ false
   colon : (58 == c) ≡ false
+  star : (42 == c) ≡ false
 
 section_lacks : (c : ℕ) (s : CriticalSection) → IsApart c → IsSpelled s → Lacks c (section_word s)
 section_lacks c s apart is =
@@ -137,51 +142,107 @@ no_field : (key w : List ℕ) (ws : List (List ℕ)) → Lacks 61 w → next_fie
 unfolding next_field
 no_field key w ws lacks = ap (λ (l : List (List ℕ)). field_case (value_of key (pair_of l)) w ws) (uncut 61 w lacks)
 
-other_field : (key front value : List ℕ) (ws : List (List ℕ)) → Lacks 61 front → Lacks 61 value → bytes_eq front key ≡ false → next_field key ((front ++ 61 ∷ value) ∷ ws) ≡ (None, (front ++ 61 ∷ value) ∷ ws)
-unfolding next_field
-other_field key front value ws lacks lacks' other =
-    ap (λ (l : List (List ℕ)). field_case (value_of key (pair_of l)) (front ++ 61 ∷ value) ws) (cut_at 61 front value lacks ∙ ap (λ (l : List (List ℕ)). front ∷ l) (uncut 61 value lacks'))
-    ∙ rw other refl
-
-this_field : (key value : List ℕ) (ws : List (List ℕ)) → Lacks 61 key → Lacks 61 value → bytes_eq key key ≡ true → next_field key ((key ++ 61 ∷ value) ∷ ws) ≡ (Some value, ws)
-unfolding next_field
-this_field key value ws lacks lacks' same =
-    ap (λ (l : List (List ℕ)). field_case (value_of key (pair_of l)) (key ++ 61 ∷ value) ws) (cut_at 61 key value lacks ∙ ap (λ (l : List (List ℕ)). key ∷ l) (uncut 61 value lacks'))
-    ∙ rw same refl
-
 no_words : (key : List ℕ) → next_field key [] ≡ (None, [])
 unfolding next_field
 no_words key = refl
 
+-- a field of this key, where it has a value
+abbrev field_words : List ℕ → Option (List ℕ) → List (List ℕ)
+field_words key None = []
+field_words key (Some value) = (key ++ 61 ∷ value) ∷ []
+
+-- the value, where there is one, lacks a byte
+abbrev NoneHas : ℕ → Option (List ℕ) → Type 0
+NoneHas c None = Unit {0}
+NoneHas c (Some value) = Lacks c value
+
+-- the words begin with no field of this key
+record NoSuch (key : List ℕ) (ws : List (List ℕ)) : Type 0 where
+  none : next_field key ws ≡ (None, ws)
+
+-- a key is read as such
+record IsKey (key : List ℕ) : Type 0 where
+  lacks : Lacks 61 key
+  same : bytes_eq key key ≡ true
+
+other_field : (key front : List ℕ) (value : Option (List ℕ)) (ws : List (List ℕ)) → IsKey front → NoneHas 61 value → bytes_eq front key ≡ false → NoSuch key ws → NoSuch key (field_words front value ++ ws)
+unfolding next_field
+other_field key front None ws is lacks other after = after
+other_field key front (Some value) ws is lacks other after = record { none = none }
+  where
+    none : next_field key ((front ++ 61 ∷ value) ∷ ws) ≡ (None, (front ++ 61 ∷ value) ∷ ws)
+    none =
+        ap (λ (l : List (List ℕ)). field_case (value_of key (pair_of l)) (front ++ 61 ∷ value) ws) (cut_at 61 front value is.lacks ∙ ap (λ (l : List (List ℕ)). front ∷ l) (uncut 61 value lacks))
+        ∙ rw other refl
+
+this_field : (key : List ℕ) (value : Option (List ℕ)) (ws : List (List ℕ)) → IsKey key → NoneHas 61 value → NoSuch key ws → next_field key (field_words key value ++ ws) ≡ (value, ws)
+unfolding next_field
+this_field key None ws is lacks after = after.none
+this_field key (Some value) ws is lacks after =
+    ap (λ (l : List (List ℕ)). field_case (value_of key (pair_of l)) (key ++ 61 ∷ value) ws) (cut_at 61 key value is.lacks ∙ ap (λ (l : List (List ℕ)). key ∷ l) (uncut 61 value lacks))
+    ∙ rw is.same refl
+
 equals_apart : IsApart 61
-equals_apart = record { name = refl; digit = refl; plus = refl; sign = refl; colon = refl }
+equals_apart = record { name = refl; digit = refl; plus = refl; sign = refl; colon = refl; star = refl }
 
-over_lacks : Lacks 61 (codes "over")
-over_lacks = record { none = (refl, (refl, (refl, (refl, tt)))) }
+delay_key : IsKey (codes "j")
+delay_key = record { lacks = record { none = (refl, tt) }; same = refl }
 
-delay_lacks : Lacks 61 (codes "j")
-delay_lacks = record { none = (refl, tt) }
+over_key : IsKey (codes "over")
+over_key = record { lacks = record { none = (refl, (refl, (refl, (refl, tt)))) }; same = refl }
+
+node_key : IsKey (codes "node")
+node_key = record { lacks = record { none = (refl, (refl, (refl, (refl, tt)))) }; same = refl }
+
+irq_key : IsKey (codes "irq")
+irq_key = record { lacks = record { none = (refl, (refl, (refl, tt))) }; same = refl }
 
 -- the sign of all others
 sign_lacks : (c : ℕ) → (42 == c) ≡ false → Lacks c all_sign
 sign_lacks c other = record { none = (other, tt) }
 
 -- sections are no field
-sections_no_field : (key : List ℕ) (ss : List CriticalSection) → AllByRecursion IsSpelled ss → next_field key (map section_word ss) ≡ (None, map section_word ss)
-sections_no_field key [] each = no_words key
-sections_no_field key (s ∷ ss) each = no_field key (section_word s) (map section_word ss) (section_lacks 61 s equals_apart each.0)
+sections_no_field : (key : List ℕ) (ss : List CriticalSection) → AllByRecursion IsSpelled ss → NoSuch key (map section_word ss)
+sections_no_field key [] each = record { none = no_words key }
+sections_no_field key (s ∷ ss) each = record { none = no_field key (section_word s) (map section_word ss) (section_lacks 61 s equals_apart each.0) }
 
--- the value of `over`
+-- ---- the value of `j`
+delay_value : ℕ → Option (List ℕ)
+delay_value zero = None
+delay_value (suc k) = Some (decimal (suc k))
+
+delay_shape : (jitter : ℕ) → delay_words jitter ≡ field_words (codes "j") (delay_value jitter)
+unfolding delay_value
+delay_shape zero = refl
+delay_shape (suc k) = rw (eqb-suc-zero k) refl
+
+delay_lacks : (c jitter : ℕ) → IsApart c → jitter < 10 ^ 10 → NoneHas c (delay_value jitter)
+unfolding delay_value
+delay_lacks c zero apart short = tt
+delay_lacks c (suc k) apart short = number_lacks c (suc k) apart.digit (omega (arith, short))
+
+delay_again : (jitter : ℕ) → jitter < 10 ^ 10 → value_or_zero (delay_value jitter) ≡ Ok jitter
+unfolding delay_value
+delay_again zero short = refl
+delay_again (suc k) short = ap or_bad (number_again (suc k) short)
+
+-- ---- the value of `over`
 over_value : OutranksData → Option (List ℕ)
 over_value (Named []) = None
 over_value (Named (n ∷ ns)) = Some (plus_names (n ∷ ns))
 over_value AllOthers = Some all_sign
 
-over_next : (said : OutranksData) (ss : List CriticalSection) → AllByRecursion IsName (names_said said) → AllByRecursion IsSpelled ss → next_field (codes "over") (over_words said ++ map section_word ss) ≡ (over_value said, map section_word ss)
+over_shape : (said : OutranksData) → over_words said ≡ field_words (codes "over") (over_value said)
 unfolding over_value
-over_next (Named []) ss named each = sections_no_field (codes "over") ss each
-over_next AllOthers ss named each = this_field (codes "over") all_sign (map section_word ss) over_lacks (sign_lacks 61 refl) refl
-over_next (Named (n ∷ ns)) ss named each = this_field (codes "over") (plus_names (n ∷ ns)) (map section_word ss) over_lacks (plus_lacks 61 (n ∷ ns) refl refl named) refl
+over_shape (Named []) = refl
+over_shape (Named (n ∷ ns)) = refl
+over_shape AllOthers = refl
+
+over_lacks : (c : ℕ) (said : OutranksData) → IsApart c → AllByRecursion IsName (names_said said) → NoneHas c (over_value said)
+unfolding over_value
+over_lacks c (Named []) apart named = tt
+over_lacks c (Named (n ∷ ns)) apart named = plus_lacks c (n ∷ ns) apart.plus apart.name named
+over_lacks c AllOthers apart named = sign_lacks c apart.star
 
 -- names are not the sign of all others
 not_all : (w : List ℕ) → Lacks 42 w → bytes_eq w all_sign ≡ false
@@ -194,28 +255,134 @@ over_again (Named []) named = refl
 over_again (Named (n ∷ ns)) named = rw (not_all (plus_names (n ∷ ns)) (plus_lacks 42 (n ∷ ns) refl refl named), plus_again n ns named) refl
 over_again AllOthers named = refl
 
-no_delay : (said : OutranksData) (ss : List CriticalSection) → AllByRecursion IsName (names_said said) → AllByRecursion IsSpelled ss → next_field (codes "j") (over_words said ++ map section_word ss) ≡ (None, over_words said ++ map section_word ss)
-no_delay (Named []) ss named each = sections_no_field (codes "j") ss each
-no_delay AllOthers ss named each = other_field (codes "j") (codes "over") all_sign (map section_word ss) over_lacks (sign_lacks 61 refl) refl
-no_delay (Named (n ∷ ns)) ss named each = other_field (codes "j") (codes "over") (plus_names (n ∷ ns)) (map section_word ss) over_lacks (plus_lacks 61 (n ∷ ns) refl refl named) refl
+-- ---- words joined by the sign `+`
+pluses_lack : (c : ℕ) (ws : List (List ℕ)) → IsApart c → AllByRecursion (λ w. Lacks c w) ws → Lacks c (plus_names ws)
+pluses_lack c [] apart each = record { none = tt }
+pluses_lack c (w ∷ ws) apart each = subst (λ (l : List ℕ). Lacks c l) (sym (joined w ws)) (joined_lacks 43 c (w ∷ ws) apart.plus each)
 
--- the value of `j`
-delay_value : ℕ → Option (List ℕ)
-delay_value zero = None
-delay_value (suc k) = Some (decimal (suc k))
+pluses_cut : (w : List ℕ) (ws : List (List ℕ)) → Lacks 43 w → AllByRecursion (λ v. Lacks 43 v) ws → slice_split (λ b. b == 43) (plus_names (w ∷ ws)) ≡ w ∷ ws
+pluses_cut w ws lack each = ap (λ (l : List ℕ). slice_split (λ b. b == 43) l) (joined w ws) ∙ joined_again 43 w ws lack each
 
-delay_shape : (k : ℕ) → delay_words (suc k) ≡ (codes "j=" ++ decimal (suc k)) ∷ []
-delay_shape k = rw (eqb-suc-zero k) refl
+-- ---- the value of `node`
+-- numbers that can be spelled
+record IsShortNode (node : Node) : Type 0 where
+  job : node.job < 10 ^ 10
+  lock : node.lock < 10 ^ 10
+  release : node.release < 10 ^ 10
+  late : node.late < 10 ^ 10
 
-delay_next : (jitter : ℕ) (said : OutranksData) (ss : List CriticalSection) → jitter < 10 ^ 10 → AllByRecursion IsName (names_said said) → AllByRecursion IsSpelled ss → next_field (codes "j") (delay_words jitter ++ (over_words said ++ map section_word ss)) ≡ (delay_value jitter, over_words said ++ map section_word ss)
-unfolding delay_value
-delay_next zero said ss short named each = no_delay said ss named each
-delay_next (suc k) said ss short named each = ap (λ (l : List (List ℕ)). next_field (codes "j") (l ++ (over_words said ++ map section_word ss))) (delay_shape k) ∙ this_field (codes "j") (decimal (suc k)) (over_words said ++ map section_word ss) delay_lacks (number_lacks 61 (suc k) refl (omega (arith, short))) refl
+short_node : (node : Node) → AreOverheads node → IsShortNode node
+short_node node are = record {
+  job = omega (arith, are.job);
+  lock = omega (arith, are.lock);
+  release = omega (arith, are.release);
+  late = omega (arith, are.late);
+}
 
-delay_again : (jitter : ℕ) → jitter < 10 ^ 10 → value_or_zero (delay_value jitter) ≡ Ok jitter
-unfolding delay_value
-delay_again zero short = refl
-delay_again (suc k) short = ap or_bad (number_again (suc k) short)
+node_value : Node → Option (List ℕ)
+node_value node = if same_node node no_overhead then None else Some (plus_names (node_numbers node))
+
+same_none : (node : Node) → same_node node no_overhead ≡ true → node ≡ no_overhead
+same_none node same =
+    let job : node.job ≡ 0 = grind (arith, nat_tests) in
+    let lock : node.lock ≡ 0 = grind (arith, nat_tests) in
+    let late : node.late ≡ 0 = grind (arith, nat_tests) in
+    let release : node.release ≡ 0 = grind (arith, nat_tests) in
+    rw (job, lock, late, release) refl
+
+node_shape : (node : Node) → node_words node ≡ field_words (codes "node") (node_value node)
+unfolding node_value
+node_shape node = by (same_node node no_overhead) refl
+  where
+    by : (b : Bool) → same_node node no_overhead ≡ b → node_words node ≡ field_words (codes "node") (node_value node)
+    by true same = rw same refl
+    by false same = rw same refl
+
+numbers_lack : (c : ℕ) (node : Node) → is_ascii_digit c ≡ false → IsShortNode node → AllByRecursion (λ w. Lacks c w) (node_numbers node)
+numbers_lack c node digit short =
+    (number_lacks c node.job digit (omega (arith, short.job)), (number_lacks c node.lock digit (omega (arith, short.lock)), (number_lacks c node.release digit (omega (arith, short.release)), (number_lacks c node.late digit (omega (arith, short.late)), tt))))
+
+node_lacks : (c : ℕ) (node : Node) → IsApart c → IsShortNode node → NoneHas c (node_value node)
+unfolding node_value
+node_lacks c node apart short = by (same_node node no_overhead)
+  where
+    by : (b : Bool) → NoneHas c (if b then None else Some (plus_names (node_numbers node)))
+    by true = tt
+    by false = pluses_lack c (node_numbers node) apart (numbers_lack c node apart.digit short)
+
+numbers_again : (node : Node) → IsShortNode node → node_of (node_numbers node) ≡ Ok node
+unfolding node_of
+numbers_again node short = rw (number_again node.job short.job, number_again node.lock short.lock, number_again node.release short.release, number_again node.late short.late) refl
+
+node_again : (node : Node) → IsShortNode node → node_or_none (node_value node) ≡ Ok node
+unfolding node_value
+node_again node short = by (same_node node no_overhead) refl
+  where
+    lack : AllByRecursion (λ w. Lacks 43 w) (node_numbers node)
+    lack = numbers_lack 43 node refl short
+
+    by : (b : Bool) → same_node node no_overhead ≡ b → node_or_none (if b then None else Some (plus_names (node_numbers node))) ≡ Ok node
+    by true same = ap (λ (n : Node). Ok n) (sym (same_none node same))
+    by false same = ap node_of (pluses_cut (decimal node.job) (decimal node.lock ∷ decimal node.release ∷ decimal node.late ∷ []) lack.0 lack.1) ∙ numbers_again node short
+
+-- ---- the value of `irq`
+record IsShortInterrupt (x : Interrupt) : Type 0 where
+  period : x.period < 10 ^ 10
+  cost : x.cost < 10 ^ 10
+
+short_interrupts : (xs : List Interrupt) → AllByRecursion IsInterrupt xs → AllByRecursion IsShortInterrupt xs
+short_interrupts [] each = tt
+short_interrupts (x ∷ xs) each =
+    let is = each.0 in
+    (record { period = omega (arith, is.period_to); cost = omega (arith, is.cost, is.period_to) }, short_interrupts xs each.1)
+
+interrupt_value : List Interrupt → Option (List ℕ)
+interrupt_value [] = None
+interrupt_value (x ∷ xs) = Some (plus_names (map interrupt_word (x ∷ xs)))
+
+interrupt_shape : (xs : List Interrupt) → interrupt_words xs ≡ field_words (codes "irq") (interrupt_value xs)
+unfolding interrupt_value
+interrupt_shape [] = refl
+interrupt_shape (x ∷ xs) = refl
+
+interrupt_parts : (x : Interrupt) → interrupt_word x ≡ decimal x.period ++ 58 ∷ decimal x.cost
+interrupt_parts x = simp append_assoc
+
+interrupt_lacks : (c : ℕ) (x : Interrupt) → (58 == c) ≡ false → is_ascii_digit c ≡ false → IsShortInterrupt x → Lacks c (interrupt_word x)
+interrupt_lacks c x colon digit short =
+    let cost : Lacks c (decimal x.cost) = number_lacks c x.cost digit (omega (arith, short.cost)) in
+    let back : Lacks c (58 ∷ decimal x.cost) = record { none = (colon, cost.none) } in
+    subst (λ (w : List ℕ). Lacks c w) (sym (interrupt_parts x)) (lacks_append c (decimal x.period) (58 ∷ decimal x.cost) (number_lacks c x.period digit (omega (arith, short.period))) back)
+
+each_lacking : (c : ℕ) (xs : List Interrupt) → (58 == c) ≡ false → is_ascii_digit c ≡ false → AllByRecursion IsShortInterrupt xs → AllByRecursion (λ w. Lacks c w) (map interrupt_word xs)
+each_lacking c [] colon digit each = tt
+each_lacking c (x ∷ xs) colon digit each = (interrupt_lacks c x colon digit each.0, each_lacking c xs colon digit each.1)
+
+interrupts_lack : (c : ℕ) (xs : List Interrupt) → IsApart c → AllByRecursion IsShortInterrupt xs → NoneHas c (interrupt_value xs)
+unfolding interrupt_value
+interrupts_lack c [] apart each = tt
+interrupts_lack c (x ∷ xs) apart each = pluses_lack c (map interrupt_word (x ∷ xs)) apart (each_lacking c (x ∷ xs) apart.colon apart.digit each)
+
+interrupt_again : (x : Interrupt) → IsShortInterrupt x → interrupt_in (interrupt_word x) ≡ Ok x
+unfolding interrupt_in
+interrupt_again x short =
+    let sides : round 58 (interrupt_word x) ≡ Some (decimal x.period, decimal x.cost) =
+    ap (λ (w : List ℕ). round 58 w) (interrupt_parts x)
+    ∙ ap pair_of (cut_at 58 (decimal x.period) (decimal x.cost) (number_lacks 58 x.period refl (omega (arith, short.period))))
+    ∙ ap (λ (l : List (List ℕ)). pair_of (decimal x.period ∷ l)) (uncut 58 (decimal x.cost) (number_lacks 58 x.cost refl (omega (arith, short.cost)))) in
+    rw (sides, number_again x.period short.period, number_again x.cost short.cost) refl
+
+each_again : (xs : List Interrupt) → AllByRecursion IsShortInterrupt xs → each_in interrupt_in (map interrupt_word xs) ≡ Ok xs
+unfolding each_in
+each_again [] each = refl
+each_again (x ∷ xs) each = rw (interrupt_again x each.0, each_again xs each.1) refl
+
+interrupts_again : (xs : List Interrupt) → AllByRecursion IsShortInterrupt xs → interrupts_or_none (interrupt_value xs) ≡ Ok xs
+unfolding interrupt_value
+interrupts_again [] each = refl
+interrupts_again (x ∷ xs) each =
+    let lack = each_lacking 43 (x ∷ xs) refl refl each in
+    ap (each_in interrupt_in) (pluses_cut (interrupt_word x) (map interrupt_word xs) lack.0 lack.1) ∙ each_again (x ∷ xs) each
 
 -- ---- a sheet
 names_valid : (own : List ℕ) (said : OutranksData) → MayOutrank own said → AllByRecursion IsName (names_said said)
@@ -230,6 +397,8 @@ record IsShort (t : Task) : Type 0 where
   cost : t.cost < 10 ^ 10
   jitter : t.jitter < 10 ^ 10
   names : AllByRecursion IsName (names_said t.outranks)
+  node : IsShortNode t.node
+  interrupts : AllByRecursion IsShortInterrupt t.interrupts
   sections : AllByRecursion IsSpelled t.sections
 
 short_sheet : (t : Task) → IsValidSheet t → IsShort t
@@ -242,6 +411,8 @@ short_sheet t is =
       cost = cost;
       jitter = omega (arith, is.jitter, is.deadline_to, is.period_to);
       names = names_valid t.name t.outranks is.outranked;
+      node = short_node t.node is.overheads;
+      interrupts = short_interrupts t.interrupts (recursion_from_All IsInterrupt t.interrupts is.interrupts.valid);
       sections = spelled_sections 0 t.cost t.sections cost is.sections;
     }
 
@@ -252,9 +423,18 @@ made_again t is = rw (sections_again t.sections (short_sheet t is).sections, she
 late_again : (t : Task) → IsValidSheet t → sheet_with_jitter t.jitter (task_of t.name t.weight t.period t.deadline t.cost t.sections) ≡ Ok (with_jitter (task_of t.name t.weight t.period t.deadline t.cost t.sections) t.jitter)
 late_again t is = rw (lt-ltb t.jitter t.deadline is.jitter) refl
 
--- what may be left out
+-- what may be left out, each with what stands behind it
+abbrev interrupt_rest : Task → List (List ℕ)
+interrupt_rest t = field_words (codes "irq") (interrupt_value t.interrupts) ++ map section_word t.sections
+
+abbrev node_rest : Task → List (List ℕ)
+node_rest t = field_words (codes "node") (node_value t.node) ++ interrupt_rest t
+
+abbrev over_rest : Task → List (List ℕ)
+over_rest t = field_words (codes "over") (over_value t.outranks) ++ node_rest t
+
 abbrev more_words : Task → List (List ℕ)
-more_words t = delay_words t.jitter ++ over_words t.outranks ++ section_words t.sections
+more_words t = field_words (codes "j") (delay_value t.jitter) ++ over_rest t
 
 -- the words behind `put`
 abbrev put_words : Task → List (List ℕ)
@@ -264,41 +444,75 @@ spaced_append : (vs ws : List (List ℕ)) → spaced (vs ++ ws) ≡ spaced vs ++
 spaced_append [] ws = refl
 spaced_append (v ∷ vs) ws = ap (λ (l : List ℕ). (codes " " ++ v) ++ l) (spaced_append vs ws) ∙ sym (append_assoc (codes " " ++ v) (spaced vs) (spaced ws))
 
+-- the same words, one after the other
+more_spaced : (t : Task) → spaced (more_words t) ≡ spaced (delay_words t.jitter) ++ (spaced (over_words t.outranks) ++ (spaced (node_words t.node) ++ (spaced (interrupt_words t.interrupts) ++ spaced (section_words t.sections))))
+more_spaced t =
+    let D : List (List ℕ) = field_words (codes "j") (delay_value t.jitter) in
+    let O : List (List ℕ) = field_words (codes "over") (over_value t.outranks) in
+    let N : List (List ℕ) = field_words (codes "node") (node_value t.node) in
+    let I : List (List ℕ) = field_words (codes "irq") (interrupt_value t.interrupts) in
+    let irq : spaced (interrupt_rest t) ≡ spaced I ++ spaced (section_words t.sections) = spaced_append I (section_words t.sections) in
+    let node : spaced (node_rest t) ≡ spaced N ++ spaced (interrupt_rest t) = spaced_append N (interrupt_rest t) in
+    let over : spaced (over_rest t) ≡ spaced O ++ spaced (node_rest t) = spaced_append O (node_rest t) in
+    let delay : spaced (more_words t) ≡ spaced D ++ spaced (over_rest t) = spaced_append D (over_rest t) in
+    rw (delay_shape t.jitter, over_shape t.outranks, node_shape t.node, interrupt_shape t.interrupts)
+    (delay ∙ ap (λ (l : List ℕ). spaced D ++ l) (over ∙ ap (λ (l : List ℕ). spaced O ++ l) (node ∙ ap (λ (l : List ℕ). spaced N ++ l) irq)))
+
 put_shape : (t : Task) → put_line t ≡ codes "put" ++ spaced (put_words t)
 put_shape t =
     let V : List (List ℕ) = value_words t in
-    let D : List (List ℕ) = delay_words t.jitter in
-    let O : List (List ℕ) = over_words t.outranks in
-    let S : List (List ℕ) = section_words t.sections in
-    let more : spaced (put_words t) ≡ spaced V ++ ((spaced D ++ spaced O) ++ spaced S) =
-    spaced_append V ((D ++ O) ++ S) ∙ ap (λ (l : List ℕ). spaced V ++ l) (spaced_append (D ++ O) S ∙ ap (λ (l : List ℕ). l ++ spaced S) (spaced_append D O)) in
-    regroup (codes "put") (spaced V) (spaced D) (spaced O) (spaced S) ∙ ap (λ (l : List ℕ). codes "put" ++ l) (sym more)
+    regroup (codes "put") (spaced V) (spaced (delay_words t.jitter)) (spaced (over_words t.outranks)) (spaced (node_words t.node)) (spaced (interrupt_words t.interrupts)) (spaced (section_words t.sections))
+    ∙ ap (λ (l : List ℕ). codes "put" ++ l) (sym (spaced_append V (more_words t) ∙ ap (λ (l : List ℕ). spaced V ++ l) (more_spaced t)))
   where
-    regroup : (p v d o s : List ℕ) → (((p ++ v) ++ d) ++ o) ++ s ≡ p ++ (v ++ ((d ++ o) ++ s))
-    regroup p v d o s = simp append_assoc
+    regroup : (p v d o n i s : List ℕ) → ((p ++ v) ++ (((d ++ o) ++ n) ++ i)) ++ s ≡ p ++ (v ++ (d ++ (o ++ (n ++ (i ++ s)))))
+    regroup p v d o n i s = simp append_assoc
 
-more_shape : (t : Task) → more_words t ≡ delay_words t.jitter ++ (over_words t.outranks ++ map section_word t.sections)
-more_shape t = append_assoc (delay_words t.jitter) (over_words t.outranks) (map section_word t.sections)
+-- no field stands where another one is wanted
+module _ (t : Task) (short : IsShort t) where
+  interrupt_none : (key : List ℕ) → bytes_eq (codes "irq") key ≡ false → NoSuch key (interrupt_rest t)
+  interrupt_none key other = other_field key (codes "irq") (interrupt_value t.interrupts) (map section_word t.sections) irq_key (interrupts_lack 61 t.interrupts equals_apart short.interrupts) other (sections_no_field key t.sections short.sections)
+
+  node_none : (key : List ℕ) → bytes_eq (codes "node") key ≡ false → bytes_eq (codes "irq") key ≡ false → NoSuch key (node_rest t)
+  node_none key other irq = other_field key (codes "node") (node_value t.node) (interrupt_rest t) node_key (node_lacks 61 t.node equals_apart short.node) other (interrupt_none key irq)
+
+  over_none : NoSuch (codes "j") (over_rest t)
+  over_none = other_field (codes "j") (codes "over") (over_value t.outranks) (node_rest t) over_key (over_lacks 61 t.outranks equals_apart short.names) refl (node_none (codes "j") refl refl)
+
+  delay_next : next_field (codes "j") (more_words t) ≡ (delay_value t.jitter, over_rest t)
+  delay_next = this_field (codes "j") (delay_value t.jitter) (over_rest t) delay_key (delay_lacks 61 t.jitter equals_apart short.jitter) over_none
+
+  over_next : next_field (codes "over") (over_rest t) ≡ (over_value t.outranks, node_rest t)
+  over_next = this_field (codes "over") (over_value t.outranks) (node_rest t) over_key (over_lacks 61 t.outranks equals_apart short.names) (node_none (codes "over") refl refl)
+
+  node_next : next_field (codes "node") (node_rest t) ≡ (node_value t.node, interrupt_rest t)
+  node_next = this_field (codes "node") (node_value t.node) (interrupt_rest t) node_key (node_lacks 61 t.node equals_apart short.node) (interrupt_none (codes "node") refl)
+
+  interrupt_next : next_field (codes "irq") (interrupt_rest t) ≡ (interrupt_value t.interrupts, map section_word t.sections)
+  interrupt_next = this_field (codes "irq") (interrupt_value t.interrupts) (map section_word t.sections) irq_key (interrupts_lack 61 t.interrupts equals_apart short.interrupts) (sections_no_field (codes "irq") t.sections short.sections)
 
 sheet_again : (t : Task) → IsValidSheet t → sheet_in (t.name ∷ decimal t.weight ∷ decimal t.period ∷ decimal t.deadline ∷ decimal t.cost ∷ more_words t) ≡ Ok t
 unfolding sheet_in
 sheet_again t is =
     let short = short_sheet t is in
-    let rest : List (List ℕ) = delay_words t.jitter ++ (over_words t.outranks ++ map section_word t.sections) in
     rw (
-      more_shape t,
-      name_next t.name (decimal t.weight ∷ decimal t.period ∷ decimal t.deadline ∷ decimal t.cost ∷ rest) is.named,
-      number_next t.weight (decimal t.period ∷ decimal t.deadline ∷ decimal t.cost ∷ rest) short.weight,
-      number_next t.period (decimal t.deadline ∷ decimal t.cost ∷ rest) short.period,
-      number_next t.deadline (decimal t.cost ∷ rest) short.deadline,
-      number_next t.cost rest short.cost,
-      delay_next t.jitter t.outranks t.sections short.jitter short.names short.sections,
+      name_next t.name (decimal t.weight ∷ decimal t.period ∷ decimal t.deadline ∷ decimal t.cost ∷ more_words t) is.named,
+      number_next t.weight (decimal t.period ∷ decimal t.deadline ∷ decimal t.cost ∷ more_words t) short.weight,
+      number_next t.period (decimal t.deadline ∷ decimal t.cost ∷ more_words t) short.period,
+      number_next t.deadline (decimal t.cost ∷ more_words t) short.deadline,
+      number_next t.cost (more_words t) short.cost,
+      delay_next t short,
       delay_again t.jitter short.jitter,
-      over_next t.outranks t.sections short.names short.sections,
+      over_next t short,
       over_again t.outranks short.names,
+      node_next t short,
+      node_again t.node short.node,
+      interrupt_next t short,
+      interrupts_again t.interrupts short.interrupts,
       made_again t is,
       late_again t is,
       outranks_valid t.name t.outranks is.outranked,
+      overheads_tested t.node is.overheads,
+      interrupts_tested t.interrupts is.interrupts,
     ) refl
 
 -- ---- a line
@@ -320,9 +534,11 @@ spaced_lacks c (w ∷ ws) other each =
 record IsGap (c : ℕ) : Type 0 where
   apart : IsApart c
   one : Lacks c (codes "1")
-  delay : Lacks c (codes "j=")
-  over : Lacks c (codes "over=")
-  all : (42 == c) ≡ false
+  equals : (61 == c) ≡ false
+  delay : Lacks c (codes "j")
+  over : Lacks c (codes "over")
+  node : Lacks c (codes "node")
+  irq : Lacks c (codes "irq")
 
 all_append : (c : ℕ) (vs ws : List (List ℕ)) → AllByRecursion (λ v. Lacks c v) vs → AllByRecursion (λ v. Lacks c v) ws → AllByRecursion (λ v. Lacks c v) (vs ++ ws)
 all_append c [] ws a b = b
@@ -336,40 +552,43 @@ module _ (c : ℕ) (gap : IsGap c) where
   sections_apart [] each = tt
   sections_apart (s ∷ ss) each = (section_lacks c s gap.apart each.0, sections_apart ss each.1)
 
-  over_apart : (said : OutranksData) → AllByRecursion IsName (names_said said) → AllByRecursion (λ v. Lacks c v) (over_words said)
-  over_apart (Named []) named = tt
-  over_apart AllOthers named = (lacks_append c (codes "over=") all_sign gap.over (sign_lacks c gap.all), tt)
-  over_apart (Named (n ∷ ns)) named = (lacks_append c (codes "over=") (plus_names (n ∷ ns)) gap.over (plus_lacks c (n ∷ ns) gap.apart.plus gap.apart.name named), tt)
-
-  delay_apart : (jitter : ℕ) → jitter < 10 ^ 10 → AllByRecursion (λ v. Lacks c v) (delay_words jitter)
-  delay_apart zero short = tt
-  delay_apart (suc k) short = subst (λ (l : List (List ℕ)). AllByRecursion (λ v. Lacks c v) l) (sym (delay_shape k)) (lacks_append c (codes "j=") (decimal (suc k)) gap.delay (number_apart (suc k) short), tt)
+  field_apart : (key : List ℕ) (value : Option (List ℕ)) (ws : List (List ℕ)) → Lacks c key → NoneHas c value → AllByRecursion (λ v. Lacks c v) ws → AllByRecursion (λ v. Lacks c v) (field_words key value ++ ws)
+  field_apart key None ws lacks none each = each
+  field_apart key (Some value) ws lacks none each = (lacks_append c key (61 ∷ value) lacks (record { none = (gap.equals, none.none) }), each)
 
   put_apart : (t : Task) → IsValidSheet t → AllByRecursion (λ v. Lacks c v) (put_words t)
   put_apart t is =
       let short = short_sheet t is in
+      let irq : AllByRecursion (λ v. Lacks c v) (interrupt_rest t) =
+      field_apart (codes "irq") (interrupt_value t.interrupts) (map section_word t.sections) gap.irq (interrupts_lack c t.interrupts gap.apart short.interrupts) (sections_apart t.sections short.sections) in
+      let node : AllByRecursion (λ v. Lacks c v) (node_rest t) =
+      field_apart (codes "node") (node_value t.node) (interrupt_rest t) gap.node (node_lacks c t.node gap.apart short.node) irq in
+      let over : AllByRecursion (λ v. Lacks c v) (over_rest t) =
+      field_apart (codes "over") (over_value t.outranks) (node_rest t) gap.over (over_lacks c t.outranks gap.apart short.names) node in
       let more : AllByRecursion (λ v. Lacks c v) (more_words t) =
-      all_append c (delay_words t.jitter ++ over_words t.outranks) (map section_word t.sections)
-      (all_append c (delay_words t.jitter) (over_words t.outranks) (delay_apart t.jitter short.jitter) (over_apart t.outranks short.names))
-      (sections_apart t.sections short.sections) in
+      field_apart (codes "j") (delay_value t.jitter) (over_rest t) gap.delay (delay_lacks c t.jitter gap.apart short.jitter) over in
       (gap.one, (name_lacks c t.name gap.apart.name is.named, (number_apart t.weight short.weight, (number_apart t.period short.period, (number_apart t.deadline short.deadline, (number_apart t.cost short.cost, more))))))
 
 space_gap : IsGap 32
 space_gap = record {
-  apart = record { name = refl; digit = refl; plus = refl; sign = refl; colon = refl };
+  apart = record { name = refl; digit = refl; plus = refl; sign = refl; colon = refl; star = refl };
   one = record { none = (refl, tt) };
-  delay = record { none = (refl, (refl, tt)) };
-  over = record { none = (refl, (refl, (refl, (refl, (refl, tt))))) };
-  all = refl;
+  equals = refl;
+  delay = record { none = (refl, tt) };
+  over = record { none = (refl, (refl, (refl, (refl, tt)))) };
+  node = record { none = (refl, (refl, (refl, (refl, tt)))) };
+  irq = record { none = (refl, (refl, (refl, tt))) };
 }
 
 end_gap : IsGap 10
 end_gap = record {
-  apart = record { name = refl; digit = refl; plus = refl; sign = refl; colon = refl };
+  apart = record { name = refl; digit = refl; plus = refl; sign = refl; colon = refl; star = refl };
   one = record { none = (refl, tt) };
-  delay = record { none = (refl, (refl, tt)) };
-  over = record { none = (refl, (refl, (refl, (refl, (refl, tt))))) };
-  all = refl;
+  equals = refl;
+  delay = record { none = (refl, tt) };
+  over = record { none = (refl, (refl, (refl, (refl, tt)))) };
+  node = record { none = (refl, (refl, (refl, (refl, tt)))) };
+  irq = record { none = (refl, (refl, (refl, tt))) };
 }
 
 put_again : (ws : List (List ℕ)) (t : Task) → sheet_in ws ≡ Ok t → row_in 1 (codes "put" ∷ codes "1" ∷ ws) ≡ Ok (Put 1 t)

@@ -1,7 +1,9 @@
 -- A set as a script.
 use Rattle.std.specs.Prelude.{ℕ, ◌+◌, ◌==◌, List, [], ◌∷◌, ◌++◌, map, codes, if◌then◌else◌}
 use Rattle.std.specs.Fmt.{decimal}
-use Rattle.task_sheet.specs.Sheet.{CriticalSection, OutranksData, Named, AllOthers, Task}
+use Rattle.task_sheet.specs.declared.node.Node.{Node}
+use Rattle.task_sheet.specs.declared.node.Interrupt.{Interrupt}
+use Rattle.task_sheet.specs.Sheet.{CriticalSection, OutranksData, Named, AllOthers, Task, no_overhead, same_node}
 use Rattle.scripts.specs.declared.line.Line.{Line}
 use Rattle.scripts.specs.declared.line.Row.TheVariants.{Open, Put, Commit}
 
@@ -39,18 +41,43 @@ over_words (Named []) = []
 over_words (Named (n ∷ ns)) = (codes "over=" ++ plus_names (n ∷ ns)) ∷ []
 over_words AllOthers = codes "over=*" ∷ []
 
+-- the numbers JOB, LOCK, RELEASE and LATE of a node
+abbrev pub node_numbers : Node → List (List ℕ)
+node_numbers node =
+    decimal node.job ∷ decimal node.lock ∷ decimal node.release ∷ decimal node.late ∷ []
+
+-- `node=JOB+LOCK+RELEASE+LATE`, where the node takes something
+abbrev pub node_words : Node → List (List ℕ)
+node_words node =
+    if same_node node no_overhead then []
+    else (codes "node=" ++ plus_names (node_numbers node)) ∷ []
+
+-- an interrupt as `PERIOD:COST`
+abbrev pub interrupt_word : Interrupt → List ℕ
+interrupt_word x = decimal x.period ++ codes ":" ++ decimal x.cost
+
+-- `irq=PERIOD:COST+PERIOD:COST`, where there are interrupts
+abbrev pub interrupt_words : List Interrupt → List (List ℕ)
+interrupt_words [] = []
+interrupt_words (x ∷ xs) = (codes "irq=" ++ plus_names (map interrupt_word (x ∷ xs))) ∷ []
+
 -- the draft, and what stands in each sheet
 abbrev pub value_words : Task → List (List ℕ)
 value_words t =
     codes "1" ∷ t.name ∷ decimal t.weight ∷ decimal t.period ∷ decimal t.deadline ∷ decimal t.cost
     ∷ []
 
+-- what may be left out, each behind a space
+abbrev pub fields_of : Task → List ℕ
+fields_of t =
+    spaced (delay_words t.jitter) ++ spaced (over_words t.outranks)
+    ++ spaced (node_words t.node) ++ spaced (interrupt_words t.interrupts)
+
 -- ---- lines
 -- the line that puts a task
 abbrev pub put_line : Task → List ℕ
 put_line t =
-    codes "put" ++ spaced (value_words t) ++ spaced (delay_words t.jitter)
-    ++ spaced (over_words t.outranks) ++ spaced (section_words t.sections)
+    codes "put" ++ spaced (value_words t) ++ fields_of t ++ spaced (section_words t.sections)
 
 -- those of tasks, each ended by LF
 abbrev pub put_lines : List Task → List ℕ

@@ -1,13 +1,13 @@
 //! The text of a set as a script.
-ghost use Rattle.std.specs.Prelude.{◌≡◌, ◌++◌, OnOk, IfOk, string_bytes, codes};
+ghost use Rattle.std.specs.Prelude.{◌≡◌, ◌++◌, OnOk, IfOk, map, string_bytes, codes};
 ghost use Rattle.std.specs.Fmt.{decimal};
 ghost use Rattle.task_sheet.specs.Sheet.{Named};
 ghost use Rattle.task_sheet.specs.SheetFields.{outranks_of};
-ghost use Rattle.scripted.specs.Scripted.{delay_words, over_words, plus_names, plus_rest, put_line, put_lines, script_of, section_word, section_words, spaced};
+ghost use Rattle.scripted.specs.Scripted.{delay_words, fields_of, interrupt_word, interrupt_words, node_words, over_words, plus_names, plus_rest, put_line, put_lines, script_of, section_word, section_words, spaced};
 
 use drafts::Team;
 use std::alloc::{AllocError, Global};
-use task_sheet::{Name, Outranks, Section, Sheet, TaskSet};
+use task_sheet::{Interrupt, Name, Node, Outranks, Section, Sheet, TaskSet};
 
 // Names, each behind a sign `+`.
 fn push_rest(text: &mut String, names: &[Name]) -> Result<(), AllocError>
@@ -87,6 +87,69 @@ fn push_over(text: &mut String, outranks: &Outranks) -> Result<(), AllocError>
     }
 }
 
+// `node=JOB+LOCK+RELEASE+LATE`, where the node takes something, behind a space.
+fn push_node(text: &mut String, node: Node) -> Result<(), AllocError>
+    ensures { OnOk result (string_bytes text.new
+        ≡ string_bytes text.old ++ spaced (node_words node)) }
+{
+    if node == Node::none() {
+        return Ok(());
+    }
+    let Node {
+        job,
+        lock,
+        release,
+        late,
+    } = node;
+    write!(text, " node={job}+{lock}+{release}+{late}")
+}
+
+// An interrupt.
+fn push_interrupt(text: &mut String, interrupt: Interrupt) -> Result<(), AllocError>
+    ensures { OnOk result (string_bytes text.new
+        ≡ string_bytes text.old ++ interrupt_word interrupt) }
+{
+    let period = interrupt.period;
+    let cost = interrupt.cost;
+    write!(text, "{period}:{cost}")
+}
+
+// Interrupts, each behind a sign `+`.
+fn push_more(text: &mut String, interrupts: &[Interrupt]) -> Result<(), AllocError>
+    ensures { OnOk result (string_bytes text.new
+        ≡ string_bytes text.old ++ plus_rest (map interrupt_word interrupts.now)) }
+{
+    for interrupt in interrupts {
+        text.push_str("+")?;
+        push_interrupt(text, *interrupt)?;
+    }
+    Ok(())
+}
+
+// `irq=PERIOD:COST+PERIOD:COST`, where there are interrupts, behind a space.
+fn push_interrupts(text: &mut String, interrupts: &[Interrupt]) -> Result<(), AllocError>
+    ensures { OnOk result (string_bytes text.new
+        ≡ string_bytes text.old ++ spaced (interrupt_words interrupts.now)) }
+{
+    let Some((first, rest)) = interrupts.split_first() else {
+        return Ok(());
+    };
+    text.push_str(" irq=")?;
+    push_interrupt(text, *first)?;
+    push_more(text, rest)
+}
+
+// What of a sheet may be left out, each behind a space.
+fn push_fields(text: &mut String, sheet: &Sheet) -> Result<(), AllocError>
+    ensures { OnOk result (string_bytes text.new
+        ≡ string_bytes text.old ++ fields_of sheet.now) }
+{
+    push_delay(text, sheet.jitter())?;
+    push_over(text, sheet.outranks())?;
+    push_node(text, sheet.node())?;
+    push_interrupts(text, sheet.interrupts())
+}
+
 // The line that puts a task into the first draft.
 fn push_task(text: &mut String, sheet: &Sheet) -> Result<(), AllocError>
     ensures { OnOk result (string_bytes text.new
@@ -98,8 +161,7 @@ fn push_task(text: &mut String, sheet: &Sheet) -> Result<(), AllocError>
     let deadline = sheet.deadline();
     let cost = sheet.cost();
     write!(text, "put 1 {name} {weight} {period} {deadline} {cost}")?;
-    push_delay(text, sheet.jitter())?;
-    push_over(text, sheet.outranks())?;
+    push_fields(text, sheet)?;
     push_sections(text, sheet.sections())?;
     text.push_str("\n")
 }

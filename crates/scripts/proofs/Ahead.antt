@@ -1,7 +1,7 @@
 -- Reading words one after the other, as a loop does.
 use Rattle.std.proofs.Common.{◌≡◌, ℕ, List, [], ◌∷◌, ◌++◌, Result, Ok, Err, refl, sym, ap, ◌∙◌, append_assoc, append-nil}
 use Rattle.scripts.specs.declared.line.RowFault.{RowFault}
-use Rattle.scripts.specs.declared.line.RowFault.TheVariants.{Bad, Sheet, BadJitter, Outranks, OutOfMemory}
+use Rattle.scripts.specs.declared.line.RowFault.TheVariants.{Bad, Sheet, BadJitter, Outranks, BadOverhead, BadInterrupt, OutOfMemory}
 use Rattle.scripts.specs.Gives.{FailsRow}
 use Rattle.lines.specs.Steps.{◌>>=◌}
 use Rattle.scripts.specs.Rows.{each_in}
@@ -35,6 +35,8 @@ module _ {A : Type 0} (read : List ℕ → Result A RowFault) where
   each_fails front w ws all (Sheet cause) total cut is so_far = each_stops front w ws all (Sheet cause) total cut is so_far
   each_fails front w ws all BadJitter total cut is so_far = each_stops front w ws all BadJitter total cut is so_far
   each_fails front w ws all (Outranks cause) total cut is so_far = each_stops front w ws all (Outranks cause) total cut is so_far
+  each_fails front w ws all BadOverhead total cut is so_far = each_stops front w ws all BadOverhead total cut is so_far
+  each_fails front w ws all BadInterrupt total cut is so_far = each_stops front w ws all BadInterrupt total cut is so_far
   each_fails front w ws all OutOfMemory total cut is so_far = tt
 
   pub each_end : (front : List A) (all : List (List ℕ)) (total : Result (List A) RowFault) → all ≡ [] → ahead front (each_in read all) ≡ total → total ≡ Ok front

@@ -2,3 +2,4 @@ pub mod Ahead
 pub mod ScriptLaws
 pub mod Pairs
 pub mod Kept
+pub mod Nodes

@@ -52,6 +52,8 @@ module _ (front : List Line) (opened number : ℕ) (text : List ℕ) (ls all : L
   script_fails (row.Sheet cause) is = stops (row.Sheet cause) is
   script_fails row.BadJitter is = stops row.BadJitter is
   script_fails (row.Outranks cause) is = stops (row.Outranks cause) is
+  script_fails row.BadOverhead is = stops row.BadOverhead is
+  script_fails row.BadInterrupt is = stops row.BadInterrupt is
   script_fails row.OutOfMemory is = tt
 
 pub script_end : (front : List Line) (opened : ℕ) (all : List (ℕ × List ℕ)) (total : Result (List Line) ScriptFault) → all ≡ [] → IsReadTo front opened all total → total ≡ Ok front

@@ -1,17 +1,22 @@
 -- What the words of a script's line say.
-use Rattle.std.specs.Prelude.{ℕ, Bool, true, false, ◌==◌, ◌&&◌, nat_le, nat_lt, List, [], ◌∷◌, Option, Some, None, Result, Ok, Err, bytes_eq, codes, if◌then◌else◌}
-use Rattle.std.specs.List.{slice_split}
-use Rattle.task_sheet.specs.Sheet.{CriticalSection, OutranksData, Named, AllOthers, Task, task_of, with_jitter, outranking}
+use Rattle.std.specs.Prelude.{ℕ, Bool, true, false, ◌==◌, ◌&&◌, nat_le, nat_lt, List, [], ◌∷◌, length, Option, Some, None, Result, Ok, Err, bytes_eq, codes, if◌then◌else◌}
+use Rattle.std.specs.List.{slice_split, list_all}
+use Rattle.task_sheet.specs.Sheet.{CriticalSection, OutranksData, Named, AllOthers, Task, no_overhead, task_of, with_jitter, outranking, with_node, interrupted}
 use Rattle.task_sheet.specs.SheetFault.{sheet_fault, outranks_fault}
+use Rattle.task_sheet.specs.TreeFault.{is_interrupt}
+use Rattle.task_sheet.specs.declared.node.Node.{Node}
+use Rattle.task_sheet.specs.declared.node.Interrupt.{Interrupt}
+use Rattle.task_sheet.specs.declared.node.TheConstants.{INTERRUPT_LIMIT}
 use Rattle.task_sheet.specs.declared.sheet.OutranksCause.{OutranksCause}
 use Rattle.task_sheet.specs.declared.sheet.SheetCause.{SheetCause}
+use Rattle.task_sheet.specs.declared.sheet.TheConstants.{PERIOD_FROM, PERIOD_TO}
 use Rattle.drafts.specs.declared.team.TheConstants.{TEAM_LIMIT}
 use Rattle.lines.specs.Steps.{◌>>=◌}
 use Rattle.lines.specs.Words.{name_in, number_in}
 use Rattle.scripts.specs.declared.line.Row.{Row}
 use Rattle.scripts.specs.declared.line.Row.TheVariants.{Open, Put, Remove, Found, Test, Commit, Abandon}
 use Rattle.scripts.specs.declared.line.RowFault.{RowFault}
-use Rattle.scripts.specs.declared.line.RowFault.TheVariants.{Bad, Sheet, BadJitter, Outranks}
+use Rattle.scripts.specs.declared.line.RowFault.TheVariants.{Bad, Sheet, BadJitter, Outranks, BadOverhead, BadInterrupt}
 
 -- what is wanted has to be there
 abbrev pub or_bad : {A : Type 0} → Option A → Result A RowFault
@@ -148,6 +153,34 @@ abbrev pub over_or_none : Option (List ℕ) → Result OutranksData RowFault
 over_or_none None = Ok (Named [])
 over_or_none (Some text) = over_in text
 
+-- what the node takes, as the words JOB, LOCK, RELEASE and LATE say
+unfoldable pub node_of : List (List ℕ) → Result Node RowFault
+node_of (job ∷ lock ∷ release ∷ late ∷ []) = do
+  job ← or_bad (number_in job)
+  lock ← or_bad (number_in lock)
+  release ← or_bad (number_in release)
+  late ← or_bad (number_in late)
+  Ok (record { job = job; lock = lock; late = late; release = release })
+node_of _ = Err Bad
+
+-- the same, as a value says between the signs `+`; a node that takes nothing of no value
+abbrev pub node_or_none : Option (List ℕ) → Result Node RowFault
+node_or_none None = Ok no_overhead
+node_or_none (Some text) = node_of (slice_split (λ b. b == 43) text)
+
+-- an interrupt as `PERIOD:COST`
+unfoldable pub interrupt_in : List ℕ → Result Interrupt RowFault
+interrupt_in word = do
+  sides ← or_bad (round 58 word)
+  period ← or_bad (number_in sides.0)
+  cost ← or_bad (number_in sides.1)
+  Ok (record { period = period; cost = cost })
+
+-- the interrupts that a value says between the signs `+`; none of no value
+abbrev pub interrupts_or_none : Option (List ℕ) → Result (List Interrupt) RowFault
+interrupts_or_none None = Ok []
+interrupts_or_none (Some text) = each_in interrupt_in (slice_split (λ b. b == 43) text)
+
 -- ---- lines, by the words behind the first
 -- a valid sheet
 abbrev pub valid : Option SheetCause → Task → Result Task RowFault
@@ -163,6 +196,27 @@ sheet_with_jitter jitter task =
 abbrev pub valid_over : Option OutranksCause → Task → Result Task RowFault
 valid_over None task = Ok task
 valid_over (Some cause) task = Err (Outranks cause)
+
+-- what a node takes is within the limits
+abbrev pub are_overheads : Node → Bool
+are_overheads node =
+    nat_le node.job PERIOD_TO
+    && (nat_le node.lock PERIOD_TO
+    && (nat_le node.late PERIOD_TO && nat_le node.release PERIOD_FROM))
+
+-- the sheet of a node whose overheads are within the limits
+abbrev pub sheet_of_node : Node → Task → Result Task RowFault
+sheet_of_node node task =
+    if are_overheads node then Ok (with_node task node) else Err BadOverhead
+
+-- not too many interrupts, and each within the limits
+abbrev pub are_interrupts : List Interrupt → Bool
+are_interrupts xs = nat_le (length xs) INTERRUPT_LIMIT && list_all is_interrupt xs
+
+-- the sheet with interrupts that are within the limits
+abbrev pub sheet_interrupted : List Interrupt → Task → Result Task RowFault
+sheet_interrupted xs task =
+    if are_interrupts xs then Ok (interrupted task xs) else Err BadInterrupt
 
 -- the valid sheet of these values and of the sections that words are
 unfoldable pub made_in : (name : List ℕ) (weight period deadline cost : ℕ) → List (List ℕ)
@@ -184,9 +238,15 @@ sheet_in ws = do
   jitter ← value_or_zero delay.0
   let over : Option (List ℕ) × List (List ℕ) = next_field (codes "over") delay.1
   outranks ← over_or_none over.0
-  sheet ← made_in name.0 weight.0 period.0 deadline.0 cost.0 over.1
+  let takes : Option (List ℕ) × List (List ℕ) = next_field (codes "node") over.1
+  node ← node_or_none takes.0
+  let irq : Option (List ℕ) × List (List ℕ) = next_field (codes "irq") takes.1
+  interrupts ← interrupts_or_none irq.0
+  sheet ← made_in name.0 weight.0 period.0 deadline.0 cost.0 irq.1
   later ← sheet_with_jitter jitter sheet
-  valid_over (outranks_fault name.0 outranks) (outranking later outranks)
+  above ← valid_over (outranks_fault name.0 outranks) (outranking later outranks)
+  padded ← sheet_of_node node above
+  sheet_interrupted interrupts padded
 
 -- what the words behind `open` say
 unfoldable pub open_in : List (List ℕ) → Result Row RowFault

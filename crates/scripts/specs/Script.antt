@@ -8,7 +8,7 @@ use Rattle.scripts.specs.declared.line.Row.TheVariants.{Open}
 use Rattle.scripts.specs.declared.line.RowFault.{RowFault}
 use Rattle.scripts.specs.declared.line.RowFault.TheVariants as row
 use Rattle.scripts.specs.declared.line.ScriptFault.{ScriptFault}
-use Rattle.scripts.specs.declared.line.ScriptFault.TheVariants.{BadLine, Sheet, BadJitter, Outranks, OutOfMemory}
+use Rattle.scripts.specs.declared.line.ScriptFault.TheVariants.{BadLine, Sheet, BadJitter, Outranks, BadOverhead, BadInterrupt, OutOfMemory}
 use Rattle.scripts.specs.Rows.{row_in}
 
 -- how many drafts were opened, after a line
@@ -22,6 +22,8 @@ fault_at number row.Bad = BadLine number
 fault_at number (row.Sheet cause) = Sheet number cause
 fault_at number row.BadJitter = BadJitter number
 fault_at number (row.Outranks cause) = Outranks number cause
+fault_at number row.BadOverhead = BadOverhead number
+fault_at number row.BadInterrupt = BadInterrupt number
 fault_at number row.OutOfMemory = OutOfMemory
 
 -- these lines, and then those that are read
@@ -52,3 +54,5 @@ IsFault (BadLine number) read = read ≡ Err (BadLine number)
 IsFault (Sheet number cause) read = read ≡ Err (Sheet number cause)
 IsFault (BadJitter number) read = read ≡ Err (BadJitter number)
 IsFault (Outranks number cause) read = read ≡ Err (Outranks number cause)
+IsFault (BadOverhead number) read = read ≡ Err (BadOverhead number)
+IsFault (BadInterrupt number) read = read ≡ Err (BadInterrupt number)

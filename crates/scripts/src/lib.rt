@@ -3,6 +3,7 @@
 
 mod fields;
 mod line;
+mod node;
 mod reading;
 mod rows;
 mod sections;

@@ -50,9 +50,10 @@ pub enum Row {
     Open {
         team: Team,
     },
-    /// `put DRAFT NAME WEIGHT PERIOD DEADLINE COST SECTION..`, behind the cost with `j=JITTER` where the jitter isn't 0 and
-    /// then `over=NAME+NAME`, or `over=*` for all others, where the task must stand above others: a sheet is put into a
-    /// draft.
+    /// `put DRAFT NAME WEIGHT PERIOD DEADLINE COST SECTION..`, behind the cost with `j=JITTER` where the jitter isn't 0,
+    /// then `over=NAME+NAME`, or `over=*` for all others, where the task must stand above others, then
+    /// `node=JOB+LOCK+RELEASE+LATE` where the node takes something and `irq=PERIOD:COST+PERIOD:COST` where interrupts are
+    /// on the task's account: a sheet is put into a draft.
     Put {
         draft: usize,
         sheet: PutSheet,
@@ -103,6 +104,10 @@ pub enum ScriptFault {
     BadJitter { line: u64 },
     /// The names of the line are none of tasks above which its task can have to stand.
     Outranks { line: u64, cause: OutranksCause },
+    /// What the node takes, as the line says it, isn't within the limits.
+    BadOverhead { line: u64 },
+    /// The interrupts of the line are too many, or one of them isn't within the limits.
+    BadInterrupt { line: u64 },
     /// A growth was refused.
     OutOfMemory,
 }
@@ -118,6 +123,10 @@ pub(crate) enum RowFault {
     BadJitter,
     // The names are none of tasks above which the task can have to stand.
     Outranks { cause: OutranksCause },
+    // What the node takes isn't within the limits.
+    BadOverhead,
+    // The interrupts are too many, or one of them isn't within the limits.
+    BadInterrupt,
     // A growth was refused.
     OutOfMemory,
 }

@@ -33,6 +33,8 @@ fn fault_at(number: u64, fault: RowFault) -> ScriptFault
             line: number,
             cause,
         },
+        RowFault::BadOverhead => ScriptFault::BadOverhead { line: number },
+        RowFault::BadInterrupt => ScriptFault::BadInterrupt { line: number },
         RowFault::OutOfMemory => ScriptFault::OutOfMemory,
     }
 }

@@ -1,9 +1,10 @@
 //! The rows of a script.
 ghost use Rattle.std.specs.Prelude.{◌≡◌, IfOk, List, bytes_eq, take};
-ghost use Rattle.task_sheet.specs.Sheet.{CriticalSection, task_of};
-ghost use Rattle.task_sheet.specs.SheetFault.{sheet_fault};
+ghost use Rattle.task_sheet.specs.Sheet.{CriticalSection, outranking, task_of};
+ghost use Rattle.task_sheet.specs.SheetFault.{outranks_fault, sheet_fault};
+ghost use Rattle.task_sheet.specs.SheetFields.{outranks_of};
 ghost use Rattle.scripts.specs.Gives.{GivesRow};
-ghost use Rattle.scripts.specs.Rows.{found_in, sheet_with_jitter, made_in, open_in, put_in, remove_in, row_in, row_of, sheet_in, valid};
+ghost use Rattle.scripts.specs.Rows.{found_in, sheet_with_jitter, made_in, open_in, put_in, remove_in, row_in, row_of, sheet_in, valid, valid_over};
 ghost use Rattle.scripts.specs.declared.sections.TheConstants.{KEPT};
 ghost use Rattle.lines.specs.Words.{words};
 
@@ -12,10 +13,11 @@ use crate::fields::{
     other_of, team_of,
 };
 use crate::line::{PutSheet, Row, RowFault};
+use crate::node::{interrupts_or_none, node_or_none, of_node, with_interrupts};
 use crate::sections::{over_or_none, sections_of};
 use lines::Words;
 use std::alloc::Global;
-use task_sheet::{Name, OutranksFault, Section, Sheet, SheetFault};
+use task_sheet::{Name, Outranks, OutranksFault, Section, Sheet, SheetFault};
 
 // The sheet with a jitter.
 fn late(sheet: Sheet, jitter: u64) -> Result<Sheet, RowFault>
@@ -24,6 +26,17 @@ fn late(sheet: Sheet, jitter: u64) -> Result<Sheet, RowFault>
     match sheet.jittered(jitter) {
         Ok(sheet) => Ok(sheet),
         Err(_) => Err(RowFault::BadJitter),
+    }
+}
+
+// The sheet of a task that must stand above others.
+fn above(sheet: Sheet, outranks: Outranks) -> Result<Sheet, RowFault>
+    ensures { GivesRow (λ x. x) result (valid_over (outranks_fault sheet.name (outranks_of outranks))
+        (outranking sheet (outranks_of outranks))) }
+{
+    match sheet.outranking(outranks) {
+        Ok(sheet) => Ok(sheet),
+        Err(OutranksFault { cause, .. }) => Err(RowFault::Outranks { cause }),
     }
 }
 
@@ -82,12 +95,11 @@ fn sheet_of(alloc: Global, words: &mut Words<'_>) -> Result<Sheet, RowFault>
     };
     let jitter = number_or_zero(next_field(b"j", words))?;
     let outranks = over_or_none(alloc, next_field(b"over", words))?;
+    let node = node_or_none(next_field(b"node", words))?;
+    let interrupts = interrupts_or_none(alloc, next_field(b"irq", words))?;
     let sheet = made_of(alloc, words, values)?;
-    let sheet = late(sheet, jitter)?;
-    match sheet.outranking(outranks) {
-        Ok(sheet) => Ok(sheet),
-        Err(OutranksFault { cause, .. }) => Err(RowFault::Outranks { cause }),
-    }
+    let sheet = above(late(sheet, jitter)?, outranks)?;
+    with_interrupts(of_node(sheet, node)?, interrupts)
 }
 
 #[tactic(auto, unfolding(crate::specs::Rows::open_in))]

@@ -7,6 +7,7 @@ use Rattle.task_sheet.specs.Demand.{limit_of, longest_reached, blocking_of, inte
 use Rattle.task_sheet.proofs.Below.{cond-le, greatest_below-le, sum_below-fits}
 use Rattle.task_sheet.proofs.Releases.{interference-fits}
 use Rattle.task_sheet.proofs.TaskLaws.{IsTask-from_valid, valid_at}
+use Rattle.task_sheet.proofs.InterruptLaws.{interrupts-fits}
 use Rattle.task_sheet.proofs.Exchange.{term, longest_reached-le-cost}
 
 module _ (U : List Task) (set : IsTaskSet U) where
@@ -29,6 +30,6 @@ module _ (U : List Task) (set : IsTaskSet U) where
       let each = sum_below-fits (length U) 30000000 (term U t H) (λ h lt. cond-le (H h) (interference_of (task_at U h) t) 0 30000000 (interference-fits (task_at U h) t (valid_at U h set lt) le) (omega arith)) in
       omega (arith, each, set.few)
 
-  pub demand-fits : (i : ℕ) (H : Indexes) (t : ℕ) → i < length U → t ≤ 10000000 → demand_of U i H t ≤ 980000000
+  pub demand-fits : (i : ℕ) (H : Indexes) (t : ℕ) → i < length U → t ≤ 10000000 → demand_of U i H t ≤ 7060000000
   unfolding demand_of
-  demand-fits i H t lt le = omega (arith, cost-fits i lt, blocking-fits i H, interference_sum-fits H t le)
+  demand-fits i H t lt le = omega (arith, cost-fits i lt, blocking-fits i H, interference_sum-fits H t le, interrupts-fits U set t le)

@@ -7,6 +7,7 @@ use Rattle.task_sheet.specs.Demand.{demand_of}
 use Rattle.task_sheet.proofs.Below.{sum_below-le}
 use Rattle.task_sheet.proofs.Releases.{interference-mono}
 use Rattle.task_sheet.proofs.ResponseLaws.{DoesNotFall}
+use Rattle.task_sheet.proofs.InterruptLaws.{interrupts-mono}
 use Rattle.task_sheet.proofs.Exchange.{term, demand-part}
 
 module _ (U : List Task) (valid : AllTasks U) where
@@ -17,7 +18,7 @@ module _ (U : List Task) (valid : AllTasks U) where
         | inl above ↦ rw above (interference-mono (task_at U h) t s (valid h no_task lt) le)
         | inr below ↦ rw below (omega arith)
       ]) in
-      omega arith
+      omega (arith, interrupts-mono U valid t s le)
 
   pub demand_does_not_fall : (i : ℕ) (H : Indexes) → i < length U → DoesNotFall (demand_of U i H)
   unfolding demand_of

@@ -11,7 +11,8 @@ use Rattle.std.proofs.lemmas.List.Folds.{list_any-append}
 use Rattle.std.proofs.lemmas.List.Elements.{recursion_from_All, All-push, All-filter, filter_more}
 use Rattle.std.proofs.lemmas.List.Sorted.{All-permutation, length_permutation, IsPermutation-sym, IsPermutation-trans, ranks_by, sorted_far}
 use Rattle.task_sheet.specs.Sheet.{Task, IsValidSheet, same_bytes}
-use Rattle.task_sheet.specs.TaskSet.{first_repeat, has_name, others_of, same_name, rank_cmp, AreDistinct, IsTaskSet, IsByRank}
+use Rattle.task_sheet.specs.Rank.{rank_cmp, IsByRank}
+use Rattle.task_sheet.specs.TaskSet.{first_repeat, has_name, others_of, same_name, AreDistinct, IsTaskSet}
 use Rattle.task_sheet.specs.SheetsFault.{set_cause, sheets_fault}
 use Rattle.task_sheet.proofs.Distinct.{AreDistinct-permutation}
 use Rattle.task_sheet.proofs.Unique.{sorted_unique}

@@ -1,6 +1,8 @@
 -- Blocking and demand of a task i of the set U, with the tasks H above it.
-use Rattle.std.specs.Prelude.{◌≡◌, ◌<◌, false, true, Contains, ℕ, ◌+◌, ◌-◌, ◌*◌, Bool, ◌&&◌, max, nat_le, List, [], ◌∷◌, length, if◌then◌else◌}
+use Rattle.std.specs.Prelude.{◌≡◌, ◌<◌, false, true, Contains, ℕ, ◌+◌, ◌-◌, ◌*◌, Bool, ◌&&◌, ◌||◌, max, nat_le, nat_lt, List, [], ◌∷◌, length, sum_by, if◌then◌else◌}
+use Rattle.std.specs.List.{list_any}
 use Rattle.std.specs.Int.{div_ceil}
+use Rattle.task_sheet.specs.declared.node.Interrupt.{Interrupt}
 use Rattle.task_sheet.specs.Sheet.{Task, CriticalSection, task_at}
 use Rattle.task_sheet.specs.Indexes.{Indexes, with_index, sum_below, greatest_below, some_below}
 use Rattle.task_sheet.specs.Locks.{reaches}
@@ -47,6 +49,32 @@ pub record Blocks (U : List Task) (i : ℕ) (H : Indexes) (s : CriticalSection) 
   pub section : Contains (task_at U task).sections s
   pub reached : reaches U (with_index H i) s ≡ true
 
+-- ---- interrupts (Burns, Wellings)
+-- what the jobs of an interrupt can execute in a window
+abbrev pub interrupt_within : ℕ → Interrupt → ℕ
+interrupt_within time x = jobs_within x.period 0 time * x.cost
+
+-- what a task's timer and the interrupts on its account take in a window of whoever executes
+abbrev pub interrupts_of : ℕ → Task → ℕ
+interrupts_of time t =
+    releases_within t time * t.node.release + sum_by (interrupt_within time) t.interrupts
+
+-- those of all tasks of the set
+unfoldable pub interrupts_within : List Task → ℕ → ℕ
+interrupts_within U time = sum_below (length U) (λ k. interrupts_of time (task_at U k))
+
+-- a task has a timer that takes time, or an interrupt on its account
+abbrev pub interrupts_some : Task → Bool
+interrupts_some t = nat_lt 0 t.node.release || nat_lt 0 (length t.interrupts)
+
+-- some task of the set has
+abbrev pub has_interrupts : List Task → Bool
+has_interrupts U = list_any interrupts_some U
+
+-- no task has
+abbrev pub IsUninterrupted : List Task → Type 0
+IsUninterrupted U = (k : ℕ) → k < length U → interrupts_some (task_at U k) ≡ false
+
 -- ---- demand (Audsley et al. 1993)
 -- what a task's jobs of a window can execute
 abbrev pub interference_of : Task → ℕ → ℕ
@@ -57,10 +85,11 @@ abbrev pub interference_within : List Task → Indexes → ℕ → ℕ
 interference_within U H time =
     sum_below (length U) (λ h. if H h then interference_of (task_at U h) time else 0)
 
--- cost, blocking, and the interference of the tasks above
+-- cost, blocking, the interference of the tasks above, and the interrupts
 unfoldable pub demand_of : List Task → ℕ → Indexes → ℕ → ℕ
 demand_of U i H time =
     (task_at U i).cost + blocking_of U i H + interference_within U H time
+    + interrupts_within U time
 
 -- the response of task i with the tasks H above it, from the arrival: past its jitter, the least time that is its own
 -- demand
@@ -76,10 +105,23 @@ unfoldable pub does_pass : List Task → ℕ → Indexes → Bool
 does_pass U i H =
     some_below (limit_of (task_at U i) + 1) (λ t. nat_le 1 t && nat_le (demand_of U i H t) t)
 
--- two more than how often the tasks of H are released at most within the limit, beyond the releases within the first
--- tick
+-- how often a task is released at most within a limit, beyond the releases within the first tick
+abbrev pub later_releases : ℕ → Task → ℕ
+later_releases limit t = releases_within t limit - releases_within t 1
+
+-- how often an interrupt comes at most within a limit, beyond the first tick
+abbrev pub later_interrupts : ℕ → Interrupt → ℕ
+later_interrupts limit x = jobs_within x.period 0 limit - jobs_within x.period 0 1
+
+-- a task's releases count in a demand: it is above, or has a timer
+abbrev pub counts : List Task → Indexes → ℕ → Bool
+counts U H k = H k || nat_lt 0 (task_at U k).node.release
+
+-- two more than how often at most, within the limit and beyond the first tick, a task is released that counts, or an
+-- interrupt comes
 abbrev pub evaluation_bound : List Task → Indexes → ℕ → ℕ
 evaluation_bound U H limit =
     2
-    + sum_below (length U) (λ h.
-    if H h then releases_within (task_at U h) limit - releases_within (task_at U h) 1 else 0)
+    + sum_below (length U) (λ k.
+    (if counts U H k then later_releases limit (task_at U k) else 0)
+    + sum_by (later_interrupts limit) (task_at U k).interrupts)

@@ -1,6 +1,7 @@
 pub mod Name
 pub mod NameFields
 pub mod Sheet
+pub mod Overheads
 pub mod SheetEquality
 pub mod SheetFields
 pub mod SheetFault
@@ -8,6 +9,7 @@ pub mod Members
 pub mod MembersWords
 pub mod MembersLaws
 pub mod SetCodes
+pub mod Rank
 pub mod TaskSet
 pub mod SetFields
 pub mod SheetsFault

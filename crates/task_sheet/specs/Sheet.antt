@@ -3,6 +3,9 @@ use Rattle.std.specs.Prelude.{◌≡◌, ℕ, ◌+◌, ◌<◌, ◌≤◌, Bool,
 use Rattle.std.specs.List.{list_any}
 use Rattle.std.specs.Cmp.Lexicographic.{pointwise}
 use Rattle.task_sheet.specs.Name.{IsName}
+use Rattle.task_sheet.specs.declared.node.Node.{Node}
+use Rattle.task_sheet.specs.declared.node.Interrupt.{Interrupt}
+use Rattle.task_sheet.specs.declared.node.TheConstants.{INTERRUPT_FROM, INTERRUPT_LIMIT}
 use Rattle.task_sheet.specs.declared.sheet.TheConstants.{WEIGHT_LIMIT, PERIOD_FROM, PERIOD_TO, SECTION_LIMIT, LOCK_LIMIT, OUTRANKS_LIMIT}
 
 -- a critical section: the locks that it holds, where it begins, and how long it is
@@ -16,7 +19,12 @@ pub data OutranksData : Type 0 where
   Named : (names : List (List ℕ)) → OutranksData
   AllOthers : OutranksData
 
--- a task, as its sheet says; times in microseconds
+-- a node that takes nothing
+abbrev pub no_overhead : Node
+no_overhead = record { job = 0; lock = 0; late = 0; release = 0 }
+
+-- a task, as its sheet says; times in microseconds. What its node takes of it is in its numbers, but for its timer, and
+-- the interrupts on its account, which no task asks for: these take of whoever executes
 pub record Task : Type 0 where
   pub name : List ℕ
   pub weight : ℕ
@@ -26,8 +34,10 @@ pub record Task : Type 0 where
   pub sections : List CriticalSection
   pub jitter : ℕ
   pub outranks : OutranksData
+  pub node : Node
+  pub interrupts : List Interrupt
 
--- the task of these values, without jitter, which names no task above which it must stand
+-- the task of these values, without jitter, which names no task above which it must stand, on a node that takes nothing
 abbrev pub task_of : (name : List ℕ) (weight period deadline cost : ℕ)
     (sections : List CriticalSection) → Task
 task_of name weight period deadline cost sections =
@@ -40,6 +50,8 @@ task_of name weight period deadline cost sections =
       sections = sections;
       jitter = 0;
       outranks = Named [];
+      node = no_overhead;
+      interrupts = [];
     }
 
 -- the same task with this jitter
@@ -53,6 +65,14 @@ outranking s outranks = record s { outranks = outranks }
 -- the same task with this weight
 abbrev pub weighing : Task → ℕ → Task
 weighing s weight = record s { weight = weight }
+
+-- the same task, of which this node takes what its numbers have in them
+abbrev pub with_node : Task → Node → Task
+with_node s node = record s { node = node }
+
+-- the same task with these interrupts on its account
+abbrev pub interrupted : Task → List Interrupt → Task
+interrupted s interrupts = record s { interrupts = interrupts }
 
 -- the bytes are the same, as a test
 abbrev pub same_bytes : List ℕ → List ℕ → Bool
@@ -109,6 +129,24 @@ abbrev pub MayOutrank : (own : List ℕ) → OutranksData → Type 0
 MayOutrank own (Named names) = AreOutranked own names
 MayOutrank own AllOthers = Unit {0}
 
+-- what a node takes is within the limits
+pub record AreOverheads (node : Node) : Type 0 where
+  pub job : node.job ≤ PERIOD_TO
+  pub lock : node.lock ≤ PERIOD_TO
+  pub late : node.late ≤ PERIOD_TO
+  pub release : node.release ≤ PERIOD_FROM
+
+-- an interrupt that comes at most once a period, which isn't too short, and takes at most as long
+pub record IsInterrupt (x : Interrupt) : Type 0 where
+  pub period_from : INTERRUPT_FROM ≤ x.period
+  pub period_to : x.period ≤ PERIOD_TO
+  pub cost : x.cost ≤ x.period
+
+-- at most 8 such interrupts
+pub record AreInterrupts (xs : List Interrupt) : Type 0 where
+  pub valid : All IsInterrupt xs
+  pub few : length xs ≤ INTERRUPT_LIMIT
+
 -- a valid sheet: its names are names, and its numbers and sections are within the limits
 pub record IsValidSheet (s : Task) : Type 0 where
   pub named : IsName s.name
@@ -123,6 +161,8 @@ pub record IsValidSheet (s : Task) : Type 0 where
   pub sections : AreSections 0 s.cost s.sections
   pub jitter : s.jitter < s.deadline
   pub outranked : MayOutrank s.name s.outranks
+  pub overheads : AreOverheads s.node
+  pub interrupts : AreInterrupts s.interrupts
 
 -- the two sections say the same
 abbrev pub same_section : CriticalSection → CriticalSection → Bool
@@ -134,6 +174,14 @@ same_outranks (Named names) (Named others) = pointwise same_bytes names others
 same_outranks (Named names) AllOthers = false
 same_outranks AllOthers (Named others) = false
 same_outranks AllOthers AllOthers = true
+
+-- the same numbers
+abbrev pub same_node : Node → Node → Bool
+same_node x y =
+    nat_eq x.job y.job && (nat_eq x.lock y.lock && (nat_eq x.late y.late && nat_eq x.release y.release))
+
+abbrev pub same_interrupt : Interrupt → Interrupt → Bool
+same_interrupt x y = nat_eq x.period y.period && nat_eq x.cost y.cost
 
 -- what the laws of the analysis need of a task
 pub record IsTask (t : Task) : Type 0 where
@@ -164,4 +212,5 @@ same_sheet x y =
     && (nat_eq x.cost y.cost
     && (nat_eq x.jitter y.jitter
     && (pointwise same_section x.sections y.sections
-    && same_outranks x.outranks y.outranks))))))
+    && (same_outranks x.outranks y.outranks
+    && (same_node x.node y.node && pointwise same_interrupt x.interrupts y.interrupts))))))))

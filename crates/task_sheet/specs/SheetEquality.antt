@@ -6,7 +6,9 @@ use Rattle.std.specs.Cmp.Lexicographic.{pointwise, lists_equiv, nat_list_eq_equi
 use Rattle.std.proofs.lemmas.Bool.{and_parts, false≢true}
 use Rattle.std.proofs.lemmas.Bool.Decides.{Decides-eqb}
 use Rattle.std.proofs.lemmas.Slice.Eq.{slice_eq-Decides, bytes_eq-Decides}
-use Rattle.task_sheet.specs.Sheet.{CriticalSection, OutranksData, Named, AllOthers, Task, same_bytes, same_section, same_outranks, same_sheet}
+use Rattle.task_sheet.specs.declared.node.Node.{Node}
+use Rattle.task_sheet.specs.declared.node.Interrupt.{Interrupt}
+use Rattle.task_sheet.specs.Sheet.{CriticalSection, OutranksData, Named, AllOthers, Task, same_bytes, same_section, same_outranks, same_node, same_interrupt, same_sheet}
 
 section_equiv : IsEquivalence same_section
 section_equiv = and_equiv (on_equiv (λ s. s.locks) (lists_equiv nat_list_eq_equiv))
@@ -35,6 +37,16 @@ outranks_equiv = record { refl = itself; symm = turned; congr = alike }
     alike AllOthers (Named ys) z same = absurd (false≢true same)
     alike AllOthers AllOthers z same = refl
 
+node_equiv : IsEquivalence same_node
+node_equiv =
+    and_equiv (on_equiv (λ n. n.job) nat_eq_equiv)
+    (and_equiv (on_equiv (λ n. n.lock) nat_eq_equiv)
+    (and_equiv (on_equiv (λ n. n.late) nat_eq_equiv) (on_equiv (λ n. n.release) nat_eq_equiv)))
+
+interrupt_equiv : IsEquivalence same_interrupt
+interrupt_equiv =
+    and_equiv (on_equiv (λ x. x.period) nat_eq_equiv) (on_equiv (λ x. x.cost) nat_eq_equiv)
+
 sheet_equiv : IsEquivalence same_sheet
 sheet_equiv =
     and_equiv (on_equiv (λ s. s.name) nat_list_eq_equiv)
@@ -44,7 +56,9 @@ sheet_equiv =
     (and_equiv (on_equiv (λ s. s.cost) nat_eq_equiv)
     (and_equiv (on_equiv (λ s. s.jitter) nat_eq_equiv)
     (and_equiv (on_equiv (λ s. s.sections) (lists_equiv section_equiv))
-    (on_equiv (λ s. s.outranks) outranks_equiv)))))))
+    (and_equiv (on_equiv (λ s. s.outranks) outranks_equiv)
+    (and_equiv (on_equiv (λ s. s.node) node_equiv)
+    (on_equiv (λ s. s.interrupts) (lists_equiv interrupt_equiv))))))))))
 
 pub same_section_laws : IsPartialEquivalence same_section
 same_section_laws = partial_equiv_from_equiv section_equiv
@@ -76,6 +90,24 @@ told AllOthers AllOthers same = refl
 pub same_outranks-Decides : (x y : OutranksData) → Decides (same_outranks x y) (x ≡ y)
 same_outranks-Decides x y = decides same_outranks outranks_equiv x y (told x y)
 
+pub same_node-Decides : (x y : Node) → Decides (same_node x y) (x ≡ y)
+same_node-Decides x y = decides same_node node_equiv x y (λ h.
+    let a = and_parts _ _ h in
+    let b = and_parts _ _ a.1 in
+    let c = and_parts _ _ b.1 in
+    let job : x.job ≡ y.job = (Decides-eqb x.job y.job).0 a.0 in
+    let lock : x.lock ≡ y.lock = (Decides-eqb x.lock y.lock).0 b.0 in
+    let late : x.late ≡ y.late = (Decides-eqb x.late y.late).0 c.0 in
+    let release : x.release ≡ y.release = (Decides-eqb x.release y.release).0 c.1 in
+    λ i. record { job = job i; lock = lock i; late = late i; release = release i })
+
+pub same_interrupt-Decides : (x y : Interrupt) → Decides (same_interrupt x y) (x ≡ y)
+same_interrupt-Decides x y = decides same_interrupt interrupt_equiv x y (λ h.
+    let both = and_parts _ _ h in
+    let period : x.period ≡ y.period = (Decides-eqb x.period y.period).0 both.0 in
+    let cost : x.cost ≡ y.cost = (Decides-eqb x.cost y.cost).0 both.1 in
+    λ i. record { period = period i; cost = cost i })
+
 pub same_sheet-Decides : (x y : Task) → Decides (same_sheet x y) (x ≡ y)
 same_sheet-Decides x y = decides same_sheet sheet_equiv x y (λ h.
     let a = and_parts _ _ h in
@@ -85,6 +117,8 @@ same_sheet-Decides x y = decides same_sheet sheet_equiv x y (λ h.
     let e = and_parts _ _ d.1 in
     let f = and_parts _ _ e.1 in
     let g = and_parts _ _ f.1 in
+    let k = and_parts _ _ g.1 in
+    let n = and_parts _ _ k.1 in
     let name : x.name ≡ y.name = (bytes_eq-Decides x.name y.name).0 a.0 in
     let weight : x.weight ≡ y.weight = (Decides-eqb x.weight y.weight).0 b.0 in
     let period : x.period ≡ y.period = (Decides-eqb x.period y.period).0 c.0 in
@@ -93,7 +127,10 @@ same_sheet-Decides x y = decides same_sheet sheet_equiv x y (λ h.
     let sections : x.sections ≡ y.sections =
     (slice_eq-Decides same_section-Decides x.sections y.sections _ refl).0 g.0 in
     let jitter : x.jitter ≡ y.jitter = (Decides-eqb x.jitter y.jitter).0 f.0 in
-    let outranks : x.outranks ≡ y.outranks = (same_outranks-Decides x.outranks y.outranks).0 g.1 in
+    let outranks : x.outranks ≡ y.outranks = (same_outranks-Decides x.outranks y.outranks).0 k.0 in
+    let node : x.node ≡ y.node = (same_node-Decides x.node y.node).0 n.0 in
+    let interrupts : x.interrupts ≡ y.interrupts =
+    (slice_eq-Decides same_interrupt-Decides x.interrupts y.interrupts _ refl).0 n.1 in
     λ i. record {
       name = name i;
       weight = weight i;
@@ -103,4 +140,6 @@ same_sheet-Decides x y = decides same_sheet sheet_equiv x y (λ h.
       sections = sections i;
       jitter = jitter i;
       outranks = outranks i;
+      node = node i;
+      interrupts = interrupts i;
     })

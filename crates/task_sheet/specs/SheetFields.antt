@@ -20,6 +20,8 @@ sheet_of a = record {
   sections = a.sections.items;
   jitter = a.jitter;
   outranks = outranks_of a.outranks;
+  node = a.node;
+  interrupts = a.interrupts.items;
 }
 
 -- it is a valid sheet

@@ -1,16 +1,10 @@
 -- Sets of tasks, by rank.
 use Rattle.std.specs.Prelude.{◌≡◌, ℕ, ◌+◌, ◌≤◌, Bool, false, not, List, [], ◌∷◌, ◌++◌, length, All, Option, Some, None, if◌then◌else◌}
 use Rattle.std.specs.List.{list_any, filter, AllByRecursion}
-use Rattle.std.specs.List.Sorted.{IsPermutation, IsStrictlySortedBy}
-use Rattle.std.specs.Ordering.{nat_cmp, ordering_then}
-use Rattle.std.specs.Cmp.Lexicographic.{slice_cmp}
-use Rattle.std.specs.declared.cmp.Ordering.{Ordering}
+use Rattle.std.specs.List.Sorted.{IsStrictlySortedBy}
 use Rattle.task_sheet.specs.Sheet.{Task, IsValidSheet, same_bytes}
+use Rattle.task_sheet.specs.Rank.{rank_cmp}
 use Rattle.task_sheet.specs.declared.set.TheConstants.{TASK_LIMIT}
-
--- by weight, then by the bytes of the name
-abbrev pub rank_cmp : Task → Task → Ordering
-rank_cmp x y = ordering_then (nat_cmp x.weight y.weight) (slice_cmp nat_cmp x.name y.name)
 
 -- the tasks have one name
 abbrev pub same_name : Task → Task → Bool
@@ -27,11 +21,6 @@ pub record IsTaskSet (xs : List Task) : Type 0 where
   pub ranked : IsStrictlySortedBy rank_cmp xs
   pub distinct : AreDistinct same_name xs
   pub few : length xs ≤ TASK_LIMIT
-
--- the same sheets, by rank; there is one such list
-pub record IsByRank (xs ys : List Task) : Type 0 where
-  pub permutation : IsPermutation xs ys
-  pub ranked : IsStrictlySortedBy rank_cmp ys
 
 -- some sheet has the name
 abbrev pub has_name : List Task → List ℕ → Bool

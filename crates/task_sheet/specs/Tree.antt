@@ -3,10 +3,11 @@ use Rattle.std.specs.Prelude.{◌≡◌, ℕ, ◌+◌, ◌-◌, ◌^◌, min, Bo
 use Rattle.std.specs.List.{list_any}
 use Rattle.toml.specs.Data.{Data, string, integer, array, table, Items, no_items, item, Members, no_members, member, get_member, as_str, as_table}
 use Rattle.toml.specs.View.{items_view}
-use Rattle.task_sheet.specs.Sheet.{CriticalSection, OutranksData, Named, AllOthers, Task, same_bytes}
+use Rattle.task_sheet.specs.Sheet.{CriticalSection, OutranksData, Named, AllOthers, Task, no_overhead, same_bytes}
 use Rattle.task_sheet.specs.Prefer.{preference_of}
 use Rattle.task_sheet.specs.declared.prefer.Preference.{Preference}
 use Rattle.task_sheet.specs.declared.node.Node.{Node}
+use Rattle.task_sheet.specs.declared.node.Interrupt.{Interrupt}
 use Rattle.task_sheet.specs.declared.keys.Key.{Key}
 use Rattle.task_sheet.specs.declared.keys.Key.TheVariants as key
 use Rattle.task_sheet.specs.declared.values.Said.{Said}
@@ -21,7 +22,9 @@ word_of key.Prefer = codes "prefer"
 word_of key.Node = codes "node"
 word_of key.Job = codes "job"
 word_of key.Lock = codes "lock"
+word_of key.Release = codes "release"
 word_of key.Late = codes "late"
+word_of key.Interrupt = codes "interrupt"
 word_of key.Name = codes "name"
 word_of key.Weight = codes "weight"
 word_of key.Period = codes "period"
@@ -36,11 +39,15 @@ word_of key.Len = codes "len"
 
 -- the keys that may stand in the root
 abbrev pub root_keys : List Key
-root_keys = key.Task ∷ key.Prefer ∷ key.Node ∷ []
+root_keys = key.Task ∷ key.Prefer ∷ key.Node ∷ key.Interrupt ∷ []
 
 -- the keys of the node's table
 abbrev pub node_keys : List Key
-node_keys = key.Job ∷ key.Lock ∷ key.Late ∷ []
+node_keys = key.Job ∷ key.Lock ∷ key.Release ∷ key.Late ∷ []
+
+-- the keys of an interrupt's table
+abbrev pub interrupt_keys : List Key
+interrupt_keys = key.Period ∷ key.Cost ∷ []
 
 -- the keys of a task's table
 abbrev pub task_keys : List Key
@@ -199,6 +206,8 @@ sheet_at ms = record {
   sections = sections_from 0 (unwrap_or (tables_at key.Section ms) []);
   jitter = unwrap_or (number_or_zero (value_at key.Jitter ms)) 0;
   outranks = unwrap_or (outranks_or_none (value_at key.Outranks ms)) (Named []);
+  node = no_overhead;
+  interrupts = [];
 }
 
 -- the sheets of a document, in its order
@@ -219,11 +228,23 @@ node_at ms = record {
   job = overhead_at key.Job ms;
   lock = overhead_at key.Lock ms;
   late = overhead_at key.Late ms;
+  release = overhead_at key.Release ms;
 }
 
 -- the node of a document, where it has one
 abbrev pub tree_node : Members → Option Node
 tree_node ms = option_map node_at (option_and_then as_table (value_at key.Node ms))
+
+-- what an interrupt's table says
+abbrev pub interrupt_at : Members → Interrupt
+interrupt_at ms = record {
+  period = unwrap_or (number_at key.Period ms) 0;
+  cost = unwrap_or (number_at key.Cost ms) 0;
+}
+
+-- the interrupts of a document, in its order
+abbrev pub tree_interrupts : Members → List Interrupt
+tree_interrupts ms = map interrupt_at (unwrap_or (tables_at key.Interrupt ms) [])
 
 -- a task's own values, each of the right kind
 pub record AreFields (ms : Members) (text : List ℕ) (w p d c : ℕ) (tables : List Members) (j : ℕ) (said : OutranksData) : Type 0 where

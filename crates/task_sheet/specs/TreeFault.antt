@@ -1,5 +1,5 @@
 -- Why a document's tree is no task set: the first reason, in the order of the tests.
-use Rattle.std.specs.Prelude.{ℕ, ◌+◌, nat_lt, Bool, List, [], ◌∷◌, Option, Some, None, is_some, unwrap_or, option_map, if◌then◌else◌}
+use Rattle.std.specs.Prelude.{ℕ, ◌+◌, min, nat_lt, nat_le, Bool, ◌&&◌, List, [], ◌∷◌, length, Option, Some, None, is_some, unwrap_or, option_map, if◌then◌else◌}
 use Rattle.std.specs.Option.{option_or}
 use Rattle.std.specs.List.{list_all}
 use Rattle.toml.specs.Data.{Data, Members, as_str, as_table}
@@ -8,7 +8,11 @@ use Rattle.task_sheet.specs.Sheet.{CriticalSection, Task, names_said}
 use Rattle.task_sheet.specs.SheetFault.{sheet_fault, outranks_fault}
 use Rattle.task_sheet.specs.SheetsFault.{sheets_fault}
 use Rattle.task_sheet.specs.Prefer.{preference_of}
-use Rattle.task_sheet.specs.Tree.{root_keys, node_keys, task_keys, needed_keys, section_keys, needed_section_keys, only_keys, first_missing, value_at, number_at, number_or_zero, text_at, strings_at, outranks_or_none, tables_at, sheet_at, tree_sheets}
+use Rattle.task_sheet.specs.Tree.{root_keys, node_keys, interrupt_keys, task_keys, needed_keys, section_keys, needed_section_keys, only_keys, first_missing, value_at, number_at, number_or_zero, text_at, strings_at, outranks_or_none, tables_at, sheet_at, tree_sheets, node_at, interrupt_at}
+use Rattle.task_sheet.specs.declared.node.Node.{Node}
+use Rattle.task_sheet.specs.declared.node.Interrupt.{Interrupt}
+use Rattle.task_sheet.specs.declared.node.TheConstants.{INTERRUPT_FROM, INTERRUPT_LIMIT}
+use Rattle.task_sheet.specs.declared.sheet.TheConstants.{PERIOD_FROM, PERIOD_TO}
 use Rattle.task_sheet.specs.declared.set.SetCause.{SetCause}
 use Rattle.task_sheet.specs.declared.set.SetCause.TheVariants as cause
 use Rattle.task_sheet.specs.declared.keys.Key.{Key}
@@ -109,13 +113,27 @@ prefer_fault None = None
 prefer_fault (Some d) = word_fault (as_str d)
 
 -- the node's keys, and then the kinds of its numbers
-abbrev pub node_fault : Members → Option SetFault
-node_fault ms = first (
+abbrev pub node_kinds_fault : Members → Option SetFault
+node_kinds_fault ms = first (
     unless (only_keys node_keys ms) fault.UnknownOverhead
     ∷ unless (is_some (number_or_zero (value_at key.Job ms))) (fault.WrongKind 0 0 key.Job)
     ∷ unless (is_some (number_or_zero (value_at key.Lock ms))) (fault.WrongKind 0 0 key.Lock)
+    ∷ unless (is_some (number_or_zero (value_at key.Release ms))) (fault.WrongKind 0 0 key.Release)
     ∷ unless (is_some (number_or_zero (value_at key.Late ms))) (fault.WrongKind 0 0 key.Late)
     ∷ [])
+
+-- the first of the node's numbers that is past its limit; what a timer takes of whoever executes is a part of `job`
+abbrev pub numbers_fault : Node → Option SetFault
+numbers_fault node = first (
+    unless (nat_le node.job PERIOD_TO) (fault.BadOverhead key.Job)
+    ∷ unless (nat_le node.lock PERIOD_TO) (fault.BadOverhead key.Lock)
+    ∷ unless (nat_le node.release (min PERIOD_FROM node.job)) (fault.BadOverhead key.Release)
+    ∷ unless (nat_le node.late PERIOD_TO) (fault.BadOverhead key.Late)
+    ∷ [])
+
+-- the node's keys, the kinds of its numbers, and then their limits
+abbrev pub node_fault : Members → Option SetFault
+node_fault ms = option_or (node_kinds_fault ms) (numbers_fault (node_at ms))
 
 -- the fault of the value at `node`, which may be absent
 abbrev pub table_fault : Option Members → Option SetFault
@@ -126,13 +144,41 @@ abbrev pub overheads_fault : Option Data → Option SetFault
 overheads_fault None = None
 overheads_fault (Some d) = table_fault (as_table d)
 
--- the root's keys and the kind of `task`, its preference, the node, each task, and then what `TaskSet::new` refuses
+-- an interrupt is within the limits, as a test
+abbrev pub is_interrupt : Interrupt → Bool
+is_interrupt x =
+    nat_le INTERRUPT_FROM x.period && (nat_le x.period PERIOD_TO && nat_le x.cost x.period)
+
+-- a table has the keys of an interrupt alone, both with numbers, and they are within the limits
+abbrev pub says_interrupt : Members → Bool
+says_interrupt ms =
+    only_keys interrupt_keys ms
+    && (is_some (number_at key.Period ms)
+    && (is_some (number_at key.Cost ms) && is_interrupt (interrupt_at ms)))
+
+-- the place of the first table that says no interrupt, where the first stands at a place
+abbrev pub bad_interrupt : ℕ → List Members → Option ℕ
+bad_interrupt place [] = None
+bad_interrupt place (ms ∷ more) =
+    if says_interrupt ms then bad_interrupt (place + 1) more else Some place
+
+-- the fault of the interrupts' tables: a value of another kind, the first table that says none, and then that there are
+-- too many
+abbrev pub interrupts_fault : Option (List Members) → Option SetFault
+interrupts_fault None = Some (fault.WrongKind 0 0 key.Interrupt)
+interrupts_fault (Some mss) =
+    option_or (option_map fault.BadInterrupt (bad_interrupt 1 mss))
+    (unless (nat_le (length mss) INTERRUPT_LIMIT) fault.TooManyInterrupts)
+
+-- the root's keys and the kind of `task`, its preference, the node, the interrupts, each task, and then what
+-- `TaskSet::new` refuses
 abbrev pub tree_fault : Members → Option SetFault
 tree_fault ms = first (
     unless (only_keys root_keys ms) (fault.UnknownKey 0 0)
     ∷ unless (is_some (tables_at key.Task ms)) (fault.WrongKind 0 0 key.Task)
     ∷ prefer_fault (value_at key.Prefer ms)
     ∷ overheads_fault (value_at key.Node ms)
+    ∷ interrupts_fault (tables_at key.Interrupt ms)
     ∷ tasks_fault 1 (unwrap_or (tables_at key.Task ms) [])
     ∷ option_map of_set (sheets_fault (tree_sheets ms))
     ∷ [])

@@ -18,17 +18,21 @@ pub enum Key {
     Job,
     /// `lock` of the node: a number of microseconds, 0 where it is absent.
     Lock,
+    /// `release` of the node: a number of microseconds, 0 where it is absent.
+    Release,
     /// `late` of the node: a number of microseconds, 0 where it is absent.
     Late,
+    /// `interrupt` of the root: an array of tables, none where it is absent.
+    Interrupt,
     /// `name` of a task: a string.
     Name,
     /// `weight` of a task: a number, 0 where it is absent.
     Weight,
-    /// `period` of a task: a number of microseconds.
+    /// `period` of a task or an interrupt: a number of microseconds.
     Period,
     /// `deadline` of a task: a number of microseconds.
     Deadline,
-    /// `cost` of a task: a number of microseconds.
+    /// `cost` of a task or an interrupt: a number of microseconds.
     Cost,
     /// `section` of a task: an array of tables, none where it is absent.
     Section,
@@ -55,7 +59,9 @@ impl Key {
             Key::Node => "node",
             Key::Job => "job",
             Key::Lock => "lock",
+            Key::Release => "release",
             Key::Late => "late",
+            Key::Interrupt => "interrupt",
             Key::Name => "name",
             Key::Weight => "weight",
             Key::Period => "period",
@@ -72,10 +78,13 @@ impl Key {
 }
 
 /// The keys of the root.
-pub const ROOT_KEYS: [Key; 3] = [Key::Task, Key::Prefer, Key::Node];
+pub const ROOT_KEYS: [Key; 4] = [Key::Task, Key::Prefer, Key::Node, Key::Interrupt];
 
 /// The keys of the node.
-pub const NODE_KEYS: [Key; 3] = [Key::Job, Key::Lock, Key::Late];
+pub const NODE_KEYS: [Key; 4] = [Key::Job, Key::Lock, Key::Release, Key::Late];
+
+/// The keys of an interrupt.
+pub const INTERRUPT_KEYS: [Key; 2] = [Key::Period, Key::Cost];
 
 /// The keys of a task.
 pub const TASK_KEYS: [Key; 8] = [

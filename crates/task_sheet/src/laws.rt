@@ -5,11 +5,12 @@ ghost use Rattle.std.specs.Int.{div_ceil};
 ghost use Rattle.task_sheet.specs.Sheet.{Task, CriticalSection, AllTasks, task_at};
 ghost use Rattle.task_sheet.specs.declared.sheet.TheConstants.{PERIOD_TO};
 ghost use Rattle.std.specs.List.Sorted.{IsPermutation};
-ghost use Rattle.task_sheet.specs.TaskSet.{IsTaskSet, IsByRank};
+ghost use Rattle.task_sheet.specs.Rank.{IsByRank};
+ghost use Rattle.task_sheet.specs.TaskSet.{IsTaskSet};
 ghost use Rattle.task_sheet.specs.Indexes.{Indexes, IsPart, with_index, either_of, listed_below};
 ghost use Rattle.task_sheet.specs.Locks.{uses, ceiling_of, IsHighestUser};
 ghost use Rattle.task_sheet.specs.Responses.{IsResponse, IsChain, IsFullChain};
-ghost use Rattle.task_sheet.specs.Demand.{releases_within, limit_of, blocking_of, Blocks, demand_of, IsResponseOf, Passes, does_pass};
+ghost use Rattle.task_sheet.specs.Demand.{releases_within, limit_of, blocking_of, Blocks, interference_within, has_interrupts, IsUninterrupted, demand_of, IsResponseOf, Passes, does_pass};
 ghost use Rattle.task_sheet.specs.Orders.{all_of, is_bound, Stands, IsOrder, IsFeasible, IsBest};
 ghost use Rattle.task_sheet.specs.Levels.{NoneStands, IsObstruction, IsGreatestObstruction, left_after, AllChosen};
 ghost use Rattle.task_sheet.specs.Choices.{does_stand};
@@ -57,11 +58,20 @@ pub fn exchange()
         → demand_of U i H t ≤ demand_of U i G t }
 {}
 
-/// Within the longest period, the demand of a valid set is under 1000 seconds.
+/// Without timers and interrupts the demand is cost, blocking and interference (Audsley et al. 1993); the test says
+/// whether there are any.
+pub fn no_interrupts_is_plain()
+    ensures demand { (U : List Task) (i : ℕ) (H : Indexes) (t : ℕ) → IsUninterrupted U
+        → demand_of U i H t
+        ≡ (task_at U i).cost + blocking_of U i H + interference_within U H t }
+    ensures test { (U : List Task) → IsFalse (has_interrupts U) ↔ IsUninterrupted U }
+{}
+
+/// Within the longest period, the demand of a valid set has at most ten digits.
 pub fn demand_fits()
     ensures { (U : List Task) (i : ℕ) (H : Indexes) (t : ℕ) → IsTaskSet U → i < length U
         → t ≤ PERIOD_TO
-        → demand_of U i H t < 1000000000 }
+        → demand_of U i H t < 10000000000 }
 {}
 
 /// A task passes exactly where it has a response within its deadline: the least positive time that is its own demand,

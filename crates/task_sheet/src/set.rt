@@ -1,7 +1,8 @@
 //! Sets of tasks.
 ghost use Rattle.std.specs.Prelude.{◌≡◌, ◌≢◌, ◌==◌, ◌↔◌, ℕ, ◌+◌, ◌<◌, ◌≤◌, List, [], ◌∷◌, ◌++◌, length, vec_len, true, false, Some, None, Err, IsTrue, IsNone, IsSome, IfOk, IfErr, IfSome, IfNone, All, option_map, slice_get, position};
 ghost use Rattle.task_sheet.specs.Sheet.{Task, IsValidSheet, same_bytes};
-ghost use Rattle.task_sheet.specs.TaskSet.{IsTaskSet, IsByRank, AreDistinct, first_repeat, has_name, others_of, same_name};
+ghost use Rattle.task_sheet.specs.Rank.{IsByRank};
+ghost use Rattle.task_sheet.specs.TaskSet.{IsTaskSet, AreDistinct, first_repeat, has_name, others_of, same_name};
 ghost use Rattle.task_sheet.specs.declared.set.TheConstants.{TASK_LIMIT};
 ghost use Rattle.task_sheet.specs.SheetsFault.{sheets_fault, with_fault};
 

@@ -2,13 +2,15 @@
 ghost use Rattle.std.specs.Prelude.{◌≡◌, ◌↔◌, ℕ, ◌+◌, ◌<◌, ◌≤◌, length, All, IsTrue, Some, None, IfNone, IfOk, IfErr, OnOk, OnErr};
 ghost use Rattle.std.specs.Bool.{OnFalse};
 ghost use Rattle.task_sheet.specs.Name.{IsName};
-ghost use Rattle.task_sheet.specs.Sheet.{CriticalSection, Task, IsSection, AreSections, AreOutranked, MayOutrank, IsValidSheet, task_of, with_jitter, outranking, outranks_task, weighing, repeats, same_section, same_sheet};
+ghost use Rattle.task_sheet.specs.Sheet.{CriticalSection, Task, IsSection, AreSections, AreOutranked, MayOutrank, AreOverheads, AreInterrupts, IsValidSheet, task_of, with_jitter, outranking, outranks_task, weighing, with_node, interrupted, repeats, same_section, same_interrupt, same_sheet};
+ghost use Rattle.task_sheet.specs.Overheads.{overhead_of};
 ghost use Rattle.task_sheet.specs.SheetFields.{outranks_of};
 ghost use Rattle.task_sheet.specs.Demand.{limit_of};
 ghost use Rattle.task_sheet.specs.declared.sheet.TheConstants.{WEIGHT_LIMIT, SECTION_LIMIT};
 ghost use Rattle.task_sheet.specs.SheetFault.{section_fault, list_fault, numbers_fault, sheet_fault, names_fault, outranks_fault};
 
 use crate::name::Name;
+use crate::node::{Interrupt, Node};
 use crate::outranks::Outranks;
 use std::alloc::{AllocError, Global};
 use std::marker::Model;
@@ -167,6 +169,8 @@ pub struct Sheet {
     sections: Vec<Section>,
     jitter: u64,
     outranks: Outranks,
+    node: Node,
+    interrupts: Vec<Interrupt>,
 }
 
 impl Model for Sheet {
@@ -329,7 +333,7 @@ impl Sheet {
         if let Some(cause) = list_fault(&sections, cost) {
             return Err(SheetFault { cause, sections });
         }
-        let outranks = Outranks::Named(Vec::new(*sections.allocator()));
+        let alloc = *sections.allocator();
         Ok(Sheet {
             name,
             weight,
@@ -338,7 +342,9 @@ impl Sheet {
             cost,
             sections,
             jitter: 0,
-            outranks,
+            outranks: Outranks::Named(Vec::new(alloc)),
+            node: Node::none(),
+            interrupts: Vec::new(alloc),
         })
     }
 
@@ -383,6 +389,24 @@ impl Sheet {
         ensures { result ≡ weighing self weight }
     {
         self.weight = weight;
+        self
+    }
+
+    /// The same sheet, of which this node takes what its numbers have in them.
+    pub fn of_node(mut self, node: Node) -> Sheet
+        requires limits { AreOverheads node }
+        ensures { result ≡ with_node self node }
+    {
+        self.node = node;
+        self
+    }
+
+    /// The same sheet with these interrupts on its account.
+    pub fn interrupted(mut self, interrupts: Vec<Interrupt>) -> Sheet
+        requires limits { AreInterrupts interrupts.items }
+        ensures { result ≡ interrupted self interrupts.items }
+    {
+        self.interrupts = interrupts;
         self
     }
 
@@ -453,6 +477,35 @@ impl Sheet {
         &self.outranks
     }
 
+    /// What the node takes of the task: its numbers have it in them, but for `release`, which its timer takes of whoever
+    /// executes (Burns, Wellings).
+    pub fn node(&self) -> Node
+        ensures same { result ≡ self.now.node }
+        ensures limits { AreOverheads result }
+    {
+        self.node
+    }
+
+    /// The interrupts on the task's account, which no task asks for.
+    pub fn interrupts(&self) -> &[Interrupt]
+        ensures same { result.now ≡ self.now.interrupts }
+        ensures limits { AreInterrupts result.now }
+    {
+        &self.interrupts
+    }
+
+    /// What of the cost is the node's, in microseconds: what a job takes beside its own work, but for its timer, and the
+    /// calls on its locks (Burns, Wellings).
+    pub fn overhead(&self) -> u64
+        ensures { result ≡ overhead_of self.now }
+    {
+        let mut overhead = self.node.job.saturating_sub(self.node.release);
+        for section in &self.sections {
+            overhead += self.node.lock * section.locks.len() as u64;
+        }
+        overhead
+    }
+
     /// Whether in a set the task must stand above the other one.
     pub fn must_outrank(&self, other: &Sheet) -> bool
         ensures { result ≡ outranks_task self.now other.now }
@@ -469,6 +522,7 @@ impl Sheet {
     {
         let sections = copy_sections(alloc, &self.sections)?;
         let outranks = self.outranks.copy(alloc)?;
+        let interrupts = Vec::from_slice(alloc, &self.interrupts)?;
         Ok(Sheet {
             name: self.name,
             weight: self.weight,
@@ -478,6 +532,8 @@ impl Sheet {
             sections,
             jitter: self.jitter,
             outranks,
+            node: self.node,
+            interrupts,
         })
     }
 }
@@ -520,5 +576,7 @@ impl PartialEq for Sheet {
             && self.jitter == other.jitter
             && self.sections.as_slice() == other.sections.as_slice()
             && self.outranks.is_same(&other.outranks)
+            && self.node == other.node
+            && self.interrupts.as_slice() == other.interrupts.as_slice()
     }
 }

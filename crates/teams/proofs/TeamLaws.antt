@@ -19,7 +19,7 @@ use Rattle.teams.specs.Budgets.{budgets_fault}
 use Rattle.teams.specs.ReadsText.{AreJudged, HasBudgets, IsUnited, ReadsBounded}
 use Rattle.teams.specs.declared.reading.Part.{Part}
 use Rattle.teams.specs.declared.fault.TeamsFault.{TeamsFault}
-use Rattle.teams.specs.declared.fault.TeamsFault.TheVariants.{Alone, BadHead, Node, NoSuchTeam, Of, OtherPreference, OtherNode, Padded, PastBudget, Taken, TooManyTasks, OutOfMemory}
+use Rattle.teams.specs.declared.fault.TeamsFault.TheVariants.{Alone, BadHead, Node, NoSuchTeam, Of, OtherPreference, OtherNode, Padded, PastBudget, Taken, TooManyInterrupts, TooManyTasks, OutOfMemory}
 
 -- ---- one document more
 read_push : (parts : List Part) (sets : List TeamSetData) (p : Part) (s : TeamSetData) → AreRead parts sets → ReadsPart p (Ok s) → AreRead (parts ++ p ∷ []) (sets ++ s ∷ [])
@@ -54,6 +54,7 @@ first_refused parts k sets p e lt same all why = by e why
     by (Taken team task other) why = absurd why
     by (OtherPreference team other) why = absurd why
     by (OtherNode team other) why = absurd why
+    by TooManyInterrupts why = absurd why
     by (Padded f) why = absurd why
     by TooManyTasks why = absurd why
     by (BadHead part) why = absurd why
@@ -70,6 +71,7 @@ stopped_by text rest after sets p (Of team f) all first why = (all.0, sets, rest
 stopped_by text rest after sets p (Taken team task other) all first why = absurd why
 stopped_by text rest after sets p (OtherPreference team other) all first why = absurd why
 stopped_by text rest after sets p (OtherNode team other) all first why = absurd why
+stopped_by text rest after sets p TooManyInterrupts all first why = absurd why
 stopped_by text rest after sets p (Padded f) all first why = absurd why
 stopped_by text rest after sets p TooManyTasks all first why = absurd why
 stopped_by text rest after sets p (BadHead part) all first why = absurd why

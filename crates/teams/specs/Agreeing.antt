@@ -1,10 +1,12 @@
 -- What the documents of teams prefer together, and which node they say: what one of them says holds for all, and none may
--- say otherwise.
-use Rattle.std.specs.Prelude.{ℕ, Bool, true, false, nat_eq, ◌&&◌, not, List, [], ◌∷◌, Option, Some, None, option_map, if◌then◌else◌}
+-- say otherwise. The interrupts of all are the node's.
+use Rattle.std.specs.Prelude.{ℕ, Bool, true, false, not, List, [], ◌∷◌, ◌++◌, Option, Some, None, option_map, if◌then◌else◌}
 use Rattle.std.specs.Option.{option_or}
 use Rattle.task_sheet.specs.declared.prefer.Preference.{Preference}
 use Rattle.task_sheet.specs.declared.prefer.Preference.TheVariants.{Weights, Deadline}
 use Rattle.task_sheet.specs.declared.node.Node.{Node}
+use Rattle.task_sheet.specs.declared.node.Interrupt.{Interrupt}
+use Rattle.task_sheet.specs.Sheet.{same_node}
 use Rattle.teams.specs.Owned.{TeamSetData}
 use Rattle.teams.specs.declared.fault.TeamsFault.{TeamsFault}
 use Rattle.teams.specs.declared.fault.TeamsFault.TheVariants.{OtherPreference, OtherNode}
@@ -47,10 +49,6 @@ disagreement sets = disagreement_with (first_saying sets) sets
 
 -- ---- the node
 
--- two nodes take the same
-abbrev pub same_node : Node → Node → Bool
-same_node x y = nat_eq x.job y.job && (nat_eq x.lock y.lock && nat_eq x.late y.late)
-
 -- a document's node, with its team
 abbrev pub node_said_by : List ℕ → Option Node → Option (List ℕ × Node)
 node_said_by team None = None
@@ -85,3 +83,10 @@ node_disagreement_with (Some said) sets =
 -- the first document that says another node than one before it
 abbrev pub node_disagreement : List TeamSetData → Option TeamsFault
 node_disagreement sets = node_disagreement_with (first_node sets) sets
+
+-- ---- interrupts
+
+-- the interrupts of all documents, in their order
+abbrev pub interrupts_by : List TeamSetData → List Interrupt
+interrupts_by [] = []
+interrupts_by (s ∷ sets) = s.interrupts ++ interrupts_by sets

@@ -3,15 +3,17 @@ use Rattle.std.specs.Prelude.{ℕ, List, [], ◌∷◌, ◌++◌, map, Option, s
 use Rattle.task_sheet.specs.Sheet.{Task, no_task, same_bytes}
 use Rattle.task_sheet.specs.declared.prefer.Preference.{Preference}
 use Rattle.task_sheet.specs.declared.node.Node.{Node}
+use Rattle.task_sheet.specs.declared.node.Interrupt.{Interrupt}
 use Rattle.teams.specs.declared.fault.TeamsFault.{TeamsFault}
 use Rattle.teams.specs.declared.fault.TeamsFault.TheVariants.{Taken}
 
--- a team's set, what its document prefers, and the node that it says
+-- a team's set, what its document prefers, the node that it says, and its interrupts
 pub record TeamSetData : Type 0 where
   pub team : List ℕ
   pub set : List Task
   pub prefers : Option Preference
   pub node : Option Node
+  pub interrupts : List Interrupt
 
 -- a team's task
 pub record OwnedData : Type 0 where

@@ -4,7 +4,6 @@ use Rattle.std.specs.declared.alloc.Global.{Global}
 use Rattle.std.specs.List.{starts_with}
 use Rattle.task_sheet.specs.ReadsSet.{ReadsSet, ReadsDocument}
 use Rattle.task_sheet.specs.declared.read.Document.{Document}
-use Rattle.task_sheet.specs.declared.node.Node.{Node as Overheads}
 use Rattle.task_sheet.specs.declared.read.SetFault.TheVariants as fault
 use Rattle.teams.specs.Owned.{TeamSetData}
 use Rattle.teams.specs.ReadsTeams.{UnitesAll}
@@ -15,8 +14,7 @@ use Rattle.teams.specs.declared.node.Budget.{Budget}
 use Rattle.teams.specs.declared.node.NodeFault.TheVariants as node
 use Rattle.teams.specs.declared.fault.TeamsFault.{TeamsFault}
 use Rattle.teams.specs.declared.fault.TeamsFault.TheVariants.{Alone, Node, Padded, OutOfMemory}
-use Rattle.overheads.specs.Padding.{IsPadded, padding_fault}
-use Rattle.overheads.specs.declared.padding.PadFault.{PadFault}
+use Rattle.overheads.specs.Padding.{IsPadded, fault_by}
 use Rattle.overheads.specs.declared.padding.PadFault.TheVariants as pad
 
 -- the answer on a text that is one document; want of memory is one fault, whoever saw it
@@ -81,12 +79,15 @@ abbrev pub ReadsWritten : List ℕ → Result Document TeamsFault → Type 0
 ReadsWritten text (Err OutOfMemory) = Unit {0}
 ReadsWritten text answer = ReadsEither (is_gathered text) text answer
 
--- the answer on a document: its set with what the node takes, where it says a node; or why there is no room for that
+-- the answer on a document: its set with what the node takes, where it says a node, and with the interrupts; or why
+-- there is no room for that
 abbrev pub Pads : Document → Result Document TeamsFault → Type 0
-Pads u (Ok d) = IsPadded u.node u.set d.set × (d.prefers ≡ u.prefers) × (d.node ≡ u.node)
+Pads u (Ok d) =
+    IsPadded u.node u.interrupts.items u.set d.set × (d.prefers ≡ u.prefers) × (d.node ≡ u.node)
+    × (d.interrupts.items ≡ u.interrupts.items)
 Pads u (Err OutOfMemory) = Unit {0}
 Pads u (Err (Padded pad.OutOfMemory)) = ⊥
-Pads u (Err (Padded e)) = (n : Overheads) × (u.node ≡ Some n) × (padding_fault n u.set ≡ Some e)
+Pads u (Err (Padded e)) = fault_by u.node u.set ≡ Some e
 Pads u (Err _) = ⊥
 
 -- the text says a set, and this is the answer on it with what the node takes

@@ -46,6 +46,9 @@ pub enum TeamsFault {
         team: Name,
         other: Name,
     },
+    /// The documents have more than 8 interrupts together.
+    #[error("more than 8 interrupts")]
+    TooManyInterrupts,
     /// The node's document says no budgets.
     #[error("node: {fault}")]
     Node {

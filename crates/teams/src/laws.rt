@@ -1,5 +1,5 @@
 //! Laws of budgets, and of sets without a node. Each is the contract of a function that does nothing.
-ghost use Rattle.std.specs.Prelude.{◌≡◌, ◌↔◌, ℕ, List, None, Ok};
+ghost use Rattle.std.specs.Prelude.{◌≡◌, ◌↔◌, ℕ, List, [], None, Ok};
 ghost use Rattle.task_sheet.specs.declared.read.Document.{Document};
 ghost use Rattle.teams.specs.Budgets.{budget_fault, IsWithin};
 ghost use Rattle.teams.specs.Gathering.{ReadsGathered};
@@ -20,8 +20,8 @@ pub fn budgets_keep_set()
         → ReadsGathered text (Ok d) }
 {}
 
-/// Where no document says a node, a set's text says the set that is written.
+/// Where no document says a node or interrupts, a set's text says the set that is written.
 pub fn no_node_is_as_written()
-    ensures { (text : List ℕ) (d : Document) → d.node ≡ None
+    ensures { (text : List ℕ) (d : Document) → d.node ≡ None → d.interrupts.items ≡ []
         → ReadsText text (Ok d) ↔ ReadsWritten text (Ok d) }
 {}

@@ -24,6 +24,7 @@ pub(crate) fn read_part(alloc: Global, part: &Part<'_>) -> Result<TeamSet, Teams
             set: document.set,
             prefers: document.prefers,
             node: document.node,
+            interrupts: document.interrupts,
         }),
         Err(SetFault::OutOfMemory) => Err(TeamsFault::OutOfMemory),
         Err(fault) => Err(TeamsFault::Of {
@@ -46,9 +47,10 @@ fn read_parts(alloc: Global, parts: &[Part<'_>]) -> Result<Vec<TeamSet>, TeamsFa
     Ok(sets)
 }
 
-/// The documents of teams as one: their tasks, put together, what they prefer, and the node: what one of them says holds
-/// for all. Refused in this order: the first document that is no set by itself; the first that prefers otherwise than one
-/// before it; the first that says another node; the first task, team by team and by rank, that has the name of one before it; `TooManyTasks`.
+/// The documents of teams as one: their tasks, put together, what they prefer, and the node, where what one of them says
+/// holds for all; and the interrupts of all. Refused in this order: the first document that is no set by itself; the first
+/// that prefers otherwise than one before it; the first that says another node; `TooManyInterrupts`; the first task, team
+/// by team and by rank, that has the name of one before it; `TooManyTasks`.
 pub fn read_teams(alloc: Global, parts: &[Part<'_>]) -> Result<Document, TeamsFault>
     ensures { ReadsTeams parts.now result }
 {

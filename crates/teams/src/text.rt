@@ -1,5 +1,6 @@
 //! A set's text.
 ghost use Rattle.std.specs.Prelude.{◌≡◌, [], Ok, IfOk, IfErr};
+ghost use Rattle.task_sheet.specs.ReadsSet.{AreWithinLimits};
 ghost use Rattle.teams.specs.Gathering.{AreGathered, IsNotGathered};
 ghost use Rattle.teams.specs.ReadsText.{ReadsAlone, ReadsBounded, ReadsDocuments, ReadsText, ReadsWritten, Pads, is_gathered};
 ghost use Rattle.teams.specs.ReadsTeams.{UnitesAll};
@@ -75,19 +76,20 @@ fn read_written(alloc: Global, text: &[u8]) -> Result<Document, TeamsFault>
     }
 }
 
-// The document, its set with what the node takes, where it says a node.
+// The document, its set with what the node takes, where it says a node, and with the interrupts.
 fn padded(alloc: Global, document: Document) -> Result<Document, TeamsFault>
+    requires limits { AreWithinLimits document.node document.interrupts.items }
     ensures { Pads document result }
 {
-    let prefers = document.prefers;
-    let Some(node) = document.node else {
+    if document.node.is_none() && document.interrupts.is_empty() {
         return Ok(document);
-    };
-    match pad(alloc, &document.set, node) {
+    }
+    match pad(alloc, &document.set, document.node, &document.interrupts) {
         Ok(set) => Ok(Document {
             set,
-            prefers,
-            node: Some(node),
+            prefers: document.prefers,
+            node: document.node,
+            interrupts: document.interrupts,
         }),
         Err(PadFault::OutOfMemory) => Err(TeamsFault::OutOfMemory),
         Err(fault) => Err(TeamsFault::Padded { fault }),
@@ -98,7 +100,7 @@ fn padded(alloc: Global, document: Document) -> Result<Document, TeamsFault>
 /// reads them; else of one document, as `task_sheet::read_document` does. In front of the teams' documents that of the
 /// node may stand, behind a line `#% COUNT`: what it refuses comes first, and last the first budget by the names of the
 /// teams whose team has no document, or takes more. To TOML the lines with `#% ` are comments. Where a document says a
-/// node, the set has what that takes, as `overheads::pad` puts it in; what that refuses comes last of all.
+/// node or interrupts, the set has what these take, as `overheads::pad` puts it in; what that refuses comes last of all.
 pub fn read_text(alloc: Global, text: &[u8]) -> Result<Document, TeamsFault>
     ensures { ReadsText text.now result }
 {

@@ -1,22 +1,27 @@
 //! Putting the sets of teams together.
-ghost use Rattle.std.specs.Prelude.{◌≡◌, ◌≢◌, ◌<◌, ◌++◌, length, map, Err, None, Some, IfOk, IfErr, OnOk};
+ghost use Rattle.std.specs.Prelude.{◌≡◌, ◌≢◌, ◌<◌, ◌≤◌, ◌++◌, length, map, Err, None, Some, IfOk, IfErr, OnOk};
+ghost use Rattle.task_sheet.specs.Sheet.{same_node};
 ghost use Rattle.task_sheet.specs.SheetsFault.{sheets_fault};
-ghost use Rattle.teams.specs.Agreeing.{disagreement, first_node, first_other, first_other_node, first_saying, node_by, node_disagreement, preferred_by, same_node, says_other, says_other_node};
+ghost use Rattle.task_sheet.specs.declared.node.TheConstants.{INTERRUPT_LIMIT};
+ghost use Rattle.teams.specs.Agreeing.{disagreement, first_node, first_other, first_other_node, first_saying, interrupts_by, node_by, node_disagreement, preferred_by, says_other, says_other_node};
 ghost use Rattle.teams.specs.Owned.{holder_of, owned_all, owned_by, taken_at};
 ghost use Rattle.teams.specs.ReadsTeams.{Unites, UnitesAll};
 
 use crate::fault::TeamsFault;
 use std::alloc::{AllocError, Global};
 use std::marker::Model;
-use task_sheet::{Document, Name, Node, Preference, SetCause, Sheet, TaskSet};
+use task_sheet::{
+    Document, INTERRUPT_LIMIT, Interrupt, Name, Node, Preference, SetCause, Sheet, TaskSet,
+};
 
-// A team's set, what its document prefers, and the node that it says.
+// A team's set, what its document prefers, the node that it says, and its interrupts.
 #[derive(Drop)]
 pub(crate) struct TeamSet {
     pub team: Name,
     pub set: TaskSet,
     pub prefers: Option<Preference>,
     pub node: Option<Node>,
+    pub interrupts: Vec<Interrupt>,
 }
 
 impl Model for TeamSet {
@@ -24,8 +29,13 @@ impl Model for TeamSet {
 
     ghost Value = { TeamSetData };
 
-    ghost view = { λ s.
-        record { team = s.team; set = s.set; prefers = s.prefers; node = s.node } };
+    ghost view = { λ s. record {
+      team = s.team;
+      set = s.set;
+      prefers = s.prefers;
+      node = s.node;
+      interrupts = s.interrupts.items;
+    } };
 }
 
 // A team's task.
@@ -211,7 +221,10 @@ fn first_node(sets: &[TeamSet]) -> Option<(Name, Node)>
 fn same_node(node: Node, other: Node) -> bool
     ensures { result ≡ same_node node other }
 {
-    node.job == other.job && node.lock == other.lock && node.late == other.late
+    node.job == other.job
+        && node.lock == other.lock
+        && node.late == other.late
+        && node.release == other.release
 }
 
 // Whether a document says another node than this.
@@ -250,12 +263,45 @@ fn agreed_node(sets: &[TeamSet]) -> Result<Option<Node>, TeamsFault>
     }
 }
 
+// ---- the interrupts of all
+
+// The interrupts of the documents, in their order.
+fn interrupts_of(alloc: Global, sets: &[TeamSet]) -> Result<Vec<Interrupt>, AllocError>
+    ensures { IfOk result (λ v. v.items ≡ interrupts_by sets.now) }
+{
+    let mut interrupts = Vec::new(alloc);
+    for part in sets {
+        interrupts.extend_from_slice(&part.interrupts)?;
+    }
+    Ok(interrupts)
+}
+
+// The same, where they are not too many.
+fn few_interrupts(alloc: Global, sets: &[TeamSet]) -> Result<Vec<Interrupt>, TeamsFault>
+    ensures ok { IfOk result (λ v. (v.items ≡ interrupts_by sets.now)
+        × (length (interrupts_by sets.now) ≤ INTERRUPT_LIMIT)) }
+    ensures err { IfErr result (λ e. e ≢ TeamsFault.OutOfMemory
+        → (e ≡ TeamsFault.TooManyInterrupts) × (INTERRUPT_LIMIT < length (interrupts_by sets.now))) }
+{
+    let interrupts = interrupts_of(alloc, sets)?;
+    if interrupts.len() > INTERRUPT_LIMIT {
+        return Err(TeamsFault::TooManyInterrupts);
+    }
+    Ok(interrupts)
+}
+
 /// The documents of teams as one.
 pub(crate) fn united(alloc: Global, sets: &[TeamSet]) -> Result<Document, TeamsFault>
     ensures { UnitesAll sets.now result }
 {
     let prefers = agreed(sets)?;
     let node = agreed_node(sets)?;
+    let interrupts = few_interrupts(alloc, sets)?;
     let set = united_set(alloc, sets)?;
-    Ok(Document { set, prefers, node })
+    Ok(Document {
+        set,
+        prefers,
+        node,
+        interrupts,
+    })
 }

@@ -3,7 +3,7 @@ use Rattle.std.proofs.lemmas.List.{get_or_read}
 use Rattle.task_sheet.specs.Sheet.{no_task}
 use Rattle.task_sheet.specs.Indexes.{indexes_of}
 use Rattle.task_sheet.proofs.TaskLaws.{task_read, valid_at}
-use Rattle.response_time.proofs.AboveLaws.{first-once, first-without, first-all}
+use Rattle.response_time.proofs.AboveLaws.{first-once, first-without, first-all, demand-parts}
 use Rattle.response_time.proofs.least_demand.Goals as goal
 use Rattle.response_time.proofs.least_demand.Goals.{then-has, else-has}
 
@@ -55,4 +55,4 @@ returns c = λ time some.
     let items = c.sheets-sheets.result.now in
     let is = task_read U items c.args.task c.index-sheets-task.result c.sheets-sheets.ensures.same c.requires c.index-sheets-task.is in
     let all = first-all U items c.args.task (indexes_of c.args.above) time c.loop-index.index c.sheets-sheets.ensures.same (omega arith) in
-    omega (arith, c.loop-index.invariant.sum time some, all, c.cost-least.ensures, ap (λ t. t.cost) is)
+    omega (arith, c.loop-index.invariant.sum time some, all, demand-parts U c.args.task (indexes_of c.args.above) time, c.cost-least.ensures, ap (λ t. t.cost) is)

@@ -3,13 +3,13 @@ use Rattle.task_sheet.specs.Sheet.{task_at}
 use Rattle.task_sheet.specs.Indexes.{indexes_of}
 use Rattle.task_sheet.specs.Demand.{demand_of, limit_of}
 use Rattle.task_sheet.proofs.Trails.{IsClimb, AllWithinLimit}
-use Rattle.response_time.specs.Workload.{work_within}
+use Rattle.response_time.specs.Workload.{work_within, work_of}
 use Rattle.response_time.proofs.respond.Given as goal
 
 -- the numbers and the next one are the first iterates
 abbrev pub invariant-loop-time : goal.invariant-loop-time
 invariant-loop-time l = record {
-  demand : (t : ℕ) → 1 ≤ t → t ≤ l.limit → work_within t l.work ≡ demand_of l.set l.task (indexes_of l.fn.above) t;
+  demand : (t : ℕ) → 1 ≤ t → t ≤ l.limit → work_within t l.work ≡ work_of l.set l.task (indexes_of l.fn.above) t;
   carried : l.work.time ≤ l.time;
   positive : 1 ≤ l.time;
   climb : IsClimb (demand_of l.set l.task (indexes_of l.fn.above)) (l.numbers.items ++ l.time ∷ []);

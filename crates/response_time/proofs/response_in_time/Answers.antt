@@ -6,6 +6,7 @@ use Rattle.task_sheet.specs.Demand.{demand_of, IsResponseOf}
 use Rattle.task_sheet.proofs.TaskLaws.{AllTasks-from_set}
 use Rattle.task_sheet.proofs.DemandLaws.{demand-mono, demand_does_not_fall}
 use Rattle.task_sheet.proofs.PassingLaws.{IsResponseOf-from}
+use Rattle.response_time.proofs.AboveLaws.{demand-parts, next-is}
 use Rattle.response_time.proofs.FirstCovers.{first_cover_is_response}
 use Rattle.response_time.proofs.response_in_time.Goals as goal
 
@@ -14,7 +15,7 @@ loop-window-init c = record {
   demand = c.new-work.ensures.is;
   carried = omega (arith, c.new-work.ensures.start, c.first_window-window.ensures.positive);
   positive = c.first_window-window.ensures.positive;
-  first = λ s pos to covers. c.first_window-window.ensures.least s pos (omega (arith, c.new-work.ensures.is s pos to, covers));
+  first = λ s pos to covers. c.first_window-window.ensures.least s pos (omega (arith, c.new-work.ensures.is s pos to, demand-parts c.args.set.now c.args.task (indexes_of c.args.above) s, covers));
 }
 
 pub returns-then-next-window : goal.returns-then-next-window
@@ -25,7 +26,7 @@ returns-then-next-window c =
     let steady = demand_does_not_fall U (AllTasks-from_set U c.limit_of-limit.ensures.kept) i H c.requires.task in
     let inv = c.loop-window.invariant in
     let t = c.loop-window.window in
-    let next = c.advance-next.ensures.is ∙ inv.demand t inv.positive c.loop-window-test.true in
+    let next = next-is U i H t _ _ c.next_demand-next.ensures.is (inv.demand t inv.positive c.loop-window-test.true) in
     let first : (s : ℕ) → 1 ≤ s → demand_of U i H s ≤ s → t ≤ s = λ s pos covers. elim (cases_lt c.limit_of-limit.result s) [
       | inl past ↦ omega (arith, past, c.loop-window-test.true)
       | inr to ↦ inv.first s pos to covers
@@ -51,10 +52,10 @@ returns c = record {
 pub loop-window-preserved : goal.loop-window-preserved
 loop-window-preserved c =
     let inv = c.loop-window.invariant in
-    let next = c.advance-next.ensures.is ∙ inv.demand c.loop-window.window inv.positive c.loop-window-test.true in
+    let next = next-is c.args.set.now c.args.task (indexes_of c.args.above) c.loop-window.window _ _ c.next_demand-next.ensures.is (inv.demand c.loop-window.window inv.positive c.loop-window-test.true) in
     record {
-      demand = λ t from to. c.advance-next.ensures.same t ∙ inv.demand t from to;
-      carried = omega (arith, c.if-next-window.false, c.advance-next.ensures.time);
+      demand = λ t from to. c.next_demand-next.ensures.same t ∙ inv.demand t from to;
+      carried = omega (arith, c.if-next-window.false, c.next_demand-next.ensures.time);
       positive = omega (arith, inv.positive, c.if-next-window.false);
       first = λ s pos to covers.
           let reached = demand-mono c.args.set.now (AllTasks-from_set c.args.set.now c.limit_of-limit.ensures.kept) c.args.task (indexes_of c.args.above) c.loop-window.window s (inv.first s pos to covers) in

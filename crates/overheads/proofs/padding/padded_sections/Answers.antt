@@ -1,6 +1,7 @@
-use Rattle.std.proofs.Common.{rules, ◌≡◌, ◌∙◌, ◌+◌, ◌*◌, ◌++◌, ◌∷◌, [], ℕ, List, length, ap, arith}
+use Rattle.std.proofs.Common.{rules, ◌≡◌, ◌∙◌, ◌+◌, ◌-◌, ◌*◌, ◌++◌, ◌∷◌, [], ℕ, List, length, ap, arith}
 use Rattle.task_sheet.specs.Sheet.{CriticalSection}
-use Rattle.overheads.specs.Padding.{calls, padded_section}
+use Rattle.task_sheet.specs.Overheads.{calls}
+use Rattle.overheads.specs.Padding.{padded_section}
 use Rattle.overheads.proofs.PaddedSections.{calls-more, sections-step, section-fits}
 use Rattle.overheads.proofs.padding.padded_sections.Goals as goal
 
@@ -41,5 +42,5 @@ loop-section-preserved c =
     let pushed : c.push.new.self.items ≡ c.loop-section.others.items ++ y ∷ [] = search rules in
     record {
       before = omega (arith, inv.before, time, calls-more node items i x c.loop-section-test.true c.section-item.is);
-      items = sections-step node node.job items i x y before c.loop-section.others.items c.push.new.self.items c.loop-section-test.true c.section-item.is inv.before inv.items pads pushed;
+      items = sections-step node (node.job - node.release) items i x y before c.loop-section.others.items c.push.new.self.items c.loop-section-test.true c.section-item.is inv.before inv.items pads pushed;
     }

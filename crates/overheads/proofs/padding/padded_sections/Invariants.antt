@@ -1,9 +1,10 @@
-use Rattle.std.proofs.Common.{◌≡◌, ◌+◌, take}
-use Rattle.overheads.specs.Padding.{calls_in, padded_sections}
+use Rattle.std.proofs.Common.{◌≡◌, ◌+◌, ◌-◌, take}
+use Rattle.task_sheet.specs.Overheads.{calls_in}
+use Rattle.overheads.specs.Padding.{padded_sections}
 use Rattle.overheads.proofs.padding.padded_sections.Given as goal
 
 abbrev pub invariant-loop-section : goal.invariant-loop-section
 invariant-loop-section l = record {
-  before : l.before ≡ l.node.job + calls_in l.node (take l.section-index l.sections);
-  items : l.others.items ≡ padded_sections l.node l.node.job (take l.section-index l.sections);
+  before : l.before ≡ l.node.job - l.node.release + calls_in l.node (take l.section-index l.sections);
+  items : l.others.items ≡ padded_sections l.node (l.node.job - l.node.release) (take l.section-index l.sections);
 }

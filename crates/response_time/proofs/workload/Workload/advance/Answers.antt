@@ -20,6 +20,14 @@ overflow_add-self c =
     let fits = total-fits w c.args.time c.count_all-work.result c.self.invariant.3 longer c.requires.time few c.self.invariant.1 c.count_all-work.ensures.work in
     omega (arith, fits)
 
+pub returns-clause-fits : goal.returns-clause-fits
+returns-clause-fits c =
+    let w : WorkloadData = record { always = c.self.inside.always; shares = take c.self.inside.count c.self.inside.shares; time = c.self.inside.time; total = c.self.inside.total } in
+    let longer : w.time ≤ c.args.time = subst (λ (v : WorkloadData). v.time ≤ c.args.time) (sym c.self.view_is) c.requires.longer in
+    let few : length w.shares ≤ 32 = omega (arith, length-take c.self.inside.count c.self.inside.shares, c.self.invariant.0) in
+    let fits = total-fits w c.args.time c.count_all-work.result c.self.invariant.3 longer c.requires.time few c.self.invariant.1 c.count_all-work.ensures.work in
+    omega (arith, fits)
+
 pub returns-clause-is : goal.returns-clause-is
 returns-clause-is c =
     let w : WorkloadData = record { always = c.self.inside.always; shares = take c.self.inside.count c.self.inside.shares; time = c.self.inside.time; total = c.self.inside.total } in

@@ -1,0 +1,56 @@
+//! What timers and interrupts take of whoever executes.
+ghost use Rattle.std.specs.Prelude.{◌≡◌, ◌≤◌, ◌*◌};
+ghost use Rattle.std.specs.Bool.{OnFalse};
+ghost use Rattle.task_sheet.specs.Sheet.{IsValidSheet};
+ghost use Rattle.task_sheet.specs.declared.set.TheConstants.{TASK_LIMIT};
+ghost use Rattle.task_sheet.specs.Demand.{interrupts_some, interrupts_of, interrupts_within, IsUninterrupted};
+ghost use Rattle.response_time.specs.declared.workload.TheConstants.{WINDOW_LIMIT};
+
+use task_sheet::{Sheet, TaskSet};
+
+// Whether a task has a timer that takes time, or an interrupt on its account.
+fn interrupts_some(sheet: &Sheet) -> bool
+    ensures { result ≡ interrupts_some sheet.now }
+{
+    sheet.node().release > 0 || !sheet.interrupts().is_empty()
+}
+
+/// Whether some task of the set has.
+pub(crate) fn has_interrupts(set: &TaskSet) -> bool
+    ensures { OnFalse result (IsUninterrupted set.now) }
+{
+    for sheet in set.sheets() {
+        if interrupts_some(sheet) {
+            return true;
+        }
+    }
+    false
+}
+
+// What a task's timer and the interrupts on its account take of a window of some microseconds.
+fn interrupts_of(sheet: &Sheet, time: u64) -> u64
+    requires valid { IsValidSheet sheet.now }
+    requires time { time ≤ WINDOW_LIMIT }
+    ensures is { result ≡ interrupts_of time sheet.now }
+    ensures fits { result ≤ 19 * WINDOW_LIMIT }
+{
+    let releases = (time + sheet.jitter()).div_ceil(sheet.period());
+    let mut taken = releases * sheet.node().release;
+    for interrupt in sheet.interrupts() {
+        taken += time.div_ceil(interrupt.period) * interrupt.cost;
+    }
+    taken
+}
+
+/// What those of all tasks of the set take of a window.
+pub(crate) fn interrupts_within(set: &TaskSet, time: u64) -> u64
+    requires time { time ≤ WINDOW_LIMIT }
+    ensures is { result ≡ interrupts_within set.now time }
+    ensures fits { result ≤ 19 * TASK_LIMIT * WINDOW_LIMIT }
+{
+    let mut taken = 0;
+    for sheet in set.sheets() {
+        taken += interrupts_of(sheet, time);
+    }
+    taken
+}
