@@ -1,23 +1,38 @@
 //! How many threads a set is worth.
 ghost use Rattle.std.specs.Prelude.{◌≡◌, ◌≤◌, ◌<◌};
 ghost use Rattle.task_sheet.specs.Sheet.{IsValidSheet};
-ghost use Rattle.candidate_workers.specs.Threads.{demands_on, demands_in, threads_worth_of};
+ghost use Rattle.task_sheet.specs.declared.sheet.TheConstants.{PERIOD_TO};
+ghost use Rattle.candidate_workers.specs.Threads.{events_within, demands_on, demands_in, threads_worth_of};
 
 use task_sheet::{Sheet, TaskSet};
 
 // With fewer demands than these the test of a set is thought too short for starting threads at each of its levels.
 const DEMANDS_WORTH_THREADS: u64 = 2_000_000;
 
+// How often at most a task is released, and the interrupts on its account come, within a time.
+fn events_within(sheet: &Sheet, time: u64) -> u64
+    requires valid { IsValidSheet sheet.now }
+    requires time { time ≤ PERIOD_TO }
+    ensures is { result ≡ events_within time sheet.now }
+    ensures fits { result ≤ 2000000 }
+{
+    let mut events = (time + sheet.jitter()).div_ceil(sheet.period());
+    for interrupt in sheet.interrupts() {
+        events += time.div_ceil(interrupt.period);
+    }
+    events
+}
+
 // A bound on the demands of a question on a task.
 fn demands_on(set: &TaskSet, task: &Sheet) -> u64
     requires { IsValidSheet task.now }
     ensures is { result ≡ demands_on set.now task.now }
-    ensures fits { result ≤ 1000000 }
+    ensures fits { result ≤ 100000000 }
 {
     let limit = task.limit();
     let mut demands = 2;
     for sheet in set.sheets() {
-        demands += (limit + sheet.jitter()).div_ceil(sheet.period());
+        demands += events_within(sheet, limit);
     }
     demands
 }

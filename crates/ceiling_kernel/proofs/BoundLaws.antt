@@ -11,7 +11,7 @@ use Rattle.std.specs.List.{list_any}
 use Rattle.task_sheet.specs.Sheet.{no_task, Task, CriticalSection, task_at}
 use Rattle.task_sheet.specs.Indexes.{Indexes, with_index, greatest_below}
 use Rattle.task_sheet.specs.Locks.{uses, shares_lock, reaches}
-use Rattle.task_sheet.specs.Demand.{releases_within, longest_reached, blocking_of, interference_of, interference_within, demand_of, limit_of, past_jitter, Passes}
+use Rattle.task_sheet.specs.Demand.{releases_within, longest_reached, blocking_of, interference_of, interference_within, interrupts_within, demand_of, limit_of, past_jitter, Passes}
 use Rattle.task_sheet.specs.Orders.{IsPassingOrder}
 use Rattle.ceiling_kernel.specs.Tick.{Node, Job, job_at, job_task, level_in_order, level_of_job, executed_before, picked, ceiling, top_ceiling}
 use Rattle.ceiling_kernel.specs.Behaviours.{IsWithinSheet}
@@ -316,11 +316,11 @@ tighter_response node jobs valid legal j t lt covers =
     executed_later node jobs valid legal ((job_at jobs j).ready + t) ((job_at jobs j).arrival + response_by (job_task node jobs j) t) j (omega arith) in
     omega arith
 
--- the demand of a task that passes counts that tick, too
+-- the demand of a task that passes counts that tick, too, and timers and interrupts
 pub covers_from : (node : Node) (i t : ℕ) → PassesBy node i t → CoversBy node i t
 unfolding demand_of
 covers_from node i t passes =
-    let enough : (task_at node.tasks i).cost + blocking_of node.tasks i (above_of node i) + interference_within node.tasks (above_of node i) t ≤ t = passes.enough in
+    let enough : (task_at node.tasks i).cost + blocking_of node.tasks i (above_of node i) + interference_within node.tasks (above_of node i) t + interrupts_within node.tasks t ≤ t = passes.enough in
     record { from_one = passes.from_one; in_time = passes.in_time; enough = omega arith }
 
 pub bound_law : (node : Node) (jobs : List Job) → IsNode node → AreLegalJobs node jobs → BoundHolds node jobs

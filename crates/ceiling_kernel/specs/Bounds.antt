@@ -1,4 +1,5 @@
--- The bound of the analysis (Audsley et al. 1993) against the tick rule.
+-- The bound of the analysis (Audsley et al. 1993) against the tick rule, by which no timer and no interrupt takes anything:
+-- the demand counts them, so the bound holds all the more.
 use Rattle.std.specs.Prelude.{◌≡◌, ℕ, ◌+◌, ◌-◌, ◌<◌, ◌≤◌, Bool, ◌&&◌, nat_lt, nat_le, ◌==◌, if◌then◌else◌, List, [], ◌∷◌, length}
 use Rattle.task_sheet.specs.Sheet.{Task, task_at}
 use Rattle.task_sheet.specs.Indexes.{Indexes, sum_below}
@@ -56,7 +57,7 @@ BoundHolds node jobs =
 
 -- ---- but for a tick
 -- what must be executed for task i in a window of t: its cost, what is left of a section that blocks it, and the jobs
--- of the tasks above
+-- of the tasks above; no timers or interrupts
 abbrev pub work_of : Node → (i left t : ℕ) → ℕ
 work_of node i left t =
     (task_at node.tasks i).cost + left + interference_within node.tasks (above_of node i) t

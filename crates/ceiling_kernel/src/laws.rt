@@ -93,7 +93,8 @@ pub fn responses_bound()
 
 /// Each job of a task that passes finishes within its bound, counted from its arrival, whatever the jobs do within their
 /// tasks' sheets (Burns, Baruah 2008: the bound is sustainable); and in a set with a passing order no job overruns the one
-/// before it (Audsley et al. 1993). Where a section blocks, the bound is met a tick of it sooner: it has begun before.
+/// before it (Audsley et al. 1993). Where a section blocks, the bound is met a tick of it sooner: it has begun before. No
+/// timer and no interrupt takes anything here: the bound, which counts them, holds all the more.
 pub fn bound_holds()
     ensures bound { (node : Node) (jobs : List Job) → IsNode node → AreLegalJobs node jobs
         → BoundHolds node jobs }

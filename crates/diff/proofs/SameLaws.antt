@@ -8,7 +8,7 @@ use Rattle.std.proofs.lemmas.List.Elements.{All-from_recursion}
 use Rattle.std.proofs.lemmas.List.Quantifiers.{position-Some}
 use Rattle.std.proofs.lemmas.Slice.Eq.{slice_eq-Decides}
 use Rattle.task_sheet.specs.Sheet.{Task, same_bytes, task_at, no_task}
-use Rattle.task_sheet.specs.SheetEquality.{same_section-Decides, same_outranks-Decides}
+use Rattle.task_sheet.specs.SheetEquality.{same_section-Decides, same_outranks-Decides, same_node-Decides, same_interrupt-Decides}
 use Rattle.task_sheet.specs.TaskSet.{AreDistinct, same_name}
 use Rattle.assignment.specs.declared.placing.Placing.{Placing}
 use Rattle.diff.specs.Keys.{is_changed}
@@ -28,7 +28,9 @@ unchanged weighs t =
     let jitter = nat_eq_equiv.refl t.jitter in
     let sections = (slice_eq-Decides same_section-Decides t.sections t.sections _ refl).1 refl in
     let outranks = (same_outranks-Decides t.outranks t.outranks).1 refl in
-    rw (weight, period, deadline, cost, jitter, sections, outranks) (neither weighs)
+    let node = (same_node-Decides t.node t.node).1 refl in
+    let interrupts = (slice_eq-Decides same_interrupt-Decides t.interrupts t.interrupts _ refl).1 refl in
+    rw (weight, period, deadline, cost, jitter, sections, outranks, node, interrupts) (neither weighs)
   where
     neither : (w : Bool) → ((w && false) || false) ≡ false
     neither true = refl

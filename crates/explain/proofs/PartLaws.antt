@@ -1,14 +1,16 @@
 -- The parts of a demand add up.
 use Rattle.std.proofs.Common.{◌≡◌, ℕ, zero, suc, ◌+◌, ◌<◌, ◌≤◌, inl, inr, true, cond, List, [], ◌∷◌, length, map, sum_by, Option, Some, None, refl, sym, ◌∙◌, ap, arith}
 use Rattle.std.proofs.lemmas.Bool.{cases_eq, ltb-true}
-use Rattle.std.proofs.lemmas.List.Sums.{sum_by-cons}
+use Rattle.std.proofs.lemmas.List.Sums.{sum_by-append, sum_by-cons}
+use Rattle.task_sheet.specs.declared.node.Interrupt.{Interrupt}
 use Rattle.task_sheet.specs.Sheet.{Task, task_at}
 use Rattle.task_sheet.specs.Indexes.{Indexes, IsPart, below, no_index, without_index, sum_below}
-use Rattle.task_sheet.specs.Demand.{interference_of, interference_within, blocking_of, demand_of, past_jitter, IsResponseOf}
+use Rattle.task_sheet.specs.Demand.{interference_of, interference_within, interrupt_within, interrupts_of, interrupts_within, blocking_of, demand_of, past_jitter, IsResponseOf}
 use Rattle.task_sheet.specs.Orders.{all_of, IsOrderOf}
 use Rattle.task_sheet.proofs.IndexLaws.{without-gone, without-kept, without-part_of, IsOrderOf-among, IsOrderOf-head, IsOrderOf-rest}
 use Rattle.task_sheet.proofs.PassingLaws.{IsResponseOf-iff}
-use Rattle.explain.specs.Parts.{AboveData, PartsData, BlockerData, IsBlockerOf, IsPartsOf, above_at, blocked_by, total_of}
+use Rattle.explain.specs.Parts.{AboveData, PartsData, BlockerData, IsBlockerOf, IsPartsOf, above_at, all_interrupts, blocked_by, interruption_at, timer_within, timers_within, total_of}
+use Rattle.explain.specs.declared.parts.Interruption.{Interruption}
 
 module _ (f : ℕ → ℕ) where
   abbrev part_of : Indexes → ℕ → ℕ
@@ -46,10 +48,43 @@ module _ (f : ℕ → ℕ) where
       let rest = sum-order n (without_index L i) above (IsOrderOf-rest L i above each) (without-part_of n L i part) in
       rw (sum_by-cons f i above) (omega (arith, rest, sum-one n L i (ltb-true i n (part i member)) member))
 
+-- the first of what is summed, and the rest
+sum_first : (n : ℕ) (f : ℕ → ℕ) → sum_below (suc n) f ≡ f 0 + sum_below n (λ k. f (suc k))
+sum_first zero f = omega arith
+sum_first (suc n) f = omega (arith, sum_first n f)
+
 times_of : (U : List Task) (time : ℕ) (order : List ℕ) → sum_by (λ (a : AboveData). a.time) (map (above_at U time) order) ≡ sum_by (λ h. interference_of (task_at U h) time) order
 times_of U time [] = refl
 times_of U time (h ∷ order) =
     rw (sum_by-cons (λ (a : AboveData). a.time) (above_at U time h) (map (above_at U time) order), sum_by-cons (λ h. interference_of (task_at U h) time) h order, times_of U time order) refl
+
+-- ---- timers and interrupts
+-- what is summed over the tasks of a set, by their indexes
+sum_tasks : (f : Task → ℕ) (U : List Task) → sum_below (length U) (λ k. f (task_at U k)) ≡ sum_by f U
+sum_tasks f [] = refl
+sum_tasks f (t ∷ U) = rw (sum_by-cons f t U, sym (sum_tasks f U)) (sum_first (length U) (λ k. f (task_at (t ∷ U) k)))
+
+interruptions_of : (time : ℕ) (xs : List Interrupt) → sum_by (λ (x : Interruption). x.time) (map (interruption_at time) xs) ≡ sum_by (interrupt_within time) xs
+interruptions_of time [] = refl
+interruptions_of time (x ∷ xs) =
+    rw (sum_by-cons (λ (x : Interruption). x.time) (interruption_at time x) (map (interruption_at time) xs), sum_by-cons (interrupt_within time) x xs, interruptions_of time xs) refl
+
+-- those of a task, and those of the rest
+interrupted_sum : (time : ℕ) (U : List Task) → timers_within U time + sum_by (interrupt_within time) (all_interrupts U) ≡ sum_by (interrupts_of time) U
+interrupted_sum time [] = refl
+interrupted_sum time (t ∷ U) =
+    omega (
+      arith,
+      sum_by-cons (timer_within time) t U,
+      sum_by-append (interrupt_within time) t.interrupts (all_interrupts U),
+      sum_by-cons (interrupts_of time) t U,
+      interrupted_sum time U,
+    )
+
+interrupts-parts : (U : List Task) (time : ℕ) → timers_within U time + sum_by (λ (x : Interruption). x.time) (map (interruption_at time) (all_interrupts U)) ≡ interrupts_within U time
+unfolding interrupts_within
+interrupts-parts U time =
+    omega (arith, interruptions_of time (all_interrupts U), interrupted_sum time U, sum_tasks (interrupts_of time) U)
 
 blocked_is : (U : List Task) (i : ℕ) (H : Indexes) (b : Option BlockerData) → IsBlockerOf U i H b → blocked_by b ≡ blocking_of U i H
 blocked_is U i H None none = sym none
@@ -61,7 +96,9 @@ unfolding demand_of
 parts-demand U i H order time parts is each part =
     let above : sum_by (λ (a : AboveData). a.time) parts.above ≡ interference_within U H time =
     ap (λ (xs : List AboveData). sum_by (λ (a : AboveData). a.time) xs) is.above ∙ times_of U time order ∙ sum-order (λ h. interference_of (task_at U h) time) (length U) H order each part in
-    omega (arith, is.cost, is.jitter, blocked_is U i H parts.blocker is.blocker, above)
+    let interrupts : sum_by (λ (x : Interruption). x.time) parts.interrupts ≡ sum_by (λ (x : Interruption). x.time) (map (interruption_at time) (all_interrupts U)) =
+    ap (λ (xs : List Interruption). sum_by (λ (x : Interruption). x.time) xs) is.interrupts in
+    omega (arith, is.cost, is.jitter, blocked_is U i H parts.blocker is.blocker, above, is.timers, interrupts, interrupts-parts U time)
 
 pub parts-response : (U : List Task) (i : ℕ) (H : Indexes) (order : List ℕ) (response : ℕ) (parts : PartsData) → IsResponseOf U i H response → IsPartsOf U i H order (past_jitter (task_at U i) response) parts
     → IsOrderOf H order → IsPart H (all_of U) → total_of parts ≡ response

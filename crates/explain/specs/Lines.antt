@@ -1,13 +1,15 @@
 -- The lines of an explanation.
-use Rattle.std.specs.Prelude.{◌==◌, ℕ, ◌+◌, List, [], ◌∷◌, ◌++◌, length, codes, Option, Some, None, if◌then◌else◌}
+use Rattle.std.specs.Prelude.{◌==◌, ℕ, ◌+◌, ◌-◌, min, List, [], ◌∷◌, ◌++◌, length, codes, Option, Some, None, if◌then◌else◌}
 use Rattle.std.specs.Fmt.{decimal}
 use Rattle.std.specs.List.{find}
 use Rattle.task_sheet.specs.Sheet.{Task, task_at}
+use Rattle.task_sheet.specs.Overheads.{overhead_of}
 use Rattle.task_sheet.specs.Locks.{uses}
 use Rattle.task_sheet.specs.Indexes.{indexes_of, listed_below}
 use Rattle.lines.specs.Naming.{name_at, named}
 use Rattle.explain.specs.Parts.{AboveData, BlockerData, PartsData}
 use Rattle.explain.specs.Load.{load_of}
+use Rattle.explain.specs.declared.parts.Interruption.{Interruption}
 use Rattle.explain.specs.declared.accounts.Account.{Account}
 use Rattle.explain.specs.declared.needs.Need.{Need}
 use Rattle.explain.specs.declared.needs.Need.TheVariants.{Needs, MustBeAbove}
@@ -19,9 +21,15 @@ use Rattle.explain.specs.declared.explanation.Explanation.TheVariants.{Responses
 abbrev pub cost_line : ℕ → List ℕ
 cost_line cost = codes "  cost " ++ decimal cost ++ codes "\n"
 
--- its jitter; nothing where it has none
-abbrev pub jitter_line : ℕ → List ℕ
-jitter_line jitter = if jitter == 0 then [] else codes "  jitter " ++ decimal jitter ++ codes "\n"
+-- a time of one kind; nothing where it is 0
+abbrev pub time_line : List ℕ → ℕ → List ℕ
+time_line kind time =
+    if time == 0 then [] else codes "  " ++ kind ++ codes " " ++ decimal time ++ codes "\n"
+
+-- what is a task's own of a cost, and what its node's; together they are the cost
+abbrev pub cost_lines : Task → ℕ → List ℕ
+cost_lines t cost =
+    cost_line (cost - overhead_of t) ++ time_line (codes "node") (min (overhead_of t) cost)
 
 -- of the tasks above, in their order, the first that uses a lock
 abbrev pub first_user : List Task → List ℕ → List AboveData → Option AboveData
@@ -60,11 +68,30 @@ abbrev pub above_lines : List Task → List AboveData → List ℕ
 above_lines U [] = []
 above_lines U (a ∷ above) = above_line U a ++ above_lines U above
 
+-- the jobs of an interrupt, which has a number; nothing where they take nothing
+abbrev pub interrupt_line : ℕ → Interruption → List ℕ
+interrupt_line number x =
+    if x.time == 0 then []
+    else codes "  interrupt " ++ decimal number ++ codes " " ++ decimal x.jobs ++ codes " jobs "
+    ++ decimal x.time ++ codes "\n"
+
+-- those of each interrupt, of which the first has a number
+abbrev pub interrupt_lines : ℕ → List Interruption → List ℕ
+interrupt_lines number [] = []
+interrupt_lines number (x ∷ interrupts) =
+    interrupt_line number x ++ interrupt_lines (number + 1) interrupts
+
+-- what timers and interrupts take
+abbrev pub interrupted_lines : PartsData → List ℕ
+interrupted_lines parts =
+    time_line (codes "timers") parts.timers ++ interrupt_lines 1 parts.interrupts
+
 -- the parts of a time of a task, each once and where it is above 0
 abbrev pub parts_lines : List Task → ℕ → PartsData → List ℕ
 parts_lines U task parts =
-    cost_line parts.cost ++ jitter_line parts.jitter ++ blocked_line U task parts.above parts.blocker
-    ++ above_lines U parts.above
+    cost_lines (task_at U task) parts.cost ++ time_line (codes "jitter") parts.jitter
+    ++ blocked_line U task parts.above parts.blocker
+    ++ above_lines U parts.above ++ interrupted_lines parts
 
 -- ---- times
 -- a task, its time and its deadline, and then the parts of the time

@@ -1,11 +1,14 @@
--- What a task's demand and its jitter are made of: its cost, its jitter, the section that blocks it longest, and the jobs
--- of each task above it (Audsley et al. 1993; Sha, Rajkumar, Lehoczky 1990).
-use Rattle.std.specs.Prelude.{◌≡◌, ℕ, ◌+◌, ◌<◌, ◌⊎◌, ◌&&◌, Bool, List, length, map, sum_by, slice_get, Option, Some, None, IsTrue, IsFalse}
+-- What a task's demand and its jitter are made of: its cost, its jitter, the section that blocks it longest, the jobs of
+-- each task above it, the timers of all tasks, and each interrupt (Audsley et al. 1993; Sha, Rajkumar, Lehoczky 1990;
+-- Burns, Wellings).
+use Rattle.std.specs.Prelude.{◌≡◌, ℕ, ◌+◌, ◌*◌, ◌<◌, ◌⊎◌, ◌&&◌, Bool, List, [], ◌∷◌, ◌++◌, length, map, sum_by, slice_get, Option, Some, None, IsTrue, IsFalse}
 use Rattle.std.specs.List.{find}
+use Rattle.task_sheet.specs.declared.node.Interrupt.{Interrupt}
 use Rattle.task_sheet.specs.Sheet.{Task, CriticalSection, task_at}
 use Rattle.task_sheet.specs.Indexes.{Indexes, with_index, some_below}
 use Rattle.task_sheet.specs.Locks.{uses, reaches}
-use Rattle.task_sheet.specs.Demand.{releases_within, interference_of, blocking_of}
+use Rattle.task_sheet.specs.Demand.{jobs_within, releases_within, interference_of, interrupt_within, blocking_of}
+use Rattle.explain.specs.declared.parts.Interruption.{Interruption}
 
 -- the jobs of a task above, and what they execute
 pub record AboveData : Type 0 where
@@ -26,6 +29,8 @@ pub record PartsData : Type 0 where
   pub jitter : ℕ
   pub blocker : Option BlockerData
   pub above : List AboveData
+  pub timers : ℕ
+  pub interrupts : List Interruption
 
 -- how long a section blocks
 abbrev pub blocked_by : Option BlockerData → ℕ
@@ -36,6 +41,7 @@ blocked_by (Some b) = b.len
 abbrev pub total_of : PartsData → ℕ
 total_of parts =
     parts.cost + parts.jitter + blocked_by parts.blocker + sum_by (λ a. a.time) parts.above
+    + parts.timers + sum_by (λ x. x.time) parts.interrupts
 
 -- some task of X uses the lock
 abbrev pub has_user : List Task → Indexes → List ℕ → Bool
@@ -79,9 +85,31 @@ above_at U time h = record {
   time = interference_of (task_at U h) time;
 }
 
+-- what a task's timer takes in a window of whoever executes
+abbrev pub timer_within : ℕ → Task → ℕ
+timer_within time t = releases_within t time * t.node.release
+
+-- what the timers of all tasks take
+abbrev pub timers_within : List Task → ℕ → ℕ
+timers_within U time = sum_by (timer_within time) U
+
+-- the interrupts on the accounts of all tasks, by rank
+abbrev pub all_interrupts : List Task → List Interrupt
+all_interrupts [] = []
+all_interrupts (t ∷ U) = t.interrupts ++ all_interrupts U
+
+-- the part of an interrupt, in a window
+abbrev pub interruption_at : ℕ → Interrupt → Interruption
+interruption_at time x = record {
+  jobs = jobs_within x.period 0 time;
+  time = interrupt_within time x;
+}
+
 -- the parts of what task i demands in a window, with the tasks H above it, which are listed in this order
 pub record IsPartsOf (U : List Task) (i : ℕ) (H : Indexes) (order : List ℕ) (time : ℕ) (parts : PartsData) : Type 0 where
   pub cost : parts.cost ≡ (task_at U i).cost
   pub jitter : parts.jitter ≡ (task_at U i).jitter
   pub blocker : IsBlockerOf U i H parts.blocker
   pub above : parts.above ≡ map (above_at U time) order
+  pub timers : parts.timers ≡ timers_within U time
+  pub interrupts : parts.interrupts ≡ map (interruption_at time) (all_interrupts U)

@@ -1,7 +1,8 @@
 //! Laws of conflicts and of parts. Each is the clause of a function that does nothing, and its names are defined in `specs/`.
 
-ghost use Rattle.std.specs.Prelude.{◌≡◌, ◌+◌, ℕ, List, length, IsTrue, IsFalse};
+ghost use Rattle.std.specs.Prelude.{◌≡◌, ◌+◌, ℕ, min, List, length, IsTrue, IsFalse};
 ghost use Rattle.task_sheet.specs.Sheet.{Task, AllTasks, task_at};
+ghost use Rattle.task_sheet.specs.Overheads.{overhead_of, own_cost};
 ghost use Rattle.task_sheet.specs.TaskSet.{IsTaskSet};
 ghost use Rattle.task_sheet.specs.Indexes.{Indexes, IsPart, without_index};
 ghost use Rattle.task_sheet.specs.Demand.{demand_of, past_jitter, IsResponseOf};
@@ -39,7 +40,8 @@ pub fn conflict_refutes()
 {}
 
 /// The parts add up: to the demand in the window and the jitter, and so, in the window that is its own demand, to the
-/// response; and to what a task needs that doesn't pass with those above it.
+/// response; and to what a task needs that doesn't pass with those above it. What is a task's own of its cost, and what its
+/// node's, come to the cost.
 pub fn parts_add_up()
     ensures demand { (U : List Task) (i : ℕ) (H : Indexes) (order : List ℕ) (time : ℕ)
         (parts : PartsData)
@@ -54,6 +56,7 @@ pub fn parts_add_up()
     ensures need { (U : List Task) (i : ℕ) (H : Indexes) (order : List ℕ) (account : Account)
         → IsNeedsAccount U i H order account → IsOrderOf H order → IsPart H (all_of U)
         → account.time ≡ total_of account.parts }
+    ensures cost { (t : Task) → own_cost t + min (overhead_of t) t.cost ≡ t.cost }
 {}
 
 /// In what explains a placing each time is what its parts come to: each response, and what each task of a conflict needs.

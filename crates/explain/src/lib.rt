@@ -19,6 +19,6 @@ pub use crate::conflict::{greatest_within, least_conflict};
 pub use crate::explanation::{Explanation, explain};
 pub use crate::needs::{Need, needs_account};
 pub use crate::one_task::task_text;
-pub use crate::parts::{Above, Parts, parts_of};
+pub use crate::parts::{Above, Interruption, Parts, parts_of};
 pub use crate::shares::load;
 pub use crate::text::{explanation_text, parts_text};

@@ -1,28 +1,50 @@
 //! The lines of an explanation.
 ghost use Rattle.std.specs.Prelude.{◌≡◌, ◌++◌, length, IfOk, OnOk, string_bytes};
 ghost use Rattle.task_sheet.specs.Sheet.{task_at};
+ghost use Rattle.task_sheet.specs.Overheads.{overhead_of};
 ghost use Rattle.task_sheet.specs.Locks.{names_lock, uses};
 ghost use Rattle.task_sheet.specs.Indexes.{indexes_of, listed_below};
-ghost use Rattle.explain.specs.Lines.{above_line, account_lines, blocked_line, blocker_line, ceiling_words, conflict_line, explained_lines, explanation_lines, first_user, jitter_line, load_line, need_lines, needs_lines, parts_lines, response_lines, user_words};
+ghost use Rattle.explain.specs.Lines.{above_line, above_lines, account_lines, blocked_line, blocker_line, ceiling_words, conflict_line, cost_lines, explained_lines, explanation_lines, first_user, interrupt_line, interrupt_lines, interrupted_lines, load_line, need_lines, needs_lines, parts_lines, response_lines, time_line, user_words};
 
 use crate::accounts::Account;
 use crate::blocker::Blocker;
 use crate::explanation::Explanation;
 use crate::needs::Need;
-use crate::parts::{Above, Parts};
+use crate::parts::{Above, Interruption, Parts};
 use crate::shares::load;
 use lines::{push_name, push_names};
 use std::alloc::{AllocError, Global};
 use task_sheet::{Members, Name, Section, Sheet, TaskSet};
 
-// The line of a jitter, unless it is 0.
-fn push_jitter(text: &mut String, jitter: u64) -> Result<(), AllocError>
-    ensures { OnOk result (string_bytes text.new ≡ string_bytes text.old ++ jitter_line jitter) }
+// The line of a time of one kind, unless it is 0.
+fn push_time(text: &mut String, kind: &str, time: u64) -> Result<(), AllocError>
+    ensures { OnOk result (string_bytes text.new ≡ string_bytes text.old ++ time_line kind.now time) }
 {
-    if jitter == 0 {
+    if time == 0 {
         return Ok(());
     }
-    writeln!(text, "  jitter {jitter}")
+    writeln!(text, "  {kind} {time}")
+}
+
+// What of the cost of the task at an index is the node's.
+fn overhead(set: &TaskSet, task: usize) -> u64
+    ensures { result ≡ overhead_of (task_at set.now task) }
+{
+    match set.get(task) {
+        Some(sheet) => sheet.overhead(),
+        None => 0,
+    }
+}
+
+// The lines of a task's cost: its own, and its node's.
+fn push_cost(text: &mut String, set: &TaskSet, task: usize, cost: u64) -> Result<(), AllocError>
+    ensures { OnOk result (string_bytes text.new ≡ string_bytes text.old
+        ++ cost_lines (task_at set.now task) cost) }
+{
+    let overhead = overhead(set, task);
+    let own = cost.saturating_sub(overhead);
+    writeln!(text, "  cost {own}")?;
+    push_time(text, "node", overhead.min(cost))
 }
 
 // Whether a section names a lock.
@@ -141,6 +163,54 @@ fn push_above(text: &mut String, set: &TaskSet, above: &Above) -> Result<(), All
     writeln!(text, " {jobs} jobs {time}")
 }
 
+// The lines of the jobs of each task above.
+fn push_all_above(text: &mut String, set: &TaskSet, above: &[Above]) -> Result<(), AllocError>
+    ensures { OnOk result (string_bytes text.new ≡ string_bytes text.old
+        ++ above_lines set.now above.now) }
+{
+    for task in above {
+        push_above(text, set, task)?;
+    }
+    Ok(())
+}
+
+// The line of the jobs of an interrupt, which has a number, unless they take nothing.
+fn push_interrupt(
+    text: &mut String,
+    number: usize,
+    interrupt: &Interruption,
+) -> Result<(), AllocError>
+    ensures { OnOk result (string_bytes text.new ≡ string_bytes text.old
+        ++ interrupt_line number interrupt.now) }
+{
+    let jobs = interrupt.jobs;
+    let time = interrupt.time;
+    if time == 0 {
+        return Ok(());
+    }
+    writeln!(text, "  interrupt {number} {jobs} jobs {time}")
+}
+
+// The lines of the jobs of each interrupt.
+fn push_interrupts(text: &mut String, interrupts: &[Interruption]) -> Result<(), AllocError>
+    ensures { OnOk result (string_bytes text.new ≡ string_bytes text.old
+        ++ interrupt_lines 1 interrupts.now) }
+{
+    for (before, interrupt) in interrupts.iter().enumerate() {
+        push_interrupt(text, before + 1, interrupt)?;
+    }
+    Ok(())
+}
+
+// The lines of what timers and interrupts take.
+fn push_interrupted(text: &mut String, parts: &Parts) -> Result<(), AllocError>
+    ensures { OnOk result (string_bytes text.new ≡ string_bytes text.old
+        ++ interrupted_lines parts.now) }
+{
+    push_time(text, "timers", parts.timers)?;
+    push_interrupts(text, &parts.interrupts)
+}
+
 // The lines of the parts of a task's time.
 fn push_parts(
     text: &mut String,
@@ -151,14 +221,11 @@ fn push_parts(
     ensures { OnOk result (string_bytes text.new ≡ string_bytes text.old
         ++ parts_lines set.now task parts.now) }
 {
-    let cost = parts.cost;
-    writeln!(text, "  cost {cost}")?;
-    push_jitter(text, parts.jitter)?;
+    push_cost(text, set, task, parts.cost)?;
+    push_time(text, "jitter", parts.jitter)?;
     push_blocked(text, set, task, &parts.above, &parts.blocker)?;
-    for above in &parts.above {
-        push_above(text, set, above)?;
-    }
-    Ok(())
+    push_all_above(text, set, &parts.above)?;
+    push_interrupted(text, parts)
 }
 
 /// The lines of the parts of a time, each once and where it is above 0. The error is want of memory.

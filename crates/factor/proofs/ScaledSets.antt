@@ -5,7 +5,8 @@ use Rattle.std.proofs.lemmas.Bool.{cases_lt}
 use Rattle.std.proofs.lemmas.List.{get_or_default}
 use Rattle.std.proofs.lemmas.List.Elements.{recursion_from_All}
 use Rattle.task_sheet.specs.Sheet.{Task, IsValidSheet, no_task, task_at}
-use Rattle.task_sheet.specs.TaskSet.{IsTaskSet, IsByRank}
+use Rattle.task_sheet.specs.Rank.{IsByRank}
+use Rattle.task_sheet.specs.TaskSet.{IsTaskSet}
 use Rattle.task_sheet.specs.SheetsFault.{sheets_fault}
 use Rattle.task_sheet.specs.Indexes.{below}
 use Rattle.task_sheet.specs.Orders.{IsOrder, IsPassingOrder, IsFeasible}
@@ -15,7 +16,7 @@ use Rattle.limits.specs.Easier.{AreEasier}
 use Rattle.limits.proofs.EasierLaws.{IsPassingOrder-easier, IsFeasible-easier}
 use Rattle.limits.proofs.NumberLaws.{easier-same}
 use Rattle.factor.specs.Factors.{scaled_task, scaled, MayScale, Scales, IsFactor, HasNoFactor, ScalesIn, IsFactorIn}
-use Rattle.factor.proofs.ScaledTasks.{scaled_cost-mono, scaled_task-same, within-same, valid-scaled, few-scaled, easier-scaled}
+use Rattle.factor.proofs.ScaledTasks.{scaled_task-same, within-same, within-less, valid-scaled, few-scaled, easier-scaled}
 
 -- ---- one factor
 module _ (f : ℕ) where
@@ -72,7 +73,7 @@ AreEasier-scaled U low high le = record {
 pub may-less : (U : List Task) (low high : ℕ) → 1 ≤ low → low ≤ high → MayScale U high → MayScale U low
 may-less U low high some le may = record {
   some = some;
-  within = λ k d lt. omega (arith, scaled_cost-mono low high (get_or U k d) le, may.within k d lt);
+  within = λ k d lt. within-less low high (get_or U k d) le (may.within k d lt);
 }
 
 pub IsFeasible-scaled : (U : List Task) (low high : ℕ) → IsTaskSet U → low ≤ high → MayScale U high → IsFeasible (scaled high U) → IsFeasible (scaled low U)

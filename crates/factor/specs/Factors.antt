@@ -2,6 +2,9 @@
 -- which some order passes.
 use Rattle.std.specs.Prelude.{ℕ, ◌+◌, ◌*◌, ◌<◌, ◌≤◌, max, List, [], ◌∷◌, map, All, Option, Some, None}
 use Rattle.std.specs.Int.{div_ceil}
+use Rattle.task_sheet.specs.declared.node.Node.{Node}
+use Rattle.task_sheet.specs.declared.node.Interrupt.{Interrupt}
+use Rattle.task_sheet.specs.declared.sheet.TheConstants.{PERIOD_FROM}
 use Rattle.task_sheet.specs.Sheet.{CriticalSection, Task}
 use Rattle.task_sheet.specs.Orders.{IsPassingOrder, IsFeasible}
 
@@ -38,19 +41,39 @@ scaled_end factor from (s ∷ rest) = scaled_end factor (section_end (scaled_sec
 abbrev pub scaled_cost : ℕ → Task → ℕ
 scaled_cost factor t = max (thousandths factor t.cost) (scaled_end factor 0 t.sections)
 
--- a task, its cost and its sections scaled
+-- a node, what a timer takes scaled
+abbrev pub scaled_node : ℕ → Node → Node
+scaled_node factor node = record node { release = thousandths factor node.release }
+
+-- an interrupt, what it takes scaled
+abbrev pub scaled_interrupt : ℕ → Interrupt → Interrupt
+scaled_interrupt factor x = record x { cost = thousandths factor x.cost }
+
+-- a task, its cost, its sections, its timer and the interrupts on its account scaled
 abbrev pub scaled_task : ℕ → Task → Task
 scaled_task factor t =
-    record t { cost = scaled_cost factor t; sections = scaled_sections factor 0 t.sections }
+    record t {
+      cost = scaled_cost factor t;
+      sections = scaled_sections factor 0 t.sections;
+      node = scaled_node factor t.node;
+      interrupts = map (scaled_interrupt factor) t.interrupts;
+    }
 
 -- the set with each task scaled
 abbrev pub scaled : ℕ → List Task → List Task
 scaled factor U = map (scaled_task factor) U
 
--- the factor is at least 1, and takes no cost past its period
+-- the factor takes nothing of a task past its limit: its cost its period, its timer the shortest period, and what an
+-- interrupt takes the time between two
+pub record IsWithin (factor : ℕ) (t : Task) : Type 0 where
+  pub cost : scaled_cost factor t ≤ t.period
+  pub release : thousandths factor t.node.release ≤ PERIOD_FROM
+  pub interrupts : All (λ x. thousandths factor x.cost ≤ x.period) t.interrupts
+
+-- the factor is at least 1, and takes nothing of a task past its limit
 pub record MayScale (U : List Task) (factor : ℕ) : Type 0 where
   pub some : 1 ≤ factor
-  pub within : All (λ t. scaled_cost factor t ≤ t.period) U
+  pub within : All (IsWithin factor) U
 
 -- the factor may be taken, and some order passes with it
 pub record Scales (U : List Task) (factor : ℕ) : Type 0 where

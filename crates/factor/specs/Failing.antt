@@ -1,17 +1,17 @@
 -- The task that fails first past a factor.
-use Rattle.std.specs.Prelude.{◌≡◌, ◌⊎◌, ℕ, ◌<◌, ◌≤◌, Bool, true, nat_lt, length, List, Option, Some, None, IsTrue, IsFalse}
+use Rattle.std.specs.Prelude.{◌⊎◌, ℕ, ◌<◌, ◌≤◌, Bool, true, nat_lt, length, List, Option, Some, None, IsTrue, IsFalse}
 use Rattle.task_sheet.specs.Sheet.{Task, task_at}
 use Rattle.task_sheet.specs.Indexes.{Indexes, without_index}
 use Rattle.task_sheet.specs.Demand.{limit_of}
 use Rattle.task_sheet.specs.Orders.{is_bound}
 use Rattle.task_sheet.specs.Levels.{IsGreatestObstruction}
-use Rattle.factor.specs.Factors.{scaled_cost, scaled, MayScale}
+use Rattle.factor.specs.Factors.{IsWithin, scaled, MayScale}
 
--- the first task whose cost the factor takes past its period
-pub record IsPastPeriod (U : List Task) (factor i : ℕ) : Type 0 where
+-- the first task of which the factor takes something past its limit
+pub record IsFirstPast (U : List Task) (factor i : ℕ) : Type 0 where
   pub inside : i < length U
-  pub past : (task_at U i).period < scaled_cost factor (task_at U i)
-  pub first : (j : ℕ) → j < i → scaled_cost factor (task_at U j) ≤ (task_at U j).period
+  pub past : ¬ IsWithin factor (task_at U i)
+  pub first : (j : ℕ) → j < i → IsWithin factor (task_at U j)
 
 -- task i is one of S, and need not stand above another of them
 abbrev pub IsFree : List Task → Indexes → ℕ → Type 0
@@ -22,10 +22,11 @@ pub record IsLongestFree (U : List Task) (S : Indexes) (i : ℕ) : Type 0 where
   pub free : IsFree U S i
   pub longest : (j : ℕ) → IsFree U S j → limit_of (task_at U j) ≤ limit_of (task_at U i)
 
--- with the factor the cost of task i is past its period; or no order passes, and it is this one of the tasks in the way
+-- the factor takes something of task i past its limit, the first; or no order passes, and it is this one of the tasks in
+-- the way
 abbrev pub FailsFirst : List Task → ℕ → ℕ → Type 0
 FailsFirst U factor i =
-    IsPastPeriod U factor i
+    IsFirstPast U factor i
     ⊎ (MayScale U factor × ((S : Indexes) × IsGreatestObstruction (scaled factor U) S
     × IsLongestFree (scaled factor U) S i))
 

@@ -11,7 +11,7 @@ use limits::order_passes;
 use std::alloc::{AllocError, Global};
 use task_sheet::TaskSet;
 
-// Whether the factor takes no cost past its period, and the order passes with it as it stands.
+// Whether the factor takes nothing past its limit, and the order passes with it as it stands.
 fn order_passes_at(
     alloc: Global,
     set: &TaskSet,

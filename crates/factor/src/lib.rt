@@ -20,7 +20,7 @@ use ceilings::LockTable;
 use std::alloc::{AllocError, Global};
 use task_sheet::TaskSet;
 
-// Whether the factor takes no cost past its period, and some order passes with it.
+// Whether the factor takes nothing past its limit, and some order passes with it.
 fn passes_at(alloc: Global, set: &TaskSet, factor: u64) -> Result<bool, AllocError>
     requires some { 1 ≤ factor }
     requires short { factor < FACTOR_END }
@@ -37,10 +37,10 @@ fn passes_at(alloc: Global, set: &TaskSet, factor: u64) -> Result<bool, AllocErr
 }
 
 /// The greatest factor, in thousandths and at least 1, with which some order of the set passes where each execution takes
-/// that many thousandths of its time, as on a slower processor: each cost, and the begin and the length of each section,
-/// rounded up. Where that takes a section into the next one, or past the cost, the next one begins later, or the cost is
-/// the section's end. No cost is taken past its period. None where no factor helps. The set has a task. The error is want
-/// of memory.
+/// that many thousandths of its time, as on a slower processor: each cost, the begin and the length of each section, each
+/// timer and interrupt, rounded up. Where that takes a section into the next one, or past the cost, the next one begins
+/// later, or the cost is the section's end. No cost is taken past its period, no timer past the shortest one, and no
+/// interrupt past the time between two. None where no factor helps. The set has a task. The error is want of memory.
 pub fn factor(alloc: Global, set: &TaskSet) -> Result<Option<u64>, AllocError>
     requires { 0 < length set.now }
     ensures answer { IfOk result (λ answer. AnswersFactor set.now answer) }

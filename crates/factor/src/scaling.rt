@@ -1,14 +1,14 @@
 //! Sets with each execution scaled.
-ghost use Rattle.std.specs.Prelude.{◌≡◌, ◌≤◌, IfOk, IfSome, IfNone};
-ghost use Rattle.task_sheet.specs.Sheet.{IsValidSheet};
+ghost use Rattle.std.specs.Prelude.{◌≡◌, ◌↔◌, ◌≤◌, All, map, IfOk, IfSome, IfNone, IsTrue};
+ghost use Rattle.task_sheet.specs.Sheet.{AreInterrupts, AreOverheads, IsValidSheet};
 ghost use Rattle.task_sheet.specs.TaskSet.{IsTaskSet};
 ghost use Rattle.factor.specs.declared.scaling.TheConstants.{FACTOR_END};
-ghost use Rattle.factor.specs.Failing.{IsPastPeriod};
-ghost use Rattle.factor.specs.Factors.{thousandths, scaled_sections, scaled_end, scaled_cost, scaled_task, scaled, MayScale};
+ghost use Rattle.factor.specs.Failing.{IsFirstPast};
+ghost use Rattle.factor.specs.Factors.{thousandths, scaled_sections, scaled_end, scaled_cost, scaled_node, scaled_interrupt, scaled_task, scaled, IsWithin, MayScale};
 
 use headroom::{Times, remade, times_of};
 use std::alloc::{AllocError, Global};
-use task_sheet::{Section, SetCause, Sheet, TaskSet};
+use task_sheet::{Interrupt, Node, PERIOD_FROM, Section, SetCause, Sheet, TaskSet};
 
 /// The least factor that takes the least cost past the longest period.
 pub(crate) const FACTOR_END: u64 = 10_000_000_001;
@@ -65,7 +65,39 @@ fn scaled_sections(alloc: Global, sheet: &Sheet, factor: u64) -> Result<Vec<Sect
     Ok(others)
 }
 
-// The sheet with its cost and its sections scaled.
+// A node, what a timer takes scaled.
+fn scaled_node(node: Node, factor: u64) -> Node
+    requires limits { AreOverheads node }
+    requires short { factor ≤ FACTOR_END }
+    ensures { result ≡ scaled_node factor node }
+{
+    Node {
+        release: thousandths(factor, node.release),
+        ..node
+    }
+}
+
+// Interrupts, what they take scaled.
+fn scaled_interrupts(
+    alloc: Global,
+    interrupts: &[Interrupt],
+    factor: u64,
+) -> Result<Vec<Interrupt>, AllocError>
+    requires limits { AreInterrupts interrupts.now }
+    requires short { factor ≤ FACTOR_END }
+    ensures { IfOk result (λ others. others.items ≡ map (scaled_interrupt factor) interrupts.now) }
+{
+    let mut others = Vec::with_capacity(alloc, interrupts.len())?;
+    for interrupt in interrupts {
+        others.push(Interrupt {
+            period: interrupt.period,
+            cost: thousandths(factor, interrupt.cost),
+        })?;
+    }
+    Ok(others)
+}
+
+// The sheet with its cost, its sections, its timer and the interrupts on its account scaled.
 fn scaled_sheet(alloc: Global, sheet: &Sheet, factor: u64) -> Result<Sheet, AllocError>
     requires valid { IsValidSheet sheet.now }
     requires short { factor ≤ FACTOR_END }
@@ -75,11 +107,13 @@ fn scaled_sheet(alloc: Global, sheet: &Sheet, factor: u64) -> Result<Sheet, Allo
     let cost = scaled_cost(sheet, factor);
     let sections = scaled_sections(alloc, sheet, factor)?;
     let outranks = sheet.outranks().copy(alloc)?;
+    let interrupts = scaled_interrupts(alloc, sheet.interrupts(), factor)?;
     let times = Times {
         cost,
         ..times_of(sheet)
     };
-    Ok(remade(sheet, times, sections, outranks))
+    let other = remade(sheet, times, sections, outranks, interrupts);
+    Ok(other.of_node(scaled_node(sheet.node(), factor)))
 }
 
 // The sheets, each scaled.
@@ -114,16 +148,41 @@ pub(crate) fn scaled(alloc: Global, set: &TaskSet, factor: u64) -> Result<TaskSe
     }
 }
 
-/// The first task whose cost the factor takes past its period.
+// Whether the factor takes what no interrupt takes past the time between two.
+fn are_within(interrupts: &[Interrupt], factor: u64) -> bool
+    requires limits { AreInterrupts interrupts.now }
+    requires short { factor ≤ FACTOR_END }
+    ensures { IsTrue result ↔ All (λ x. thousandths factor x.cost ≤ x.period) interrupts.now }
+{
+    for interrupt in interrupts {
+        if thousandths(factor, interrupt.cost) > interrupt.period {
+            return false;
+        }
+    }
+    true
+}
+
+// Whether the factor takes nothing of a task past its limit.
+fn is_within(sheet: &Sheet, factor: u64) -> bool
+    requires valid { IsValidSheet sheet.now }
+    requires short { factor ≤ FACTOR_END }
+    ensures { IsTrue result ↔ IsWithin factor sheet.now }
+{
+    scaled_cost(sheet, factor) <= sheet.period()
+        && thousandths(factor, sheet.node().release) <= PERIOD_FROM
+        && are_within(sheet.interrupts(), factor)
+}
+
+/// The first task of which the factor takes something past its limit.
 pub(crate) fn first_past(set: &TaskSet, factor: u64) -> Option<usize>
     requires some { 1 ≤ factor }
     requires short { factor ≤ FACTOR_END }
-    ensures some { IfSome result (IsPastPeriod set.now factor) }
+    ensures some { IfSome result (IsFirstPast set.now factor) }
     ensures none { IfNone result (MayScale set.now factor) }
     ensures kept { IsTaskSet set.now }
 {
     for (task, sheet) in set.sheets().iter().enumerate() {
-        if scaled_cost(sheet, factor) > sheet.period() {
+        if !is_within(sheet, factor) {
             return Some(task);
         }
     }

@@ -9,11 +9,12 @@ use Rattle.std.proofs.lemmas.List.{get_or-set_same, get_or-set_other, length-set
 use Rattle.task_sheet.specs.Sheet.{CriticalSection, Task, with_jitter, AreSections, IsValidSheet, no_task, task_at}
 use Rattle.task_sheet.specs.Indexes.{Indexes, with_index, some_below, greatest_below, below, among}
 use Rattle.task_sheet.specs.Locks.{names_lock}
-use Rattle.task_sheet.specs.Demand.{limit_of, greatest_of, blocking_of, demand_of, releases_within, interference_of, Passes}
+use Rattle.task_sheet.specs.Demand.{limit_of, greatest_of, blocking_of, interrupts_within, demand_of, releases_within, interference_of, Passes}
 use Rattle.task_sheet.specs.Orders.{must_outrank, is_bound, Stands, AllStand, IsPassingOrder, IsFeasible}
 use Rattle.task_sheet.proofs.Below.{sum_below-le, greatest_of-le}
 use Rattle.task_sheet.proofs.Releases.{div_ceil-mono}
 use Rattle.ceilings.specs.Holds.{longest_outside}
+use Rattle.headroom.proofs.InterruptSets.{interrupts_of-less, interrupts-less}
 use Rattle.headroom.specs.Costs.{with_cost, last_end, IsLighter, AreLighter, costed, delayed}
 
 -- ---- blocking speaks of sections alone
@@ -59,11 +60,17 @@ module _ (V U : List Task) (light : AreLighter V U) where
     | inr so ↦ rw so (omega arith)
   ]
 
+  pub interrupts-lighter : (t : ℕ) → interrupts_within V t ≤ interrupts_within U t
+  interrupts-lighter t =
+      interrupts-less V U t light.count (λ k _.
+      let node = ap (λ (x : Task). x.node.release) (light.each k).same in
+      interrupts_of-less (task_at V k) (task_at U k) t (omega (arith, node)) (ap (λ (x : Task). x.interrupts) (light.each k).same) (releases-lighter k t))
+
   pub demand-lighter : (i : ℕ) (H : Indexes) (t : ℕ) → demand_of V i H t ≤ demand_of U i H t
   unfolding demand_of
   demand-lighter i H t =
       let terms = sum_below-le (length U) (λ k. cond (H k) (interference_of (task_at V k) t) 0) (λ k. cond (H k) (interference_of (task_at U k) t) 0) (λ k _. term-lighter H t k) in
-      rw light.count (omega (arith, terms, blocking-lighter i H, (light.each i).cost))
+      rw light.count (omega (arith, terms, blocking-lighter i H, (light.each i).cost, interrupts-lighter t))
 
   pub limit-lighter : (i : ℕ) → limit_of (task_at U i) ≤ limit_of (task_at V i)
   limit-lighter i = omega (arith, ap (λ (t : Task). t.deadline) (light.each i).same, (light.each i).jitter)
@@ -189,6 +196,8 @@ may_cost t cost valid from to end = record {
   sections = sections-within 0 t.cost cost t.sections valid.sections (ends-below cost t.sections end);
   jitter = valid.jitter;
   outranked = valid.outranked;
+  overheads = valid.overheads;
+  interrupts = valid.interrupts;
 }
 
 -- and each cost between one that it may have and its period

@@ -1,3 +1,4 @@
+pub mod InterruptSets
 pub mod CostLaws
 pub mod SearchLaws
 pub mod SetCostLaws

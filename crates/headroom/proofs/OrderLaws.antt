@@ -16,7 +16,7 @@ use Rattle.task_sheet.proofs.IndexLaws.{without-part_of, without-gone, without-k
 use Rattle.task_sheet.proofs.MembersIndexes.{indexes_of-remove}
 use Rattle.headroom.specs.Costs.{with_cost, costed, MayCost, IsHeadroom, IsRoomIn, IsHeadroomIn}
 use Rattle.headroom.proofs.CostLaws.{blocking-same, placed-other, AreLighter-costed, IsPassingOrder-lighter}
-use Rattle.headroom.proofs.SetCostLaws.{costed-own, must_outrank-costed, sections-costed, headroom-each}
+use Rattle.headroom.proofs.SetCostLaws.{costed-own, must_outrank-costed, sections-costed, interrupts-costed, headroom-each}
 
 -- of two costs the later one stays
 pub costed-again : (U : List Task) (i first cost : ℕ) → costed (costed U i first) i cost ≡ costed U i cost
@@ -55,7 +55,7 @@ module _ (U : List Task) (i cost : ℕ) where
   unfolding demand_of
   demand-above k H t ne out =
       let terms = sum_below-le (length U) (term other H t) (term U H t) (λ h _. term-above H t h out) in
-      rw (count-costed U i cost) (omega (arith, terms, ap (λ (x : Task). x.cost) (other-at k ne), blocking-same other U k H (count-costed U i cost) (sections-costed U i cost)))
+      rw (count-costed U i cost) (omega (arith, terms, ap (λ (x : Task). x.cost) (other-at k ne), blocking-same other U k H (count-costed U i cost) (sections-costed U i cost), interrupts-costed U i cost t))
 
   Passes-above : (k : ℕ) (H : Indexes) → (k ≡ i → ⊥) → H i ≡ false → Passes U k H → Passes other k H
   Passes-above k H ne out passes =

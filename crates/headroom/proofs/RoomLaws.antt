@@ -11,7 +11,7 @@ use Rattle.task_sheet.proofs.Releases.{releases-mono, releases-some}
 use Rattle.task_sheet.proofs.ResponseLaws.{DoesNotFall, Covers-iff_response, IsResponse-one}
 use Rattle.task_sheet.proofs.DemandLaws.{demand-mono, demand_does_not_fall}
 use Rattle.headroom.specs.Costs.{with_cost, AreLighter, costed}
-use Rattle.headroom.proofs.CostLaws.{AreLighter-costed, blocking-lighter, demand-lighter, limit-lighter, term-lighter, placed-same}
+use Rattle.headroom.proofs.CostLaws.{AreLighter-costed, blocking-lighter, interrupts-lighter, demand-lighter, limit-lighter, term-lighter, placed-same}
 use Rattle.headroom.proofs.SetCostLaws.{costed-own}
 
 -- a sum of no lesser terms, of which one is greater by some
@@ -65,14 +65,14 @@ module _ (U : List Task) (valid : AllTasks U) (i : ℕ) (inside : i < length U) 
   unfolding demand_of
   own-demand H t =
       let cost = ap (λ (x : Task). x.cost) raised-at in
-      rw (← light.count) (omega (arith, cost, blocking-lighter U raised light i H, terms-le H t))
+      rw (← light.count) (omega (arith, cost, blocking-lighter U raised light i H, terms-le H t, interrupts-lighter U raised light t))
 
   -- the demand of one below it
   below-demand : (k : ℕ) (H : Indexes) (t : ℕ) → H i ≡ true → demand_of U k H t + releases_within (task_at U i) t * more ≤ demand_of raised k H t
   unfolding demand_of
   below-demand k H t above =
       let terms = sum_below-more (length U) (term U H t) (term raised H t) i (releases_within (task_at U i) t * more) (term-lighter U raised light H t) inside (term-more H t above) in
-      rw (← light.count) (omega (arith, (light.each k).cost, blocking-lighter U raised light k H, terms))
+      rw (← light.count) (omega (arith, (light.each k).cost, blocking-lighter U raised light k H, terms, interrupts-lighter U raised light t))
 
   -- where from the response on the demand is greater by more than what is left, the task fails
   fails-by : (k : ℕ) (H : Indexes) (r gap : ℕ) → k < length U → IsResponseOf U k H r → (task_at U k).deadline < r + gap

@@ -3,6 +3,8 @@ use Rattle.std.proofs.Common.{◌≡◌, ◌↔◌, ℕ, zero, suc, inl, inr, �
 use Rattle.std.proofs.lemmas.Bool.{cases_lt}
 use Rattle.task_sheet.specs.Orders.{must_outrank, IsFeasible}
 use Rattle.task_sheet.proofs.TaskLaws.{valid_at}
+use Rattle.task_sheet.specs.Demand.{interrupts_of, interrupts_within}
+use Rattle.headroom.proofs.InterruptSets.{interrupts-less}
 use Rattle.headroom.proofs.CostLaws.{IsFeasible-less, longest-same}
 use Rattle.std.specs.List.{list_any}
 use Rattle.std.proofs.lemmas.List.{length-set, set-get_or}
@@ -22,6 +24,11 @@ same-costed of cost same (y ∷ ys) zero zero = same y
 same-costed of cost same (y ∷ ys) zero (suc k) = refl
 same-costed of cost same (y ∷ ys) (suc i) zero = refl
 same-costed of cost same (y ∷ ys) (suc i) (suc k) = same-costed of cost same ys i k
+
+-- ---- interrupts
+pub interrupts-costed : (U : List Task) (i cost t : ℕ) → interrupts_within (costed U i cost) t ≤ interrupts_within U t
+interrupts-costed U i cost t =
+    interrupts-less (costed U i cost) U t (length-set U i (with_cost (task_at U i) cost)) (λ k _. omega (arith, same-costed (interrupts_of t) cost (λ y. refl) U i k))
 
 -- ---- locks
 pub sections-costed : (U : List Task) (i cost k : ℕ) → (task_at (costed U i cost) k).sections ≡ (task_at U k).sections

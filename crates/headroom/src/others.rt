@@ -1,11 +1,11 @@
-//! Sheets with other numbers and sections.
+//! Sheets with other numbers, sections and interrupts.
 ghost use Rattle.std.specs.Prelude.{◌≡◌, IfOk};
 ghost use Rattle.task_sheet.specs.Sheet.{IsValidSheet};
 ghost use Rattle.task_sheet.specs.SheetFields.{outranks_of};
 ghost use Rattle.headroom.specs.Remade.{remade};
 
 use std::alloc::{AllocError, Global};
-use task_sheet::{Outranks, Section, Sheet};
+use task_sheet::{Interrupt, Outranks, Section, Sheet};
 
 /// Sections that say the same. The error is want of memory.
 pub fn copy_sections(alloc: Global, sections: &[Section]) -> Result<Vec<Section>, AllocError>
@@ -44,11 +44,17 @@ pub fn times_of(sheet: &Sheet) -> Times
     }
 }
 
-/// The sheet with other numbers and sections. The tasks above which it must stand are those of the sheet.
-pub fn remade(sheet: &Sheet, times: Times, sections: Vec<Section>, outranks: Outranks) -> Sheet
-    requires may { IsValidSheet (remade sheet.now times.period times.deadline times.cost times.jitter sections.items) }
+/// The sheet with other numbers, sections and interrupts. The tasks above which it must stand are those of the sheet.
+pub fn remade(
+    sheet: &Sheet,
+    times: Times,
+    sections: Vec<Section>,
+    outranks: Outranks,
+    interrupts: Vec<Interrupt>,
+) -> Sheet
+    requires may { IsValidSheet (remade sheet.now times.period times.deadline times.cost times.jitter sections.items interrupts.items) }
     requires outranks { outranks_of outranks ≡ sheet.now.outranks }
-    ensures { result ≡ remade sheet.now times.period times.deadline times.cost times.jitter sections.items }
+    ensures { result ≡ remade sheet.now times.period times.deadline times.cost times.jitter sections.items interrupts.items }
 {
     let Ok(other) = Sheet::new(
         sheet.name(),
@@ -64,7 +70,7 @@ pub fn remade(sheet: &Sheet, times: Times, sections: Vec<Section>, outranks: Out
         unreachable!()
     };
     match other.outranking(outranks) {
-        Ok(other) => other,
+        Ok(other) => other.of_node(sheet.node()).interrupted(interrupts),
         Err(_) => unreachable!(),
     }
 }

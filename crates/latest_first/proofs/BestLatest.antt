@@ -1,12 +1,12 @@
 -- Where no task has a longer limit than one of less rank, the best order has the longest limits lowest.
-use Rattle.std.proofs.Common.{◌≡◌, ℕ, ◌<◌, ◌≤◌, inl, inr, true, false, List, [], ◌∷◌, length, refl, sym, ◌∙◌, ap, subst, arith}
+use Rattle.std.proofs.Common.{◌≡◌, ℕ, ◌<◌, inl, inr, List, [], ◌∷◌, length, refl, sym, ◌∙◌, ap, subst, arith}
 use Rattle.std.proofs.lemmas.Bool.{cases_lt, cases_order, ltb-true}
 use Rattle.task_sheet.specs.Sheet.{Task, AllTasks, task_at}
 use Rattle.task_sheet.specs.Indexes.{Indexes, IsPart, among, without_index}
 use Rattle.task_sheet.specs.Demand.{limit_of, Passes}
-use Rattle.task_sheet.specs.Orders.{all_of, is_bound, Stands, IsOrderOf, AllStand, IsBetter, IsBest}
+use Rattle.task_sheet.specs.Orders.{all_of, Stands, IsOrderOf, AllStand, IsBetter, IsBest}
 use Rattle.task_sheet.proofs.IndexLaws.{without-part_of, IsOrderOf-among, IsOrderOf-head, IsOrderOf-rest, IsOrderOf-cons}
-use Rattle.latest_first.specs.LatestFirst.{AllPrompt, IsFree, IsLatest, IsLatestFirst, FollowLimits}
+use Rattle.latest_first.specs.LatestFirst.{AllPrompt, IsLatest, IsLatestFirst, FollowLimits}
 use Rattle.latest_first.proofs.LaterLimits.{Passes-later}
 use Rattle.latest_first.proofs.WithoutOne.{less, less-order, less-stand}
 

@@ -1,13 +1,13 @@
--- Of some tasks, what is executed below all others of them is one blocking and the jobs of all of them: a task of a
--- longer limit passes there where one of a shorter limit does.
-use Rattle.std.proofs.Common.{◌≡◌, ℕ, zero, suc, ◌+◌, ◌*◌, ◌<◌, ◌≤◌, Bool, true, false, cond, ◌==◌, ◌||◌, inl, inr, List, length, refl, sym, ◌∙◌, ap, subst, arith}
+-- Of some tasks, what is executed below all others of them is one blocking, the jobs of all of them and the interrupts: a
+-- task of a longer limit passes there where one of a shorter limit does.
+use Rattle.std.proofs.Common.{◌≡◌, ℕ, zero, suc, ◌+◌, ◌*◌, ◌<◌, ◌≤◌, true, cond, ◌||◌, inl, inr, List, length, refl, sym, ◌∙◌, ap, arith}
 use Rattle.std.proofs.Math.Path.{fun_ext}
 use Rattle.std.specs.Int.{div_ceil}
-use Rattle.std.proofs.lemmas.Bool.{cases_Bool, cases_eq, cases_lt, eq-eqb, ne_eqb, cond-true, cond-false, ltb-true}
-use Rattle.std.proofs.lemmas.Grind.{common_steps, div_ceil_times}
+use Rattle.std.proofs.lemmas.Bool.{cases_eq, eq-eqb, ne_eqb, ltb-true}
+use Rattle.std.proofs.lemmas.Grind.{common_steps}
 use Rattle.task_sheet.specs.Sheet.{Task, no_task, task_at}
 use Rattle.task_sheet.specs.Indexes.{Indexes, IsPart, with_index, without_index, sum_below, greatest_below}
-use Rattle.task_sheet.specs.Demand.{limit_of, longest_reached, blocking_of, demand_of, interference_of, interference_within, releases_within, Passes}
+use Rattle.task_sheet.specs.Demand.{limit_of, longest_reached, blocking_of, demand_of, interference_of, interference_within, interrupts_within, releases_within, Passes}
 use Rattle.task_sheet.specs.Orders.{all_of}
 use Rattle.task_sheet.proofs.IndexLaws.{without-gone, without-kept}
 use Rattle.latest_first.specs.LatestFirst.{IsPrompt, AllPrompt}
@@ -75,9 +75,9 @@ cost-within x t prompt pos =
     omega arith
 
 module _ (U : List Task) (prompt : AllPrompt U) (L : Indexes) (part : IsPart L (all_of U)) where
-  -- what is executed of all of them, and the one blocking
+  -- what is executed of all of them, the one blocking, and the interrupts
   abbrev pub all_within : ℕ → ℕ
-  all_within t = longest_outside U L + interference_within U L t
+  all_within t = longest_outside U L + interference_within U L t + interrupts_within U t
 
   pub inside : (i : ℕ) → L i ≡ true → i < length U
   inside i member = ltb-true i (length U) (part i member)

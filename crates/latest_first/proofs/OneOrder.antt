@@ -1,16 +1,16 @@
 -- An order with the longest limits lowest passes where some order does.
-use Rattle.std.proofs.Common.{◌≡◌, ◌↔◌, ℕ, ◌<◌, ◌≤◌, Bool, true, false, ◌&&◌, ◌==◌, inl, inr, List, [], ◌∷◌, length, refl, sym, ◌∙◌, ap, subst, arith, cond}
+use Rattle.std.proofs.Common.{◌≡◌, ℕ, Bool, true, false, ◌&&◌, ◌==◌, inl, inr, List, [], ◌∷◌, length, refl, sym, ◌∙◌, ap, subst, arith, cond}
 use Rattle.std.proofs.Math.Path.{fun_ext}
 use Rattle.std.proofs.lemmas.Bool.{cases_Bool, both_ways, or_cases, eqb-true}
-use Rattle.task_sheet.specs.Sheet.{Task, AllTasks, no_task, task_at}
+use Rattle.task_sheet.specs.Sheet.{Task, AllTasks}
 use Rattle.task_sheet.specs.TaskSet.{IsTaskSet}
 use Rattle.task_sheet.specs.Indexes.{Indexes, IsPart, below, without_index, among, some_below}
-use Rattle.task_sheet.specs.Demand.{limit_of, Passes}
+use Rattle.task_sheet.specs.Demand.{Passes}
 use Rattle.task_sheet.specs.Orders.{all_of, must_outrank, is_bound, Stands, IsOrderOf, IsOrder, AllStand, IsPassingOrder, IsFeasible}
 use Rattle.task_sheet.specs.Levels.{NoneStands}
 use Rattle.task_sheet.proofs.IndexLaws.{without-parts, without-part_of, IsOrderOf-among, IsOrderOf-head, IsOrderOf-rest}
 use Rattle.task_sheet.proofs.PassingLaws.{Stands-part}
-use Rattle.latest_first.specs.LatestFirst.{IsPrompt, AllPrompt, IsFree, IsLatest, IsLatestFirst, AreAlike}
+use Rattle.latest_first.specs.LatestFirst.{AllPrompt, IsFree, IsLatest, IsLatestFirst, AreAlike}
 use Rattle.latest_first.proofs.LaterLimits.{Passes-later}
 
 pub AllPrompt-valid : (U : List Task) → IsTaskSet U → AllPrompt U

@@ -1,14 +1,15 @@
 -- The lines that say how far the numbers of a set may go.
-use Rattle.std.specs.Prelude.{◌≡◌, ◌⊎◌, ℕ, zero, suc, ◌+◌, ◌-◌, ◌<◌, ◌==◌, List, [], ◌∷◌, ◌++◌, length, codes, Option, Some, None, if◌then◌else◌}
+use Rattle.std.specs.Prelude.{◌≡◌, ◌⊎◌, ℕ, zero, suc, ◌+◌, ◌-◌, ◌<◌, ◌==◌, Bool, true, nat_lt, nat_le, List, [], ◌∷◌, ◌++◌, length, codes, Option, Some, None, if◌then◌else◌}
 use Rattle.std.specs.Fmt.{decimal}
 use Rattle.task_sheet.specs.Sheet.{Task, task_at}
+use Rattle.task_sheet.specs.Overheads.{calls, overhead_of}
 use Rattle.task_sheet.specs.Orders.{IsPassingOrder}
 use Rattle.lines.specs.Naming.{name_at}
 use Rattle.assignment.specs.Places.{PlaceData}
 use Rattle.assignment.specs.Placings.{tasks_of_places}
 use Rattle.assignment.specs.declared.placing.Placing.{Placing}
 use Rattle.assignment.specs.declared.placing.Placing.TheVariants.{Best, Stuck}
-use Rattle.limits.specs.Numbers.{value_of, AnswersFurthest}
+use Rattle.limits.specs.Numbers.{section_at, value_of, AnswersFurthest}
 use Rattle.limits.specs.InOrder.{IsFurthestIn}
 use Rattle.limits.specs.declared.number.Number.{Number}
 use Rattle.limits.specs.declared.number.Number.TheVariants.{Cost, Period, Deadline, Jitter, Len}
@@ -59,13 +60,44 @@ AnswersIn U (Some places) i number (Some value) =
 AnswersIn U (Some places) i number None = ⊥
 AnswersIn U None i number answer = answer ≡ None
 
--- a number: the name of its task, what it is, its value, the furthest in the order, and the furthest in any; nothing where
--- no value helps
+-- what of a number is the node's: of a cost what a job takes beside its own work, but for its timer; of a jitter how late
+-- the node may be; of the length of a section the calls on its locks
+abbrev pub node_part : Number → Task → ℕ
+node_part Cost t = overhead_of t
+node_part Period t = 0
+node_part Deadline t = 0
+node_part Jitter t = t.node.late
+node_part (Len k) t = calls t.node (section_at t.sections k)
+
+-- less this, where there is a number
+abbrev pub less_of : ℕ → Option ℕ → Option ℕ
+less_of part None = None
+less_of part (Some value) = Some (value - part)
+
+-- where this is the node's, such a number is left of a value: a cost and a length are above 0
+abbrev pub leaves_own : Number → (part value : ℕ) → Bool
+leaves_own Cost part value = nat_lt part value
+leaves_own Period part value = true
+leaves_own Deadline part value = true
+leaves_own Jitter part value = nat_le part value
+leaves_own (Len k) part value = nat_lt part value
+
+-- the name of task i, what the number is, its value, the furthest in the order, and the furthest in any
+abbrev pub values_line : List Task → ℕ → Number → ℕ → Option ℕ → ℕ → List ℕ
+values_line U i number value own most =
+    name_at U i ++ label_of number ++ decimal value ++ codes " " ++ some_words own ++ codes " "
+    ++ decimal most ++ codes "\n"
+
+-- a number of task i, each of its values less what is the node's; nothing where no value helps, or none that leaves the
+-- task one of its own
 abbrev pub number_line : List Task → ℕ → Number → Option ℕ → Option ℕ → List ℕ
 number_line U i number own None = []
 number_line U i number own (Some most) =
-    name_at U i ++ label_of number ++ decimal (value_of number (task_at U i)) ++ codes " "
-    ++ some_words own ++ codes " " ++ decimal most ++ codes "\n"
+    let t = task_at U i in
+    let part = node_part number t in
+    if leaves_own number part most then
+    values_line U i number (value_of number t - part) (less_of part own) (most - part)
+    else []
 
 -- the line of a number of task i
 abbrev pub IsNumberLine : List Task → Option (List PlaceData) → ℕ → Number → List ℕ → Type 0

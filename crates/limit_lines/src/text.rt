@@ -1,13 +1,13 @@
 //! The lines of a task, and the last one.
 ghost use Rattle.std.specs.Prelude.{◌≡◌, ◌++◌, ◌<◌, ℕ, length, IfOk, IfSome, OnOk, string_bytes};
-ghost use Rattle.task_sheet.specs.Sheet.{task_at};
+ghost use Rattle.task_sheet.specs.Sheet.{IsValidSheet, task_at};
 ghost use Rattle.task_sheet.specs.Orders.{IsFeasible};
 ghost use Rattle.task_sheet.specs.declared.sheet.TheConstants.{SECTION_LIMIT};
 ghost use Rattle.task_sheet.specs.TaskSet.{IsTaskSet};
 ghost use Rattle.ceilings.specs.IsTableOf.{IsTableOf};
 ghost use Rattle.factor.specs.Factors.{AnswersFactor};
 ghost use Rattle.limits.specs.Numbers.{AnswersFurthest, HasNumber, MayHave, numbered};
-ghost use Rattle.limit_lines.specs.Lines.{AnswersFactorIn, AnswersIn, AreTaskLines, HasPassing, IsFactorLine, IsLast, IsNumberLine, label_of, number_at, number_line, order_in, places_in, slack_in, slack_line, slack_of, some_words};
+ghost use Rattle.limit_lines.specs.Lines.{AnswersFactorIn, AnswersIn, AreTaskLines, HasPassing, IsFactorLine, IsLast, IsNumberLine, label_of, leaves_own, less_of, node_part, number_at, number_line, order_in, places_in, slack_in, slack_line, slack_of, some_words, values_line};
 
 use assignment::{Place, Placing};
 use ceilings::LockTable;
@@ -15,7 +15,7 @@ use factor::{factor, factor_in_order, first_to_fail};
 use limits::{Number, furthest, furthest_from, furthest_in_order, value_of};
 use lines::push_name;
 use std::alloc::{AllocError, Global};
-use task_sheet::TaskSet;
+use task_sheet::{Sheet, TaskSet};
 
 // The number of a task that stands at a place among its numbers, from 0.
 fn number_at(place: usize) -> Number
@@ -57,7 +57,69 @@ fn push_some(text: &mut String, number: Option<u64>) -> Result<(), AllocError>
     }
 }
 
-// The line of a number of a task; nothing where no value helps.
+// What of a number of a task is the node's, in microseconds.
+fn node_part(sheet: &Sheet, number: Number) -> u64
+    requires valid { IsValidSheet sheet.now }
+    requires has { HasNumber sheet.now number }
+    ensures { result ≡ node_part number sheet.now }
+{
+    let node = sheet.node();
+    match number {
+        Number::Cost => sheet.overhead(),
+        Number::Period | Number::Deadline => 0,
+        Number::Jitter => node.late,
+        Number::Len(place) => {
+            let section = &sheet.sections()[place];
+            node.lock * section.locks.len() as u64
+        }
+    }
+}
+
+// Less this, where there is a number.
+fn less_of(part: u64, number: Option<u64>) -> Option<u64>
+    ensures { result ≡ less_of part number }
+{
+    match number {
+        Some(value) => Some(value.saturating_sub(part)),
+        None => None,
+    }
+}
+
+// Whether a value leaves a number of the task's own, where this is the node's.
+fn leaves_own(number: Number, part: u64, value: u64) -> bool
+    ensures { result ≡ leaves_own number part value }
+{
+    match number {
+        Number::Cost | Number::Len(_) => part < value,
+        Number::Period | Number::Deadline => true,
+        Number::Jitter => part <= value,
+    }
+}
+
+// The line of a number of a task with these values.
+fn push_values(
+    text: &mut String,
+    set: &TaskSet,
+    task: usize,
+    number: Number,
+    value: u64,
+    own: Option<u64>,
+    most: u64,
+) -> Result<(), AllocError>
+    requires task { task < length set.now }
+    requires has { HasNumber (task_at set.now task) number }
+    requires kept { IsTaskSet set.now }
+    ensures { OnOk result (string_bytes text.new ≡ string_bytes text.old
+        ++ values_line set.now task number value own most) }
+{
+    push_name(text, set, task)?;
+    push_label(text, number)?;
+    write!(text, "{value} ")?;
+    push_some(text, own)?;
+    write!(text, " {most}\n")
+}
+
+// The line of a number of a task; nothing where no value helps, or none that leaves the task one of its own.
 fn push_number(
     text: &mut String,
     set: &TaskSet,
@@ -74,12 +136,22 @@ fn push_number(
     let Some(most) = most else {
         return Ok(());
     };
-    let value = value_of(&set.sheets()[task], number);
-    push_name(text, set, task)?;
-    push_label(text, number)?;
-    write!(text, "{value} ")?;
-    push_some(text, own)?;
-    write!(text, " {most}\n")
+    let sheet = &set.sheets()[task];
+    let part = node_part(sheet, number);
+    if !leaves_own(number, part, most) {
+        return Ok(());
+    }
+    let value = value_of(sheet, number).saturating_sub(part);
+    let own = less_of(part, own);
+    push_values(
+        text,
+        set,
+        task,
+        number,
+        value,
+        own,
+        most.saturating_sub(part),
+    )
 }
 
 // The furthest value of a number with which the order of a placing passes; none after a no.
@@ -202,8 +274,9 @@ fn push_slack(
 }
 
 /// The lines of a task of a placed set: for each of its numbers that may help its value, the furthest with which the
-/// order passes, and the furthest with which some order does; and where there is an order, its slack. That is any one which
-/// passes, the best or another; `order` is the same, the lowest first. The table is that of the set. The error is want of memory.
+/// order passes, and the furthest with which some order does, each less what of it is the node's; and where there is an
+/// order, its slack. That is any one which passes, the best or another; `order` is the same, the lowest first. The table is
+/// that of the set. The error is want of memory.
 pub fn task_text(
     alloc: Global,
     set: &TaskSet,

@@ -1,44 +1,20 @@
 -- To ask less takes no order away.
-use Rattle.std.proofs.Common.{◌≡◌, ℕ, ◌+◌, ◌*◌, ◌<◌, ◌≤◌, Bool, inl, inr, cond, ◌&&◌, ◌||◌, List, [], ◌∷◌, length, refl, sym, ◌∙◌, ap, arith}
-use Rattle.std.proofs.Math.Path.{fun_ext}
+use Rattle.std.proofs.Common.{ℕ, ◌+◌, ◌*◌, ◌<◌, ◌≤◌, inl, inr, cond, List, [], ◌∷◌, length, sum_by, refl, sym, ◌∙◌, ap, arith}
 use Rattle.std.proofs.Math.Nat.{mul-le-mul, mul-le-mul_left}
 use Rattle.std.specs.Int.{div_ceil}
-use Rattle.std.specs.List.{list_any}
 use Rattle.std.proofs.lemmas.Bool.{cases_Bool}
 use Rattle.std.proofs.lemmas.Grind.{common_steps}
-use Rattle.task_sheet.specs.Sheet.{CriticalSection, Task, AllTasks, no_task, task_at, same_bytes}
-use Rattle.task_sheet.specs.Indexes.{Indexes, with_index, some_below, greatest_below, sum_below, below, among}
-use Rattle.task_sheet.specs.Locks.{names_lock, uses, shares_lock, reaches}
-use Rattle.task_sheet.specs.Demand.{limit_of, greatest_of, longest_reached, blocking_of, demand_of, releases_within, interference_of, Passes}
-use Rattle.task_sheet.specs.Orders.{must_outrank, is_bound, AllStand, IsPassingOrder, IsFeasible}
-use Rattle.task_sheet.proofs.Below.{sum_below-le, greatest_below-le, le-greatest_below}
+use Rattle.std.proofs.lemmas.List.Sums.{sum_by-cons}
+use Rattle.task_sheet.specs.declared.node.Interrupt.{Interrupt}
+use Rattle.task_sheet.specs.Sheet.{Task, AllTasks, no_task, task_at}
+use Rattle.task_sheet.specs.Indexes.{Indexes, sum_below, below, among}
+use Rattle.task_sheet.specs.Demand.{limit_of, blocking_of, interrupt_within, interrupts_within, demand_of, releases_within, interference_of, Passes}
+use Rattle.task_sheet.specs.Orders.{AllStand, IsPassingOrder, IsFeasible}
+use Rattle.task_sheet.proofs.Below.{sum_below-le}
 use Rattle.task_sheet.proofs.Releases.{div_ceil-mono}
-use Rattle.limits.specs.Easier.{AreShorter, AreEasier}
-
--- ---- sections
-pub AreShorter-refl : (xs : List CriticalSection) → AreShorter xs xs
-AreShorter-refl [] = tt
-AreShorter-refl (x ∷ xs) = (refl, omega arith, AreShorter-refl xs)
-
-uses-shorter : (xs ys : List CriticalSection) (lock : List ℕ) → AreShorter xs ys → list_any (λ (s : CriticalSection). names_lock s lock) xs ≡ list_any (λ (s : CriticalSection). names_lock s lock) ys
-uses-shorter [] [] lock short = refl
-uses-shorter [] (y ∷ ys) lock short = absurd short
-uses-shorter (x ∷ xs) [] lock short = absurd short
-uses-shorter (x ∷ xs) (y ∷ ys) lock short =
-    ap (λ b. list_any (λ name. same_bytes name lock) x.locks || b) (uses-shorter xs ys lock short.2)
-    ∙ ap (λ (locks : List (List ℕ)). list_any (λ name. same_bytes name lock) locks || list_any (λ (s : CriticalSection). names_lock s lock) ys) short.0
-
-longest-shorter : (p : List (List ℕ) → Bool) (xs ys : List CriticalSection) → AreShorter xs ys
-    → greatest_of (λ (s : CriticalSection). cond (p s.locks) s.len 0) xs ≤ greatest_of (λ (s : CriticalSection). cond (p s.locks) s.len 0) ys
-longest-shorter p [] [] short = omega arith
-longest-shorter p [] (y ∷ ys) short = absurd short
-longest-shorter p (x ∷ xs) [] short = absurd short
-longest-shorter p (x ∷ xs) (y ∷ ys) short =
-    let here : cond (p x.locks) x.len 0 ≤ cond (p y.locks) y.len 0 = elim (cases_Bool (p y.locks)) [
-      | inl so ↦ rw (short.0, so) short.1
-      | inr out ↦ rw (short.0, out) (omega arith)
-    ] in
-    omega (arith, here, longest-shorter p xs ys short.2)
+use Rattle.headroom.proofs.InterruptSets.{interrupts-less}
+use Rattle.limits.specs.Easier.{AreCheaper, AreEasier}
+use Rattle.limits.proofs.NearLaws.{AreNear, blocking-near, limit-near, is_bound-near}
 
 -- ---- jobs
 div_ceil-longer : (t p q : ℕ) → 0 < p → p ≤ q → div_ceil t q ≤ div_ceil t p
@@ -50,55 +26,47 @@ div_ceil-longer t p q pos le =
     div_ceil-least : (t p m : ℕ) → 0 < p → t ≤ m * p → div_ceil t p ≤ m
     div_ceil-least t p m pos le = grind (arith, common_steps)
 
+-- ---- interrupts
+pub AreCheaper-refl : (xs : List Interrupt) → AreCheaper xs xs
+AreCheaper-refl [] = tt
+AreCheaper-refl (x ∷ xs) = (refl, omega arith, AreCheaper-refl xs)
+
+cheaper-within : (t : ℕ) (xs ys : List Interrupt) → AreCheaper xs ys → sum_by (interrupt_within t) xs ≤ sum_by (interrupt_within t) ys
+cheaper-within t [] [] cheap = omega arith
+cheaper-within t [] (y ∷ ys) cheap = absurd cheap
+cheaper-within t (x ∷ xs) [] cheap = absurd cheap
+cheaper-within t (x ∷ xs) (y ∷ ys) cheap =
+    let here : interrupt_within t x ≤ interrupt_within t y = rw (cheap.0) (mul-le-mul_left (div_ceil (t + 0) y.period) cheap.1) in
+    omega (arith, here, cheaper-within t xs ys cheap.2, sum_by-cons (interrupt_within t) x xs, sum_by-cons (interrupt_within t) y ys)
+
 module _ (V U : List Task) (easy : AreEasier V U) where
-  shares-easier : (k : ℕ) (s : CriticalSection) → shares_lock (task_at V k) s ≡ shares_lock (task_at U k) s
-  shares-easier k s = ap (λ (p : List ℕ → Bool). list_any p s.locks) (fun_ext (λ lock. uses-shorter (task_at V k).sections (task_at U k).sections lock (easy.each k).sections))
-
-  reaches-easier : (X : Indexes) (s : CriticalSection) → reaches V X s ≡ reaches U X s
-  reaches-easier X s =
-      ap (λ n. some_below n (λ k. X k && shares_lock (task_at V k) s)) easy.count
-      ∙ ap (λ (p : ℕ → Bool). some_below (length U) p) (fun_ext (λ k. ap (λ b. X k && b) (shares-easier k s)))
-
-  -- a section is reached for its locks
-  abbrev by_locks : Indexes → List (List ℕ) → Bool
-  by_locks X locks = some_below (length U) (λ k. X k && list_any (λ lock. uses (task_at U k) lock) locks)
-
-  longest-easier : (X : Indexes) (k : ℕ) → longest_reached V X (task_at V k) ≤ longest_reached U X (task_at U k)
-  longest-easier X k =
-      let same : longest_reached V X (task_at V k) ≡ longest_reached U X (task_at V k) =
-      ap (λ (r : CriticalSection → Bool). greatest_of (λ (s : CriticalSection). cond (r s) s.len 0) (task_at V k).sections) (fun_ext (reaches-easier X)) in
-      omega (arith, same, longest-shorter (by_locks X) (task_at V k).sections (task_at U k).sections (easy.each k).sections)
+  near : AreNear V U
+  near = record {
+    count = easy.count;
+    each = λ k. record { name = (easy.each k).name; outranks = (easy.each k).outranks; jitter = (easy.each k).jitter; deadline = (easy.each k).deadline; sections = (easy.each k).sections };
+  }
 
   pub blocking-easier : (i : ℕ) (H : Indexes) → blocking_of V i H ≤ blocking_of U i H
-  unfolding blocking_of
-  blocking-easier i H =
-      let X : Indexes = with_index H i in
-      let f : ℕ → ℕ = λ k. cond (X k) 0 (longest_reached V X (task_at V k)) in
-      let g : ℕ → ℕ = λ k. cond (X k) 0 (longest_reached U X (task_at U k)) in
-      greatest_below-le (length V) f (greatest_below (length U) g) (λ k lt.
-      let here : f k ≤ g k = elim (cases_Bool (X k)) [ inl so ↦ rw so (omega arith) | inr so ↦ rw so (longest-easier X k) ] in
-      omega (arith, here, le-greatest_below (length U) g k (omega (arith, lt, easy.count))))
+  blocking-easier i H = blocking-near V U near i H
 
   pub limit-easier : (i : ℕ) → limit_of (task_at U i) ≤ limit_of (task_at V i)
-  limit-easier i = omega (arith, (easy.each i).deadline, (easy.each i).jitter)
-
-  names-easier : (i k : ℕ) → must_outrank V i k ≡ must_outrank U i k
-  names-easier i k = rw ((easy.each k).name, (easy.each k).outranks, (easy.each i).outranks) refl
-
-  is_bound-easier : (i : ℕ) (H : Indexes) → is_bound V i H ≡ is_bound U i H
-  unfolding is_bound
-  is_bound-easier i H =
-      ap (λ n. some_below n (λ k. H k && must_outrank V i k)) easy.count
-      ∙ ap (λ (p : ℕ → Bool). some_below (length U) (λ k. H k && p k)) (fun_ext (names-easier i))
+  limit-easier i = limit-near V U near i
 
   module _ (valid : AllTasks U) where
-    interference-easier : (k t : ℕ) → k < length U → interference_of (task_at V k) t ≤ interference_of (task_at U k) t
-    interference-easier k t lt =
+    releases-easier : (k t : ℕ) → k < length U → releases_within (task_at V k) t ≤ releases_within (task_at U k) t
+    releases-easier k t lt =
         let e = easy.each k in
         let fewer : div_ceil (t + (task_at V k).jitter) (task_at V k).period ≤ div_ceil (t + (task_at V k).jitter) (task_at U k).period = div_ceil-longer (t + (task_at V k).jitter) (task_at U k).period (task_at V k).period (valid k no_task lt).period e.period in
-        let jobs : releases_within (task_at V k) t ≤ releases_within (task_at U k) t =
-        omega (arith, fewer, div_ceil-mono (t + (task_at V k).jitter) (t + (task_at U k).jitter) (task_at U k).period (omega (arith, e.jitter))) in
-        mul-le-mul jobs e.cost
+        omega (arith, fewer, div_ceil-mono (t + (task_at V k).jitter) (t + (task_at U k).jitter) (task_at U k).period (omega (arith, e.jitter)))
+
+    interference-easier : (k t : ℕ) → k < length U → interference_of (task_at V k) t ≤ interference_of (task_at U k) t
+    interference-easier k t lt = mul-le-mul (releases-easier k t lt) (easy.each k).cost
+
+    interrupts-easier : (t : ℕ) → interrupts_within V t ≤ interrupts_within U t
+    interrupts-easier t =
+        interrupts-less V U t easy.count (λ k lt.
+        let e = easy.each k in
+        omega (arith, mul-le-mul (releases-easier k t lt) e.release, cheaper-within t (task_at V k).interrupts (task_at U k).interrupts e.interrupts))
 
     pub demand-easier : (i : ℕ) (H : Indexes) (t : ℕ) → demand_of V i H t ≤ demand_of U i H t
     unfolding demand_of
@@ -109,7 +77,7 @@ module _ (V U : List Task) (easy : AreEasier V U) where
           | inl so ↦ rw so (interference-easier k t lt)
           | inr so ↦ rw so (omega arith)
         ]) in
-        rw easy.count (omega (arith, terms, blocking-easier i H, (easy.each i).cost))
+        rw easy.count (omega (arith, terms, blocking-easier i H, (easy.each i).cost, interrupts-easier t))
 
     pub Passes-easier : (i : ℕ) (H : Indexes) → Passes U i H → Passes V i H
     Passes-easier i H passes =
@@ -117,7 +85,7 @@ module _ (V U : List Task) (easy : AreEasier V U) where
 
     AllStand-easier : (order : List ℕ) → AllStand U order → AllStand V order
     AllStand-easier [] all = tt
-    AllStand-easier (i ∷ above) all = ((Passes-easier i (among above) all.0.0, is_bound-easier i (among above) ∙ all.0.1), AllStand-easier above all.1)
+    AllStand-easier (i ∷ above) all = ((Passes-easier i (among above) all.0.0, is_bound-near V U near i (among above) ∙ all.0.1), AllStand-easier above all.1)
 
     pub IsPassingOrder-easier : (order : List ℕ) → IsPassingOrder U order → IsPassingOrder V order
     IsPassingOrder-easier order passing = record {

@@ -1,3 +1,4 @@
+pub mod NearLaws
 pub mod EasierLaws
 pub mod NumberLaws
 pub mod SpanLaws

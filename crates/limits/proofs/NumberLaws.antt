@@ -12,7 +12,8 @@ use Rattle.limits.specs.declared.number.Number.{Number}
 use Rattle.limits.specs.declared.number.Number.TheVariants.{Cost, Period, Deadline, Jitter, Len}
 use Rattle.limits.specs.Easier.{AreShorter, IsEasier, AreEasier}
 use Rattle.limits.specs.Numbers.{no_section, with_len, value_of, with_number, IsNoFurther, numbered, MayHave, IsFurthest, NoneHelps}
-use Rattle.limits.proofs.EasierLaws.{AreShorter-refl, IsPassingOrder-easier, IsFeasible-easier}
+use Rattle.limits.proofs.EasierLaws.{AreCheaper-refl, IsPassingOrder-easier, IsFeasible-easier}
+use Rattle.limits.proofs.NearLaws.{AreShorter-refl}
 use Rattle.headroom.proofs.PlacedLaws.{IsNamesake, AllTasks-placed}
 
 pub namesake : (number : Number) (t : Task) (value : ℕ) → IsNamesake (with_number number t value) t
@@ -38,14 +39,16 @@ easier-same x easy hard e f = rw (e, f) record {
   period = omega arith;
   deadline = omega arith;
   sections = AreShorter-refl x.sections;
+  release = omega arith;
+  interrupts = AreCheaper-refl x.interrupts;
 }
 
 easier-number : (number : Number) (t : Task) (low high : ℕ) → IsNoFurther number low high → IsEasier (with_number number t low) (with_number number t high)
-easier-number Cost t low high le = record { name = refl; outranks = refl; cost = le; jitter = omega arith; period = omega arith; deadline = omega arith; sections = AreShorter-refl t.sections }
-easier-number Period t low high le = record { name = refl; outranks = refl; cost = omega arith; jitter = omega arith; period = le; deadline = omega (arith, le); sections = AreShorter-refl t.sections }
-easier-number Deadline t low high le = record { name = refl; outranks = refl; cost = omega arith; jitter = omega arith; period = omega (arith, le); deadline = le; sections = AreShorter-refl t.sections }
-easier-number Jitter t low high le = record { name = refl; outranks = refl; cost = omega arith; jitter = le; period = omega arith; deadline = omega arith; sections = AreShorter-refl t.sections }
-easier-number (Len k) t low high le = record { name = refl; outranks = refl; cost = omega arith; jitter = omega arith; period = omega arith; deadline = omega arith; sections = shorter-len t.sections k low high le }
+easier-number Cost t low high le = record { name = refl; outranks = refl; cost = le; jitter = omega arith; period = omega arith; deadline = omega arith; sections = AreShorter-refl t.sections; release = omega arith; interrupts = AreCheaper-refl t.interrupts }
+easier-number Period t low high le = record { name = refl; outranks = refl; cost = omega arith; jitter = omega arith; period = le; deadline = omega (arith, le); sections = AreShorter-refl t.sections; release = omega arith; interrupts = AreCheaper-refl t.interrupts }
+easier-number Deadline t low high le = record { name = refl; outranks = refl; cost = omega arith; jitter = omega arith; period = omega (arith, le); deadline = le; sections = AreShorter-refl t.sections; release = omega arith; interrupts = AreCheaper-refl t.interrupts }
+easier-number Jitter t low high le = record { name = refl; outranks = refl; cost = omega arith; jitter = le; period = omega arith; deadline = omega arith; sections = AreShorter-refl t.sections; release = omega arith; interrupts = AreCheaper-refl t.interrupts }
+easier-number (Len k) t low high le = record { name = refl; outranks = refl; cost = omega arith; jitter = omega arith; period = omega arith; deadline = omega arith; sections = shorter-len t.sections k low high le; release = omega arith; interrupts = AreCheaper-refl t.interrupts }
 
 pub AreEasier-numbered : (U : List Task) (i : ℕ) (number : Number) (low high : ℕ) → i < length U → IsNoFurther number low high → AreEasier (numbered U i number low) (numbered U i number high)
 AreEasier-numbered U i number low high inside le =

@@ -35,6 +35,8 @@ IsSpan-period t least length valid from to =
         sections = valid.sections;
         jitter = omega (arith, le, from, to, fits, valid.jitter);
         outranked = valid.outranked;
+        overheads = valid.overheads;
+        interrupts = valid.interrupts;
       };
       all = λ value may. (10000000 - value, omega (arith, from, to, may.cost_to, may.jitter, may.period_from), omega (arith, may.period_to));
       rises = λ near far le. omega (arith, le);
@@ -57,6 +59,8 @@ IsSpan-deadline t length valid to =
         sections = valid.sections;
         jitter = omega (arith, le, to, fits);
         outranked = valid.outranked;
+        overheads = valid.overheads;
+        interrupts = valid.interrupts;
       };
       all = λ value may. (10000000 - value, omega (arith, to, may.jitter), omega (arith, may.period_to));
       rises = λ near far le. omega (arith, le);
@@ -77,6 +81,8 @@ IsSpan-jitter t length valid to = record {
     sections = valid.sections;
     jitter = omega (arith, le, to, valid.deadline_from);
     outranked = valid.outranked;
+    overheads = valid.overheads;
+    interrupts = valid.interrupts;
   };
   all = λ value may. (value, omega (arith, to, may.jitter), omega arith);
   rises = λ near far le. omega (arith, le);
@@ -154,6 +160,8 @@ IsSpan-len t k long valid inside to =
         sections = sections-len 0 t.cost t.sections k (1 + far) inside valid.sections (omega arith) (omega (arith, le, to, room.0));
         jitter = valid.jitter;
         outranked = valid.outranked;
+        overheads = valid.overheads;
+        interrupts = valid.interrupts;
       };
       all = λ value may. let own = sections-room 0 t.cost t.sections k value inside may.sections in (value - 1, omega (arith, to, own.0, own.1), omega (arith, own.0));
       rises = λ near far le. omega (arith, le);

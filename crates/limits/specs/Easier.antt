@@ -1,5 +1,7 @@
--- Sets that ask less of the node: less cost and jitter, longer periods, later deadlines, shorter sections.
+-- Sets that ask less of the node: less cost and jitter, longer periods, later deadlines, shorter sections, timers and
+-- interrupts that take less.
 use Rattle.std.specs.Prelude.{◌≡◌, ℕ, ◌≤◌, List, [], ◌∷◌, length}
+use Rattle.task_sheet.specs.declared.node.Interrupt.{Interrupt}
 use Rattle.task_sheet.specs.Sheet.{CriticalSection, Task, task_at}
 
 -- one by one the sections have the locks of the others, and are no longer
@@ -8,6 +10,13 @@ AreShorter [] [] = Unit {0}
 AreShorter [] (y ∷ ys) = ⊥
 AreShorter (x ∷ xs) [] = ⊥
 AreShorter (x ∷ xs) (y ∷ ys) = (x.locks ≡ y.locks) × (x.len ≤ y.len) × AreShorter xs ys
+
+-- one by one the interrupts come as often as the others, and take no more
+abbrev pub AreCheaper : List Interrupt → List Interrupt → Type 0
+AreCheaper [] [] = Unit {0}
+AreCheaper [] (y ∷ ys) = ⊥
+AreCheaper (x ∷ xs) [] = ⊥
+AreCheaper (x ∷ xs) (y ∷ ys) = (x.period ≡ y.period) × (x.cost ≤ y.cost) × AreCheaper xs ys
 
 -- the task asks no more than the other one, of the same name and the same names to outrank
 pub record IsEasier (easy hard : Task) : Type 0 where
@@ -18,6 +27,8 @@ pub record IsEasier (easy hard : Task) : Type 0 where
   pub period : hard.period ≤ easy.period
   pub deadline : hard.deadline ≤ easy.deadline
   pub sections : AreShorter easy.sections hard.sections
+  pub release : easy.node.release ≤ hard.node.release
+  pub interrupts : AreCheaper easy.interrupts hard.interrupts
 
 -- each task of a set asks no more than that of another one
 pub record AreEasier (easy hard : List Task) : Type 0 where

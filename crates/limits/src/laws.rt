@@ -1,19 +1,20 @@
 //! Laws of numbers. Each is the clause of a function that does nothing, and its names are defined in `specs/`.
 
-ghost use Rattle.std.specs.Prelude.{◌≡◌, ◌≤◌, ◌<◌, ◌↔◌, ℕ, List, length, None};
+ghost use Rattle.std.specs.Prelude.{◌≡◌, ◌≤◌, ◌<◌, ◌↔◌, ℕ, List, length, None, IsFalse};
 ghost use Rattle.task_sheet.specs.Sheet.{Task, AllTasks, task_at};
 ghost use Rattle.task_sheet.specs.TaskSet.{IsTaskSet};
 ghost use Rattle.task_sheet.specs.Indexes.{Indexes};
 ghost use Rattle.task_sheet.specs.Demand.{limit_of, blocking_of, demand_of, Passes};
 ghost use Rattle.task_sheet.specs.Orders.{Stands, IsPassingOrder, IsFeasible};
 ghost use Rattle.task_sheet.specs.declared.node.Node.{Node};
-ghost use Rattle.overheads.specs.Padding.{IsLighter, padded, padding_fault};
+ghost use Rattle.overheads.specs.Padding.{IsLighter, IsUnpadded, padded, padding_fault};
 ghost use Rattle.limits.specs.Easier.{AreEasier};
 ghost use Rattle.limits.specs.declared.number.Number.{Number};
 ghost use Rattle.limits.specs.Numbers.{HasNumber, value_of, numbered, MayHave, IsNoFurther, IsFurthest, NoneHelps};
 
-/// To ask less takes no order away: with no cost, no jitter and no section longer, no period shorter and no deadline
-/// earlier, no blocking and no demand is greater, no limit is less, and an order that passes still passes.
+/// To ask less takes no order away: with no cost, no jitter and no section longer, no timer or interrupt that takes
+/// more, no period shorter and no deadline earlier, no blocking and no demand is greater, no limit is less, and an order
+/// that passes still passes.
 pub fn easier_keeps_feasible()
     ensures blocking { (V U : List Task) (i : ℕ) (H : Indexes) → AreEasier V U
         → blocking_of V i H ≤ blocking_of U i H }
@@ -29,11 +30,12 @@ pub fn easier_keeps_feasible()
     ensures feasible { (V U : List Task) → AllTasks U → AreEasier V U → IsFeasible U → IsFeasible V }
 {}
 
-/// A node that takes less takes no order away: what passes with what a node takes passes with what one takes that takes no
-/// more, and so without a node.
+/// A node that takes less takes no order away: no demand of a task below others is greater, and what passes with what a
+/// node takes passes with what one takes that takes no more, and so without a node.
 pub fn lighter_node_keeps_feasible()
-    ensures easier { (U : List Task) (light heavy : Node) → IsLighter light heavy
-        → AreEasier (padded light U) (padded heavy U) }
+    ensures demand { (U : List Task) (light heavy : Node) (i : ℕ) (H : Indexes) (t : ℕ) → IsTaskSet U
+        → IsLighter light heavy → i < length U → IsFalse (H i) → 1 ≤ t
+        → demand_of (padded light U) i H t ≤ demand_of (padded heavy U) i H t }
     ensures feasible { (U : List Task) (light heavy : Node) → IsTaskSet U → IsLighter light heavy
         → padding_fault heavy U ≡ None → IsFeasible (padded heavy U)
         → IsFeasible (padded light U) }
@@ -41,8 +43,8 @@ pub fn lighter_node_keeps_feasible()
         → IsLighter light heavy → padding_fault heavy U ≡ None
         → IsPassingOrder (padded heavy U) order
         → IsPassingOrder (padded light U) order }
-    ensures plain { (U : List Task) (node : Node) → IsTaskSet U → padding_fault node U ≡ None
-        → IsFeasible (padded node U) → IsFeasible U }
+    ensures plain { (U : List Task) (node : Node) → IsTaskSet U → IsUnpadded U
+        → padding_fault node U ≡ None → IsFeasible (padded node U) → IsFeasible U }
 {}
 
 /// The answer says all of a number: with a value that its sheet may have some order passes exactly where it is no further

@@ -53,7 +53,8 @@ fn with_number(
         Number::Len(_) => {}
     }
     let outranks = sheet.outranks().copy(alloc)?;
-    Ok(remade(sheet, times, sections, outranks))
+    let interrupts = Vec::from_slice(alloc, sheet.interrupts())?;
+    Ok(remade(sheet, times, sections, outranks, interrupts))
 }
 
 /// The set with another value of a number of one task. The error is want of memory.

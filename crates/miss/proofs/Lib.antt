@@ -17,3 +17,4 @@ pub mod NoLaws
 pub mod ConflictOrders
 pub mod ReachedLaws
 pub mod NoneLaws
+pub mod UninterruptedLaws

@@ -1,10 +1,11 @@
--- Without locks a task that doesn't pass must miss its deadline, or one above it must.
-use Rattle.std.proofs.Common.{◌≡◌, ℕ, zero, suc, ◌+◌, ◌-◌, ◌<◌, ◌≤◌, inl, inr, List, [], ◌∷◌, length, refl, sym, ◌∙◌, ap, subst, arith, max}
+-- Without locks, timers and interrupts a task that doesn't pass must miss its deadline, or one above it must.
+use Rattle.std.proofs.Common.{◌≡◌, ℕ, zero, suc, ◌+◌, ◌-◌, ◌<◌, ◌≤◌, inl, inr, List, [], ◌∷◌, length, sym, ◌∙◌, ap, subst, arith, max}
 use Rattle.std.specs.Prelude.{Contains}
 use Rattle.std.proofs.lemmas.Bool.{cases_lt, ltb-true}
 use Rattle.task_sheet.specs.Sheet.{CriticalSection, IsValidSheet, no_task, task_at}
-use Rattle.task_sheet.specs.Demand.{Blocks, blocking_of, demand_of, limit_of, Passes}
+use Rattle.task_sheet.specs.Demand.{Blocks, blocking_of, IsUninterrupted, demand_of, limit_of, Passes}
 use Rattle.task_sheet.proofs.BlockingLaws.{blocking-some}
+use Rattle.task_sheet.proofs.InterruptLaws.{demand-plain}
 use Rattle.task_sheet.proofs.ResponseLaws.{decide_covers}
 use Rattle.ceiling_kernel.specs.Tick.{Node, Job, job_at, job_task, level_in_order, held_ceiling, executed_before}
 use Rattle.ceiling_kernel.specs.Waits.{IsNode, AreLegalJobs, lateness_of}
@@ -19,11 +20,7 @@ use Rattle.ceiling_kernel.proofs.EndLaws.{legal_from}
 use Rattle.ceiling_kernel.proofs.FinishLaws.{grows_by}
 use Rattle.ceiling_kernel.proofs.BoundLaws.{bound_law}
 
-demand-parts : (node : Node) (i u : ℕ) → demand_of node.tasks i (above_of node i) u ≡ work_of node i (blocking_of node.tasks i (above_of node i)) u
-unfolding demand_of
-demand-parts node i u = refl
-
-module _ (node : Node) (ok : IsNode node) (free : IsLockFree node.tasks) (none : (i : ℕ) → i < length node.tasks → MustMiss node i → ⊥) where
+module _ (node : Node) (ok : IsNode node) (free : IsLockFree node.tasks) (plain : IsUninterrupted node.tasks) (none : (i : ℕ) → i < length node.tasks → MustMiss node i → ⊥) where
   none_in : (xs : List CriticalSection) (s : CriticalSection) → xs ≡ [] → Contains xs s → ⊥
   none_in [] s e h = omega (arith, h.1)
   none_in (x ∷ xs) s e h = (let l : suc (length xs) ≡ 0 = ap length e in omega arith)
@@ -52,7 +49,7 @@ module _ (node : Node) (ok : IsNode node) (free : IsLockFree node.tasks) (none :
             | inl more ↦ more
             | inr covered ↦
                 let z : blocking_of node.tasks i (above_of node i) ≡ 0 = none_blocks i in
-                let d : demand_of node.tasks i (above_of node i) u ≡ work_of node i (blocking_of node.tasks i (above_of node i)) u = demand-parts node i u in
+                let d : demand_of node.tasks i (above_of node i) u ≡ work_of node i (blocking_of node.tasks i (above_of node i)) u = demand-plain node.tasks i (above_of node i) u plain in
                 absurd (not (u, omega (arith, some), le, omega (arith, covered, z, d)))
           ];
           ends_low = ends i lt;
@@ -61,7 +58,7 @@ module _ (node : Node) (ok : IsNode node) (free : IsLockFree node.tasks) (none :
       ]
 
 pub no_law : (node : Node) → IsNode node → NoIsShown node
-no_law node ok free none i lt = pass_from node ok free none (suc (length node.tasks)) i lt (omega arith)
+no_law node ok free plain none i lt = pass_from node ok free plain none (suc (length node.tasks)) i lt (omega arith)
 
 pub refused_law : (node : Node) → IsNode node → MissesAreRefused node
 refused_law node ok rs until i has passes =

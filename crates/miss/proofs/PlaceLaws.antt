@@ -1,23 +1,25 @@
 -- What is shown of the task at a place of an order.
 use Rattle.std.proofs.Common.{◌≡◌, ℕ, suc, ◌-◌, ◌<◌, ◌≤◌, Bool, true, false, ◌||◌, Option, Some, List, length, get_or, take, drop, sym, ◌∙◌, ap, subst, IsFalse}
 use Rattle.std.specs.Prelude.{IfSome}
-use Rattle.task_sheet.specs.Sheet.{Task}
+use Rattle.task_sheet.specs.Sheet.{Task, task_at}
 use Rattle.task_sheet.specs.TaskSet.{IsTaskSet}
 use Rattle.task_sheet.specs.Indexes.{Indexes}
 use Rattle.task_sheet.specs.Orders.{IsOrder, is_bound, Stands}
-use Rattle.task_sheet.specs.Demand.{Passes}
+use Rattle.task_sheet.specs.Demand.{limit_of, Passes}
+use Rattle.task_sheet.specs.Responses.{Covers}
 use Rattle.task_sheet.specs.Verdicts.{IsLeastOver}
 use Rattle.ceiling_kernel.specs.declared.trace.Release.{Release}
 use Rattle.ceiling_kernel.specs.Tick.{Node, node_in}
 use Rattle.ceiling_kernel.specs.Waits.{IsNode}
 use Rattle.ceiling_kernel.specs.Bounds.{above_of, after_of}
+use Rattle.response_time.specs.Workload.{work_of}
 use Rattle.miss.specs.declared.worst.Run.{Run}
 use Rattle.miss.specs.declared.shown.Miss.{Miss}
 use Rattle.miss.specs.declared.shown.Shown.{Shown}
 use Rattle.miss.specs.declared.shown.Shown.TheVariants as shown
 use Rattle.miss.specs.Exact.{EndsLow}
 use Rattle.miss.specs.Misses.{HasMiss, IsWorstCase, MustMiss}
-use Rattle.miss.specs.Shown.{PassesThere, ends_inside, IsTooLong, IsShown, is_too_long}
+use Rattle.miss.specs.Shown.{PassesThere, PassesUninterrupted, ends_inside, IsTooLong, IsShown, is_too_long}
 use Rattle.miss.proofs.OrderLaws.{place_known, above_is}
 use Rattle.miss.proofs.ReachLaws.{ends_low, ends_raised}
 use Rattle.miss.proofs.FoundLaws.{need_not}
@@ -41,6 +43,12 @@ module _ (U : List Task) (order : List ℕ) (is : IsOrder U order) (tasks : IsTa
 
   pub fails_there : (Passes U i H → ⊥) → PassesThere node i → ⊥
   fails_there fails passes = fails (subst (λ G. Passes U (get_or order p 0) G) (sym eh) passes)
+
+  pub uninterrupted_there : Covers (work_of U i H) (limit_of (task_at U i)) → PassesUninterrupted node i
+  uninterrupted_there passes = subst (λ G. Covers (work_of U (get_or order p 0) G) (limit_of (task_at U (get_or order p 0)))) eh passes
+
+  pub interrupted_there : (Covers (work_of U i H) (limit_of (task_at U i)) → ⊥) → PassesUninterrupted node i → ⊥
+  interrupted_there fails passes = fails (subst (λ G. Covers (work_of U (get_or order p 0) G) (limit_of (task_at U (get_or order p 0)))) (sym eh) passes)
 
   pub stands_there : Passes U i H → IsFalse (is_bound U i H) → Stands U i (above_of node i)
   stands_there passes free = subst (λ G. Stands U (get_or order p 0) G) eh (passes, free)

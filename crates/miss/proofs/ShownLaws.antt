@@ -19,7 +19,7 @@ use Rattle.miss.specs.declared.shown.Shown.TheVariants as shown
 use Rattle.miss.specs.declared.shown.NoRun.TheVariants as why
 use Rattle.miss.specs.Exact.{EndsLow}
 use Rattle.miss.specs.Misses.{MustMiss}
-use Rattle.miss.specs.Shown.{PassesThere, IsTooLong, IsLowestFailing, AboveAllPass, IsShown, NoneAboveMisses, is_too_long, IsLeftOpen}
+use Rattle.miss.specs.Shown.{PassesThere, PassesUninterrupted, IsTooLong, IsLowestFailing, AboveAllPass, IsShown, NoneAboveMisses, is_too_long, IsLeftOpen}
 use Rattle.miss.proofs.MemberLaws.{among_at, among_place}
 use Rattle.miss.proofs.OrderLaws.{place_known, rest_known, place_of, rest_is, above_is}
 
@@ -33,6 +33,10 @@ module _ (node : Node) (i : ℕ) where
       let by : PassesBy node i passes.0 = record { from_one = omega (arith, passes.1); in_time = passes.2; enough = passes.3 } in
       covered_not passes.0 (covers_from node i passes.0 by) must
 
+  -- nor one that would pass without timers and interrupts
+  whole_not : PassesUninterrupted node i → MustMiss node i → ⊥
+  whole_not passes must = covered_not passes.0 (record { from_one = omega (arith, passes.1); in_time = passes.2; enough = omega (arith, passes.3) }) must
+
   -- what is shown without a run, but where the list is too long, need not miss
   pub need_not_miss : (s : Shown) → IsShown node i s → ((m : Miss) → s ≡ shown.Misses m → ⊥) → is_too_long s ≡ false → MustMiss node i → ⊥
   need_not_miss shown.Stands is none short must = passes_not is.0 must
@@ -41,7 +45,8 @@ module _ (node : Node) (i : ℕ) where
   need_not_miss (shown.NoRun why.TooMany) is none short must = true≢false short
   need_not_miss (shown.NoRun (why.Below above)) is none short must = (let f : IsLowestFailing node i above = is.2 in f.fails (must.above_pass above f.in_set f.above))
   need_not_miss (shown.NoRun why.EndsInside) is none short must = is.3 must.ends_low
-  need_not_miss (shown.NoRun why.WithinTick) is none short must = covered_not is.4.0 is.4.1 must
+  need_not_miss (shown.NoRun why.WithinTick) is none short must = covered_not is.5.0 is.5.1 must
+  need_not_miss (shown.NoRun why.WithinInterrupts) is none short must = whole_not is.4 must
 
   pub too_long : (s : Shown) → IsShown node i s → is_too_long s ≡ true → (PassesThere node i → ⊥) × IsTooLong node.tasks i (after_of node.order i)
   too_long shown.Stands is long = absurd (true≢false (sym long))
@@ -51,6 +56,7 @@ module _ (node : Node) (i : ℕ) where
   too_long (shown.NoRun (why.Below above)) is long = absurd (true≢false (sym long))
   too_long (shown.NoRun why.EndsInside) is long = absurd (true≢false (sym long))
   too_long (shown.NoRun why.WithinTick) is long = absurd (true≢false (sym long))
+  too_long (shown.NoRun why.WithinInterrupts) is long = absurd (true≢false (sym long))
 
   -- a time covers the work of a task that need not miss, though it ends low and those above pass
   pub within_tick : EndsLow node i → AboveAllPass node i → (MustMiss node i → ⊥) → (t : ℕ) × CoversBy node i t

@@ -1,6 +1,7 @@
 -- The worst case of the analysis (Liu, Layland 1973; Joseph, Pandya 1986; Audsley et al. 1993) in the simulated kernel:
 -- all tasks above a job's become ready with it and then as early as they may, when a lower job has executed the first
--- tick of the longest section that can block. There the analysis is exact but for that tick.
+-- tick of the longest section that can block. There the analysis is exact but for that tick, and for timers and interrupts,
+-- which take nothing there.
 use Rattle.std.specs.Prelude.{◌≡◌, ℕ, ◌+◌, ◌-◌, ◌<◌, ◌≤◌, ◌⊎◌, true, Contains, List, length}
 use Rattle.task_sheet.specs.Sheet.{Task, CriticalSection, task_at}
 use Rattle.task_sheet.specs.Demand.{releases_within, blocking_of, limit_of}

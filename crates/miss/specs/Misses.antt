@@ -2,7 +2,7 @@
 use Rattle.std.specs.Prelude.{◌≡◌, ℕ, ◌+◌, ◌-◌, ◌<◌, ◌≤◌, max, true, Option, Some, None, List, [], ◌∷◌, ◌++◌, length, map, slice_index_or}
 use Rattle.task_sheet.specs.Sheet.{Task, CriticalSection, task_at}
 use Rattle.task_sheet.specs.Indexes.{Indexes, among, without_index}
-use Rattle.task_sheet.specs.Demand.{greatest_of, blocking_of, limit_of, Passes}
+use Rattle.task_sheet.specs.Demand.{greatest_of, blocking_of, IsUninterrupted, limit_of, Passes}
 use Rattle.ceiling_kernel.specs.declared.accept.TheConstants.{RELEASE_LIMIT}
 use Rattle.ceiling_kernel.specs.declared.trace.Release.{Release}
 use Rattle.ceiling_kernel.specs.Tick.{Node, node_in, job_at, executed_before}
@@ -118,10 +118,11 @@ abbrev pub AllPass : Node → Type 0
 AllPass node =
     (i : ℕ) → i < length node.tasks → Passes node.tasks i (above_of node i)
 
--- THE ANALYSIS IS EXACT WITHOUT LOCKS: where no task must miss its deadline, each passes
+-- THE ANALYSIS IS EXACT WITHOUT LOCKS, timers and interrupts: where no task must miss its deadline, each passes
 abbrev pub NoIsShown : Node → Type 0
 NoIsShown node =
-    IsLockFree node.tasks → ((i : ℕ) → i < length node.tasks → ¬ MustMiss node i) → AllPass node
+    IsLockFree node.tasks → IsUninterrupted node.tasks
+    → ((i : ℕ) → i < length node.tasks → ¬ MustMiss node i) → AllPass node
 
 -- a task that misses its deadline in some run doesn't pass
 abbrev pub MissesAreRefused : Node → Type 0

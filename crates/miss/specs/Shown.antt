@@ -4,15 +4,16 @@ use Rattle.std.specs.List.{list_any}
 use Rattle.task_sheet.specs.Sheet.{Task, task_at}
 use Rattle.task_sheet.specs.Indexes.{Indexes}
 use Rattle.task_sheet.specs.Locks.{reaches}
-use Rattle.task_sheet.specs.Demand.{Passes}
+use Rattle.task_sheet.specs.Demand.{blocking_of, limit_of, Passes}
 use Rattle.task_sheet.specs.Orders.{Stands}
+use Rattle.task_sheet.specs.Responses.{Covers}
 use Rattle.task_sheet.specs.Verdicts.{IsLeastOver}
 use Rattle.ceiling_kernel.specs.declared.accept.TheConstants.{RELEASE_LIMIT}
 use Rattle.ceiling_kernel.specs.declared.trace.Release.{Release}
 use Rattle.ceiling_kernel.specs.Tick.{Node, job_at, is_inside, executed_before}
 use Rattle.ceiling_kernel.specs.Waits.{Overruns}
 use Rattle.ceiling_kernel.specs.Releases.{task_number, jobs_of, release_at}
-use Rattle.ceiling_kernel.specs.Bounds.{above_of, after_of, CoversBy}
+use Rattle.ceiling_kernel.specs.Bounds.{above_of, after_of, work_of, CoversBy}
 use Rattle.miss.specs.declared.shown.Miss.{Miss}
 use Rattle.miss.specs.declared.shown.Shown.{Shown}
 use Rattle.miss.specs.declared.shown.Shown.TheVariants as shown
@@ -25,6 +26,12 @@ use Rattle.miss.specs.Found.{IsMiss}
 -- task i passes in its place
 abbrev pub PassesThere : Node → ℕ → Type 0
 PassesThere node i = Passes node.tasks i (above_of node i)
+
+-- task i would pass in its place if no timer and no interrupt took anything
+abbrev pub PassesUninterrupted : Node → ℕ → Type 0
+PassesUninterrupted node i =
+    Covers (work_of node i (blocking_of node.tasks i (above_of node i)))
+    (limit_of (task_at node.tasks i))
 
 -- a job of task i that executes its cost executes the last tick inside a section that one of the tasks H reaches
 abbrev pub ends_inside : List Task → ℕ → Indexes → Bool
@@ -90,7 +97,10 @@ IsNoRun node i why.EndsInside =
     (¬ PassesThere node i) × IsDoneInTime node i × AboveAllPass node i × (¬ EndsLow node i)
 IsNoRun node i why.WithinTick =
     (¬ PassesThere node i) × IsDoneInTime node i × AboveAllPass node i × EndsLow node i
-    × ((t : ℕ) × CoversBy node i t)
+    × (¬ PassesUninterrupted node i) × ((t : ℕ) × CoversBy node i t)
+IsNoRun node i why.WithinInterrupts =
+    (¬ PassesThere node i) × IsDoneInTime node i × AboveAllPass node i × EndsLow node i
+    × PassesUninterrupted node i
 
 -- the worst case of task i is a run in which it misses its deadline
 pub record IsWorstMiss (node : Node) (i : ℕ) (m : Miss) : Type 0 where

@@ -4,6 +4,7 @@ ghost use Rattle.std.specs.Bool.{OnTrue, OnFalse};
 ghost use Rattle.ceiling_kernel.specs.Tick.{node_in};
 ghost use Rattle.ceiling_kernel.specs.Releases.{release_at};
 ghost use Rattle.miss.specs.declared.fault.MissFault.TheVariants.{WrongOrder, TooMany, OutOfMemory};
+ghost use Rattle.task_sheet.specs.Demand.{IsUninterrupted};
 ghost use Rattle.task_sheet.specs.Orders.{IsOrder};
 ghost use Rattle.miss.specs.Misses.{IsMissOf, HasMiss, MustMiss, IsLockFree, AllPass};
 ghost use Rattle.miss.specs.Found.{IsMissed, record_at};
@@ -158,7 +159,8 @@ fn is_too_long(shown: &Shown) -> bool
 }
 
 /// A run in which a task of the set misses its deadline at the levels of an order, lowest first: the worst case of the
-/// highest task that misses it there. None only where no task must miss its deadline; so, without locks, where each passes.
+/// highest task that misses it there. None only where no task must miss its deadline; so, without locks, timers and
+/// interrupts, where each passes.
 /// `TooMany` only where none is found, and the worst case of a task that doesn't pass has more than 10,000 releases.
 pub fn find_miss(alloc: Global, set: &TaskSet, order: &[usize]) -> Result<Option<Miss>, MissFault>
     ensures found { IfOk result (λ found. IfSome found (λ miss.
@@ -168,7 +170,7 @@ pub fn find_miss(alloc: Global, set: &TaskSet, order: &[usize]) -> Result<Option
     ensures none { IfOk result (λ found. IfNone found ((i : ℕ) → i < length set.now
         → ¬ MustMiss (node_in set.now order.now) i)) }
     ensures lock_free { IfOk result (λ found. IfNone found (IsLockFree set.now
-        → AllPass (node_in set.now order.now))) }
+        → IsUninterrupted set.now → AllPass (node_in set.now order.now))) }
     ensures order { IfErr result (λ fault. fault ≡ WrongOrder → ¬ IsOrder set.now order.now) }
     ensures many { IfErr result (λ fault. fault ≡ TooMany
         → IsLeftOpen (node_in set.now order.now)) }

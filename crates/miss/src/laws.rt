@@ -40,7 +40,7 @@ pub fn is_met_exactly()
         → TighterBoundHolds node jobs }
 {}
 
-/// Without locks a no is shown by a run: where no task must miss its deadline, each passes.
+/// Without locks, timers and interrupts a no is shown by a run: where no task must miss its deadline, each passes.
 pub fn no_is_shown()
     ensures { (node : Node) → IsNode node → NoIsShown node }
 {}

@@ -8,6 +8,7 @@ mod orders;
 mod reaching;
 mod reason;
 mod shown;
+mod uninterrupted;
 mod worst;
 
 pub use crate::fault::MissFault;

@@ -11,6 +11,7 @@ ghost use Rattle.miss.specs.Misses.{MustMiss};
 ghost use Rattle.miss.specs.Shown.{PassesThere, ends_inside, IsLowestFailing, AboveAllPass, ShowsNone, IsNoRun};
 
 use crate::shown::NoRun;
+use crate::uninterrupted::passes_uninterrupted;
 use crate::worst::members_of;
 use ceilings::LockTable;
 use response_time::passes;
@@ -100,6 +101,9 @@ pub(crate) fn why_not(set: &TaskSet, table: &LockTable, order: &[usize], place: 
     let above = members_above(set, order, place);
     if ends_inside(set, table, order[place], above) {
         return NoRun::EndsInside;
+    }
+    if passes_uninterrupted(set, table, order[place], above) {
+        return NoRun::WithinInterrupts;
     }
     NoRun::WithinTick
 }

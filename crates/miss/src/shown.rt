@@ -23,8 +23,11 @@ pub enum NoRun {
     /// A job's last tick is inside a section that a task above reaches, so that it finishes sooner than the analysis says:
     /// in time in the worst case.
     EndsInside,
-    /// It would pass with a tick less of the section that blocks it, which has begun before.
+    /// It would pass with a tick less of the section that blocks it, which has begun before; not without timers and
+    /// interrupts alone.
     WithinTick,
+    /// It would pass if no timer and no interrupt took anything, as none does in a run.
+    WithinInterrupts,
 }
 
 /// What is shown of a task at its place in an order.

@@ -28,7 +28,7 @@ owners_more (r ∷ sets) s = ap (λ (l : List Owner). owned_by r.team r.set ++ l
 pub gathers_more : (text rest after : List ℕ) (owners more : List Owner) (p : Part) (d : Document) → Gathers text rest owners → IsFirstPart rest p.team p.text.now after → IsDocumentOf p d → more ≡ owners ++ owned_by p.team d.set
     → Gathers text after more
 gathers_more text rest after owners more p d all first says is =
-    let s : TeamSetData = record { team = p.team; set = d.set; prefers = d.prefers; node = d.node } in
+    let s : TeamSetData = record { team = p.team; set = d.set; prefers = d.prefers; node = d.node; interrupts = d.interrupts.items } in
     record {
       sets = all.sets ++ s ∷ [];
       gathered = gathered_more text rest after all.sets p s all.gathered first (refl, says);

@@ -19,7 +19,7 @@ team_of (o ∷ owners) name = if same_bytes o.task name then Some o.team else te
 
 -- a team's document is a set
 abbrev pub IsDocumentOf : Part → Document → Type 0
-IsDocumentOf p d = SaysDocument p.text.now d.set d.prefers d.node
+IsDocumentOf p d = SaysDocument p.text.now d.set d.prefers d.node d.interrupts.items
 
 -- it is none
 abbrev pub IsNoDocument : Part → Type 0

@@ -40,6 +40,7 @@ reason_words U why.TooMany = codes "too-many-releases"
 reason_words U (why.Below above) = codes "below " ++ name_at U above
 reason_words U why.EndsInside = codes "ends-inside-a-section"
 reason_words U why.WithinTick = codes "within-a-tick"
+reason_words U why.WithinInterrupts = codes "within-interrupts"
 
 -- the settings of an order, which a list gives where it isn't the set's best one
 abbrev pub front_of : List Task → Placing → List ℕ → List ℕ

@@ -81,6 +81,7 @@ fn reason_text(alloc: Global, set: &TaskSet, reason: NoRun) -> Result<String, Al
         }
         NoRun::EndsInside => text.push_str("ends-inside-a-section")?,
         NoRun::WithinTick => text.push_str("within-a-tick")?,
+        NoRun::WithinInterrupts => text.push_str("within-interrupts")?,
     }
     Ok(text)
 }

@@ -1,4 +1,4 @@
-use Rattle.std.proofs.Common.{◌-◌, sym, subst, arith}
+use Rattle.std.proofs.Common.{sym, subst, arith}
 use Rattle.std.proofs.lemmas.Bool.{both_ways}
 use Rattle.task_sheet.specs.Orders.{IsFeasible}
 use Rattle.limits.specs.Numbers.{at_distance, numbered, MayHave, IsNoFurther}

@@ -7,5 +7,5 @@ use Rattle.candidate_workers.proofs.threads.demands_in.Given as goal
 abbrev pub invariant-loop-sheet : goal.invariant-loop-sheet
 invariant-loop-sheet l = record {
   is : l.demands ≡ sum_below l.sheet-index (λ i. demands_on l.set (task_at l.sheet-items i));
-  fits : l.demands ≤ l.sheet-index * 1000000;
+  fits : l.demands ≤ l.sheet-index * 100000000;
 }

@@ -1,11 +1,11 @@
 use Rattle.std.proofs.Common.{◌≡◌, ◌≤◌, ◌+◌, ◌*◌}
 use Rattle.task_sheet.specs.Sheet.{task_at}
 use Rattle.task_sheet.specs.Indexes.{sum_below}
-use Rattle.task_sheet.specs.Demand.{releases_within}
+use Rattle.candidate_workers.specs.Threads.{events_within}
 use Rattle.candidate_workers.proofs.threads.demands_on.Given as goal
 
 abbrev pub invariant-loop-sheet : goal.invariant-loop-sheet
 invariant-loop-sheet l = record {
-  is : l.demands ≡ 2 + sum_below l.sheet-index (λ k. releases_within (task_at l.sheet-items k) l.limit);
-  fits : l.demands ≤ 2 + l.sheet-index * 30000;
+  is : l.demands ≡ 2 + sum_below l.sheet-index (λ k. events_within l.limit (task_at l.sheet-items k));
+  fits : l.demands ≤ 2 + l.sheet-index * 2000000;
 }

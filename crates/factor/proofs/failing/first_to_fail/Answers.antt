@@ -5,7 +5,7 @@ use Rattle.task_sheet.specs.Indexes.{indexes_of}
 use Rattle.task_sheet.specs.Levels.{IsObstruction, IsGreatestObstruction}
 use Rattle.assignment.specs.Placings.{IsPlacingOf}
 use Rattle.assignment.specs.declared.placing.Placing.{Placing}
-use Rattle.assignment.specs.declared.placing.Placing.TheVariants.{Best, Stuck}
+use Rattle.assignment.specs.declared.placing.Placing.TheVariants.{Stuck}
 use Rattle.factor.specs.Failing.{IsFree, IsLongestFree}
 use Rattle.factor.proofs.ScaledSets.{few-factor}
 use Rattle.factor.proofs.FreeLaws.{some-free}

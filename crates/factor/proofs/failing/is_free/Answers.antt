@@ -1,6 +1,6 @@
-use Rattle.std.proofs.Common.{false, refl, sym, ◌∙◌, ap, subst}
+use Rattle.std.proofs.Common.{false, refl, sym, ◌∙◌, ap}
 use Rattle.std.proofs.lemmas.Bool.{both_ways}
-use Rattle.task_sheet.specs.Indexes.{Indexes, indexes_of, without_index}
+use Rattle.task_sheet.specs.Indexes.{Indexes, indexes_of}
 use Rattle.task_sheet.specs.Orders.{is_bound}
 use Rattle.task_sheet.proofs.MembersIndexes.{indexes_of-remove}
 use Rattle.task_sheet.proofs.PassingLaws.{is_bound-at}

@@ -1,7 +1,7 @@
 use Rattle.std.proofs.Common.{◌≡◌, ◌∙◌, Some, None, ap, sym, subst, List}
 use Rattle.std.proofs.lemmas.Option.{none-some}
 use Rattle.task_sheet.specs.Sheet.{Task}
-use Rattle.task_sheet.specs.TaskSet.{IsByRank}
+use Rattle.task_sheet.specs.Rank.{IsByRank}
 use Rattle.task_sheet.specs.SheetsFault.{sheets_fault}
 use Rattle.factor.proofs.ScaledSets.{IsByRank-scaled, no_fault-scaled}
 use Rattle.factor.proofs.scaling.scaled.Goals as goal

@@ -29,5 +29,5 @@ pub returns-clause-none : goal.returns-clause-none
 returns-clause-none c = none_must c.args.set.now c.args.order.now c.in_ok-kernel.ensures.order c.sheets.ensures.kept c.loop-place.place c.loop-place.is_long c.loop-place.invariant (omega (arith, c.loop-place-test.false)) c.if-is_long.false
 
 pub returns-clause-lock_free : goal.returns-clause-lock_free
-returns-clause-lock_free c = λ free. no_law (node_in c.args.set.now c.args.order.now) (record { tasks = c.sheets.ensures.kept; order = c.in_ok-kernel.ensures.order }) free
+returns-clause-lock_free c = λ free plain. no_law (node_in c.args.set.now c.args.order.now) (record { tasks = c.sheets.ensures.kept; order = c.in_ok-kernel.ensures.order }) free plain
     (none_must c.args.set.now c.args.order.now c.in_ok-kernel.ensures.order c.sheets.ensures.kept c.loop-place.place c.loop-place.is_long c.loop-place.invariant (omega (arith, c.loop-place-test.false)) c.if-is_long.false)
