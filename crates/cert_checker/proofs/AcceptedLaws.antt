@@ -15,10 +15,10 @@ use Rattle.task_sheet.proofs.VerdictLaws.{IsBestOrder-ready, IsStuck-ready}
 use Rattle.certificate.specs.CertificateOf.{reason_named, fails_named, levels_named, body_named, certificate_of, IsKnownReason, IsKnownFail}
 use Rattle.certificate.specs.Versions.{version_for}
 use Rattle.certificate.specs.declared.version.CertVersion.{CertVersion}
-use Rattle.certificate.specs.declared.version.CertVersion.TheVariants.{First, Second}
+use Rattle.certificate.specs.declared.version.CertVersion.TheVariants.{First, Second, Third}
 use Rattle.certificate.proofs.VerdictSpelling.{fails-below, fails-known, verdict-spelled}
 use Rattle.certificate.proofs.ReadingLaws.{reads_back}
-use Rattle.cert_checker.specs.Naming.{task_by_name, reason_by_index, failures_of, levels_of, may_serve, IsReadyBody, IsReady}
+use Rattle.cert_checker.specs.Ready.{task_by_name, reason_by_index, failures_of, levels_of, may_serve, IsReadyBody, IsReady}
 use Rattle.cert_checker.specs.Answers.{kind_of, kind_of_verdict, IsAccepted}
 use Rattle.cert_checker.proofs.ReadyLaws.{none-from_ready}
 
@@ -27,6 +27,7 @@ use Rattle.cert_checker.proofs.ReadyLaws.{none-from_ready}
 serves-own : (version : CertVersion) → may_serve version version ≡ true
 serves-own First = refl
 serves-own Second = refl
+serves-own Third = refl
 
 -- the response is its time and the jitter
 response-own : (U : List Task) (l : LevelData) → 1 ≤ time_of U l → time_of U l + (task_at U l.task).jitter ≡ l.response

@@ -6,7 +6,7 @@ use Rattle.task_sheet.specs.Sheet.{Task, task_at}
 use Rattle.task_sheet.specs.Indexes.{Indexes, without_index}
 use Rattle.task_sheet.specs.Demand.{demand_of, blocking_of, limit_of}
 use Rattle.certificate.specs.Body.{Fail}
-use Rattle.cert_checker.specs.Naming.{task_by_name}
+use Rattle.cert_checker.specs.Ready.{task_by_name}
 use Rattle.cert_checker.specs.Work.{demand_from}
 use Rattle.cert_checker.specs.Chains.{goes_past, are_chain}
 use Rattle.cert_checker.specs.Faults.{covers, refutes, is_refuted}

@@ -7,7 +7,7 @@ use Rattle.task_sheet.specs.Sheet.{Task}
 use Rattle.task_sheet.specs.Indexes.{Indexes, with_index, without_index, among}
 use Rattle.task_sheet.specs.Verdicts.{order_of}
 use Rattle.certificate.specs.Body.{CertLevelData}
-use Rattle.cert_checker.specs.Naming.{task_by_name, levels_of}
+use Rattle.cert_checker.specs.Ready.{task_by_name, levels_of}
 use Rattle.cert_checker.specs.Faults.{are_new, first_unnamed, level_fault, levels_fault}
 use Rattle.cert_checker.specs.declared.levels.LevelCheck.{LevelCheck}
 use Rattle.cert_checker.specs.declared.fault.CheckFault.{CheckFault}

@@ -15,7 +15,7 @@ use Rattle.task_sheet.proofs.IndexLaws.{IsOrderOf-head, IsOrderOf-rest, without-
 use Rattle.certificate.specs.Body.{CertReasonData, Chain, Over, Fail, CertLevelData, Body, Best, NoOrder, Cert}
 use Rattle.certificate.specs.Versions.{version_for}
 use Rattle.certificate.proofs.VerdictSpelling.{fails-below}
-use Rattle.cert_checker.specs.Naming.{task_by_name, reason_by_index, failures_of, level_by_index, levels_of, may_serve, IsReadyBody, IsReady}
+use Rattle.cert_checker.specs.Ready.{task_by_name, reason_by_index, failures_of, level_by_index, levels_of, may_serve, IsReadyBody, IsReady}
 use Rattle.cert_checker.specs.Faults.{fault_unless, are_new, has_all, are_lesser, covers, time_stands, refutes, is_refuted, bad_fail, first_unnamed, missing_at, level_fault, levels_fault, order_fault, set_fault, body_fault, check_fault}
 use Rattle.cert_checker.specs.declared.fault.CheckFault.{CheckFault}
 use Rattle.cert_checker.specs.declared.fault.CheckFault.TheVariants.{WrongVersion, WrongTasks, BadPass, BadChain, EmptySet}

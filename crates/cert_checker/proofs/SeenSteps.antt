@@ -9,7 +9,7 @@ use Rattle.task_sheet.specs.Sheet.{Task}
 use Rattle.task_sheet.specs.Indexes.{Indexes, no_index, with_index, among}
 use Rattle.task_sheet.specs.Verdicts.{tasks_of, order_of}
 use Rattle.certificate.specs.Body.{Fail, CertLevelData}
-use Rattle.cert_checker.specs.Naming.{task_by_name, failures_of, levels_of}
+use Rattle.cert_checker.specs.Ready.{task_by_name, failures_of, levels_of}
 use Rattle.cert_checker.specs.Faults.{are_new, has_all}
 
 -- the rest of a list at an element

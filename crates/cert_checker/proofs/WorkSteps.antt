@@ -1,7 +1,11 @@
 -- One step of the loops over a set's tasks and sections.
-use Rattle.std.proofs.Common.{◌≡◌, ℕ, ◌*◌, ◌<◌, true, List, length, ap, ◌∙◌, ◌&&◌}
+use Rattle.std.proofs.Common.{◌≡◌, ℕ, ◌*◌, ◌<◌, ◌≤◌, true, List, length, ap, ◌∙◌, ◌&&◌, arith}
+use Rattle.std.specs.Int.{div_ceil}
 use Rattle.std.proofs.lemmas.Bool.{and_from}
-use Rattle.task_sheet.specs.Sheet.{CriticalSection, Task, task_at}
+use Rattle.std.proofs.lemmas.Grind.{div_ceil_times}
+use Rattle.std.proofs.Math.Nat.{mul-le-mul_left}
+use Rattle.task_sheet.specs.declared.node.Interrupt.{Interrupt}
+use Rattle.task_sheet.specs.Sheet.{CriticalSection, Task, IsInterrupt, task_at}
 use Rattle.task_sheet.specs.Indexes.{Indexes}
 use Rattle.task_sheet.specs.Locks.{reaches, shares_lock}
 use Rattle.task_sheet.specs.Demand.{releases_within, interference_of}
@@ -15,3 +19,9 @@ interference_from x y time releases cost same r k =
 -- a section that one of the members reaches
 pub reached-at : (U : List Task) (X : Indexes) (s : CriticalSection) (k : ℕ) → k < length U → X k ≡ true → shares_lock (task_at U k) s ≡ true → reaches U X s ≡ true
 reached-at U X s k lt member shares = some_below-at (length U) (λ j. X j && shares_lock (task_at U j) s) k lt (and_from (X k) (shares_lock (task_at U k) s) member shares)
+
+-- what an interrupt takes within the longest period
+pub comes-fit : (time : ℕ) (x : Interrupt) → IsInterrupt x → time ≤ 10000000 → div_ceil time x.period * x.cost ≤ 20000000
+comes-fit time x valid le =
+    let jobs = div_ceil time x.period in
+    omega (arith, (div_ceil_times time x.period (omega (arith, valid.period_from))).1, mul-le-mul_left jobs valid.cost, valid.period_to)

@@ -7,7 +7,7 @@ use Rattle.certificate.specs.Body as says
 use Rattle.certificate.specs.Spelling.{spelling}
 use Rattle.certificate.specs.Lines.{certificate_in}
 use Rattle.certificate.specs.CertificateOf.{certificate_of}
-use Rattle.cert_checker.specs.Naming.{levels_of, IsReady}
+use Rattle.cert_checker.specs.Ready.{levels_of, IsReady}
 use Rattle.cert_checker.specs.Faults.{check_fault}
 use Rattle.cert_checker.specs.declared.checking.Checked.{Checked}
 use Rattle.cert_checker.specs.declared.checking.Checked.TheVariants.{Best, NoOrder}

@@ -9,7 +9,7 @@ use Rattle.task_sheet.specs.Orders.{all_of, must_outrank, is_bound}
 use Rattle.task_sheet.specs.Verdicts.{tasks_of, order_of}
 use Rattle.certificate.specs.Body.{CertReasonData, Chain, Over, Fail, CertLevelData, Body, Best, NoOrder, Cert}
 use Rattle.certificate.specs.Versions.{version_for}
-use Rattle.cert_checker.specs.Naming.{task_by_name, failures_of, levels_of, may_serve}
+use Rattle.cert_checker.specs.Ready.{task_by_name, failures_of, levels_of, may_serve}
 use Rattle.cert_checker.specs.Chains.{are_chain}
 use Rattle.cert_checker.specs.declared.fault.CheckFault.{CheckFault}
 use Rattle.cert_checker.specs.declared.fault.CheckFault.TheVariants.{WrongVersion, WrongTasks}

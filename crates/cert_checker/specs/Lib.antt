@@ -1,4 +1,4 @@
-pub mod Naming
+pub mod Ready
 pub mod Chains
 pub mod Faults
 pub mod Work

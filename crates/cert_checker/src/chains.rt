@@ -4,7 +4,7 @@ ghost use Rattle.task_sheet.specs.Sheet.{task_at};
 ghost use Rattle.task_sheet.specs.declared.sheet.TheConstants.{PERIOD_TO};
 ghost use Rattle.task_sheet.specs.Indexes.{indexes_of};
 ghost use Rattle.task_sheet.specs.Demand.{demand_of, limit_of};
-ghost use Rattle.cert_checker.specs.Naming.{task_by_name};
+ghost use Rattle.cert_checker.specs.Ready.{task_by_name};
 ghost use Rattle.cert_checker.specs.Work.{demand_from};
 ghost use Rattle.cert_checker.specs.Chains.{may_follow, goes_past, are_chain};
 ghost use Rattle.certificate.specs.ReasonOf.{reason_seen};

@@ -1,7 +1,7 @@
 //! The whole check.
 ghost use Rattle.std.specs.Prelude.{◌≡◌, ◌↔◌, IfOk, IfErr, IsOk, MatchResult};
 ghost use Rattle.task_sheet.specs.Orders.{IsBest, IsFeasible};
-ghost use Rattle.cert_checker.specs.Naming.{may_serve, IsReady};
+ghost use Rattle.cert_checker.specs.Ready.{may_serve, IsReady};
 ghost use Rattle.cert_checker.specs.Answers.{kind_of, order_in};
 ghost use Rattle.cert_checker.specs.Faults.{order_fault, set_fault, body_fault, check_fault};
 ghost use Rattle.certificate.specs.BodyOf.{body_of};
@@ -63,6 +63,7 @@ fn may_serve(version: CertVersion, needed: CertVersion) -> bool
 {
     match (version, needed) {
         (CertVersion::First, CertVersion::Second) => false,
+        (CertVersion::First | CertVersion::Second, CertVersion::Third) => false,
         _ => true,
     }
 }

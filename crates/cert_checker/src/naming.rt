@@ -4,7 +4,7 @@ ghost use Rattle.std.specs.Fn.{FnReturnsAt};
 ghost use Rattle.task_sheet.specs.Indexes.{indexes_of, no_index, with_index, among};
 ghost use Rattle.task_sheet.specs.declared.set.TheConstants.{TASK_LIMIT};
 ghost use Rattle.task_sheet.specs.Verdicts.{tasks_of, order_of};
-ghost use Rattle.cert_checker.specs.Naming.{task_by_name, failures_of, levels_of};
+ghost use Rattle.cert_checker.specs.Ready.{task_by_name, failures_of, levels_of};
 ghost use Rattle.cert_checker.specs.Faults.{are_new, has_all};
 
 use certificate::{CertFail, CertLevel};

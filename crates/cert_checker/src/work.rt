@@ -1,13 +1,14 @@
-//! The work requested of a task and of those above it in a window, in microseconds.
+//! The work requested of a task and of those above it in a window, and what timers and interrupts take of it, in
+//! microseconds.
 ghost use Rattle.std.specs.Prelude.{◌≡◌, ◌+◌, ◌*◌, ◌<◌, ◌≤◌, length};
-ghost use Rattle.task_sheet.specs.Sheet.{IsValidSheet, task_at};
+ghost use Rattle.task_sheet.specs.Sheet.{IsInterrupt, IsValidSheet, task_at};
 ghost use Rattle.task_sheet.specs.declared.sheet.TheConstants.{PERIOD_TO};
 ghost use Rattle.task_sheet.specs.Indexes.{indexes_of};
 ghost use Rattle.task_sheet.specs.Locks.{names_lock, uses, shares_lock, reaches};
-ghost use Rattle.task_sheet.specs.Demand.{interference_within, releases_within, limit_of, longest_reached, blocking_of};
+ghost use Rattle.task_sheet.specs.Demand.{interference_within, releases_within, limit_of, longest_reached, blocking_of, interrupt_within, interrupts_of, interrupts_within};
 ghost use Rattle.cert_checker.specs.Work.{demand_from};
 
-use task_sheet::{Members, Name, Section, Sheet, TaskSet};
+use task_sheet::{Interrupt, Members, Name, Section, Sheet, TaskSet};
 
 /// The longest time that serves a task: what its jitter leaves of its deadline.
 pub fn limit_of(sheet: &Sheet) -> u64
@@ -113,11 +114,49 @@ fn interference_within(set: &TaskSet, above: Members, time: u64) -> u64
     taken
 }
 
-/// What must be executed in a window: the base demand, and the jobs released above within it.
+// What an interrupt takes within a window: it comes at most once a period.
+fn interrupt_within(interrupt: &Interrupt, time: u64) -> u64
+    requires interrupt { IsInterrupt interrupt.now }
+    requires time { time ≤ PERIOD_TO }
+    ensures is { result ≡ interrupt_within time interrupt.now }
+    ensures fits { result ≤ 20000000 }
+{
+    time.div_ceil(interrupt.period) * interrupt.cost
+}
+
+// What a task's timer and the interrupts on its account take within a window, of whoever executes.
+fn interrupts_of(sheet: &Sheet, time: u64) -> u64
+    requires sheet { IsValidSheet sheet.now }
+    requires time { time ≤ PERIOD_TO }
+    ensures is { result ≡ interrupts_of time sheet.now }
+    ensures fits { result ≤ 190000000 }
+{
+    let mut taken = releases_within(sheet, time) * sheet.node().release;
+    for interrupt in sheet.interrupts() {
+        taken += interrupt_within(interrupt, time);
+    }
+    taken
+}
+
+// What those of all tasks take within a window (Burns, Wellings).
+fn interrupts_within(set: &TaskSet, time: u64) -> u64
+    requires { time ≤ PERIOD_TO }
+    ensures is { result ≡ interrupts_within set.now time }
+    ensures fits { result ≤ 6080000000 }
+{
+    let mut taken = 0;
+    for sheet in set.sheets() {
+        taken += interrupts_of(sheet, time);
+    }
+    taken
+}
+
+/// What must be executed in a window: the base demand, the jobs released above within it, and what
+/// timers and interrupts take.
 pub fn demand_from(set: &TaskSet, above: Members, once: u64, time: u64) -> u64
     requires once { once ≤ 20000000 }
     requires time { time ≤ PERIOD_TO }
     ensures { result ≡ demand_from set.now (indexes_of above) once time }
 {
-    once + interference_within(set, above, time)
+    once + interference_within(set, above, time) + interrupts_within(set, time)
 }

@@ -18,10 +18,10 @@ use Rattle.task_sheet.specs.Name.{is_name, is_name_byte, IsName}
 use Rattle.certificate.specs.Body.{CertReasonData, Chain, Over, Fail, IsShort, IsReasonText, IsFailText}
 use Rattle.certificate.specs.Spelling.{numbers_text, reason_text}
 use Rattle.lines.specs.Words.{words}
-use Rattle.certificate.specs.Words.{◌>>=◌, numbers_in, later_in, reason_in, fail_in}
+use Rattle.certificate.specs.Words.{◌>>=◌, numbers_in, over_in, later_in, reason_in, fail_in}
 use Rattle.lines.proofs.Digits.{own}
 use Rattle.certificate.specs.declared.version.CertVersion.{CertVersion}
-use Rattle.certificate.specs.declared.version.CertVersion.TheVariants.{First, Second}
+use Rattle.certificate.specs.declared.version.CertVersion.TheVariants.{First, Second, Third}
 use Rattle.certificate.proofs.FailCases.{fail_at}
 use Rattle.certificate.proofs.WordLaws.{bind_some, cond_given, numbers_take, numbers_again}
 
@@ -93,19 +93,25 @@ reason_inner (Over other) = codes "over" ++ 32 ∷ other
 pub over_named : (v : CertVersion) (other : List ℕ) → IsReasonText v (Over other) → IsName other
 over_named First other fits = absurd fits
 over_named Second other fits = fits
+over_named Third other fits = fits
 
 over_plain : All (λ x. (x == 32) ≡ false) (codes "over")
 over_plain = All-from_recursion (λ x. (x == 32) ≡ false) (codes "over") (refl, (refl, (refl, (refl, tt))))
 
-over_takes : (v : CertVersion) (n : List ℕ) (ns : List (List ℕ)) (r : CertReasonData) → later_in v (n ∷ ns) ≡ Some r → (32 ∷ join_with_byte 32 (n ∷ ns) ≡ reason_text r) × IsReasonText v r
-over_takes First n ns r e = absurd cc
-over_takes Second n [] r e = absurd cc
-over_takes Second n (other ∷ x ∷ xs) r e = absurd cc
-over_takes Second n (other ∷ []) r e =
+name_takes : (v : CertVersion) (n : List ℕ) (ns : List (List ℕ)) (r : CertReasonData) → ((other : List ℕ) → IsName other → IsReasonText v (Over other)) → over_in (n ∷ ns) ≡ Some r
+    → (32 ∷ join_with_byte 32 (n ∷ ns) ≡ reason_text r) × IsReasonText v r
+name_takes v n [] r may e = absurd cc
+name_takes v n (other ∷ x ∷ xs) r may e = absurd cc
+name_takes v n (other ∷ []) r may e =
     let g = cond_some (bytes_eq n (codes "over") && is_name other) (Over other) r e in
     let tests = and_parts (bytes_eq n (codes "over")) (is_name other) g.0 in
-    subst (λ (x : CertReasonData). (32 ∷ (n ++ 32 ∷ other) ≡ reason_text x) × IsReasonText Second x) g.1
-    (ap (λ (x : List ℕ). 32 ∷ (x ++ 32 ∷ other)) (bytes_same n (codes "over") tests.0), tests.1)
+    subst (λ (x : CertReasonData). (32 ∷ (n ++ 32 ∷ other) ≡ reason_text x) × IsReasonText v x) g.1
+    (ap (λ (x : List ℕ). 32 ∷ (x ++ 32 ∷ other)) (bytes_same n (codes "over") tests.0), may other tests.1)
+
+over_takes : (v : CertVersion) (n : List ℕ) (ns : List (List ℕ)) (r : CertReasonData) → later_in v (n ∷ ns) ≡ Some r → (32 ∷ join_with_byte 32 (n ∷ ns) ≡ reason_text r) × IsReasonText v r
+over_takes First n ns r e = absurd cc
+over_takes Second n ns r e = name_takes Second n ns r (λ other named. named) e
+over_takes Third n ns r e = name_takes Third n ns r (λ other named. named) e
 
 numbers_take_text : (n : List ℕ) (ns : List (List ℕ)) (numbers : List ℕ) → n ∷ ns ≡ map decimal numbers → 32 ∷ join_with_byte 32 (n ∷ ns) ≡ numbers_text numbers
 numbers_take_text n ns [] e = absurd cc
@@ -127,6 +133,9 @@ unfolding reason_in numbers_in
 reason_again v (Chain numbers) fits = rw (numbers_again numbers fits.1) refl
 reason_again First (Over other) fits = absurd fits
 reason_again Second (Over other) fits =
+    let is : is_name other ≡ true = fits in
+    rw is refl
+reason_again Third (Over other) fits =
     let is : is_name other ≡ true = fits in
     rw is refl
 

@@ -10,7 +10,7 @@ use Rattle.std.proofs.lemmas.List.{append-nil}
 use Rattle.std.proofs.lemmas.List.Elements.{All-append, All-from_recursion}
 use Rattle.std.proofs.lemmas.List.Splits.{slice_split_at, slice_split_none, join_with_byte-slice_split}
 use Rattle.certificate.specs.declared.version.CertVersion.{CertVersion}
-use Rattle.certificate.specs.declared.version.CertVersion.TheVariants.{First, Second}
+use Rattle.certificate.specs.declared.version.CertVersion.TheVariants.{First, Second, Third}
 use Rattle.certificate.specs.Body.{IsFailText, IsLevelText, IsBodyText, HasSpelling, Body, Best, NoOrder, Cert}
 use Rattle.certificate.specs.Spelling.{fail_lines, count_line, head_text, head_line, level_spellings, body_text, spelling}
 use Rattle.lines.specs.Lines.{parts}
@@ -69,11 +69,15 @@ head_ends v rest = simp append_assoc
 version_takes : (head : List ℕ) (v : CertVersion) → version_in head ≡ Some v → head ≡ head_text v
 version_takes head v = by (bytes_eq head (head_text First)) refl
   where
-    second : (b : Bool) → bytes_eq head (head_text Second) ≡ b → cond b (Some Second) None ≡ Some v → head ≡ head_text v
-    second true is e = (bytes_eq-Decides head (head_text Second)).0 is ∙ ap head_text (same_Some Second v e)
-    second false is e = absurd cc
+    third : (b : Bool) → bytes_eq head (head_text Third) ≡ b → cond b (Some Third) None ≡ Some v → head ≡ head_text v
+    third true is e = (bytes_eq-Decides head (head_text Third)).0 is ∙ ap head_text (same_Some Third v e)
+    third false is e = absurd cc
 
-    by : (b : Bool) → bytes_eq head (head_text First) ≡ b → cond b (Some First) (cond (bytes_eq head (head_text Second)) (Some Second) None) ≡ Some v → head ≡ head_text v
+    second : (b : Bool) → bytes_eq head (head_text Second) ≡ b → cond b (Some Second) (cond (bytes_eq head (head_text Third)) (Some Third) None) ≡ Some v → head ≡ head_text v
+    second true is e = (bytes_eq-Decides head (head_text Second)).0 is ∙ ap head_text (same_Some Second v e)
+    second false is e = third (bytes_eq head (head_text Third)) refl e
+
+    by : (b : Bool) → bytes_eq head (head_text First) ≡ b → cond b (Some First) (cond (bytes_eq head (head_text Second)) (Some Second) (cond (bytes_eq head (head_text Third)) (Some Third) None)) ≡ Some v → head ≡ head_text v
     by true is e = (bytes_eq-Decides head (head_text First)).0 is ∙ ap head_text (same_Some First v e)
     by false is e = second (bytes_eq head (head_text Second)) refl e
 
@@ -161,10 +165,12 @@ module _ (v : CertVersion) where
 head_plain : (v : CertVersion) → All (λ x. (x == 10) ≡ false) (head_text v)
 head_plain First = All-from_recursion (λ x. (x == 10) ≡ false) (head_text First) (refl, (refl, (refl, (refl, (refl, (refl, (refl, (refl, (refl, (refl, (refl, (refl, (refl, (refl, (refl, (refl, (refl, (refl, tt))))))))))))))))))
 head_plain Second = All-from_recursion (λ x. (x == 10) ≡ false) (head_text Second) (refl, (refl, (refl, (refl, (refl, (refl, (refl, (refl, (refl, (refl, (refl, (refl, (refl, (refl, (refl, (refl, (refl, (refl, tt))))))))))))))))))
+head_plain Third = All-from_recursion (λ x. (x == 10) ≡ false) (head_text Third) (refl, (refl, (refl, (refl, (refl, (refl, (refl, (refl, (refl, (refl, (refl, (refl, (refl, (refl, (refl, (refl, (refl, (refl, tt))))))))))))))))))
 
 version_again : (v : CertVersion) → version_in (head_text v) ≡ Some v
 version_again First = refl
 version_again Second = refl
+version_again Third = refl
 
 -- a spelling and what follows it: the certificate where nothing follows, and else the bytes that trail
 pub certificate_again : (c : Cert) (rest : List ℕ) → HasSpelling c → certificate_in (spelling c ++ rest) ≡ closed (length rest == 0) c

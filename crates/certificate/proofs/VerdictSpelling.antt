@@ -6,11 +6,12 @@ use Rattle.std.proofs.lemmas.List.{length-map}
 use Rattle.std.proofs.lemmas.List.Elements.{All-from_recursion}
 use Rattle.std.specs.List.{list_any}
 use Rattle.std.proofs.lemmas.List.Folds.{list_any_at}
+use Rattle.task_sheet.specs.Name.{IsName}
 use Rattle.task_sheet.specs.Sheet.{Task, no_task, outranks_task, task_at}
 use Rattle.task_sheet.specs.TaskSet.{IsTaskSet}
 use Rattle.task_sheet.specs.Indexes.{Indexes, IsPart, without_index, among, listed_below}
 use Rattle.task_sheet.specs.Responses.{ChainFrom}
-use Rattle.task_sheet.specs.Demand.{demand_of, limit_of}
+use Rattle.task_sheet.specs.Demand.{demand_of, limit_of, has_interrupts}
 use Rattle.task_sheet.specs.Orders.{all_of, must_outrank, IsOrderOf}
 use Rattle.task_sheet.specs.Verdicts as verdict
 use Rattle.task_sheet.specs.Verdicts.{ReasonData, FailureData, LevelData, VerdictData, Admitted, Infeasible, tasks_of, order_of, IsBestOrder, IsStuck, IsVerdictOf}
@@ -20,7 +21,7 @@ use Rattle.task_sheet.proofs.TaskLaws.{valid_at, AllTasks-from_set}
 use Rattle.task_sheet.proofs.DemandFits.{limit-fits, demand-fits}
 use Rattle.task_sheet.proofs.VerdictLaws.{IsBestOrder-ready, IsStuck-ready}
 use Rattle.certificate.specs.declared.version.CertVersion.{CertVersion}
-use Rattle.certificate.specs.declared.version.CertVersion.TheVariants.{Second}
+use Rattle.certificate.specs.declared.version.CertVersion.TheVariants.{Second, Third}
 use Rattle.certificate.specs.Body.{Over, IsShort, IsReasonText, IsFailText, IsLevelText, HasSpelling}
 use Rattle.certificate.specs.Versions.{some_bound, version_for}
 use Rattle.certificate.specs.CertificateOf.{reason_named, fail_named, fails_named, level_named, levels_named, certificate_of, IsKnownReason, IsKnownFail, IsKnownLevel}
@@ -61,13 +62,19 @@ module _ (U : List Task) (set : IsTaskSet U) where
   bound_shows i k lt within named =
       list_any_at (λ (t : Task). list_any (outranks_task t) U) U i no_task lt (list_any_at (outranks_task (task_at U i)) U k no_task within named)
 
+  -- there a name is a reason, in the second version and in the third
+  name-text : (other : List ℕ) → some_bound U ≡ true → IsName other → IsReasonText (version_for U) (Over other)
+  name-text other bound named = by (has_interrupts U) refl
+    where
+      by : (b : Bool) → has_interrupts U ≡ b → IsReasonText (version_for U) (Over other)
+      by true is = let third : version_for U ≡ Third = rw is refl in subst (λ (v : CertVersion). IsReasonText v (Over other)) (sym third) named
+      by false is = let second : version_for U ≡ Second = rw (is, bound) refl in subst (λ (v : CertVersion). IsReasonText v (Over other)) (sym second) named
+
   reason-text : (i : ℕ) (H : Indexes) (reason : ReasonData) → i < length U → Refutes U i H reason → IsReasonText (version_for U) (reason_named U reason)
   reason-text i H (verdict.Chain []) lt chain = absurd chain
   reason-text i H (verdict.Chain (a ∷ bs)) lt chain = (omega arith, climb-short i H a bs lt (omega (arith, chain.0)) chain.1)
   reason-text i H (verdict.Over other) lt over =
-      let bound = bound_shows i other lt over.0 over.2 in
-      let second : version_for U ≡ Second = rw bound refl in
-      subst (λ (v : CertVersion). IsReasonText v (Over (task_at U other).name)) (sym second) (valid_at U other set over.0).named
+      name-text (task_at U other).name (bound_shows i other lt over.0 over.2) (valid_at U other set over.0).named
 
   fails-text : (L : Indexes) (fails : List FailureData) → AllByRecursion (λ k. k < length U) (tasks_of fails) → AllRefuted U L fails → AllByRecursion (IsFailText (version_for U)) (fails_named U fails)
   fails-text L [] known refuted = tt

@@ -2,8 +2,9 @@
 use Rattle.std.specs.Prelude.{nat_lt, Bool, ◌||◌, List, if◌then◌else◌}
 use Rattle.std.specs.List.{list_any}
 use Rattle.task_sheet.specs.Sheet.{Task, outranks_task}
+use Rattle.task_sheet.specs.Demand.{has_interrupts}
 use Rattle.certificate.specs.declared.version.CertVersion.{CertVersion}
-use Rattle.certificate.specs.declared.version.CertVersion.TheVariants.{First, Second}
+use Rattle.certificate.specs.declared.version.CertVersion.TheVariants.{First, Second, Third}
 
 -- some task of the set must stand above another one of it
 unfoldable pub some_bound : List Task → Bool
@@ -15,4 +16,5 @@ has_jitter U = list_any (λ t. nat_lt 0 t.jitter) U
 
 -- the version that serves the set
 abbrev pub version_for : List Task → CertVersion
-version_for U = if some_bound U || has_jitter U then Second else First
+version_for U =
+    if has_interrupts U then Third else if some_bound U || has_jitter U then Second else First

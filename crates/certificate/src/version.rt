@@ -2,6 +2,7 @@
 ghost use Rattle.std.specs.Prelude.{◌≡◌};
 ghost use Rattle.std.specs.List.{list_any};
 ghost use Rattle.task_sheet.specs.Sheet.{outranks_task};
+ghost use Rattle.task_sheet.specs.Demand.{interrupts_some, has_interrupts};
 ghost use Rattle.certificate.specs.Versions.{some_bound, has_jitter, version_for};
 
 use task_sheet::{Sheet, TaskSet};
@@ -9,10 +10,13 @@ use task_sheet::{Sheet, TaskSet};
 /// The version of a certificate.
 #[derive(Clone, Copy, Debug, PartialEq, Eq)]
 pub enum CertVersion {
-    /// For sets of which no task has jitter or must stand above another one: a task fails by numbers alone.
+    /// For sets without timers and interrupts, of which no task has jitter or must stand above another one: a task
+    /// fails by numbers alone.
     First,
-    /// For all sets: a task may also fail since it must stand above another one.
+    /// For sets without timers and interrupts: a task may also fail since it must stand above another one.
     Second,
+    /// For all sets: what timers and interrupts take of a window is in its numbers.
+    Third,
 }
 
 // Whether a task must stand above one of these.
@@ -38,11 +42,28 @@ fn has_jitter(set: &TaskSet) -> bool
     set.sheets().iter().any(|sheet| sheet.jitter() > 0)
 }
 
-/// The version that serves a set: the first where no task of it must stand above another one of it or has jitter.
+// Whether a task has a timer that takes time, or an interrupt on its account.
+fn interrupts_some(sheet: &Sheet) -> bool
+    ensures { result ≡ interrupts_some sheet.now }
+{
+    sheet.node().release > 0 || !sheet.interrupts().is_empty()
+}
+
+// Whether some task has.
+fn has_interrupts(set: &TaskSet) -> bool
+    ensures { result ≡ has_interrupts set.now }
+{
+    set.sheets().iter().any(interrupts_some)
+}
+
+/// The version that serves a set: the third where some task has a timer that takes time, or an interrupt on its
+/// account; else the first where no task of it must stand above another one of it or has jitter.
 pub fn version_for(set: &TaskSet) -> CertVersion
     ensures { result ≡ version_for set.now }
 {
-    if some_bound(set) || has_jitter(set) {
+    if has_interrupts(set) {
+        CertVersion::Third
+    } else if some_bound(set) || has_jitter(set) {
         CertVersion::Second
     } else {
         CertVersion::First

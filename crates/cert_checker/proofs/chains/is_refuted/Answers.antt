@@ -1,7 +1,7 @@
 use Rattle.std.proofs.Common.{◌∙◌, ap, arith}
 use Rattle.task_sheet.specs.Indexes.{indexes_of}
 use Rattle.task_sheet.proofs.MembersIndexes.{indexes_of-remove}
-use Rattle.cert_checker.specs.Naming.{task_by_name}
+use Rattle.cert_checker.specs.Ready.{task_by_name}
 use Rattle.cert_checker.specs.Faults.{refutes}
 use Rattle.cert_checker.proofs.ChainSteps.{refuted-is}
 use Rattle.cert_checker.proofs.chains.is_refuted.Goals as goal

@@ -1,6 +1,6 @@
 use Rattle.std.proofs.Common.{◌∙◌, sym, length}
 use Rattle.cert_checker.specs.Faults.{has_all}
-use Rattle.cert_checker.specs.Naming.{levels_of}
+use Rattle.cert_checker.specs.Ready.{levels_of}
 use Rattle.task_sheet.specs.Verdicts.{order_of}
 use Rattle.task_sheet.specs.Indexes.{no_index, among}
 use Rattle.cert_checker.proofs.LevelSteps.{levels-known}

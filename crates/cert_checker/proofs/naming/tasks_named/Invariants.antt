@@ -1,7 +1,7 @@
 use Rattle.std.proofs.Common.{◌≡◌, ℕ, List, drop, map}
 use Rattle.std.specs.Fn.{FnReturnsAt}
 use Rattle.task_sheet.specs.Indexes.{indexes_of}
-use Rattle.cert_checker.specs.Naming.{task_by_name}
+use Rattle.cert_checker.specs.Ready.{task_by_name}
 use Rattle.cert_checker.proofs.SeenSteps.{IsSeen}
 use Rattle.cert_checker.proofs.naming.tasks_named.Given as goal
 

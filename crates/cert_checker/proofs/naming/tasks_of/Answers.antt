@@ -1,5 +1,5 @@
 use Rattle.std.proofs.Common.{rules}
-use Rattle.cert_checker.specs.Naming.{task_by_name}
+use Rattle.cert_checker.specs.Ready.{task_by_name}
 use Rattle.cert_checker.proofs.SeenSteps.{fails-named}
 use Rattle.cert_checker.proofs.naming.tasks_of.Goals as goal
 

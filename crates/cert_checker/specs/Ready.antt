@@ -8,7 +8,7 @@ use Rattle.task_sheet.specs.Ready.{IsReadyOrder, IsReadySet}
 use Rattle.certificate.specs.Body.{CertReasonData, Chain, Over, Fail, CertLevelData, Body, Best, NoOrder, Cert}
 use Rattle.certificate.specs.Versions.{version_for}
 use Rattle.certificate.specs.declared.version.CertVersion.{CertVersion}
-use Rattle.certificate.specs.declared.version.CertVersion.TheVariants.{First, Second}
+use Rattle.certificate.specs.declared.version.CertVersion.TheVariants.{First, Second, Third}
 
 -- the task with a name; a name that no task has stands past the end of the set
 abbrev pub task_by_name : List Task → List ℕ → ℕ
@@ -44,11 +44,15 @@ abbrev pub IsReadyBody : List Task → Body → Type 0
 IsReadyBody U (Best levels) = IsReadyOrder U (levels_of U levels)
 IsReadyBody U (NoOrder members) = IsReadySet U (failures_of U members)
 
--- a certificate of a version may speak of a set that needs one: the second of all sets
+-- a certificate of a version may speak of a set that needs one: the same or an earlier one
 abbrev pub may_serve : (version needed : CertVersion) → Bool
 may_serve First First = true
 may_serve First Second = false
-may_serve Second needed = true
+may_serve First Third = false
+may_serve Second First = true
+may_serve Second Second = true
+may_serve Second Third = false
+may_serve Third needed = true
 
 -- the certificate is ready for the set: its version serves the set, and its body is ready
 pub record IsReady (U : List Task) (c : Cert) : Type 0 where

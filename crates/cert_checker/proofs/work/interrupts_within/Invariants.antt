@@ -1,0 +1,11 @@
+use Rattle.std.proofs.Common.{◌≡◌, ◌*◌, ◌≤◌}
+use Rattle.task_sheet.specs.Sheet.{task_at}
+use Rattle.task_sheet.specs.Indexes.{sum_below}
+use Rattle.task_sheet.specs.Demand.{interrupts_of}
+use Rattle.cert_checker.proofs.work.interrupts_within.Given as goal
+
+abbrev pub invariant-loop-sheet : goal.invariant-loop-sheet
+invariant-loop-sheet l = record {
+  total : l.taken ≡ sum_below l.sheet-index (λ k. interrupts_of l.time (task_at l.sheet-items k));
+  small : l.taken ≤ l.sheet-index * 190000000;
+}
