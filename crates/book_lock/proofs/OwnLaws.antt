@@ -6,7 +6,8 @@ use Rattle.std.specs.Ordering.{is_lt}
 use Rattle.std.proofs.lemmas.Bool.{cases_Bool, both_ways}
 use Rattle.std.proofs.lemmas.Bool.Decides.{nat_tests}
 use Rattle.task_sheet.specs.Sheet.{Task, same_bytes}
-use Rattle.task_sheet.specs.TaskSet.{rank_cmp, others_of}
+use Rattle.task_sheet.specs.Rank.{rank_cmp}
+use Rattle.task_sheet.specs.TaskSet.{others_of}
 use Rattle.task_sheet.proofs.SetLaws.{rank_total}
 use Rattle.drafts.specs.declared.roster.Owned.{Owned}
 use Rattle.drafts.specs.declared.change.Change.{Change}
@@ -15,12 +16,12 @@ use Rattle.drafts.specs.declared.change.Refusal.{Refusal}
 use Rattle.drafts.specs.Applied.{set_of, held, is_foreign, is_there, without_name, placed, after_change, then_on, if_few, all_changes, applied}
 use Rattle.drafts.specs.Machine.{MachineState, empty_desk, Ruling, Admitted, Refused, Infeasible, Entry, IsRuling, IsDecision, moved, after_entry, replay}
 use Rattle.drafts.specs.Books.{Book, logged, IsLegalBook}
-use Rattle.drafts.specs.Changes.{Draft}
+use Rattle.drafts.specs.Edits.{Draft}
 use Rattle.drafts.specs.Proposals.{ProposalData}
 use Rattle.drafts.proofs.RosterLaws.{set_of-without, less}
 use Rattle.book_lock.specs.Own.{own_of, IsRanked, ranked_in, own_change, own_changes}
 use Rattle.book_lock.specs.Opening.{IsOwn}
-use Rattle.book_lock.specs.Passes.{Known, own_after, receiving}
+use Rattle.book_lock.specs.TeamPass.{Known, own_after, receiving}
 use Rattle.book_lock.specs.Settles.{IsEntered, Settles}
 use Rattle.book_lock.specs.declared.answer.Settlement.TheVariants.{Decided}
 use Rattle.book_lock.proofs.RankLaws.{IsRanked-none, IsRanked-change}

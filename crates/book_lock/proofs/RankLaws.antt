@@ -7,7 +7,8 @@ use Rattle.std.specs.Cmp.Lexicographic.{nat_list_eq_equiv}
 use Rattle.std.proofs.lemmas.Bool.{or_parts}
 use Rattle.std.proofs.lemmas.List.Kept.{IsStrictlySortedBy-filter}
 use Rattle.task_sheet.specs.Sheet.{Task, same_bytes}
-use Rattle.task_sheet.specs.TaskSet.{rank_cmp, same_name, has_name, others_of, AreDistinct, IsTaskSet}
+use Rattle.task_sheet.specs.Rank.{rank_cmp}
+use Rattle.task_sheet.specs.TaskSet.{same_name, has_name, others_of, AreDistinct, IsTaskSet}
 use Rattle.task_sheet.proofs.SetLaws.{rank_total, below, same_turned, distinct_less}
 use Rattle.task_sheet.proofs.NameLaws.{same_own, same_is}
 use Rattle.drafts.specs.Applied.{set_of, teams_of, is_team_at}

@@ -5,7 +5,7 @@ use Rattle.std.proofs.lemmas.List.{map_push}
 use Rattle.book_lock.specs.Own.{own_changes}
 use Rattle.drafts.specs.Machine.{Entry}
 use Rattle.book_lock.specs.declared.pass.Receipt.{Receipt}
-use Rattle.book_lock.specs.Passes.{Known, own_after, receiving, is_up_to, admitted_version}
+use Rattle.book_lock.specs.TeamPass.{Known, own_after, receiving, is_up_to, admitted_version}
 use Rattle.book_lock.specs.PassFields.{receipt_of, IsLatest}
 
 pub received : (old new : Known) (place : ℕ) (l : Entry) → new.team ≡ old.team → new.parts ≡ old.parts → new.tasks ≡ own_after l.decision (own_changes l.changes old.tasks) old.tasks → new.receipts ≡ old.receipts ++ (place, l) ∷ [] → new ≡ receiving old place l

@@ -7,11 +7,11 @@ use Rattle.drafts.specs.declared.change.Change.{Change}
 use Rattle.drafts.specs.Applied.{applied}
 use Rattle.drafts.specs.Machine.{MachineState, IsDecision}
 use Rattle.drafts.specs.Books.{Book}
-use Rattle.drafts.specs.Changes.{Draft}
+use Rattle.drafts.specs.Edits.{Draft}
 use Rattle.drafts.specs.Proposals.{ProposalData}
-use Rattle.drafts.specs.Changes.{on_base}
+use Rattle.drafts.specs.Edits.{on_base}
 use Rattle.book_lock.specs.Reached.{IsReached}
-use Rattle.book_lock.specs.Passes.{Known, receiving}
+use Rattle.book_lock.specs.TeamPass.{Known, receiving}
 use Rattle.book_lock.specs.Asking.{NoneShutApplied, IsUntested}
 use Rattle.book_lock.specs.Settles.{IsReceived, SettlesSome, HoldsSome}
 use Rattle.book_lock.specs.declared.answer.Settlement.TheVariants.{Decided, Stale}

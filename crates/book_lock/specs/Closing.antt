@@ -3,7 +3,7 @@ use Rattle.std.specs.Prelude.{◌≡◌, ◌<◌, ◌≤◌, ◌⊎◌, ℕ, Lis
 use Rattle.drafts.specs.declared.team.TheConstants.{TEAM_LIMIT}
 use Rattle.drafts.specs.Books.{Book, IsLegalBook}
 use Rattle.drafts.specs.Machine.{Entry}
-use Rattle.book_lock.specs.Passes.{Known, has_team, placed_entries, HaveReceipts}
+use Rattle.book_lock.specs.TeamPass.{Known, has_team, placed_entries, HaveReceipts}
 use Rattle.book_lock.specs.declared.closing.NewFault.{NewFault}
 use Rattle.book_lock.specs.declared.closing.NewFault.TheVariants.{BadTeams, OutOfMemory}
 use Rattle.book_lock.specs.declared.closing.CloseCause.{CloseCause}

@@ -4,10 +4,10 @@ use Rattle.assignment.specs.Questions.{QuestionData}
 use Rattle.candidate_workers.specs.Faults.{IsBadCount}
 use Rattle.drafts.specs.Applied.{applied}
 use Rattle.drafts.specs.Machine.{MachineState}
-use Rattle.drafts.specs.Changes.{Draft}
-use Rattle.drafts.specs.Changes.{on_base}
+use Rattle.drafts.specs.Edits.{Draft}
+use Rattle.drafts.specs.Edits.{on_base}
 use Rattle.book_lock.specs.Reached.{IsReached}
-use Rattle.book_lock.specs.Passes.{Known}
+use Rattle.book_lock.specs.TeamPass.{Known}
 use Rattle.book_lock.specs.Settles.{IsReceived}
 use Rattle.book_lock.specs.Asking.{NoneShutApplied, IsUntested}
 use Rattle.book_lock.specs.declared.commit.Round.{Round}

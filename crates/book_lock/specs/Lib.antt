@@ -1,6 +1,6 @@
 pub mod Own
 pub mod Foreign
-pub mod Passes
+pub mod TeamPass
 pub mod PassFields
 pub mod Reached
 pub mod Settles

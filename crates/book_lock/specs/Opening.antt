@@ -2,10 +2,10 @@
 use Rattle.std.specs.Prelude.{◌≡◌, [], true, false, Result, Ok, Err}
 use Rattle.drafts.specs.Machine.{MachineState}
 use Rattle.drafts.specs.Books.{Book, IsLegalBook}
-use Rattle.drafts.specs.Changes.{Draft}
+use Rattle.drafts.specs.Edits.{Draft}
 use Rattle.book_lock.specs.Reached.{IsReached}
 use Rattle.book_lock.specs.Own.{own_of, IsForeignName}
-use Rattle.book_lock.specs.Passes.{Known, is_up_to}
+use Rattle.book_lock.specs.TeamPass.{Known, is_up_to}
 use Rattle.book_lock.specs.declared.answer.OpenFault.{OpenFault}
 use Rattle.book_lock.specs.declared.answer.OpenFault.TheVariants.{Foreign, Behind, OutOfMemory}
 

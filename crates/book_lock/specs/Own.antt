@@ -4,7 +4,8 @@ use Rattle.std.specs.List.Sorted.{IsStrictlySortedBy}
 use Rattle.std.specs.Ordering.{nat_cmp, is_lt}
 use Rattle.std.specs.Cmp.Lexicographic.{slice_cmp}
 use Rattle.task_sheet.specs.Sheet.{Task, same_bytes}
-use Rattle.task_sheet.specs.TaskSet.{rank_cmp, same_name, others_of, AreDistinct}
+use Rattle.task_sheet.specs.Rank.{rank_cmp}
+use Rattle.task_sheet.specs.TaskSet.{same_name, others_of, AreDistinct}
 use Rattle.drafts.specs.declared.roster.Owned.{Owned}
 use Rattle.drafts.specs.declared.change.Change.{Change}
 use Rattle.drafts.specs.declared.change.Change.TheVariants.{Put, Remove}

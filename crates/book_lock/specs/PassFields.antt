@@ -1,7 +1,7 @@
 -- How a `Pass` keeps what it knows.
 use Rattle.std.specs.Prelude.{◌≡◌, ℕ, nat_le, List}
 use Rattle.drafts.specs.Machine.{Entry}
-use Rattle.book_lock.specs.Passes.{is_up_to}
+use Rattle.book_lock.specs.TeamPass.{is_up_to}
 use Rattle.book_lock.specs.declared.pass.Receipt.{Receipt}
 
 -- a receipt, as its place and its entry

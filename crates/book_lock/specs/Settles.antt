@@ -2,10 +2,10 @@
 use Rattle.std.specs.Prelude.{◌≡◌, ◌≢◌, ◌<◌, ℕ, Result, Ok, Err}
 use Rattle.drafts.specs.Machine.{Entry}
 use Rattle.drafts.specs.Books.{Book, logged, IsNextEntry, IsLegalBook}
-use Rattle.drafts.specs.Changes.{Draft}
+use Rattle.drafts.specs.Edits.{Draft}
 use Rattle.drafts.specs.Proposals.{ProposalData, IsStrange, StillHolds, IsSaidBy}
 use Rattle.drafts.specs.declared.settling.HeldFault.{HeldFault}
-use Rattle.book_lock.specs.Passes.{Known, receiving}
+use Rattle.book_lock.specs.TeamPass.{Known, receiving}
 use Rattle.book_lock.specs.declared.answer.Settlement.{Settlement}
 use Rattle.book_lock.specs.declared.answer.Settlement.TheVariants.{Decided, Stale}
 use Rattle.book_lock.specs.declared.answer.DeskFault.{DeskFault}

@@ -2,7 +2,7 @@
 
 ghost use Rattle.std.specs.Prelude.{◌≡◌, ◌<◌, length, IfOk, IfErr, OnOk};
 ghost use Rattle.candidate_workers.specs.Faults.{IsBadCount};
-ghost use Rattle.drafts.specs.Changes.{on_base};
+ghost use Rattle.drafts.specs.Edits.{on_base};
 ghost use Rattle.drafts.specs.Outcomes.{IsJudged};
 ghost use Rattle.book_lock.specs.Asking.{NoneShutOf, NoneShutApplied, IsJudgedSet, IsUntestedSet, IsUntested, IsOnTask, IsCauseOf};
 

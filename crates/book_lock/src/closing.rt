@@ -4,7 +4,7 @@ ghost use Rattle.std.specs.Prelude.{◌≡◌, ◌≤◌, ◌<◌, ◌^◌, ◌�
 ghost use Rattle.drafts.specs.Books.{Book};
 ghost use Rattle.drafts.specs.declared.team.TheConstants.{TEAM_LIMIT};
 ghost use Rattle.book_lock.specs.PassFields.{receipt_of};
-ghost use Rattle.book_lock.specs.Passes.{newcomers, has_team, placed_entries, parts_of, receipt_count};
+ghost use Rattle.book_lock.specs.TeamPass.{newcomers, has_team, placed_entries, parts_of, receipt_count};
 ghost use Rattle.book_lock.specs.Closing.{IsBadTeams, IsNoDesk, AllThere, IsMissing, IsReceipted, AllReceipted, IsMismatch, IsDeskClosed, IsUnclosed};
 
 use crate::content::is_same_entry;

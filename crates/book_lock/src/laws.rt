@@ -5,12 +5,12 @@ ghost use Rattle.drafts.specs.declared.roster.Owned.{Owned};
 ghost use Rattle.drafts.specs.declared.change.Change.{Change};
 ghost use Rattle.drafts.specs.Applied.{applied};
 ghost use Rattle.drafts.specs.Books.{Book, IsLegalBook};
-ghost use Rattle.drafts.specs.Changes.{Draft};
+ghost use Rattle.drafts.specs.Edits.{Draft};
 ghost use Rattle.drafts.specs.Proposals.{ProposalData};
 ghost use Rattle.book_lock.specs.declared.answer.Settlement.TheVariants.{Decided};
 ghost use Rattle.book_lock.specs.Own.{own_of, own_changes};
 ghost use Rattle.book_lock.specs.Opening.{IsOwn};
-ghost use Rattle.book_lock.specs.Passes.{Known};
+ghost use Rattle.book_lock.specs.TeamPass.{Known};
 ghost use Rattle.book_lock.specs.Settles.{IsEntered, Settles};
 
 /// Where a team's changes apply to a legal book, the team's own tasks after them are those that its pass works out.

@@ -3,10 +3,10 @@
 ghost use Rattle.std.specs.Prelude.{◌≡◌, ◌≤◌, [], ◌∷◌, ◌++◌, length, if◌then◌else◌, IfOk, List};
 ghost use Rattle.std.specs.List.{insert};
 ghost use Rattle.std.specs.Ordering.{is_lt};
-ghost use Rattle.task_sheet.specs.TaskSet.{rank_cmp};
+ghost use Rattle.task_sheet.specs.Rank.{rank_cmp};
 ghost use Rattle.task_sheet.specs.Sheet.{Task};
 ghost use Rattle.drafts.specs.Rulings.{ruling_of};
-ghost use Rattle.book_lock.specs.Passes.{own_after};
+ghost use Rattle.book_lock.specs.TeamPass.{own_after};
 ghost use Rattle.book_lock.specs.Own.{own_of, IsRanked, ranked_in, own_change, own_changes};
 
 use drafts::{Change, Decision, Draft, NodeState, Team};

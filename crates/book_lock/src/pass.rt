@@ -2,7 +2,7 @@
 
 ghost use Rattle.std.specs.Prelude.{◌≡◌, ◌<◌, ◌&&◌, ℕ, nat_le, [], length, map};
 ghost use Rattle.drafts.specs.Rulings.{ruling_of};
-ghost use Rattle.book_lock.specs.Passes.{newcomer, is_up_to, admitted_version};
+ghost use Rattle.book_lock.specs.TeamPass.{newcomer, is_up_to, admitted_version};
 ghost use Rattle.book_lock.specs.PassFields.{receipt_of};
 
 use crate::own::OwnTasks;
@@ -33,7 +33,7 @@ pub struct Pass<L: Ledger> {
 
 impl<L: Ledger> Model for Pass<L> {
     ghost use Rattle.std.specs.Prelude.{◌≡◌, ◌<◌, length, map};
-    ghost use Rattle.book_lock.specs.Passes.{Known};
+    ghost use Rattle.book_lock.specs.TeamPass.{Known};
     ghost use Rattle.book_lock.specs.PassFields.{receipt_of, IsLatest};
 
     ghost Value = { Known };

@@ -6,7 +6,7 @@ use Rattle.assignment.specs.Questions.{QuestionData}
 use Rattle.drafts.specs.declared.roster.Owned.{Owned}
 use Rattle.drafts.specs.declared.change.Refusal.{Refusal}
 use Rattle.drafts.specs.Applied.{set_of}
-use Rattle.drafts.specs.Changes.{on_base}
+use Rattle.drafts.specs.Edits.{on_base}
 use Rattle.desk_core.specs.declared.asked.Asked.{Asked}
 use Rattle.desk_core.specs.declared.told.Told.{Told}
 use Rattle.desk_core.specs.declared.events.Reply.{Reply}

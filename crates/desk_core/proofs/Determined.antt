@@ -12,7 +12,7 @@ use Rattle.drafts.specs.declared.draft.EditRefusal.{EditRefusal}
 use Rattle.drafts.specs.Applied.{set_of, applied}
 use Rattle.drafts.specs.Machine.{Entry, Ruling, Admitted, Refused, Infeasible, IsRuling}
 use Rattle.drafts.specs.Books.{Book, logged, IsNextEntry}
-use Rattle.drafts.specs.Changes.{Draft, on_base, after_put, after_remove}
+use Rattle.drafts.specs.Edits.{Draft, on_base, after_put, after_remove}
 use Rattle.desk_core.specs.declared.asked.Asked.{Asked}
 use Rattle.desk_core.specs.declared.told.Told.{Told}
 use Rattle.desk_core.specs.declared.told.Told.TheVariants as told

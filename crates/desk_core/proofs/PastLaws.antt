@@ -7,7 +7,7 @@ use Rattle.drafts.specs.declared.change.Change.{Change}
 use Rattle.drafts.specs.declared.draft.EditRefusal.{EditRefusal}
 use Rattle.drafts.specs.Machine.{MachineState, Entry, empty_desk, replay}
 use Rattle.drafts.specs.Books.{Book, IsLegalBook}
-use Rattle.drafts.specs.Changes.{after_put, after_remove}
+use Rattle.drafts.specs.Edits.{after_put, after_remove}
 use Rattle.desk_core.specs.Bases.{IsPast}
 use Rattle.desk_core.specs.declared.events.Event.{Event}
 use Rattle.desk_core.specs.declared.events.Event.TheVariants.{Open, Put, Remove, Found, Commit, Abandon}

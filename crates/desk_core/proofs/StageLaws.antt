@@ -24,7 +24,7 @@ use Rattle.desk_core.specs.Findings.{IsTested}
 use Rattle.desk_core.specs.World.{IsTestedOn, IsShown}
 use Rattle.desk_core.specs.Stages.{found_of, IsKeptOn, IsStage, IsTrialOn}
 use Rattle.desk_core.specs.Standings.{IsNaming, IsStandingOn, IsQuestionOn}
-use Rattle.drafts.specs.Changes.{HasTasks}
+use Rattle.drafts.specs.Edits.{HasTasks}
 use Rattle.desk_core.proofs.FindingLaws.{fresh-undecided}
 
 -- ---- names

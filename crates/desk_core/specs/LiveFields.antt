@@ -1,6 +1,6 @@
 -- How a `Live` keeps its test.
 use Rattle.desk_core.specs.World.{Live}
-use Rattle.drafts.specs.Changes.{on_base}
+use Rattle.drafts.specs.Edits.{on_base}
 use Rattle.desk_core.specs.Stages.{found_of, IsStage}
 use Rattle.desk_core.specs.declared.live.Live.TheInside.{Inside}
 

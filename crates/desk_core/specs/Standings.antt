@@ -11,7 +11,7 @@ use Rattle.drafts.specs.Applied.{set_of}
 use Rattle.desk_core.specs.Asking.{IsNextAsked, IsQuestionNamed}
 use Rattle.desk_core.specs.Findings.{IsTested}
 use Rattle.desk_core.specs.World.{Live, IsShown}
-use Rattle.drafts.specs.Changes.{on_base}
+use Rattle.drafts.specs.Edits.{on_base}
 
 -- a question is asked, or the verdict is complete and shows these names
 abbrev pub IsTrying : List Task → List Asked → Standing → Type 0

@@ -14,7 +14,7 @@ use Rattle.drafts.specs.declared.draft.EditRefusal.TheVariants as draft
 use Rattle.drafts.specs.Applied.{set_of}
 use Rattle.drafts.specs.Machine.{MachineState}
 use Rattle.drafts.specs.Books.{Book, empty_book, logged, IsNextEntry}
-use Rattle.drafts.specs.Changes.{Draft, on_base, after_put, after_remove}
+use Rattle.drafts.specs.Edits.{Draft, on_base, after_put, after_remove}
 use Rattle.desk_core.specs.declared.events.Cause.{Cause}
 use Rattle.desk_core.specs.declared.events.Cause.TheVariants.{NoSuchDraft, NotYours, NoSuchTask, DraftFull, Untestable, Stranger, Twice}
 use Rattle.desk_core.specs.declared.events.Reply.{Reply}

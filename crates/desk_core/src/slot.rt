@@ -1,7 +1,7 @@
 //! The slots of drafts.
 
 ghost use Rattle.std.specs.Prelude.{◌≡◌, None, Some, IfOk, IfErr, IsTrue, IsSome, OnOk, OnErr, ◌↔◌};
-ghost use Rattle.drafts.specs.Changes.{after_put, after_remove};
+ghost use Rattle.drafts.specs.Edits.{after_put, after_remove};
 ghost use Rattle.desk_core.specs.Advances.{IsAdvancedIn};
 ghost use Rattle.desk_core.specs.SlotFields.{IsGrown, slot_of};
 ghost use Rattle.desk_core.specs.Slots.{IsEditIn, IsFoundIn, IsCommitIn, IsAbandonIn};

@@ -4,7 +4,7 @@ ghost use Rattle.std.specs.Prelude.{◌≡◌, ◌↔◌, IfOk, IfErr, IfSome, I
 ghost use Rattle.drafts.specs.Books.{logged, IsNextEntry};
 ghost use Rattle.drafts.specs.declared.roster.Owned.{Owned};
 ghost use Rattle.drafts.specs.declared.change.Refusal.{Refusal};
-ghost use Rattle.drafts.specs.Changes.{on_base};
+ghost use Rattle.drafts.specs.Edits.{on_base};
 ghost use Rattle.desk_core.specs.Stages.{found_of, IsKeptOn, IsStage, IsBegun, IsTrialOf};
 ghost use Rattle.desk_core.specs.declared.stage.Kept.TheVariants.{Own};
 ghost use Rattle.desk_core.specs.declared.stage.Stage.TheVariants.{Trying};

@@ -15,7 +15,7 @@ use Rattle.drafts.specs.Machine.{MachineState, empty_desk, Ruling, Admitted, Ref
 use Rattle.drafts.specs.Books.{Book, logged, IsNextEntry}
 use Rattle.drafts.specs.BookFields.{book_of, IsBookKept}
 use Rattle.drafts.specs.declared.book.Book.TheInside.{Inside}
-use Rattle.drafts.specs.Changes.{Draft}
+use Rattle.drafts.specs.Edits.{Draft}
 use Rattle.drafts.specs.Outcomes.{IsJudged, IsSaid, IsNextState, IsEntryOf, after_next}
 
 pub replay-push : (desk : MachineState) (log : List Entry) (e : Entry) → replay desk (log ++ e ∷ []) ≡ after_entry (replay desk log) e

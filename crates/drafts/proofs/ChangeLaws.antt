@@ -8,7 +8,7 @@ use Rattle.std.proofs.lemmas.Bool.Decides.{nat_tests}
 use Rattle.std.proofs.lemmas.Slice.Eq.{bytes_eq-Decides}
 use Rattle.task_sheet.specs.Sheet.{same_bytes}
 use Rattle.drafts.specs.declared.change.Change.{Change}
-use Rattle.drafts.specs.Changes.{IsNamed, AreNamed, change_on, recorded, dropped, is_full}
+use Rattle.drafts.specs.Edits.{IsNamed, AreNamed, change_on, recorded, dropped, is_full}
 
 recorded-length : (name : List ℕ) (change : Change) (cs : List (List ℕ × Change)) → length (recorded name change cs) ≤ length cs + 1
 recorded-length name change [] = omega arith

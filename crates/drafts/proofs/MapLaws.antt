@@ -3,7 +3,7 @@ use Rattle.std.proofs.Common.{◌≡◌, inl, inr, true, false, List, [], ◌∷
 use Rattle.std.specs.Ordering.{is_lt}
 use Rattle.std.proofs.lemmas.Bool.{cases_Bool, both_ways}
 use Rattle.std.proofs.lemmas.Slice.Eq.{bytes_eq-Decides}
-use Rattle.task_sheet.specs.TaskSet.{rank_cmp}
+use Rattle.task_sheet.specs.Rank.{rank_cmp}
 use Rattle.drafts.specs.declared.roster.Owned.{Owned}
 use Rattle.drafts.specs.Applied.{bears_name, held, without_name, placed, with_task}
 

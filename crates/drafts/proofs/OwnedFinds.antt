@@ -9,7 +9,7 @@ use Rattle.std.proofs.lemmas.Option.{slice_get_within, get_or_from_slice_get}
 use Rattle.task_sheet.specs.Sheet.{Task, same_bytes, no_task}
 use Rattle.drafts.specs.declared.roster.Owned.{Owned}
 use Rattle.drafts.specs.Applied.{owned_of, held}
-use Rattle.drafts.specs.Changes.{sheet_held}
+use Rattle.drafts.specs.Edits.{sheet_held}
 
 place-owned : (p : Task → Bool) (ss : List Task) (ts : List ℕ) → length ts ≡ length ss → position_or_len (λ (o : Owned). p o.sheet) (owned_of ss ts) ≡ position_or_len p ss
 place-owned p [] ts same = refl

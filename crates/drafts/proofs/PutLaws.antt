@@ -10,7 +10,7 @@ use Rattle.drafts.specs.declared.change.Change.{Change}
 use Rattle.drafts.specs.declared.change.Change.TheVariants.{Put, Remove}
 use Rattle.drafts.specs.declared.change.Refusal.{Refusal}
 use Rattle.drafts.specs.Applied.{held, is_there, is_foreign, with_task, without_name, after_change, then_on, all_changes, if_few, applied}
-use Rattle.drafts.specs.Changes.{IsNamed, AreNamed, HasTasks, is_put, has_put}
+use Rattle.drafts.specs.Edits.{IsNamed, AreNamed, HasTasks, is_put, has_put}
 use Rattle.drafts.proofs.RosterLaws.{drop-at}
 use Rattle.drafts.proofs.MapLaws.{held-with, held-with_other, held-without_other}
 

@@ -12,7 +12,8 @@ use Rattle.std.proofs.lemmas.List.Elements.{recursion_from_All}
 use Rattle.std.proofs.lemmas.List.Sorted.{IsPermutation-sym}
 use Rattle.std.proofs.lemmas.List.Kept.{IsStrictlySortedBy-filter}
 use Rattle.task_sheet.specs.Sheet.{Task, IsValidSheet, same_bytes}
-use Rattle.task_sheet.specs.TaskSet.{rank_cmp, same_name, others_of, first_repeat, AreDistinct, IsTaskSet, IsByRank}
+use Rattle.task_sheet.specs.Rank.{rank_cmp, IsByRank}
+use Rattle.task_sheet.specs.TaskSet.{same_name, others_of, first_repeat, AreDistinct, IsTaskSet}
 use Rattle.task_sheet.specs.SheetsFault.{sheets_fault}
 use Rattle.task_sheet.proofs.SetLaws.{rank_total, same_turned, below, passing, distinct_less}
 use Rattle.task_sheet.proofs.Unique.{sorted_unique}

@@ -1,7 +1,7 @@
 -- The book, and what an entry makes of it.
 use Rattle.std.specs.Prelude.{◌≡◌, ℕ, ◌+◌, length, List, [], ◌∷◌, ◌++◌}
 use Rattle.drafts.specs.Machine.{MachineState, empty_desk, Entry, after_entry, IsDecision, IsLegal, replay, admissions}
-use Rattle.drafts.specs.Changes.{Draft}
+use Rattle.drafts.specs.Edits.{Draft}
 
 -- the state, and the log of all decisions
 pub record Book : Type 0 where

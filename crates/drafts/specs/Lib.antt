@@ -5,10 +5,9 @@ pub mod Machine
 pub mod Rulings
 pub mod Commits
 pub mod Books
-pub mod Changes
+pub mod Edits
 pub mod Outcomes
 pub mod DraftFields
-pub mod EditFaults
 pub mod BookFields
 pub mod Proposals
 pub mod Settling

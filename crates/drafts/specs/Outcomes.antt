@@ -13,7 +13,7 @@ use Rattle.drafts.specs.declared.judging.Judged.TheVariants as judged
 use Rattle.drafts.specs.Applied.{owned_of, set_of}
 use Rattle.drafts.specs.Machine.{MachineState, Ruling, Entry, admitted}
 use Rattle.drafts.specs.Machine as ruling
-use Rattle.drafts.specs.Changes.{Draft}
+use Rattle.drafts.specs.Edits.{Draft}
 
 -- the changes are refused, or come to these tasks with their teams
 abbrev pub IsApplied : Result (List Owned) Refusal → Applied → Type 0

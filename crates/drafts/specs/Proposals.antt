@@ -4,7 +4,7 @@ use Rattle.drafts.specs.declared.judging.Judged.{Judged}
 use Rattle.drafts.specs.Applied.{applied}
 use Rattle.drafts.specs.Books.{Book}
 use Rattle.drafts.specs.Machine.{Ruling}
-use Rattle.drafts.specs.Changes.{Draft, on_base}
+use Rattle.drafts.specs.Edits.{Draft, on_base}
 use Rattle.drafts.specs.Outcomes.{IsJudged, IsSaid}
 
 -- a draft, and what its changes come to on its base, with the verdict

@@ -3,7 +3,8 @@ use Rattle.std.specs.Prelude.{◌≡◌, List, Option, None, Some, Result, Ok, E
 use Rattle.std.specs.List.{AllByRecursion}
 use Rattle.std.specs.List.Sorted.{IsStrictlySortedBy}
 use Rattle.task_sheet.specs.Sheet.{IsValidSheet}
-use Rattle.task_sheet.specs.TaskSet.{rank_cmp, same_name, AreDistinct}
+use Rattle.task_sheet.specs.Rank.{rank_cmp}
+use Rattle.task_sheet.specs.TaskSet.{same_name, AreDistinct}
 use Rattle.drafts.specs.declared.roster.Owned.{Owned}
 use Rattle.drafts.specs.declared.change.Refusal.{Refusal}
 use Rattle.drafts.specs.Applied.{set_of}

@@ -8,7 +8,7 @@ use Rattle.drafts.specs.declared.change.Refusal.{Refusal}
 use Rattle.drafts.specs.declared.proposal.VerdictFault.{VerdictFault}
 use Rattle.drafts.specs.declared.proposal.VerdictFault.TheVariants.{Stranger, OutOfMemory}
 use Rattle.drafts.specs.Applied.{set_of}
-use Rattle.drafts.specs.Changes.{Draft, on_base}
+use Rattle.drafts.specs.Edits.{Draft, on_base}
 
 -- the changes apply, and come to that set
 abbrev pub IsOnSet : Result (List Owned) Refusal → List Task → Type 0

@@ -2,7 +2,7 @@
 
 ghost use Rattle.std.specs.Prelude.{◌≡◌, None, IfOk};
 ghost use Rattle.std.specs.List.Sorted.{IsStrictlySortedBy};
-ghost use Rattle.task_sheet.specs.TaskSet.{rank_cmp};
+ghost use Rattle.task_sheet.specs.Rank.{rank_cmp};
 ghost use Rattle.task_sheet.specs.SheetsFault.{sheets_fault};
 ghost use Rattle.drafts.specs.Applied.{after_change, all_changes, if_few, applied};
 ghost use Rattle.drafts.specs.Rosters.{IsRoster, IsMade};

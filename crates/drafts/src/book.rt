@@ -2,7 +2,7 @@
 
 ghost use Rattle.std.specs.Prelude.{◌≡◌, ◌<◌, ◌+◌, ◌^◌, [], ◌∷◌, IfOk, IfSome, IfNone, OnOk, OnErr, length, map, option_map};
 ghost use Rattle.drafts.specs.Applied.{applied};
-ghost use Rattle.drafts.specs.Changes.{on_base};
+ghost use Rattle.drafts.specs.Edits.{on_base};
 ghost use Rattle.drafts.specs.Machine.{Entry, IsDecision, IsLegal, replay, empty_desk, admissions};
 ghost use Rattle.drafts.specs.Outcomes.{IsJudged, IsSaid, IsNextState, IsEntryOf, after_next};
 ghost use Rattle.drafts.specs.Rulings.{ruling_of};

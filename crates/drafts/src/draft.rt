@@ -3,8 +3,7 @@
 ghost use Rattle.std.specs.Prelude.{◌≡◌, ◌+◌, ◌<◌, ◌≤◌, take, [], ◌∷◌, Ok, IfOk, IfErr, IfSome, IsTrue, OnOk, OnErr, length, option_map, slice_get, nat_eq, false};
 ghost use Rattle.std.specs.Cmp.Lexicographic.{pointwise};
 ghost use Rattle.indexmap.specs.IndexMap.{IsUnique};
-ghost use Rattle.drafts.specs.Changes.{IsNamed, HaveDistinctNames, AreNamed, HasTasks, has_put, is_full, is_put, recorded, view, after_put, after_remove, on_base};
-ghost use Rattle.drafts.specs.EditFaults.{IsEditFault};
+ghost use Rattle.drafts.specs.Edits.{IsNamed, HaveDistinctNames, AreNamed, HasTasks, has_put, is_full, is_put, recorded, view, after_put, after_remove, on_base, IsEditFault};
 ghost use Rattle.drafts.specs.declared.draft.TheConstants.{CHANGE_LIMIT};
 ghost use Rattle.drafts.specs.Outcomes.{IsApplied};
 
@@ -30,7 +29,7 @@ pub struct Draft {
 }
 
 impl Model for Draft {
-    ghost use Rattle.drafts.specs.Changes.{Draft};
+    ghost use Rattle.drafts.specs.Edits.{Draft};
 
     ghost Value = { Draft };
 

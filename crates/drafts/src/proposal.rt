@@ -3,7 +3,7 @@
 ghost use Rattle.std.specs.Prelude.{◌≡◌, ◌↔◌, IsTrue, IfOk, IfErr};
 ghost use Rattle.task_sheet.specs.Verdicts.{IsVerdictOf};
 ghost use Rattle.assignment.specs.Verdict.{verdict_set, verdict_of};
-ghost use Rattle.drafts.specs.Changes.{on_base};
+ghost use Rattle.drafts.specs.Edits.{on_base};
 ghost use Rattle.drafts.specs.Outcomes.{IsJudged, IsShared};
 ghost use Rattle.drafts.specs.VerdictFaults.{IsOnSet, IsVerdictFault};
 ghost use Rattle.drafts.specs.Proposals.{IsProposal};

@@ -2,7 +2,7 @@
 
 ghost use Rattle.std.specs.Prelude.{◌≡◌, ◌≤◌, ◌<◌, length, take, insert, position, not, option_copied, IfOk, OnOk, OnErr};
 ghost use Rattle.std.specs.Ordering.{is_lt};
-ghost use Rattle.task_sheet.specs.TaskSet.{rank_cmp};
+ghost use Rattle.task_sheet.specs.Rank.{rank_cmp};
 ghost use Rattle.drafts.specs.Applied.{owned_of, set_of, teams_of, held, is_foreign, is_there, without_name, placed};
 
 use crate::team::Team;

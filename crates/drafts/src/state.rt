@@ -7,7 +7,7 @@ ghost use Rattle.task_sheet.specs.Verdicts.{IsBestOrder};
 ghost use Rattle.task_sheet.specs.declared.set.TheConstants.{TASK_LIMIT};
 ghost use Rattle.drafts.specs.Applied.{owned_of, set_of, held, holder_after, is_foreign, is_there, is_team_at, teams_of};
 ghost use Rattle.drafts.specs.Rosters.{IsRoster};
-ghost use Rattle.drafts.specs.Changes.{sheet_held};
+ghost use Rattle.drafts.specs.Edits.{sheet_held};
 ghost use Rattle.drafts.specs.Machine.{empty_desk};
 
 use crate::roster::{Owned, join};

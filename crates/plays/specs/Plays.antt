@@ -5,7 +5,7 @@ use Rattle.assignment.specs.Questions.{FindingData}
 use Rattle.drafts.specs.declared.roster.Owned.{Owned}
 use Rattle.drafts.specs.declared.change.Refusal.{Refusal}
 use Rattle.drafts.specs.Applied.{set_of}
-use Rattle.drafts.specs.Changes.{on_base}
+use Rattle.drafts.specs.Edits.{on_base}
 use Rattle.drafts.specs.Machine.{MachineState}
 use Rattle.desk_core.specs.declared.events.Cause.{Cause}
 use Rattle.desk_core.specs.declared.events.Cause.TheVariants as cause

@@ -5,10 +5,10 @@ use Rattle.candidate_workers.specs.Faults.{IsBadCount}
 use Rattle.drafts.specs.Applied.{applied}
 use Rattle.drafts.specs.declared.change.Refusal.{Refusal}
 use Rattle.drafts.specs.declared.roster.Owned.{Owned}
-use Rattle.drafts.specs.Changes.{Draft}
+use Rattle.drafts.specs.Edits.{Draft}
 use Rattle.book_lock.specs.Asking.{IsUntested}
 use Rattle.book_lock.specs.Commits.{IsUntestedOn, IsUndecided, Commits}
-use Rattle.book_lock.specs.Passes.{Known}
+use Rattle.book_lock.specs.TeamPass.{Known}
 use Rattle.book_lock.specs.Settles.{IsReceived}
 use Rattle.book_lock.specs.declared.commit.CommitCause.{CommitCause}
 use Rattle.book_lock.specs.declared.commit.CommitCause.TheVariants.{OtherTeam, BadWorkers, ThreadRefused, GateShut, OutOfMemory}

@@ -4,10 +4,10 @@ use Rattle.std.specs.Prelude.{Result, Ok, Err, IfOk, IfErr}
 use Rattle.std.proofs.lemmas.Bool.{cases_order}
 use Rattle.std.proofs.lemmas.Bool.Decides.{Decides-eqb}
 use Rattle.drafts.specs.Machine.{Entry}
-use Rattle.book_lock.specs.Passes.{Known, newcomer, newcomers, has_team, placed_entries, HaveReceipts}
+use Rattle.book_lock.specs.TeamPass.{Known, newcomer, newcomers, has_team, placed_entries, HaveReceipts}
 use Rattle.scripts.specs.declared.line.Line.{Line}
 use Rattle.rushes.specs.Hands.{Hand, new_hand, AreDone, AreParts}
-use Rattle.rushes.specs.Starts.{Each, IsEnd, first_fault}
+use Rattle.rushes.specs.Faults.{Each, IsEnd, first_fault}
 use Rattle.rushes.specs.declared.fault.RushFault.{RushFault}
 use Rattle.rushes.proofs.RunLaws.{lines_team}
 

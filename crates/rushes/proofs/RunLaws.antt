@@ -3,9 +3,9 @@ use Rattle.std.proofs.Common.{◌≡◌, ◌∙◌, ℕ, ◌==◌, List, [], ◌
 use Rattle.std.specs.Prelude.{MatchBool, Result}
 use Rattle.drafts.specs.declared.change.Change.{Change}
 use Rattle.drafts.specs.declared.draft.EditRefusal.{EditRefusal}
-use Rattle.drafts.specs.Changes.{Draft, after_put, after_remove}
+use Rattle.drafts.specs.Edits.{Draft, after_put, after_remove}
 use Rattle.book_lock.specs.Opening.{IsOpenedFor}
-use Rattle.book_lock.specs.Passes.{Known}
+use Rattle.book_lock.specs.TeamPass.{Known}
 use Rattle.rushes.specs.declared.note.Missed.{Missed}
 use Rattle.scripts.specs.declared.line.Line.{Line}
 use Rattle.scripts.specs.declared.line.Row.{Row}

@@ -1,6 +1,6 @@
 -- What a `Hand` keeps right: its drafts are of its team.
 use Rattle.std.specs.Prelude.{◌≡◌, ℕ, List, [], ◌∷◌, Option, None, Some}
-use Rattle.drafts.specs.Changes.{Draft}
+use Rattle.drafts.specs.Edits.{Draft}
 
 -- a draft is of that team
 abbrev pub IsOfTeam : ℕ → Option Draft → Type 0

@@ -4,11 +4,11 @@ use Rattle.drafts.specs.declared.change.Change.{Change}
 use Rattle.drafts.specs.declared.draft.EditRefusal.{EditRefusal}
 use Rattle.drafts.specs.Books.{Book, IsLegalBook}
 use Rattle.drafts.specs.Machine.{Entry}
-use Rattle.drafts.specs.Changes.{Draft, after_put, after_remove}
+use Rattle.drafts.specs.Edits.{Draft, after_put, after_remove}
 use Rattle.drafts.specs.declared.team.TheConstants.{TEAM_LIMIT}
 use Rattle.book_lock.specs.declared.closing.Closing.{Closing}
 use Rattle.book_lock.specs.Opening.{IsOpenedFor}
-use Rattle.book_lock.specs.Passes.{Known, newcomer, placed_entries}
+use Rattle.book_lock.specs.TeamPass.{Known, newcomer, placed_entries}
 use Rattle.book_lock.specs.Commits.{Commits}
 use Rattle.rushes.specs.declared.edit.Edit.{Edit}
 use Rattle.rushes.specs.declared.edit.Edit.TheVariants as edit

@@ -1,4 +1,4 @@
 pub mod Hands
 pub mod HandFields
-pub mod Starts
+pub mod Faults
 pub mod Printed

@@ -1,7 +1,6 @@
 //! Where a team keeps one of its drafts.
 ghost use Rattle.std.specs.Prelude.{◌≡◌, ◌↔◌, IfOk, IfErr, OnOk, OnErr, Ok, IsTrue, IsSome, ℕ, None, Some, option_map, Option};
-ghost use Rattle.drafts.specs.Changes.{Draft};
-ghost use Rattle.drafts.specs.EditFaults.{IsEditFault};
+ghost use Rattle.drafts.specs.Edits.{Draft, IsEditFault};
 ghost use Rattle.drafts.specs.declared.draft.EditCause.TheVariants.{Refused};
 ghost use Rattle.rushes.specs.Hands.{comes_to, edited, refused};
 ghost use Rattle.rushes.specs.HandFields.{IsOfTeam};

@@ -1,6 +1,6 @@
 use Rattle.std.proofs.Common.{refl, sym, subst}
 use Rattle.drafts.specs.declared.applying.Applied.{Applied}
-use Rattle.drafts.specs.Changes.{on_base}
+use Rattle.drafts.specs.Edits.{on_base}
 use Rattle.assignment.specs.Questions.{QuestionData}
 use Rattle.book_lock.proofs.Testing.{IsToldSet, set_told, none_shut_from, untested_from}
 use Rattle.book_lock.proofs.asking.test.Goals as goal

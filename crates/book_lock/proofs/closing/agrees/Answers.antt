@@ -1,7 +1,7 @@
 use Rattle.std.proofs.Common.{◌≡◌, map}
 use Rattle.std.proofs.lemmas.List.{drop_all}
 use Rattle.book_lock.specs.PassFields.{receipt_of}
-use Rattle.book_lock.specs.Passes.{placed_entries}
+use Rattle.book_lock.specs.TeamPass.{placed_entries}
 use Rattle.book_lock.proofs.AgreeLaws.{at_end}
 use Rattle.book_lock.proofs.closing.agrees.Goals as goal
 

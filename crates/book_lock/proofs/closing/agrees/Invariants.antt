@@ -1,6 +1,6 @@
 use Rattle.std.proofs.Common.{◌≡◌, ◌+◌, ◌≤◌, ◌↔◌, drop, map, length}
 use Rattle.book_lock.specs.PassFields.{receipt_of}
-use Rattle.book_lock.specs.Passes.{placed_entries}
+use Rattle.book_lock.specs.TeamPass.{placed_entries}
 use Rattle.book_lock.proofs.closing.agrees.Given as goal
 
 abbrev pub invariant-loop-i : goal.invariant-loop-i

@@ -1,5 +1,5 @@
 use Rattle.std.proofs.Common.{◌↔◌, drop, map}
-use Rattle.book_lock.specs.Passes.{HaveReceipts, placed_entries}
+use Rattle.book_lock.specs.TeamPass.{HaveReceipts, placed_entries}
 use Rattle.book_lock.proofs.closing.all_agree.Given as goal
 
 abbrev pub invariant-loop-pass : goal.invariant-loop-pass

@@ -1,5 +1,5 @@
 use Rattle.std.proofs.Common.{ap, arith}
-use Rattle.book_lock.specs.Passes.{parts_of, receipt_count}
+use Rattle.book_lock.specs.TeamPass.{parts_of, receipt_count}
 use Rattle.book_lock.proofs.closing.united.Goals as goal
 
 pub loop-pass-preserved : goal.loop-pass-preserved

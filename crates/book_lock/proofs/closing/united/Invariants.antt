@@ -1,6 +1,6 @@
 use Rattle.std.proofs.Common.{◌≡◌, ◌+◌}
 use Rattle.std.specs.Vec.Iter.{into_iter_items}
-use Rattle.book_lock.specs.Passes.{parts_of, receipt_count}
+use Rattle.book_lock.specs.TeamPass.{parts_of, receipt_count}
 use Rattle.book_lock.proofs.closing.united.Given as goal
 
 abbrev pub invariant-loop-pass : goal.invariant-loop-pass

@@ -1,4 +1,4 @@
-use Rattle.drafts.specs.Changes.{on_base}
+use Rattle.drafts.specs.Edits.{on_base}
 use Rattle.desk_core.specs.Stages.{found_of}
 use Rattle.desk_core.proofs.BroughtLaws.{brought-answer, tested-stranger}
 use Rattle.desk_core.proofs.StageLaws.{trying-stage, tested-stage}

@@ -1,5 +1,5 @@
 use Rattle.std.proofs.Common.{refl}
-use Rattle.drafts.specs.Changes.{on_base}
+use Rattle.drafts.specs.Edits.{on_base}
 use Rattle.desk_core.specs.Stages.{found_of}
 use Rattle.desk_core.proofs.StageLaws.{trying-stage, trying-tested, tested-stage}
 use Rattle.desk_core.proofs.stage.is_tested.Goals as goal

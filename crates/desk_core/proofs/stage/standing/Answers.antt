@@ -1,5 +1,5 @@
 use Rattle.std.proofs.Common.{◌∙◌, sym, ap, subst}
-use Rattle.drafts.specs.Changes.{on_base}
+use Rattle.drafts.specs.Edits.{on_base}
 use Rattle.desk_core.specs.declared.stage.Stage.{Stage}
 use Rattle.desk_core.specs.Stages.{found_of, IsStage}
 use Rattle.desk_core.proofs.StageLaws.{tested-standing}

@@ -1,6 +1,6 @@
 use Rattle.std.proofs.Common.{◌≡◌, ◌∙◌, ℕ, List, take, slice_get, Some, sym, ap, add-one}
 use Rattle.drafts.specs.declared.change.Change.{Change}
-use Rattle.drafts.specs.Changes.{recorded}
+use Rattle.drafts.specs.Edits.{recorded}
 use Rattle.drafts.proofs.ChangeLaws.{recorded-next}
 use Rattle.drafts.proofs.draft.copy_at.Goals as goal
 use Rattle.drafts.proofs.draft.copy_at.Goals.{in-Ok, in-Err}

@@ -1,6 +1,6 @@
 use Rattle.std.proofs.Common.{sym, subst, List, ℕ, ◌≤◌, length}
 use Rattle.drafts.specs.declared.change.Change.{Change}
-use Rattle.drafts.specs.Changes.{AreNamed}
+use Rattle.drafts.specs.Edits.{AreNamed}
 use Rattle.drafts.proofs.ChangeLaws.{recorded-few, recorded-named}
 use Rattle.drafts.proofs.draft.record.Goals as goal
 

@@ -1,7 +1,7 @@
 use Rattle.std.proofs.Common.{◌≡◌, ◌≤◌, ◌∙◌, ℕ, List, map, string_bytes, sym, subst, arith}
 use Rattle.std.proofs.lemmas.Bool.{false≢true}
 use Rattle.book_lock.specs.Closing.{IsUnclosed, IsMissing, IsReceipted}
-use Rattle.book_lock.specs.Passes.{Known, newcomers}
+use Rattle.book_lock.specs.TeamPass.{Known, newcomers}
 use Rattle.book_lock.specs.declared.closing.CloseCause.{CloseCause}
 use Rattle.rushes.specs.Hands.{Hand, closed_book}
 use Rattle.rushes.specs.Printed.{all_note_lines}

@@ -1,5 +1,5 @@
 use Rattle.std.proofs.Common.{◌≡◌, ◌∙◌, ℕ, Ok, Err, sym, ap, subst}
-use Rattle.drafts.specs.Changes.{Draft}
+use Rattle.drafts.specs.Edits.{Draft}
 use Rattle.drafts.specs.Proposals.{ProposalData}
 use Rattle.book_lock.specs.Settles.{IsReceived, AnswersProposal}
 use Rattle.book_lock.specs.declared.answer.Settlement.{Settlement}

@@ -1,7 +1,7 @@
 use Rattle.std.proofs.Common.{◌≡◌, ◌≤◌, ℕ, List, true, map, sym, ap, subst, ◌∙◌}
 use Rattle.drafts.specs.Books.{Book, IsLegalBook}
 use Rattle.drafts.specs.Machine.{Entry}
-use Rattle.book_lock.specs.Passes.{Known, has_team, placed_entries, HaveReceipts}
+use Rattle.book_lock.specs.TeamPass.{Known, has_team, placed_entries, HaveReceipts}
 use Rattle.book_lock.proofs.desk.Desk.close.Goals as goal
 
 pub returns-clause-ok : goal.returns-clause-ok

@@ -1,5 +1,5 @@
 use Rattle.std.proofs.Common.{◌≡◌, ◌<◌, ℕ, ◌&&◌, nat_le, length, rules}
-use Rattle.book_lock.specs.Passes.{admitted_version}
+use Rattle.book_lock.specs.TeamPass.{admitted_version}
 use Rattle.book_lock.proofs.Receiving.{IsLatest-received}
 use Rattle.book_lock.proofs.locked.Locked.settle_held.Goals as goal
 

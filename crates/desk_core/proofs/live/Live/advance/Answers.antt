@@ -1,4 +1,4 @@
-use Rattle.drafts.specs.Changes.{on_base}
+use Rattle.drafts.specs.Edits.{on_base}
 use Rattle.desk_core.specs.LiveFields.{live_of}
 use Rattle.desk_core.specs.Stages.{found_of}
 use Rattle.desk_core.proofs.AdvanceLaws.{live-advanced}

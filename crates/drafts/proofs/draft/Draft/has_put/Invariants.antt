@@ -1,5 +1,5 @@
 use Rattle.std.proofs.Common.{◌≡◌, drop}
-use Rattle.drafts.specs.Changes.{has_put}
+use Rattle.drafts.specs.Edits.{has_put}
 use Rattle.drafts.proofs.draft.Draft.has_put.Given as goal
 
 -- none of the changes so far is a put

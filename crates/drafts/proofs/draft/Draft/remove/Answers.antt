@@ -1,6 +1,6 @@
 use Rattle.std.proofs.Common.{◌≤◌, List, ℕ, length, sym, subst}
 use Rattle.drafts.specs.declared.change.Change.{Change}
-use Rattle.drafts.specs.Changes.{AreNamed}
+use Rattle.drafts.specs.Edits.{AreNamed}
 use Rattle.drafts.proofs.ChangeLaws.{dropped-few, dropped-named}
 use Rattle.drafts.proofs.draft.Draft.remove.Goals as goal
 

@@ -3,7 +3,7 @@ use Rattle.task_sheet.specs.Sheet.{Task, same_bytes}
 use Rattle.drafts.specs.Machine.{MachineState}
 use Rattle.drafts.specs.declared.roster.Owned.{Owned}
 use Rattle.drafts.specs.Applied.{held}
-use Rattle.drafts.specs.Changes.{sheet_held}
+use Rattle.drafts.specs.Edits.{sheet_held}
 use Rattle.drafts.proofs.OwnedFinds.{held-none, sheet-some}
 use Rattle.drafts.proofs.state.NodeState.sheet_of.Goals as goal
 

@@ -1,5 +1,5 @@
 use Rattle.std.proofs.Common.{sym, subst, Option}
-use Rattle.drafts.specs.Changes.{Draft}
+use Rattle.drafts.specs.Edits.{Draft}
 use Rattle.rushes.specs.HandFields.{IsOfTeam}
 use Rattle.rushes.proofs.HandLaws.{AllOwn-set}
 use Rattle.rushes.proofs.hand.Hand.abandon.Goals as goal

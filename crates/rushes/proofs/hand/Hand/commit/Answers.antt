@@ -1,5 +1,5 @@
 use Rattle.std.proofs.Common.{◌≡◌, ◌<◌, ◌∙◌, length, List, get_or, set, Option, None, sym, ap, subst, arith}
-use Rattle.drafts.specs.Changes.{Draft}
+use Rattle.drafts.specs.Edits.{Draft}
 use Rattle.rushes.specs.Hands.{Hand, draft_at, IsTeamCommit}
 use Rattle.rushes.specs.HandFields.{IsOfTeam}
 use Rattle.rushes.proofs.HandLaws.{AllOwn-gone, AllOwn-read, committed_team, committed_as, draft_there, other_cause}

@@ -1,5 +1,5 @@
 use Rattle.std.proofs.Common.{Option, sym, subst}
-use Rattle.drafts.specs.Changes.{Draft}
+use Rattle.drafts.specs.Edits.{Draft}
 use Rattle.rushes.specs.HandFields.{IsOfTeam}
 use Rattle.rushes.proofs.HandLaws.{AllOwn-pushed}
 use Rattle.rushes.proofs.hand.Hand.open.Goals as goal

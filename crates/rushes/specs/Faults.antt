@@ -1,7 +1,7 @@
 -- Threads that run the lines of teams.
 use Rattle.std.specs.Prelude.{ℕ, List, [], ◌∷◌, Option, None, Some, Result, Ok, Err}
 use Rattle.scripts.specs.declared.line.Line.{Line}
-use Rattle.book_lock.specs.Passes.{Known}
+use Rattle.book_lock.specs.TeamPass.{Known}
 use Rattle.rushes.specs.Hands.{Hand, new_hand, AreDone}
 use Rattle.rushes.specs.declared.fault.RushFault.{RushFault}
 

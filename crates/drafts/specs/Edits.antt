@@ -10,6 +10,8 @@ use Rattle.drafts.specs.declared.change.Change.TheVariants.{Put, Remove}
 use Rattle.drafts.specs.declared.draft.TheConstants.{CHANGE_LIMIT}
 use Rattle.drafts.specs.declared.draft.EditRefusal.{EditRefusal}
 use Rattle.drafts.specs.declared.draft.EditRefusal.TheVariants.{NotYours, NoSuchTask, DraftFull}
+use Rattle.drafts.specs.declared.draft.EditCause.{EditCause}
+use Rattle.drafts.specs.declared.draft.EditCause.TheVariants.{OutOfMemory, Refused}
 use Rattle.drafts.specs.declared.change.Refusal.{Refusal}
 use Rattle.drafts.specs.Applied.{held, is_foreign, is_there, applied}
 use Rattle.drafts.specs.Machine.{MachineState}
@@ -98,3 +100,8 @@ after_remove d name =
     else (if not (is_there (held name d.base.tasks)) then Ok (dropped name d.changes)
     else (if is_full name d.changes then Err DraftFull
     else Ok (recorded name Remove d.changes))))
+
+-- want of memory, or the refusal that the edit comes to
+abbrev pub IsEditFault : Result (List (List ℕ × Change)) EditRefusal → EditCause → Type 0
+IsEditFault outcome OutOfMemory = Unit {0}
+IsEditFault outcome (Refused refusal) = outcome ≡ Err refusal
