@@ -4,7 +4,7 @@ ghost use Rattle.ceilings.specs.IsTableOf.{IsTableOf};
 
 use blocking::blocking;
 use ceilings::LockTable;
-use example_sets::{again, name, set_of};
+use example_sets::{again, name, padded_set_of, set_of};
 use response_time::{Answer, demand, passes, respond};
 use std::alloc::Global;
 use std::process::Abort;
@@ -47,7 +47,7 @@ fn response_of(
     task: usize,
     above: &[usize],
 ) -> Result<(bool, usize), Fail> {
-    let set = set_of(alloc, document)?;
+    let set = padded_set_of(alloc, document)?;
     let table = again!(LockTable::new(alloc, &set))?;
     assert!(rt; task < set.len());
     response_in(rt, alloc, &set, &table, task, members_of(rt, above))
@@ -56,7 +56,9 @@ fn response_of(
 // An example, a task of it, the tasks above it, whether it passes, and its evaluations.
 type Row = (&'static str, usize, &'static [usize], bool, usize);
 
-const ROWS: [Row; 17] = [
+// With timers, x takes 420 and the two timers and the interrupt 10 + 10 + 50: 490, which it is done within. y below x
+// takes 920 + 420 + 70 = 1410 from 1 on, and 50 more past 1000: 1, 1410, 1460.
+const ROWS: [Row; 20] = [
     (example_sets::FILLS_ITS_PERIOD, 0, &[], true, 2),
     (example_sets::DEMAND_OF_THE_DEADLINE, 0, &[1], true, 2),
     (example_sets::COST_PAST_THE_DEADLINE, 0, &[], false, 1),
@@ -74,6 +76,9 @@ const ROWS: [Row; 17] = [
     (example_sets::THREE_TASKS_TOO_TIGHT, 2, &[0, 1], false, 4),
     (example_sets::SHARED_LOCK, 0, &[1, 2], true, 3),
     (example_sets::BLOCKED_OUT, 0, &[], false, 1),
+    (example_sets::TIMERS, 0, &[], true, 2),
+    (example_sets::TIMERS, 1, &[0], true, 3),
+    (example_sets::TIMERS_OVERRUN, 0, &[1], false, 1),
 ];
 
 #[test]
@@ -137,7 +142,7 @@ fn demand_in(
     above: &[usize],
     time: u64,
 ) -> Result<u64, Fail> {
-    let set = set_of(alloc, document)?;
+    let set = padded_set_of(alloc, document)?;
     let table = again!(LockTable::new(alloc, &set))?;
     let above = members_of(rt, above);
     assert!(rt; task < set.len());
@@ -148,7 +153,10 @@ fn demand_in(
 // A document, a task of it, the tasks above that one, a window and the task's demand in it: the exchange with equality,
 // with y below x and above it; the demand of the deadline above the deadline; a's jitter, which brings a job more where
 // a stands above, and none where it stands below.
-const DEMANDS: [(&str, usize, &[usize], u64, u64); 13] = [
+// With timers x takes 420, and y 920; in a window up to 1000 two timers and one interrupt come, 10 + 10 + 50. Up to 2000
+// the interrupt comes twice; past that, x is released twice, and with it its timer, up to 3000. Past 5000 so is y: with
+// nobody above it x has 420 + 3 * 10 + 2 * 10 + 6 * 50.
+const DEMANDS: [(&str, usize, &[usize], u64, u64); 19] = [
     (example_sets::EXCHANGE_WITH_EQUALITY, 0, &[], 1, 3000),
     (example_sets::EXCHANGE_WITH_EQUALITY, 0, &[], 20000, 3000),
     (example_sets::EXCHANGE_WITH_EQUALITY, 0, &[], 20001, 3000),
@@ -162,6 +170,12 @@ const DEMANDS: [(&str, usize, &[usize], u64, u64); 13] = [
     (example_sets::THREE_TASKS_LATE, 2, &[0, 1], 20001, 23000),
     (example_sets::THREE_TASKS_LATE, 0, &[1], 12000, 6000),
     (example_sets::THREE_TASKS_LATE, 0, &[1], 12001, 9000),
+    (example_sets::TIMERS, 0, &[], 1, 490),
+    (example_sets::TIMERS, 0, &[], 2000, 540),
+    (example_sets::TIMERS, 0, &[], 5001, 770),
+    (example_sets::TIMERS, 1, &[0], 1000, 1410),
+    (example_sets::TIMERS, 1, &[0], 1001, 1460),
+    (example_sets::TIMERS, 1, &[0], 2001, 1940),
 ];
 
 #[test]

@@ -5,6 +5,7 @@ use certificate::{CertFault, read};
 use example_sets::{again, set_of};
 use std::alloc::{AllocError, Global};
 use std::test::Fail;
+use task_sheet::TaskSet;
 
 // Why a certificate was refused.
 fn push_fault(line: &mut String, fault: CheckFault) -> Result<(), AllocError> {
@@ -29,11 +30,15 @@ fn line_of(alloc: Global, said: Result<Checked, CheckFault>) -> Result<String, A
     Ok(line)
 }
 
+/// What the checker says of a certificate of a set.
+pub fn said_of(alloc: Global, set: &TaskSet, text: &str) -> Result<String, Fail> {
+    let certificate = again!(read(alloc, text.as_bytes()), CertFault::OutOfMemory)?;
+    Ok(line_of(alloc, check(set, &certificate))?)
+}
+
 // What the checker says of a certificate of a document's set.
 fn checked(alloc: Global, document: &str, text: &str) -> Result<String, Fail> {
-    let set = set_of(alloc, document)?;
-    let certificate = again!(read(alloc, text.as_bytes()), CertFault::OutOfMemory)?;
-    Ok(line_of(alloc, check(&set, &certificate))?)
+    said_of(alloc, &set_of(alloc, document)?, text)
 }
 
 /// What the checker says of the desk's own certificate of a document's set.
@@ -47,7 +52,7 @@ const BEST_OF_THREE: &str =
     "best 3\nlevel 1 c 20000\nfails a 1 11000\nfails b 1 11000 14000\nlevel 2 a 6000\nlevel 3 b 3000\n";
 
 // A set, the version of a certificate and its lines between the first and the last, and what the checker says of it.
-const CHECKS: [(&str, u64, &str, &str); 29] = [
+const CHECKS: [(&str, u64, &str, &str); 30] = [
     (example_sets::THREE_TASKS, 1, BEST_OF_THREE, "best"),
     (
         example_sets::THREE_TASKS,
@@ -170,6 +175,7 @@ const CHECKS: [(&str, u64, &str, &str); 29] = [
     // Versions of the best certificate of the three tasks.
     (example_sets::A_OVER_Z, 1, BEST_OF_THREE, "best"),
     (example_sets::THREE_TASKS, 2, BEST_OF_THREE, "best"),
+    (example_sets::THREE_TASKS, 3, BEST_OF_THREE, "best"),
     (
         example_sets::THREE_TASKS_LATE,
         1,

@@ -4,8 +4,10 @@ use assignment::{Verdict, assign};
 use certificate::{CertFault, Certificate, read};
 use example_sets::{again, match_both, shared_set};
 use std::alloc::Global;
+use std::sync::Arc;
 use std::test::Fail;
 use streams::Watched;
+use task_sheet::TaskSet;
 
 // The best certificate of the three tasks, of a version.
 macro_rules! best_of_three {
@@ -109,9 +111,8 @@ best 0
 end
 ";
 
-// The verdict on a document's set.
-fn verdict_on(alloc: Global, document: &str) -> Result<Verdict, Fail> {
-    let set = shared_set(alloc, document)?;
+// The verdict on a set.
+fn verdict_on(alloc: Global, set: Arc<TaskSet>) -> Result<Verdict, Fail> {
     Ok(again!(assign(alloc, set.clone()?))?)
 }
 
@@ -124,10 +125,15 @@ fn bytes_of(alloc: Global, own: &Certificate) -> Result<Vec<u8>, Fail> {
 }
 
 /// The bytes of the desk's own certificate of a set.
-pub fn certified(alloc: Global, document: &str) -> Result<String, Fail> {
-    let verdict = verdict_on(alloc, document)?;
+pub fn certificate_of(alloc: Global, set: Arc<TaskSet>) -> Result<String, Fail> {
+    let verdict = verdict_on(alloc, set)?;
     let own = again!(Certificate::of(alloc, &verdict))?;
     Ok(String::from_utf8(bytes_of(alloc, &own)?)?)
+}
+
+/// The same of a document's set.
+pub fn certified(alloc: Global, document: &str) -> Result<String, Fail> {
+    certificate_of(alloc, shared_set(alloc, document)?)
 }
 
 // A document, the desk's own certificate of its set, and what the checker says of that.
@@ -206,6 +212,7 @@ fn a_task_may_have_the_name_over(rt: HostRuntime) {
     for text in [
         "desk-certificate 2\nnone 1\nmember over over over\nend\n",
         "desk-certificate 2\nbest 1\nlevel 1 over 1\nfails over over over\nend\n",
+        "desk-certificate 3\nbest 1\nlevel 1 over 1\nfails over over over\nend\n",
     ] {
         assert_eq!(rt; fault_of(rt.alloc(), text.as_bytes()), None, "at {text}");
     }
@@ -213,7 +220,7 @@ fn a_task_may_have_the_name_over(rt: HostRuntime) {
 
 // Texts with a wrong first line.
 const BAD_HEADS: [&str; 2] = [
-    "desk-certificate 3\n",
+    "desk-certificate 4\n",
     "desk-certificate 1\r\nbest 0\nend\n",
 ];
 

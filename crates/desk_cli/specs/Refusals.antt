@@ -102,6 +102,9 @@ fault_words (fault.MissingKey task section key) = at_key (codes "MissingKey") ta
 fault_words (fault.WrongKind task section key) = at_key (codes "WrongKind") task section key
 fault_words fault.BadPreference = codes "BadPreference"
 fault_words fault.UnknownOverhead = codes "UnknownOverhead"
+fault_words (fault.BadOverhead key) = codes "BadOverhead " ++ word_of key
+fault_words (fault.BadInterrupt interrupt) = at_task (codes "BadInterrupt") interrupt
+fault_words fault.TooManyInterrupts = codes "TooManyInterrupts"
 fault_words (fault.BadName task section) = at_section (codes "BadName") task section
 fault_words (fault.Sheet task cause) = cause_words task cause
 fault_words (fault.BadJitter task) = at_task (codes "BadJitter") task
@@ -138,6 +141,7 @@ teams_words (teams.Taken team task other) =
 teams_words (teams.OtherPreference team other) =
     codes "OtherPreference " ++ team ++ codes " " ++ other
 teams_words (teams.OtherNode team other) = codes "OtherNode " ++ team ++ codes " " ++ other
+teams_words teams.TooManyInterrupts = codes "TooManyInterrupts"
 teams_words (teams.Node fault) = codes "node " ++ node_words fault
 teams_words (teams.NoSuchTeam team) = codes "NoSuchTeam " ++ team
 teams_words (teams.PastBudget team quantity number limit) =
@@ -189,6 +193,9 @@ script_words (script.Sheet number cause) =
 script_words (script.BadJitter number) = codes "line " ++ decimal number ++ codes " BadJitter"
 script_words (script.Outranks number cause) =
     codes "line " ++ decimal number ++ codes " " ++ outranks_words cause
+script_words (script.BadOverhead number) = codes "line " ++ decimal number ++ codes " BadOverhead"
+script_words (script.BadInterrupt number) =
+    codes "line " ++ decimal number ++ codes " BadInterrupt"
 script_words script.OutOfMemory = codes "OutOfMemory"
 
 -- the fault of settings: its line or its name

@@ -167,6 +167,8 @@ fn write_script_fault<W: fmt::Write>(fault: ScriptFault, f: &mut fmt::Formatter<
             let name = outranks_name(cause);
             write!(f, "line {line} {name}")
         }
+        ScriptFault::BadOverhead { line } => write!(f, "line {line} BadOverhead"),
+        ScriptFault::BadInterrupt { line } => write!(f, "line {line} BadInterrupt"),
         ScriptFault::OutOfMemory => f.write_str("OutOfMemory"),
     }
 }
@@ -188,6 +190,12 @@ fn write_fault<W: fmt::Write>(fault: SetFault, f: &mut fmt::Formatter<W>) -> fmt
         }
         SetFault::BadPreference => f.write_str("BadPreference"),
         SetFault::UnknownOverhead => f.write_str("UnknownOverhead"),
+        SetFault::BadOverhead { key } => {
+            let word = key.word();
+            write!(f, "BadOverhead {word}")
+        }
+        SetFault::BadInterrupt { interrupt } => write!(f, "BadInterrupt {interrupt}"),
+        SetFault::TooManyInterrupts => f.write_str("TooManyInterrupts"),
         SetFault::BadName { task, section } => write!(f, "BadName {task} {section}"),
         SetFault::Sheet { task, cause } => write_cause(task, cause, f),
         SetFault::BadJitter { task } => write!(f, "BadJitter {task}"),
@@ -245,6 +253,7 @@ fn write_teams_fault<W: fmt::Write>(fault: TeamsFault, f: &mut fmt::Formatter<W>
         TeamsFault::Taken { team, task, other } => write!(f, "TakenName {team} {task} {other}"),
         TeamsFault::OtherPreference { team, other } => write!(f, "OtherPreference {team} {other}"),
         TeamsFault::OtherNode { team, other } => write!(f, "OtherNode {team} {other}"),
+        TeamsFault::TooManyInterrupts => f.write_str("TooManyInterrupts"),
         TeamsFault::Node { fault } => {
             f.write_str("node ")?;
             write_node_fault(fault, f)

@@ -2,7 +2,7 @@
 use assignment::{Placing, place_all};
 use ceilings::LockTable;
 use diff::{Side, change_text};
-use example_sets::{EXCHANGE_WITH_EQUALITY, SHARED_LOCK, again, match_rows, set_of};
+use example_sets::{EXCHANGE_WITH_EQUALITY, SHARED_LOCK, again, match_rows, set_of, set_on_node};
 use std::alloc::Global;
 use std::test::Fail;
 use task_sheet::TaskSet;
@@ -66,32 +66,53 @@ fn placing_of(alloc: Global, set: &TaskSet) -> Result<Placing, Fail> {
     Ok(placing)
 }
 
-// The lines of the change from a document's set to another's.
-fn lines_of(alloc: Global, weighs: bool, from: &str, to: &str) -> Result<String, Fail> {
-    let before = set_of(alloc, from)?;
-    let after = set_of(alloc, to)?;
-    let was = placing_of(alloc, &before)?;
-    let is = placing_of(alloc, &after)?;
+// The lines of the change from one set to another.
+fn lines_of(
+    alloc: Global,
+    weighs: bool,
+    before: &TaskSet,
+    after: &TaskSet,
+) -> Result<String, Fail> {
+    let was = placing_of(alloc, before)?;
+    let is = placing_of(alloc, after)?;
     let old = Side {
-        set: &before,
+        set: before,
         placing: &was,
     };
     let new = Side {
-        set: &after,
+        set: after,
         placing: &is,
     };
     let text = again!(change_text(alloc, weighs, &old, &new))?;
     Ok(text)
 }
 
-// Where weights count.
+// From a document's set to another's, where weights count.
 fn weighed(alloc: Global, case: (&str, &str)) -> Result<String, Fail> {
-    lines_of(alloc, true, case.0, case.1)
+    let before = set_of(alloc, case.0)?;
+    let after = set_of(alloc, case.1)?;
+    lines_of(alloc, true, &before, &after)
 }
 
 // Where they don't.
 fn unweighed(alloc: Global, case: (&str, &str)) -> Result<String, Fail> {
-    lines_of(alloc, false, case.0, case.1)
+    let before = set_of(alloc, case.0)?;
+    let after = set_of(alloc, case.1)?;
+    lines_of(alloc, false, &before, &after)
+}
+
+// From a document's set to another's on a node.
+fn to_node(alloc: Global, case: (&str, &str)) -> Result<String, Fail> {
+    let before = set_of(alloc, case.0)?;
+    let after = set_on_node(alloc, case.1)?;
+    lines_of(alloc, true, &before, &after)
+}
+
+// The same, where both are on the node.
+fn on_node(alloc: Global, case: (&str, &str)) -> Result<String, Fail> {
+    let before = set_on_node(alloc, case.0)?;
+    let after = set_on_node(alloc, case.1)?;
+    lines_of(alloc, true, &before, &after)
 }
 
 #[test]
@@ -150,4 +171,23 @@ fn sections_are_a_key(rt: HostRuntime) -> Result<(), Fail> {
         ),
     ];
     match_rows(rt.alloc(), &rows, weighed)
+}
+
+#[test]
+fn what_a_node_takes_is_a_key(rt: HostRuntime) -> Result<(), Fail> {
+    // Two timers, 5 each, and of the second interrupt one job, 17.
+    let to = "changed a level 1 1 bound 3000 3027 slack 7000 6973 keys node interrupt
+changed b level 2 2 bound 2000 2027 slack 18000 17973 keys node
+";
+    // The interrupts are on the account of the first task. A third timer stands above the others.
+    let on = "added A level - 1 bound - 3132 slack - 96868
+changed a level 1 2 bound 3027 3032 slack 6973 6968 keys interrupt
+slower b level 2 3 bound 2027 2032 slack 17973 17968
+";
+    match_rows(rt.alloc(), &[((TWO, TWO), to)], to_node)?;
+    match_rows(
+        rt.alloc(),
+        &[((TWO, TWO), ""), ((TWO, A_THIRD_BELOW), on)],
+        on_node,
+    )
 }

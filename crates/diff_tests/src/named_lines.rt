@@ -43,8 +43,8 @@ fn reasons_have_teams(rt: HostRuntime) -> Result<(), Fail> {
             "  blocked 7 by a section 1 lock above team arm\n  above above 2 jobs 8 team cam\n",
         ),
         (
-            "  cost 3\n  jitter 1\nload 500\n",
-            "  cost 3\n  jitter 1\nload 500\n",
+            "  cost 3\n  node 2\n  jitter 1\n  timers 4\n  interrupt 1 2 jobs 6\nload 500\n",
+            "  cost 3\n  node 2\n  jitter 1\n  timers 4\n  interrupt 1 2 jobs 6\nload 500\n",
         ),
         ("conflict above of\n", "conflict above of\n"),
         ("a must be above of\n", "a must be above of\n"),

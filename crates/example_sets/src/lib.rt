@@ -1,13 +1,16 @@
 //! The sets of docs/EXAMPLES.md, as documents, and what tests make of a document.
 #![tactic(auto)]
 
+use overheads::{PadFault, pad};
 use std::alloc::Global;
 use std::fmt::Debug;
 use std::sync::Arc;
 use std::sync::atomic::{AtomicU64, Ordering};
 use std::test::Fail;
 use std::thread;
-use task_sheet::{Name, SetFault, TaskSet, read_set};
+use task_sheet::{
+    Interrupt, Name, Node, SetCause, SetFault, Sheet, SheetsFault, TaskSet, read_document, read_set,
+};
 
 // A document: each task by its name, its period, deadline and cost, and what follows the cost.
 macro_rules! tasks {
@@ -120,6 +123,33 @@ pub const SHARED_LOCK: &str = tasks!(
     "lo" 100000/100000/20000 ", section = [{ locks = ['m'], at = 100, len = 4000 }]"
 );
 
+/// The same, whose numbers have in them what NODE takes.
+pub const SHARED_LOCK_ON_NODE: &str = tasks!(
+    "hi" 10000/10000/1017 ", weight = 2, jitter = 15, section = [{ locks = ['m'], at = 15, len = 202 }]";
+    "mid" 20000/20000/2015 ", weight = 1, jitter = 15";
+    "lo" 100000/100000/20017 ", jitter = 15, section = [{ locks = ['m'], at = 115, len = 4002 }]"
+);
+
+/// What a node takes.
+pub const NODE: Node = Node {
+    job: 20,
+    lock: 2,
+    late: 15,
+    release: 5,
+};
+
+/// Its interrupts, of which the first takes nothing.
+pub const INTERRUPTS: [Interrupt; 2] = [
+    Interrupt {
+        period: 2000,
+        cost: 0,
+    },
+    Interrupt {
+        period: 4000,
+        cost: 17,
+    },
+];
+
 /// hi is blocked past its deadline.
 pub const BLOCKED_OUT: &str = blocked_out!(4400);
 
@@ -181,6 +211,26 @@ pub const SHARED_DEADLINES: &str = tasks!(
     "a" 9000/4000/100 ", weight = 9"
 );
 
+/// Two tasks on a node of which each job takes 30, 10 of that as the timer of whoever executes, and an interrupt: with that
+/// their costs are 420 and 920.
+pub const TIMERS: &str = "
+node = { job = 30, release = 10 }
+interrupt = [{ period = 1000, cost = 50 }]
+task = [
+    { name = 'x', period = 2000, deadline = 2000, cost = 400 },
+    { name = 'y', period = 5000, deadline = 5000, cost = 900 },
+]
+";
+
+/// The two that don't overrun, where each timer takes a tick.
+pub const TIMERS_OVERRUN: &str = "
+node = { job = 1, release = 1 }
+task = [
+    { name = 'x', period = 1000, deadline = 1000, cost = 600 },
+    { name = 'y', period = 1000, deadline = 1000, cost = 400 },
+]
+";
+
 /// What a call answers. Where this refusal comes, the call is made once more, with what the refusal hands back by the names
 /// of its pattern; with no pattern it is `AllocError`.
 #[macro_export]
@@ -200,6 +250,44 @@ macro_rules! again {
 pub fn set_of(alloc: Global, text: &str) -> Result<TaskSet, Fail> {
     let set = again!(read_set(alloc, text.as_bytes()), SetFault::OutOfMemory)?;
     Ok(set)
+}
+
+// The sheet on NODE, with INTERRUPTS on its account where it is the first.
+fn sheet_on_node(alloc: Global, sheet: &Sheet, is_first: bool) -> Result<Sheet, Fail> {
+    let sheet = again!(sheet.copy(alloc))?.of_node(NODE);
+    if !is_first {
+        return Ok(sheet);
+    }
+    let interrupts = again!(Vec::from_slice(alloc, &INTERRUPTS))?;
+    Ok(sheet.interrupted(interrupts))
+}
+
+/// The set of a document whose numbers have in them what NODE takes, on that node with INTERRUPTS.
+pub fn set_on_node(alloc: Global, text: &str) -> Result<TaskSet, Fail> {
+    let set = set_of(alloc, text)?;
+    let mut sheets = Vec::new(alloc);
+    for (index, sheet) in set.sheets().iter().enumerate() {
+        sheets.push(sheet_on_node(alloc, sheet, index == 0)?)?;
+    }
+    let set = again!(
+        TaskSet::new(alloc, sheets),
+        SheetsFault {
+            cause: SetCause::OutOfMemory,
+            sheets
+        }
+    );
+    Ok(set.ok().ok_or("a set")?)
+}
+
+/// The set of a document, with what its node takes, and its interrupts.
+pub fn padded_set_of(alloc: Global, text: &str) -> Result<TaskSet, Fail> {
+    let document = again!(read_document(alloc, text.as_bytes()), SetFault::OutOfMemory)?;
+    let set = &document.set;
+    let padded = again!(
+        pad(alloc, set, document.node, &document.interrupts),
+        PadFault::OutOfMemory
+    )?;
+    Ok(padded)
 }
 
 /// The set of a document, to be shared.

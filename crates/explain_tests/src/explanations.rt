@@ -1,10 +1,11 @@
 //! The lines that explain a placing.
 use assignment::place_all;
 use ceilings::LockTable;
-use example_sets::{again, match_rows, set_of};
+use example_sets::{again, match_rows, set_of, set_on_node};
 use explain::{explain, explanation_text};
 use std::alloc::Global;
 use std::test::Fail;
+use task_sheet::TaskSet;
 
 // Two sections of `a` block longest: the second, by its place, and of its locks `q`, since only `a` uses `r`.
 const FIRST_BLOCKER: &str = "
@@ -101,13 +102,62 @@ c must be above a
 load 928572
 ";
 
-// The lines that explain the placing of a document's set.
+// On a node: of each time 15 is what three timers take, and 34 what two jobs of the second interrupt do; lo, which takes
+// longer, is under six timers and seven jobs.
+const SHARED_LOCK_ON_NODE_LINES: &str = "1 lo 27262 of 100000
+  cost 20000
+  node 17
+  jitter 15
+  above hi 3 jobs 3051
+  above mid 2 jobs 4030
+  timers 30
+  interrupt 2 7 jobs 119
+2 mid 7098 of 20000
+  cost 2000
+  node 15
+  jitter 15
+  blocked 4002 by lo section 1 lock m, ceiling by hi
+  above hi 1 jobs 1017
+  timers 15
+  interrupt 2 2 jobs 34
+3 hi 5083 of 10000
+  cost 1000
+  node 17
+  jitter 15
+  blocked 4002 by lo section 1 lock m
+  timers 15
+  interrupt 2 2 jobs 34
+load 402620
+";
+
+// On a node: 1, and then 1000 with the timer and a job of the second interrupt, which is past the deadline.
+const FILLS_ITS_PERIOD_ON_NODE_LINES: &str = "conflict x
+x 1022 of 1000
+  cost 985
+  node 15
+  timers 5
+  interrupt 2 1 jobs 17
+load 1000000
+";
+
+// The lines that explain the placing of a set.
+fn lines_on(alloc: Global, set: &TaskSet) -> Result<String, Fail> {
+    let table = again!(LockTable::new(alloc, set))?;
+    let placing = again!(place_all(alloc, set, &table))?;
+    let explanation = again!(explain(alloc, set, &table, &placing))?;
+    Ok(again!(explanation_text(alloc, set, &explanation))?)
+}
+
+// Those of a document's set.
 fn lines_of(alloc: Global, document: &str) -> Result<String, Fail> {
     let set = set_of(alloc, document)?;
-    let table = again!(LockTable::new(alloc, &set))?;
-    let placing = again!(place_all(alloc, &set, &table))?;
-    let explanation = again!(explain(alloc, &set, &table, &placing))?;
-    Ok(again!(explanation_text(alloc, &set, &explanation))?)
+    lines_on(alloc, &set)
+}
+
+// Those of a document's set on a node.
+fn lines_on_node(alloc: Global, document: &str) -> Result<String, Fail> {
+    let set = set_on_node(alloc, document)?;
+    lines_on(alloc, &set)
 }
 
 #[test]
@@ -144,4 +194,17 @@ fn conflicts_are_explained(rt: HostRuntime) -> Result<(), Fail> {
         ),
     ];
     match_rows(rt.alloc(), &rows, lines_of)
+}
+
+#[test]
+fn timers_and_interrupts_are_explained(rt: HostRuntime) -> Result<(), Fail> {
+    let rows = [
+        ("", "load 0\n"),
+        (example_sets::SHARED_LOCK_ON_NODE, SHARED_LOCK_ON_NODE_LINES),
+        (
+            example_sets::FILLS_ITS_PERIOD,
+            FILLS_ITS_PERIOD_ON_NODE_LINES,
+        ),
+    ];
+    match_rows(rt.alloc(), &rows, lines_on_node)
 }

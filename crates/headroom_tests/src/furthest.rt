@@ -1,6 +1,6 @@
 //! How far the numbers of a task may go.
 use ceilings::LockTable;
-use example_sets::{again, set_of};
+use example_sets::{again, padded_set_of};
 use limits::{Number, furthest};
 use std::alloc::Global;
 use std::test::Fail;
@@ -26,8 +26,10 @@ fn furthest_in(
     Ok(again!(furthest(alloc, set, &table, task, number))?)
 }
 
-// Documents, and for the task at an index the furthest value of a number.
-const FURTHEST: [(&str, usize, Number, Option<u64>); 16] = [
+// Documents, and for the task at an index the furthest value of a number. Of TIMERS, whichever stands above, x and y are done
+// at 420 + 920 + 2 * 10 + 2 * 50 = 1460 with one timer of y, if it isn't released twice within that: up to a jitter of
+// 5000 - 1460, and down to a period of 1460.
+const FURTHEST: [(&str, usize, Number, Option<u64>); 19] = [
     (example_sets::THREE_TASKS, 0, Number::Cost, Some(3_000)),
     (example_sets::THREE_TASKS, 0, Number::Period, Some(6_667)),
     (example_sets::THREE_TASKS, 0, Number::Deadline, Some(3_000)),
@@ -44,12 +46,15 @@ const FURTHEST: [(&str, usize, Number, Option<u64>); 16] = [
     (example_sets::FILLS_ITS_PERIOD, 0, Number::Cost, Some(1_000)),
     (example_sets::FILLS_ITS_PERIOD, 0, Number::Jitter, Some(0)),
     (example_sets::A_OVER_B_OVER_A, 0, Number::Cost, None),
+    (example_sets::TIMERS, 0, Number::Cost, Some(1_425)),
+    (example_sets::TIMERS, 1, Number::Jitter, Some(3_540)),
+    (example_sets::TIMERS, 1, Number::Period, Some(1_460)),
 ];
 
 #[test]
 fn furthest_values_by_hand(rt: HostRuntime) -> Result<(), Fail> {
     for (document, task, number, want) in FURTHEST {
-        let set = set_of(rt.alloc(), document)?;
+        let set = padded_set_of(rt.alloc(), document)?;
         let found = furthest_in(rt.alloc(), &set, task, number)?;
         assert_eq!(rt; found, want, "of {number:?} of {task} at {document}");
     }

@@ -4,7 +4,7 @@ ghost use Rattle.task_sheet.specs.Orders.{IsPassingOrder};
 
 use assignment::{Placing, place_all, tasks_of_places};
 use ceilings::LockTable;
-use example_sets::{again, match_both, set_of};
+use example_sets::{again, match_both, padded_set_of};
 use headroom::{headroom, headroom_in_order};
 use std::alloc::{AllocError, Global};
 use std::test::Fail;
@@ -43,7 +43,7 @@ task = [
 
 // The headroom of each task of a document's set by rank, or `-`.
 fn line_of(alloc: Global, document: &str) -> Result<String, Fail> {
-    let set = set_of(alloc, document)?;
+    let set = padded_set_of(alloc, document)?;
     let table = again!(LockTable::new(alloc, &set))?;
     let mut text = String::new(alloc);
     for task in 0..set.len() {
@@ -75,7 +75,7 @@ fn line_in(
 
 // The headroom of each task of a document's set by rank, in the best order, or `none` where no order passes.
 fn best_line_of(alloc: Global, document: &str) -> Result<String, Fail> {
-    let set = set_of(alloc, document)?;
+    let set = padded_set_of(alloc, document)?;
     let table = again!(LockTable::new(alloc, &set))?;
     match again!(place_all(alloc, &set, &table))? {
         Placing::Best(places) => {
@@ -87,8 +87,11 @@ fn best_line_of(alloc: Global, document: &str) -> Result<String, Fail> {
 }
 
 // A document, and the headroom of each task with some order and in the best one. In the best order of
-// ADMITTED `a` stands below `b`, which takes a job of `b` of it; with `a` above, `b` would have more.
-const HEADROOMS: [(&str, &str, &str); 17] = [
+// ADMITTED `a` stands below `b`, which takes a job of `b` of it; with `a` above, `b` would have more. Of TIMERS the costs
+// are with what the node takes, 420 and 920. With x above, y has room at 4000 while 920 + 2 x + 2 * 10 + 10 + 4 * 50 is
+// at most that, and x at 5000 while y + 3 * 420 + 3 * 10 + 10 + 5 * 50 is; with x below, as in the best order, x + y + 2 * 10
+// + 2 * 50 is at most 2000.
+const HEADROOMS: [(&str, &str, &str); 18] = [
     ("", "", ""),
     (ALONE, "1000;", "1000;"),
     (ADMITTED, "750;1400;", "500;700;"),
@@ -138,6 +141,7 @@ const HEADROOMS: [(&str, &str, &str); 17] = [
         "500;10000;20000;20000;2000;",
         "500;10000;20000;20000;2000;",
     ),
+    (example_sets::TIMERS, "1425;3450;", "960;1460;"),
 ];
 
 #[test]

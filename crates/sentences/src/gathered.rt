@@ -30,6 +30,9 @@ pub fn of_set_text(alloc: Global, bytes: &[u8], fault: TeamsFault) -> Option<Str
                 "{team}.toml: another [node] than {other}.toml; one team says it for all"
             ).ok()
         }
+        TeamsFault::TooManyInterrupts => {
+            String::from_str(alloc, "the teams have more than 8 interrupts together").ok()
+        }
         TeamsFault::Node { fault } => of_node(alloc, node_in(bytes), fault),
         TeamsFault::NoSuchTeam { team } => of_stranger(alloc, node_in(bytes), team),
         TeamsFault::PastBudget {

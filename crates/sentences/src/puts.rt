@@ -9,7 +9,7 @@ use crate::values::{Numbers, Span, end_of, no_span};
 use lines::{cut, number_of};
 use scripts::ScriptFault;
 use std::alloc::{AllocError, Global};
-use task_sheet::SheetCause;
+use task_sheet::{INTERRUPT_FROM, INTERRUPT_LIMIT, PERIOD_FROM, PERIOD_TO, SheetCause};
 
 // The place of the first word of a put that may be a section, from 0.
 const BEHIND_COST: usize = 7;
@@ -33,8 +33,29 @@ fn push_fault(text: &mut String, bytes: &[u8], fault: ScriptFault) -> Result<(),
             push_line(text, bytes, line)?;
             write!(text, ": over: {cause}")
         }
+        ScriptFault::BadOverhead { line } => {
+            push_line(text, bytes, line)?;
+            push_overheads(text)
+        }
+        ScriptFault::BadInterrupt { line } => {
+            push_line(text, bytes, line)?;
+            push_interrupts(text)
+        }
         ScriptFault::OutOfMemory => Err(AllocError),
     }
+}
+
+// What a node may take.
+fn push_overheads(text: &mut String) -> Result<(), AllocError> {
+    write!(text, ": node: job, lock and late are at most {PERIOD_TO}")?;
+    write!(text, " microseconds, release at most {PERIOD_FROM}")
+}
+
+// Which interrupts a task may have.
+fn push_interrupts(text: &mut String) -> Result<(), AllocError> {
+    write!(text, ": irq: at most {INTERRUPT_LIMIT}, each with a period")?;
+    write!(text, " from {INTERRUPT_FROM} to {PERIOD_TO} microseconds")?;
+    text.push_str(" and a cost of at most its period")
 }
 
 // ---- lines
@@ -44,7 +65,8 @@ fn form_of(word: &[u8]) -> &'static str {
     match std::str::from_utf8(word) {
         Ok("open") => "open TEAM, with TEAM from 1 to 8",
         Ok("put") => "put DRAFT NAME WEIGHT PERIOD DEADLINE COST, then j=JITTER, over=NAME+NAME \
-            or over=* and LOCK+LOCK@AT:LEN where there are such",
+            or over=*, node=JOB+LOCK+RELEASE+LATE, irq=PERIOD:COST+PERIOD:COST and \
+            LOCK+LOCK@AT:LEN where there are such",
         Ok("remove") => "remove DRAFT NAME",
         Ok("found") => "found DRAFT NAME or found DRAFT NAME OTHER",
         Ok("test") => "test DRAFT",

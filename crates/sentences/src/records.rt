@@ -30,7 +30,7 @@ fn push_text_fault(text: &mut String, bytes: &[u8], fault: CertFault) -> Result<
 
 // The first line, which is no head.
 fn push_head(text: &mut String, bytes: &[u8]) -> Result<(), AllocError> {
-    text.push_str("line 1 has to be desk-certificate 1 or desk-certificate 2")?;
+    text.push_str("line 1 has to be desk-certificate 1, 2 or 3")?;
     push_behind(text, "; it is ", line_at(bytes, 1))?;
     push_unseen(text, bytes, 1)
 }
@@ -55,7 +55,7 @@ pub fn of_check(alloc: Global, fault: CheckFault) -> Option<String> {
 fn push_check_fault(text: &mut String, fault: CheckFault) -> Result<(), AllocError> {
     match fault {
         CheckFault::WrongVersion => text.push_str(
-            "it is of version 1, which is for sets without jitter, late of [node] and outranks; this set has one of them",
+            "its version is too low: a set with release of [node] or an interrupt needs 3, another one with jitter, late of [node] or outranks 2",
         ),
         CheckFault::WrongTasks { level } => push_tasks(text, level),
         CheckFault::BadPass { level } => write!(

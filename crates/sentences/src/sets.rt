@@ -5,14 +5,14 @@ use crate::shown::{push_behind, push_shown};
 use crate::texts::line_at;
 use crate::told::told;
 use crate::tree::{
-    bad_name_in, items_at, line_of_task, place_of_name, push_place, repeated_in, table_of, text_at,
-    unknown_key,
+    bad_name_in, items_at, line_of_task, number_at, place_of_name, push_place, repeated_in,
+    table_at, table_of, text_at, unknown_key,
 };
 use crate::values::{no_span, numbers_in, span_at};
 use std::alloc::{AllocError, Global};
 use task_sheet::{
-    Key, NAME_LIMIT, NODE_KEYS, OutranksCause, ROOT_KEYS, SECTION_KEYS, SetFault, SheetCause,
-    TASK_KEYS, TASK_LIMIT,
+    INTERRUPT_FROM, INTERRUPT_KEYS, INTERRUPT_LIMIT, Key, NAME_LIMIT, NODE_KEYS, OutranksCause,
+    PERIOD_FROM, PERIOD_TO, ROOT_KEYS, SECTION_KEYS, SetFault, SheetCause, TASK_KEYS, TASK_LIMIT,
 };
 use toml::{Table, Value};
 
@@ -82,6 +82,9 @@ fn place_of(fault: SetFault) -> (usize, usize) {
         SetFault::Syntax
         | SetFault::BadPreference
         | SetFault::UnknownOverhead
+        | SetFault::BadOverhead { .. }
+        | SetFault::BadInterrupt { .. }
+        | SetFault::TooManyInterrupts
         | SetFault::TooManyTasks
         | SetFault::OutOfMemory => (0, 0),
     }
@@ -95,6 +98,9 @@ fn push_fault(text: &mut String, root: &Table, fault: SetFault) -> Result<(), Al
         SetFault::WrongKind { task, section, key } => push_kind(text, root, task, section, key),
         SetFault::BadPreference => push_preference(text, root),
         SetFault::UnknownOverhead => push_overhead(text, root),
+        SetFault::BadOverhead { key } => push_past_limit(text, root, key),
+        SetFault::BadInterrupt { interrupt } => push_interrupt(text, root, interrupt),
+        SetFault::TooManyInterrupts => push_count(text, root, INTERRUPT_LIMIT, Key::Interrupt),
         SetFault::BadName { task, section } => push_bad_name(text, root, task, section),
         SetFault::Sheet { task, cause } => push_sheet(text, root, task, cause),
         SetFault::BadJitter { task } => match table_of(root, task, 0) {
@@ -103,7 +109,7 @@ fn push_fault(text: &mut String, root: &Table, fault: SetFault) -> Result<(), Al
         },
         SetFault::Outranks { task, cause } => push_outranks(text, root, task, cause),
         SetFault::SameName { task } => push_same_name(text, root, task),
-        SetFault::TooManyTasks => push_many(text, root),
+        SetFault::TooManyTasks => push_count(text, root, TASK_LIMIT, Key::Task),
         SetFault::Syntax | SetFault::OutOfMemory => Ok(()),
     }
 }
@@ -149,7 +155,7 @@ fn push_known(
 ) -> Result<(), AllocError> {
     match (task, section) {
         (0, _) => text.push_str(
-            "; a set has tasks, each headed by [[task]], and may have prefer in front of them, and [node]",
+            "; a set has tasks, each headed by [[task]], and may have prefer in front of them, [node] and [[interrupt]]",
         ),
         (_, 0) => {
             text.push_str("; a task has")?;
@@ -177,6 +183,67 @@ fn push_overhead(text: &mut String, root: &Table) -> Result<(), AllocError> {
     }
     text.push_str("; [node] has")?;
     push_keys(text, &NODE_KEYS)
+}
+
+// A number of the node's table that is past its limit.
+fn push_past_limit(text: &mut String, root: &Table, key: Key) -> Result<(), AllocError> {
+    let word = key.word();
+    write!(text, "{word} has to be at most ")?;
+    match key {
+        Key::Release => write!(text, "{PERIOD_FROM} and at most job")?,
+        _ => write!(text, "{PERIOD_TO}")?,
+    }
+    let Some(table) = node_table(root) else {
+        return Ok(());
+    };
+    let number = number_at(key, table).unwrap_or(0);
+    write!(text, "; it is {number}")?;
+    match key {
+        Key::Release => {
+            let job = number_at(Key::Job, table).unwrap_or(0);
+            write!(text, ", job {job}")
+        }
+        _ => Ok(()),
+    }
+}
+
+// ---- interrupts
+
+// A table that says no interrupt: a key that is not known, or numbers past their limits.
+fn push_interrupt(text: &mut String, root: &Table, place: usize) -> Result<(), AllocError> {
+    write!(text, "interrupt {place}: ")?;
+    let Some(table) = table_at(Key::Interrupt, place, root) else {
+        return Ok(());
+    };
+    match unknown_key(&INTERRUPT_KEYS, table) {
+        Some(key) => {
+            text.push_str("unknown key ")?;
+            push_shown(text, key)?;
+            text.push_str("; an interrupt has")?;
+            push_keys(text, &INTERRUPT_KEYS)
+        }
+        None => push_numbers(text, table),
+    }
+}
+
+// What the numbers of an interrupt have to be, and what its table has.
+fn push_numbers(text: &mut String, table: &Table) -> Result<(), AllocError> {
+    write!(
+        text,
+        "period has to be from {INTERRUPT_FROM} to {PERIOD_TO}, and cost at most period; "
+    )?;
+    push_number(text, table, Key::Period)?;
+    text.push_str(", ")?;
+    push_number(text, table, Key::Cost)
+}
+
+// The number at a key, or that there is none.
+fn push_number(text: &mut String, table: &Table, key: Key) -> Result<(), AllocError> {
+    let word = key.word();
+    match number_at(key, table) {
+        Some(number) => write!(text, "{word} is {number}"),
+        None => write!(text, "{word} is no number"),
+    }
 }
 
 // Whether a key is one of the node's table.
@@ -211,6 +278,7 @@ fn kind_of(key: Key) -> &'static str {
     match key {
         Key::Task => "an array of tables, each headed by [[task]]",
         Key::Section => "an array of tables, each headed by [[task.section]]",
+        Key::Interrupt => "an array of tables, each headed by [[interrupt]]",
         Key::Name => "a string, in quotes",
         Key::Prefer => "\"deadline\" or \"weight\"",
         Key::Node => "a table, headed by [node]",
@@ -225,6 +293,7 @@ fn kind_of(key: Key) -> &'static str {
         | Key::Len
         | Key::Job
         | Key::Lock
+        | Key::Release
         | Key::Late => "a whole number of microseconds from 0, without quotes",
     }
 }
@@ -249,7 +318,7 @@ pub(crate) fn push_one(text: &mut String, value: &Value) -> Result<(), AllocErro
 // Whether an array at the key may hold the value.
 fn may_hold(key: Key, value: &Value) -> bool {
     match key {
-        Key::Task | Key::Section => value.is_table(),
+        Key::Task | Key::Section | Key::Interrupt => value.is_table(),
         _ => value.is_str(),
     }
 }
@@ -428,10 +497,11 @@ fn push_outranks(
     }
 }
 
-// How many tasks there are.
-fn push_many(text: &mut String, root: &Table) -> Result<(), AllocError> {
-    write!(text, "more than {TASK_LIMIT} tasks")?;
-    match items_at(Key::Task, root) {
+// How many tables stand at a key, which are more than its limit.
+fn push_count(text: &mut String, root: &Table, limit: usize, key: Key) -> Result<(), AllocError> {
+    let word = key.word();
+    write!(text, "more than {limit} {word}s")?;
+    match items_at(key, root) {
         Some(items) => {
             let count = items.len();
             write!(text, ": there are {count}")

@@ -9,7 +9,7 @@ use std::test::Fail;
 type Case<'a> = (&'a str, &'a [usize]);
 
 // Above lo, whose section holds it up for 4000, hi needs 5000, a tick more than its deadline.
-const REFUSED_BY_A_TICK: &str = "
+pub(crate) const REFUSED_BY_A_TICK: &str = "
 task = [
     { name = 'hi', period = 10000, deadline = 4999, cost = 1000, section = [{ locks = ['m'], at = 0, len = 200 }] },
     { name = 'lo', period = 100000, deadline = 100000, cost = 20000, section = [{ locks = ['m'], at = 100, len = 4000 }] },

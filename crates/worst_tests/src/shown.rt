@@ -1,9 +1,11 @@
 //! What is printed of the worst cases of a document's tasks.
+use crate::found::REFUSED_BY_A_TICK;
 use assignment::place_all;
 use ceilings::LockTable;
-use example_sets::{again, match_rows, set_of};
+use example_sets::{again, match_rows, set_of, set_on_node};
 use std::alloc::{AllocError, Global};
 use std::test::Fail;
+use task_sheet::TaskSet;
 use worst_lines::worst_text;
 
 // A document, and the index of the task that is asked about, if one is.
@@ -47,17 +49,52 @@ const SHOWN: [(Case<'static>, &str); 9] = [
     ),
 ];
 
+// Ten ticks of each period are left.
+const FULL_BUT_FOR_TICKS: &str =
+    "task = [{ name = 'x', period = 10000, deadline = 10000, cost = 9990 }]";
+
+// The same of sets on a node with timers, 5 each, and an interrupt 4000/17, which no run has. hi is ready at 116, when 4001
+// of lo's section are left, and executes 1017: it is done at 5134, 5033 after its arrival. Where hi lacks a tick without
+// them, that is the reason; of x only they are: 9990, a timer and three interrupts come to 10046.
+const SHOWN_ON_NODE: [(Case<'static>, &str); 3] = [
+    (
+        (example_sets::SHARED_LOCK_ON_NODE, None),
+        "# hi 5033 of 5083\nuntil 10101\n0 lo\n101 hi 15\n",
+    ),
+    ((REFUSED_BY_A_TICK, None), "# hi within-a-tick\n"),
+    ((FULL_BUT_FOR_TICKS, None), "# x within-interrupts\n"),
+];
+
+// The lines of a set.
+fn lines_of(alloc: Global, set: &TaskSet, asked: Option<usize>) -> Result<String, Fail> {
+    let table = again!(LockTable::new(alloc, set))?;
+    let placing = again!(place_all(alloc, set, &table))?;
+    let text = again!(worst_text(alloc, set, &placing, asked))?;
+    Ok(text)
+}
+
 // The lines of a case.
 fn answer_to(alloc: Global, case: Case<'_>) -> Result<String, Fail> {
     let (document, asked) = case;
-    let set = set_of(alloc, document)?;
-    let table = again!(LockTable::new(alloc, &set))?;
-    let placing = again!(place_all(alloc, &set, &table))?;
-    let text = again!(worst_text(alloc, &set, &placing, asked))?;
-    Ok(text)
+    lines_of(alloc, &set_of(alloc, document)?, asked)
+}
+
+// Those of a case on the node.
+fn answer_on_node(alloc: Global, case: Case<'_>) -> Result<String, Fail> {
+    let (document, asked) = case;
+    lines_of(alloc, &set_on_node(alloc, document)?, asked)
 }
 
 #[test]
 fn shown_by_hand(rt: HostRuntime) -> Result<(), Fail> {
     match_rows(rt.alloc(), &SHOWN, |alloc, case| answer_to(alloc, case))
+}
+
+#[test]
+fn shown_on_a_node(rt: HostRuntime) -> Result<(), Fail> {
+    match_rows(
+        rt.alloc(),
+        &SHOWN_ON_NODE,
+        |alloc, case| answer_on_node(alloc, case),
+    )
 }
