@@ -96,7 +96,7 @@ Keys
 ----
 
   $ document 'tasks = []'
-  standard input: unknown key tasks; a set has tasks, each headed by [[task]], and may have prefer in front of them, and [node]
+  standard input: unknown key tasks; a set has tasks, each headed by [[task]], and may have prefer in front of them, [node] and [[interrupt]]
   [4]
   $ more 'deadlin = 3'
   standard input: task 1 (a): unknown key deadlin; a task has name, weight, period, deadline, cost, section, jitter, outranks
@@ -255,11 +255,11 @@ Certificates
 ------------
 
   $ certificate() { printf "$1" | said check examples/three-tasks.toml -; }
-  $ certificate 'desk-certificate 3\nnone 0\nend\n'
-  standard input: line 1 has to be desk-certificate 1 or desk-certificate 2; it is "desk-certificate 3"
+  $ certificate 'desk-certificate 4\nnone 0\nend\n'
+  standard input: line 1 has to be desk-certificate 1, 2 or 3; it is "desk-certificate 4"
   [5]
   $ certificate 'desk-certificate 1\r\nnone 0\r\nend\r\n'
-  standard input: line 1 has to be desk-certificate 1 or desk-certificate 2; it is "desk-certificate 1?"; it ends with CR and LF, where LF alone is wanted
+  standard input: line 1 has to be desk-certificate 1, 2 or 3; it is "desk-certificate 1?"; it ends with CR and LF, where LF alone is wanted
   [5]
   $ certificate 'desk-certificate 1\nbest 3\nlevel 2 c 20000\n'
   standard input: line 3, "level 2 c 20000": no such line may stand here; after the head come best N, for each level from 1 level K NAME NUMBER and lines fails NAME REASON, or none N and lines member NAME REASON, then end
@@ -274,7 +274,7 @@ Certificates
   standard input: none without members shows nothing
   [5]
   $ said check examples/jitter.toml examples/three-tasks.cert
-  examples/three-tasks.cert: it is of version 1, which is for sets without jitter, late of [node] and outranks; this set has one of them
+  examples/three-tasks.cert: its version is too low: a set with release of [node] or an interrupt needs 3, another one with jitter, late of [node] or outranks 2
   [5]
   $ certificate 'desk-certificate 1\nbest 0\nend\n'
   standard input: its levels don't name each task of the set once, or a member is no task or named twice
@@ -360,7 +360,7 @@ A byte order mark, and CR in front of LF:
   standard input: line 1, "until 100?" has to be until N, with a time of 1 to 10 digits; it ends with CR and LF, where LF alone is wanted
   [4]
   $ certificate '\357\273\277desk-certificate 1\r\nbest 0\r\n'
-  standard input: line 1 has to be desk-certificate 1 or desk-certificate 2; it is "?desk-certificate 1?"; it begins with a byte order mark, which only a set may have; it ends with CR and LF, where LF alone is wanted
+  standard input: line 1 has to be desk-certificate 1, 2 or 3; it is "?desk-certificate 1?"; it begins with a byte order mark, which only a set may have; it ends with CR and LF, where LF alone is wanted
   [5]
   $ printf '\357\273\277thread lo 1\n' | said judge examples/shared-lock.toml -
   standard input: line 1, "?thread lo 1" has to be thread NAME NUMBER or mutex NAME NUMBER, with a number from 1 to 1000000; it begins with a byte order mark, which only a set may have
@@ -422,7 +422,7 @@ Scripts
   standard input: line 1, "open 9" has to be open TEAM, with TEAM from 1 to 8
   [4]
   $ script 'open 1\nput 2 a 0 1000 1000 1\n'
-  standard input: line 2, "put 2 a 0 1000 1000 1" has to be put DRAFT NAME WEIGHT PERIOD DEADLINE COST, then j=JITTER, over=NAME+NAME or over=* and LOCK+LOCK@AT:LEN where there are such; DRAFT is the number of an open line above it
+  standard input: line 2, "put 2 a 0 1000 1000 1" has to be put DRAFT NAME WEIGHT PERIOD DEADLINE COST, then j=JITTER, over=NAME+NAME or over=*, node=JOB+LOCK+RELEASE+LATE, irq=PERIOD:COST+PERIOD:COST and LOCK+LOCK@AT:LEN where there are such; DRAFT is the number of an open line above it
   [4]
   $ script 'open 1\nremove 1\n'
   standard input: line 2, "remove 1" has to be remove DRAFT NAME; DRAFT is the number of an open line above it
@@ -444,6 +444,12 @@ Scripts
   [4]
   $ script 'open 1\nput 1 a 0 1000 1000 100 over=b+a\n'
   standard input: line 2, "put 1 a 0 1000 1000 100 over=b+a": over: it must stand above itself
+  [4]
+  $ script 'open 1\nput 1 a 0 1000 1000 100 node=20+2+1001+15\n'
+  standard input: line 2, "put 1 a 0 1000 1000 100 node=20+2+1001+15": node: job, lock and late are at most 10000000 microseconds, release at most 1000
+  [4]
+  $ script 'open 1\nput 1 a 0 1000 1000 100 irq=4000:17+200:201\n'
+  standard input: line 2, "put 1 a 0 1000 1000 100 irq=4000:17+200:201": irq: at most 8, each with a period from 100 to 10000000 microseconds and a cost of at most its period
   [4]
   $ printf 'open 9\n' | said rush - 1
   standard input: line 1, "open 9" has to be open TEAM, with TEAM from 1 to 8

@@ -361,6 +361,21 @@ def section_in(word):
     return {"at": number_in(at), "len": number_in(length), "locks": [name_in(it) for it in locks.split("+")]}
 
 
+def interrupt_in(word):
+    period, cost = word.split(":")
+    return number_in(period), number_in(cost)
+
+
+def interrupt_faults(task):
+    """The faults of what a put says of the node and of interrupts."""
+    node = task.get("node", {})
+    if any(number > (1000 if key == "release" else 10_000_000) for key, number in node.items()):
+        refuse("BadOverhead")
+    interrupts = task.get("interrupt", [])
+    if len(interrupts) > 8 or not all(100 <= period <= 10_000_000 and cost <= period for period, cost in interrupts):
+        refuse("BadInterrupt")
+
+
 def put_in(words):
     task = {"name": name_in(words[0])}
     for key, word in zip(["weight", "period", "deadline", "cost"], words[1:5], strict=True):
@@ -371,6 +386,11 @@ def put_in(words):
     if words and words[0].count("=") == 1 and words[0].startswith("over="):
         over = words.pop(0)[5:]
         task["outranks"] = "all" if over == "*" else [name_in(it) for it in over.split("+")]
+    if words and words[0].count("=") == 1 and words[0].startswith("node="):
+        job, lock, release, late = map(number_in, words.pop(0)[5:].split("+"))
+        task["node"] = {"job": job, "lock": lock, "release": release, "late": late}
+    if words and words[0].count("=") == 1 and words[0].startswith("irq="):
+        task["interrupt"] = [interrupt_in(it) for it in words.pop(0)[4:].split("+")]
     task["section"] = [section_in(it) for it in words]
     return task
 
@@ -409,6 +429,7 @@ def script(data):
         if type(row) is dict:
             try:
                 value_faults((), row)
+                interrupt_faults(row)
             except Refused as why:
                 return f"refused: line {line} {why}\n"
         opened += words[0] == "open"

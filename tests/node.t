@@ -1,5 +1,5 @@
 A set may have a table `[node]`: what the node itself takes of a job, of a lock, and how late a thread may begin. Every
-command then speaks of the set with that in each task.
+command then speaks of the set with that in each task. (`interrupt.t` has timers, which take of other tasks.)
 
 The shared lock, with 20 of a job, 2 of a lock and 15 late: lo costs 20000 + 20 + 2, hi 1000 + 20 + 2, mid 2000 + 20; the
 sections are 2 longer and 20 later; each jitter is 15. So lo takes 20022 and three times 1022, twice 2020, and 15; mid 2020,
@@ -13,9 +13,9 @@ sections are 2 longer and 20 later; each jitter is 15. So lo takes 20022 and thr
   3 hi 5039
   $ desk script set.toml 1
   open 1
-  put 1 lo 0 100000 100000 20022 j=15 m@120:4002
-  put 1 mid 1 20000 20000 2020 j=15
-  put 1 hi 2 10000 10000 1022 j=15 m@20:202
+  put 1 lo 0 100000 100000 20022 j=15 node=20+2+0+15 m@120:4002
+  put 1 mid 1 20000 20000 2020 j=15 node=20+2+0+15
+  put 1 hi 2 10000 10000 1022 j=15 node=20+2+0+15 m@20:202
   commit 1
   $ desk script set.toml 1 | desk play - | tail -n 3
   level 1 lo 1 27143
@@ -24,15 +24,16 @@ sections are 2 longer and 20 later; each jitter is 15. So lo takes 20022 and thr
   $ desk explain set.toml --task hi
   admitted 3
   3 hi 5039 of 10000
-    cost 1022
+    cost 1000
+    node 22
     jitter 15
     blocked 4002 by lo section 1 lock m
   $ desk limits set.toml --task hi | sed -n '2,6p'
-  hi cost 1022 5983 5983
+  hi cost 1000 5961 5961
   hi period 10000 5039 5039
   hi deadline 10000 5039 5039
-  hi jitter 15 4976 4976
-  hi section 1 len 202 1002 1002
+  hi jitter 0 4961 4961
+  hi section 1 len 200 1000 1000
   $ desk certify set.toml > cert
   $ head -n 3 cert
   desk-certificate 2
@@ -73,16 +74,6 @@ A node that takes nothing, as one that isn't there, changes nothing; each number
   2 mid 7015
   3 hi 5015
 
-With the node's ticks as a task that no other may stand above: each takes 17 + 20, 7 of them within lo's 27387, two within
-mid's 7118 and hi's 5098.
-
-  $ desk admit examples/shared-lock-node.toml
-  admitted 4
-  1 lo 27402
-  2 mid 7133
-  3 hi 5113
-  4 ticks 52
-
 Refused:
 
   $ refused() { printf "$1" > wrong.toml; desk admit wrong.toml 2> said; }
@@ -92,7 +83,7 @@ Refused:
   $ refused '[[node]]\n'
   refused: WrongKind 0 0 node
   [4]
-  $ refused '[node]\nrelease = 24\n'
+  $ refused '[node]\ntimer = 24\n'
   refused: UnknownOverhead
   [4]
   $ refused '[node]\njob = 1.5\n'
@@ -101,7 +92,7 @@ Refused:
   $ refused '[node]\nlock = -1\nlate = "x"\n'
   refused: WrongKind 0 0 lock
   [4]
-  $ refused '[[interrupt]]\nperiod = 4000\ncost = 17\n'
+  $ refused '[[interrupts]]\nperiod = 4000\ncost = 17\n'
   refused: UnknownKey 0 0
   [4]
   $ refused 'prefer = 1\n[node]\nx = 1\n'
@@ -130,24 +121,27 @@ its place:
   $ refused "[node]\nlock = 251\nlate = 100\n$two"
   refused: PaddedJitter b
   [4]
-  $ refused "[node]\njob = 9223372036854775807\nlock = 9223372036854775807\nlate = 9223372036854775807\n$two"
+  $ refused "[node]\njob = 10000000\nlock = 10000000\nlate = 10000000\n$two"
   refused: PaddedCost b
   [4]
   $ cat said
-  wrong.toml: line 5, task 1 (b): with job and lock of [node] the cost is past the period: cost 10, job 9223372036854775807 and 0 times lock 9223372036854775807 make 9223372036854775817, period 1000
-  $ refused '[node]\njob = 9223372036854775807\n'
+  wrong.toml: line 5, task 1 (b): with job and lock of [node] the cost is past the period: cost 10, job 10000000 and 0 times lock 10000000 make 10000010, period 1000
+  $ refused '[node]\njob = 10000000\n'
   admitted 0
+  $ refused '[node]\njob = 9223372036854775807\n'
+  refused: BadOverhead job
+  [4]
 
 Sentences:
 
-  $ refused '[node]\nrelease = 24\n' > /dev/null || cat said
-  wrong.toml: unknown key release; [node] has job, lock, late
+  $ refused '[node]\ntimer = 24\n' > /dev/null || cat said
+  wrong.toml: unknown key timer; [node] has job, lock, release, late
   $ refused '[node]\nlate = "x"\n' > /dev/null || cat said
   wrong.toml: late has to be a whole number of microseconds from 0, without quotes; it is the string "x"
   $ refused "[node]\njob = 9\nlock = 251\n$two" > /dev/null || cat said
   wrong.toml: line 9, task 2 (a): with job and lock of [node] the cost is past the period: cost 500, job 9 and 2 times lock 251 make 1011, period 1000
-  $ refused "[node]\nlock = 9223372036854775807\n$two" > /dev/null || cat said
-  wrong.toml: line 8, task 2 (a): with job and lock of [node] the cost is past the period: cost 500, job 0 and 2 times lock 9223372036854775807, period 1000
+  $ refused "[node]\nlock = 10000000\n$two" > /dev/null || cat said
+  wrong.toml: line 8, task 2 (a): with job and lock of [node] the cost is past the period: cost 500, job 0 and 2 times lock 10000000 make 20000500, period 1000
   $ refused "[node]\nlate = 100\n$two" > /dev/null || cat said
   wrong.toml: line 3, task 1 (b): with late of [node] the jitter isn't below the deadline: jitter 0 and late 100 make 100, deadline 100
 

@@ -54,6 +54,19 @@ A section that doesn't say where it begins begins where the one before it ends, 
   commit 1
   (on standard error) note: lock m has one user, a
 
+What the node takes, and interrupts, those of a document on the account of the first by rank: a job takes 20 more, 5 of them
+by its timer, which aren't in its cost:
+
+  $ { printf '[node]\njob = 20\nrelease = 5\n[[interrupt]]\nperiod = 4000\ncost = 17\n[[interrupt]]\nperiod = 1000000\ncost = 300\n'; cat examples/three-tasks.toml; } > node.toml
+  $ desk script node.toml 1
+  open 1
+  put 1 a 0 7000 7000 3015 node=20+0+5+0 irq=4000:17+1000000:300
+  put 1 b 0 12000 12000 3015 node=20+0+5+0
+  put 1 c 0 20000 20000 5015 node=20+0+5+0
+  commit 1
+  $ { printf '[[interrupt]]\nperiod = 100\ncost = 0\n'; cat examples/jitter.toml; } | desk script - 1 | sed -n 2p
+  put 1 a 0 7000 7000 3000 j=1000 irq=100:0
+
 The empty set:
 
   $ desk script examples/empty-set.toml 1
@@ -71,7 +84,7 @@ By deadlines the weights are those that compare deadlines less jitter, also wher
 
 Played, it admits as `admit` does, with the same levels and responses, and refuses as that does:
 
-  $ for set in shared-lock watchdog robot robot-mended blocked-out-repaired; do
+  $ for set in shared-lock shared-lock-node watchdog robot robot-mended blocked-out-repaired; do
   >   desk admit examples/$set.toml | sed 's/^\([0-9]* [a-z]*\) /level \1 1 /' | sed 1d > wanted
   >   desk script examples/$set.toml 1 | desk play - | grep level | cmp - wanted
   > done

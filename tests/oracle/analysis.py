@@ -39,9 +39,33 @@ def releases_within(task, t):
     return -(-(t + task.jitter) // task.period)
 
 
+def timers_within(tasks, t):
+    """What the timers of all tasks take in a window."""
+    return sum(releases_within(task, t) * task.node.release for task in tasks)
+
+
+def interrupts_of(tasks):
+    """Those on the account of each task."""
+    return [interrupt for task in tasks for interrupt in task.interrupts]
+
+
+def has_interrupts(tasks):
+    return any(task.node.release > 0 or task.interrupts for task in tasks)
+
+
+def uninterrupted(tasks):
+    """The same, of which timers take nothing, without interrupts."""
+    return [task._replace(node=task.node._replace(release=0), interrupts=()) for task in tasks]
+
+
+def interrupts_within(tasks, t):
+    """What timers and interrupts take in a window of whoever executes."""
+    return timers_within(tasks, t) + sum(-(-t // period) * cost for period, cost in interrupts_of(tasks))
+
+
 def demand_of(tasks, i, above, t):
     interference = sum(releases_within(tasks[h], t) * tasks[h].cost for h in above)
-    return tasks[i].cost + blocking_of(tasks, i, above) + interference
+    return tasks[i].cost + blocking_of(tasks, i, above) + interference + interrupts_within(tasks, t)
 
 
 def trail(tasks, i, above):
@@ -51,6 +75,9 @@ def trail(tasks, i, above):
     """
     fixed = tasks[i].cost + blocking_of(tasks, i, above)
     others = [(tasks[h].jitter, tasks[h].period, tasks[h].cost) for h in above]
+    others += [(task.jitter, task.period, task.node.release) for task in tasks]
+    others += [(0, period, cost) for period, cost in interrupts_of(tasks)]
+    others = [other for other in others if other[2]]
     times = [1]
     while times[-1] <= tasks[i].limit:
         t = times[-1]

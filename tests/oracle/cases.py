@@ -58,13 +58,18 @@ def of_set(rng, subject):
     sheets = sheets_for(rng, subject)
     prefer = rng.choice([None] * 12 + ["deadline"] * 3 + ["weight"])  # what the words say
     own = rng.choice([None] * 6 + ["deadline"] * 2 + ["weight"])  # what the set says
-    node = make_sets.overheads(rng, sheets) if rng.random() < 0.25 else None
-    inputs = [set_input(rng, sheets, 0.08 if subject in SECOND_INPUTS else 0.3, own, node)]
-    tasks = taken(sheets, node, prefer or own)
+    node = make_sets.overheads(rng, sheets) if rng.random() < 0.4 else None
+    interrupts = make_sets.interrupts(rng) if rng.random() < 0.25 else []
+    if sheets and (node or interrupts) and rng.random() < 0.4:
+        sheets, interrupts = make_sets.padded_edge(rng, sheets, interrupts, lambda own, tables: taken(own, node, tables))
+    inputs = [set_input(rng, sheets, 0.08 if subject in SECOND_INPUTS else 0.3, own, node, interrupts)]
+    tasks = taken(sheets, node, interrupts, prefer or own)
     if subject in SECOND_INPUTS:
         inputs.append(SECOND_INPUTS[subject](rng, tasks))
     if subject == "diff":
-        inputs.append(set_input(rng, make_sets.changed(rng, sheets), 0.1, rng.choice([own, own, None]), rng.choice([node, node, None])))
+        nodes = [node, node, None, {**(node or {}), "job": 40, "release": rng.choice([20, 40])}]
+        others = [interrupts, interrupts, interrupts[1:], make_sets.interrupts(rng)]
+        inputs.append(set_input(rng, make_sets.changed(rng, sheets), 0.1, rng.choice([own, own, None]), rng.choice(nodes), rng.choice(others)))
     options = [] if prefer is None or rng.random() < 0.05 else [("prefer", prefer)]
     if subject in ("explain", "limits", "worst") and rng.random() < 0.3:
         options.append(("task", rng.choice([*(sheet.name for sheet in sheets), "none", "0", ""])))
@@ -72,7 +77,7 @@ def of_set(rng, subject):
     if subject == "releases":
         seed = rng.choice([0, 1, rng.getrandbits(32), 2**32 - 1, 2**32]) if rng.random() < 0.6 else None
         options += [] if seed is None else [("seed", str(seed))]
-        number = make_lines.until_of(rng, taken(sheets, node), seed)
+        number = make_lines.until_of(rng, taken(sheets, node, interrupts), seed)
     if subject == "simulate" and rng.random() < 0.3:
         options.append(("tasks", None))
     if subject == "draw":
@@ -112,10 +117,10 @@ def view_of(rng, sheets):
     return [option for option in drawn.items() if rng.random() < 0.4]
 
 
-def taken(sheets, node, preference=None):
+def taken(sheets, node, interrupts, preference=None):
     """The tasks with what the node takes, if they have room for it, by a preference."""
     try:
-        sheets = sets.padded(sheets, None if node is None else sets.read_node(node))
+        sheets = sets.padded(sheets, None if node is None else sets.read_node(node), sets.read_interrupts(interrupts))
     except Refused:
         pass
     return sets.by_limits(sheets) if preference == "deadline" else sets.by_rank(sheets)
@@ -132,32 +137,39 @@ def sheets_for(rng, subject):
     return sheets
 
 
-def set_input(rng, sheets, damaged, own=None, overheads=None):
+def set_input(rng, sheets, damaged, own=None, overheads=None, interrupts=()):
     """The set as one document, as several of teams, or as a folder's files by their names; some are damaged."""
     if rng.random() < 0.88:
-        return set_text(rng, sheets, damaged, own, overheads)
+        return set_text(rng, sheets, damaged, own, overheads, interrupts)
     owns = [None, own, own, own, rng.choice([None, "weight"])]
     nodes = [None, *[overheads] * 5, rng.choice([None, {"job": 1}, {}])]
-    parts = make_sets.teams_of(rng, sheets, lambda part: set_text(rng, part, damaged / 3, rng.choice(owns), rng.choice(nodes)))
+    cut = rng.randint(0, len(interrupts))
+    hands = [interrupts[:cut], interrupts[cut:]]
+    hand = lambda: hands.pop(0) if hands and rng.random() < 0.6 else rng.choice([[]] * 9 + [interrupts])
+    parts = make_sets.teams_of(rng, sheets, lambda part: set_text(rng, part, damaged / 3, rng.choice(owns), rng.choice(nodes), hand()))
     node = make_sets.node_of(rng, parts, sheets) if rng.random() < 0.5 else None
     if rng.random() < 0.5:
         return make_sets.gathered(rng, parts, node)
     return make_sets.folder(rng, parts, node)
 
 
-def set_text(rng, sheets, damaged, own=None, overheads=None):
-    """The set as TOML with what it prefers, and its node, if any; one of two ways of damage at the given rate."""
+def set_text(rng, sheets, damaged, own=None, overheads=None, interrupts=()):
+    """The set as TOML with what it prefers, and its node and interrupts, if any; one of two ways of damage at the given
+    rate."""
     tables = [make_sets.table_of(rng, sheet) for sheet in sheets]
     prefers = {} if own is None else {"prefer": own}
     node = {} if overheads is None else {"node": overheads}
+    more = {"interrupt": list(interrupts)} if interrupts or rng.random() < 0.01 else {}
     kind = rng.random()
     if kind < damaged / 2:
         if own is not None and rng.random() < 0.3:
             prefers = {"prefer": rng.choice(["", "deadlines", "name", 1, ["deadline"], True])}
         if overheads is not None and rng.random() < 0.5:
             node = {"node": make_sets.wrong_overheads(rng, overheads)}
-        return make_sets.toml(rng, prefers | make_sets.with_faults(rng, tables) | node)
-    text = make_sets.toml(rng, prefers | {"task": tables} | node)
+        if interrupts and rng.random() < 0.5:
+            more = {"interrupt": make_sets.wrong_interrupts(rng, list(interrupts))}
+        return make_sets.toml(rng, prefers | make_sets.with_faults(rng, tables) | node | more)
+    text = make_sets.toml(rng, prefers | {"task": tables} | node | more)
     return make_sets.damaged_bytes(rng, text) if kind < damaged else text
 
 

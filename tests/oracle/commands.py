@@ -168,7 +168,9 @@ def needs(tasks, i, above):
 
 def parts(tasks, i, above, window):
     """What the demand of a window comes to, and the jitter; `above` in the order in which it is printed."""
-    said = [f"cost {tasks[i].cost}"]
+    said = [f"cost {tasks[i].cost - tasks[i].overhead}"]
+    if tasks[i].overhead:
+        said.append(f"node {tasks[i].overhead}")
     if tasks[i].jitter:
         said.append(f"jitter {tasks[i].jitter}")
     if blocked := analysis.blocking_of(tasks, i, set(above)):
@@ -179,6 +181,12 @@ def parts(tasks, i, above, window):
     for k in above:
         jobs = analysis.releases_within(tasks[k], window)
         said.append(f"above {tasks[k].name} {jobs} jobs {jobs * tasks[k].cost}{tasks.beside(tasks[k].name)}")
+    if timers := analysis.timers_within(tasks, window):
+        said.append(f"timers {timers}")
+    for number, (period, cost) in enumerate(analysis.interrupts_of(tasks), 1):
+        jobs = -(-window // period)
+        if jobs * cost:
+            said.append(f"interrupt {number} {jobs} jobs {jobs * cost}")
     return [f"  {line}\n" for line in said]
 
 
@@ -204,10 +212,11 @@ def limits_in(tasks, order, task):
         if task not in (None, i):
             continue
         for number in limits.numbers_of(sheet):
-            most = limits.furthest(tasks, i, number)
+            most = own_of(sheet, number, limits.furthest(tasks, i, number))
             if most is not None:
-                own = or_dash(limits.furthest(tasks, i, number, in_order))
-                text.append(f"{sheet.name} {number.words()} {number.value(sheet)} {own} {most}\n")
+                in_this = or_dash(own_of(sheet, number, limits.furthest(tasks, i, number, in_order)))
+                value = own_of(sheet, number, number.value(sheet))
+                text.append(f"{sheet.name} {number.words()} {value} {in_this} {most}\n")
         if order is not None:
             text.append(f"{sheet.name} slack {sheet.deadline - bounds[i]}\n")
     if order is None and task is None and not text:
@@ -218,6 +227,11 @@ def limits_in(tasks, order, task):
         own = None if order is None else limits.factor(tasks, in_order)
         text.append(f"all {or_dash(own)} {or_dash(greatest)}{fails}\n")
     return "".join(text)
+
+
+def own_of(sheet, number, value):
+    """What of a value that was found is the task's own; None where none was, or leaves none."""
+    return None if value is None else number.own(sheet, value)
 
 
 def or_dash(number):

@@ -3,7 +3,7 @@
 import analysis
 
 KEYS = {"weight": "weight", "period": "period", "deadline": "deadline", "cost": "cost", "section": "sections",
-        "jitter": "jitter", "outranks": "outranks"}  # fmt: skip
+        "jitter": "jitter", "outranks": "outranks", "node": "node", "interrupt": "interrupts"}  # fmt: skip
 
 
 class Side:

@@ -4,6 +4,7 @@ from typing import NamedTuple
 
 import analysis
 from analysis import is_feasible
+from sets import is_interrupt, RELEASE_MOST
 
 PERIOD_LEAST, PERIOD_MOST = 1000, 10_000_000
 
@@ -19,6 +20,16 @@ class Number(NamedTuple):
 
     def value(self, task):
         return task.sections[self.section].len if self.kind == "len" else getattr(task, self.kind)
+
+    def part(self, task):
+        """What of it is the node's."""
+        return {"cost": task.overhead, "len": task.calls(task.sections[self.section]) if self.kind == "len" else 0,
+                "jitter": task.node.late}.get(self.kind, 0)  # fmt: skip
+
+    def own(self, task, value):
+        """What of a value is the task's own; None where none is left."""
+        own = value - self.part(task)
+        return None if own < (1 if self.kind in ("cost", "len") else 0) else own
 
     def easiest_first(self, task):
         """The values that the task's sheet may have, from the one with which most passes on."""
@@ -93,25 +104,32 @@ def scaled_task(task, permille):
         at = max(thousandths(section.at, permille), end)
         sections.append(section._replace(at=at, len=thousandths(section.len, permille)))
         end = sections[-1].end
-    return task._replace(cost=max(thousandths(task.cost, permille), end), sections=tuple(sections))
+    return task._replace(
+        cost=max(thousandths(task.cost, permille), end),
+        sections=tuple(sections),
+        node=task.node._replace(release=thousandths(task.node.release, permille)),
+        interrupts=tuple(it._replace(cost=thousandths(it.cost, permille)) for it in task.interrupts),
+    )
 
 
-def past_period(tasks):
-    """The first task whose cost is past its period, or None."""
-    return next((i for i, task in enumerate(tasks) if task.cost > task.period), None)
+def past_limit(tasks):
+    """The first task whose cost is past its period, whose timer takes more than a node may say, or that has an interrupt
+    on its account whose cost is past its period; or None."""
+    is_past = lambda task: task.cost > task.period or task.node.release > RELEASE_MOST or not all(map(is_interrupt, task.interrupts))
+    return next((i for i, task in enumerate(tasks) if is_past(task)), None)
 
 
 def factor(tasks, does_pass=is_feasible):
-    """The greatest factor, of those that take no cost past its period, with which the set does pass; or None."""
+    """The greatest factor, of those that may be taken, with which the set does pass; or None."""
     most = min(1000 * task.period // task.cost for task in tasks)
-    passes = lambda other: past_period(other) is None and does_pass(other)
+    passes = lambda other: past_limit(other) is None and does_pass(other)
     return last_that(range(1, most + 1), lambda permille: passes(scaled(tasks, permille)))
 
 
 def first_to_fail(tasks, permille):
     """The task that fails first with a factor with which no order passes."""
     slower = scaled(tasks, permille)
-    past = past_period(slower)
+    past = past_limit(slower)
     if past is not None:
         return past
     left = analysis.greatest_obstruction(slower, range(len(slower)))

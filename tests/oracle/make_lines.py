@@ -10,6 +10,7 @@ import make_sets
 import scripts
 import settings
 from certificate import Best, Fails, Level, Nothing
+from lines import Faulty
 from refusals import Refused
 from sets import ALL, by_rank
 
@@ -89,9 +90,7 @@ def certificate_of(rng, tasks):
 
 def other_certificate(rng, tasks):
     """As ready as it comes: greater numbers, chains that leap less, other obstructions, other orders."""
-    version = 2 if certificate.needs_version_2(tasks) or rng.random() < 0.3 else 1
-    if rng.random() < 0.1:
-        version = 3 - version
+    version = rng.choice([1, 2, 3]) if rng.random() < 0.1 else rng.randint(certificate.needed_version(tasks), 3)
     body = certificate.verdict_of(tasks)
     if isinstance(body, Nothing):
         members = body.members
@@ -266,7 +265,7 @@ def small_script(rng):
         for text in fresh:
             try:
                 row = scripts.read_row(len(rows) + 1, text.split(" "), opened)
-            except Refused:  # a put past a limit
+            except (Refused, Faulty):  # a put past a limit, or of other words
                 return [*rows, text]
             opened += isinstance(row, scripts.Open)
             world.play(row)
@@ -303,8 +302,21 @@ def put_words(rng, name, sheet, names, share):
     elif sheet.outranks:
         others = [other for other in [*names, "absent"] if other != name]
         words.append("over=" + "+".join(rng.sample(others, min(len(others), rng.choice([1, 1, 2])))))
+    if rng.random() < 0.15:
+        words.append("node=" + "+".join(map(str, node_words(rng))))
+    if rng.random() < 0.1:
+        tables = make_sets.interrupts(rng)
+        words.append("irq=" + "+".join(f"{it['period']}:{it['cost'] + (rng.random() < 0.01)}" for it in tables))
     words += [f"{'+'.join(section.locks)}@{section.at}:{section.len}" for section in sheet.sections]
     return " ".join(map(str, words))
+
+
+def node_words(rng):
+    """What a node takes of a job, of a lock, when a timer comes, and how late; rarely at a limit or past it."""
+    numbers = [rng.choice([0, 20, 300]), rng.choice([0, 3]), rng.choice([0, 1, 20, 100]), rng.choice([0, 0, 9])]
+    if rng.random() < 0.05:
+        numbers[rng.randrange(4)] = rng.choice([1000, 1001, 10_000_000, 10_000_001])
+    return numbers if rng.random() < 0.98 else numbers[:3]
 
 
 def past_lists(rng, name, sheet):

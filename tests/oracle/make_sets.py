@@ -89,7 +89,8 @@ def at_edge(rng, out):
 
 
 def overheads(rng, sheets):
-    """What a node takes: little, or as much as some task has room for, or one more."""
+    """What a node takes: little, or as much as some task has room for, or one more; its timer at most all that a job
+    takes."""
     out = {}
     for key in rng.sample(["job", "lock", "late"], rng.choice([0, 1, 2, 3, 3, 3])):
         room = [rng.choice([0, 1, 3, 20, 100])]
@@ -99,6 +100,9 @@ def overheads(rng, sheets):
             spare = {"job": sheet.period - sheet.cost, "late": sheet.limit - 1, "lock": (sheet.period - sheet.cost) // max(1, locks)}
             room += [min(other.limit for other in sheets) - 1, spare[key], spare[key] + 1, spare[key] // 2]
         out[key] = rng.choice(room)
+    if rng.random() < 0.7:
+        most = min(1000, out.setdefault("job", rng.choice([0, 1, 20, 100])))
+        out["release"] = rng.choice([min(1, most), most, most, most // 2, most + (rng.random() < 0.2)])
     return out
 
 
@@ -106,9 +110,64 @@ def wrong_overheads(rng, node):
     """One fault or two in what a node says it takes."""
     node = dict(node)
     for _ in range(rng.choice([1, 1, 2])):
-        key = rng.choice(["job", "lock", "late", "release", "interrupt", "Job", ""])
+        key = rng.choice(["job", "lock", "late", "release", "release", "interrupt", "Job", ""])
         node[key] = copy.deepcopy(rng.choice(VALUES))
     return rng.choice([node, node, node, node, *VALUES])
+
+
+def interrupts(rng):
+    """Those of a node, as tables: few that take little, and now and then as many or as much as may be."""
+    out = []
+    for _ in range(rng.choice([1, 1, 1, 2, 3, 8, 9] if rng.random() < 0.2 else [1, 1, 2])):
+        period = rng.choice([4000, 1000, any_period(rng), rng.randint(100, 999), rng.choice([100, 99, 10_000_000])])
+        most = min(period, rng.choice([0, 1, 20, period // 20, period // 20, period // 4]))
+        out.append({"period": period, "cost": period if rng.random() < 0.02 else rng.randint(min(1, most), most)})
+    return out
+
+
+def wrong_interrupts(rng, tables):
+    """One fault or two in a node's interrupts."""
+    tables = copy.deepcopy(tables)
+    for _ in range(rng.choice([1, 1, 2])):
+        table = rng.choice(tables)
+        key = rng.choice(["period", "cost", "cost", "Cost", "job"])
+        kind = rng.randrange(4)
+        if kind == 0:
+            table.pop(key, None)
+        elif kind == 1:
+            table[key] = copy.deepcopy(rng.choice(VALUES))
+        elif kind == 2:
+            table["cost"] = table.get("period", 1)
+        elif type(table.get(key)) is int:
+            table[key] += rng.choice([-1, 1])
+    if rng.random() < 0.1:
+        tables += tables * 8
+    if rng.random() < 0.1:
+        tables[rng.randrange(len(tables))] = copy.deepcopy(rng.choice(VALUES))
+    return rng.choice([tables] * 8 + VALUES)
+
+
+def padded_edge(rng, sheets, tables, taken):
+    """A deadline or an interrupt's cost moved to where the answer turns with what the node takes, or one past it; `taken`
+    makes the tasks of sheets and interrupts."""
+    tasks = taken(sheets, tables)
+    if tables and rng.random() < 0.6:
+        place = rng.randrange(len(tables))
+        costs = range(tables[place]["period"] + 1)
+        with_cost = lambda cost: [*tables[:place], {**tables[place], "cost": cost}, *tables[place + 1 :]]
+        most = limits.last_that(costs, lambda cost: analysis.is_feasible(taken(sheets, with_cost(cost))))
+        if most is not None:
+            tables = with_cost(min(costs[-1], most + rng.randint(0, 1)))
+        return sheets, tables
+    order = analysis.best_order(tasks)
+    if order is None:
+        return sheets, tables
+    place = rng.randrange(len(order))
+    task = tasks[order[place]]
+    spare = task.deadline - analysis.response_of(tasks, order[place], set(order[place + 1 :]))
+    deadline = task.deadline - spare - rng.randint(0, 1)
+    changed = [sheet._replace(deadline=deadline) if sheet.name == task.name else sheet for sheet in sheets]
+    return sheets if any(map(sheet_fault, changed)) else changed, tables
 
 
 # Changes of sets
@@ -332,6 +391,8 @@ def toml(rng, root):
                 text += "".join(f"node.{line}" for line in lines)
             else:
                 heads.append("[node]\n" + "".join(lines))
+        elif key == "interrupt" and isinstance(value, list) and value and all(isinstance(it, dict) for it in value) and rng.random() < 0.8:
+            heads += [block(rng, it, plain, "interrupt") for it in value]
         elif key != "task" or not blocks:
             text += f"{spelled_key(rng, key, plain)} = {spelled(rng, value, plain)}\n"
     last = rng.random() < 0.3
@@ -346,10 +407,11 @@ def toml(rng, root):
     return text.encode()
 
 
-def block(rng, table, plain):
+def block(rng, table, plain, word="task"):
     parts = table.get("section")
     below = isinstance(parts, list) and parts and all(isinstance(p, dict) for p in parts) and rng.random() < 0.3
     lines = [rng.choice(["[[task]]", "[[task]]", "[[ task ]]", '[["task"]] # one']) if not plain else "[[task]]"]
+    lines = [line.replace("task", word) for line in lines]
     for key, value in table.items():
         if not (below and key == "section"):
             lines.append(f"{spelled_key(rng, key, plain)} = {spelled(rng, value, plain)}")

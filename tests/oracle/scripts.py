@@ -4,7 +4,7 @@ from typing import NamedTuple
 
 from lines import Faulty, kept_lines, name_in, number_in
 from refusals import Refused
-from sets import ALL, Section, Sheet, sheet_fault
+from sets import ALL, Interrupt, INTERRUPTS_MOST, is_interrupt, NO_NODE, Node, OVERHEAD_MOST, RELEASE_MOST, Section, Sheet, sheet_fault
 
 TEAMS = 8
 
@@ -95,12 +95,25 @@ def read_sheet(line, words):
     jitter = number_in(rest.pop(0)[2:]) if rest and rest[0].startswith("j=") else 0
     over = rest.pop(0)[5:] if rest and rest[0].startswith("over=") else None
     outranks = () if over is None else ALL if over == "*" else tuple(map(name_in, over.split("+")))
+    node = rest.pop(0)[5:].split("+") if rest and rest[0].startswith("node=") else None
+    node = NO_NODE if node is None else Node(*map(number_in, counted(node, len(NO_NODE))))
+    interrupts = rest.pop(0)[4:].split("+") if rest and rest[0].startswith("irq=") else ()
+    interrupts = tuple(Interrupt(*map(number_in, counted(it.split(":"), 2))) for it in interrupts)
     numbers = map(number_in, (weight, period, deadline, cost))
-    sheet = Sheet(name_in(name), *numbers, tuple(map(read_section, rest)), jitter, outranks)
-    fault = sheet_fault(sheet)
+    sheet = Sheet(name_in(name), *numbers, tuple(map(read_section, rest)), jitter, outranks, node, interrupts)
+    fault = sheet_fault(sheet) or node_fault(sheet)
     if fault:
         raise Refused(4, "line", line, *fault)
     return sheet
+
+
+def node_fault(sheet):
+    """The fault of what the node takes, or of interrupts, if any."""
+    if max(sheet.node) > OVERHEAD_MOST or sheet.node.release > RELEASE_MOST:
+        return ("BadOverhead",)
+    if len(sheet.interrupts) > INTERRUPTS_MOST or not all(map(is_interrupt, sheet.interrupts)):
+        return ("BadInterrupt",)
+    return ()
 
 
 def sheet_words(sheet):
@@ -108,6 +121,8 @@ def sheet_words(sheet):
     words = [sheet.name, sheet.weight, sheet.period, sheet.deadline, sheet.cost]
     words += [f"j={sheet.jitter}"] if sheet.jitter else []
     words += [f"over={'*' if sheet.outranks == ALL else '+'.join(sheet.outranks)}"] if sheet.outranks else []
+    words += [f"node={'+'.join(map(str, sheet.node))}"] if any(sheet.node) else []
+    words += [f"irq={'+'.join(f'{it.period}:{it.cost}' for it in sheet.interrupts)}"] if sheet.interrupts else []
     words += [f"{'+'.join(section.locks)}@{section.at}:{section.len}" for section in sheet.sections]
     return " ".join(map(str, words))
 

@@ -25,6 +25,25 @@ class Section(NamedTuple):
         return self.at + self.len
 
 
+class Node(NamedTuple):
+    """What the node takes of a job, of a lock, of whoever executes when a timer comes, and how late a job may begin."""
+
+    job: int = 0
+    lock: int = 0
+    release: int = 0
+    late: int = 0
+
+
+NO_NODE = Node()
+
+
+class Interrupt(NamedTuple):
+    """One that no task asks for."""
+
+    period: int
+    cost: int
+
+
 # What a sheet says that outranks all others but those that say so, too.
 ALL = "all"
 
@@ -38,6 +57,8 @@ class Sheet(NamedTuple):
     sections: tuple = ()
     jitter: int = 0
     outranks: tuple = ()  # of names, or ALL
+    node: Node = NO_NODE  # what of its numbers is the node's, and what its timer takes
+    interrupts: tuple = ()  # those on its account
 
     @property
     def rank(self):
@@ -56,6 +77,15 @@ class Sheet(NamedTuple):
     def named(self):
         """The names of tasks that it outranks."""
         return () if self.outranks == ALL else self.outranks
+
+    @property
+    def overhead(self):
+        """What of the cost is the node's."""
+        return max(0, self.node.job - self.node.release) + sum(self.calls(section) for section in self.sections)
+
+    def calls(self, section):
+        """What of a section is the node's."""
+        return self.node.lock * len(section.locks)
 
     def must_outrank(self, other):
         return other.outranks != ALL if self.outranks == ALL else other.name in self.outranks
@@ -115,56 +145,73 @@ def by_limits(tasks):
 
 
 PREFERENCES = ("weight", "deadline")
-NODE_KEYS = ("job", "lock", "late")
-
-
-class Node(NamedTuple):
-    """What the node takes of a job, of a lock, and how late a job may begin."""
-
-    job: int
-    lock: int
-    late: int
+OVERHEAD_MOST, RELEASE_MOST, PERIOD_MOST, INTERRUPT_LEAST, INTERRUPTS_MOST = 10_000_000, 1000, 10_000_000, 100, 8
 
 
 def read_node(table):
     if not isinstance(table, dict):
         raise Refused(4, "WrongKind", 0, 0, "node")
-    if set(table) - set(NODE_KEYS):
+    if set(table) - set(Node._fields):
         raise Refused(4, "UnknownOverhead")
-    for key in NODE_KEYS:
+    for key in Node._fields:
         if not is_number(table.get(key, 0)):
             raise Refused(4, "WrongKind", 0, 0, key)
-    return Node(*(table.get(key, 0) for key in NODE_KEYS))
+    node = Node(**table)
+    for key, number in zip(Node._fields, node):
+        if number > (min(RELEASE_MOST, node.job) if key == "release" else OVERHEAD_MOST):
+            raise Refused(4, "BadOverhead", key)
+    return node
+
+
+def read_interrupts(tables):
+    if not are(tables, dict):
+        raise Refused(4, "WrongKind", 0, 0, "interrupt")
+    for number, table in enumerate(tables, 1):
+        if set(table) != set(Interrupt._fields) or not all(map(is_number, table.values())) or not is_interrupt(Interrupt(**table)):
+            raise Refused(4, "BadInterrupt", number)
+    if len(tables) > INTERRUPTS_MOST:
+        raise Refused(4, "TooManyInterrupts")
+    return tuple(Interrupt(**table) for table in tables)
+
+
+def is_interrupt(interrupt):
+    return INTERRUPT_LEAST <= interrupt.period <= PERIOD_MOST and interrupt.cost <= interrupt.period
 
 
 def padded_sheet(sheet, node):
     """A sheet with what the node takes, which may not be a valid one."""
-    calls = [node.lock * len(section.locks) for section in sheet.sections]
+    sheet = sheet._replace(node=node)
+    calls = [sheet.calls(section) for section in sheet.sections]
+    before = node.job - node.release  # its timer is in no cost: it takes of whoever executes
     sections = tuple(
-        section._replace(at=section.at + node.job + sum(calls[:place]), len=section.len + calls[place])
+        section._replace(at=section.at + before + sum(calls[:place]), len=section.len + calls[place])
         for place, section in enumerate(sheet.sections)
     )
-    return sheet._replace(cost=sheet.cost + node.job + sum(calls), jitter=sheet.jitter + node.late, sections=sections)
+    return sheet._replace(cost=sheet.cost + sheet.overhead, jitter=sheet.jitter + node.late, sections=sections)
 
 
-def padded(sheets, node):
-    """The set with what the node takes, if there is one; or the first task, by rank, that has no room for it."""
-    if node is None:
-        return sheets
-    out = [padded_sheet(sheet, node) for sheet in by_rank(sheets)]
-    for sheet in out:
-        if sheet.cost > sheet.period:
-            raise Refused(4, "PaddedCost", sheet.name)
-        if sheet.jitter >= sheet.deadline:
-            raise Refused(4, "PaddedJitter", sheet.name)
-        assert not sheet_fault(sheet)
+def padded(sheets, node, interrupts=()):
+    """The set with what the node takes, if there is one, and interrupts on the account of the first task by rank; or the
+    first task, by rank, that has no room for the node."""
+    out = list(by_rank(sheets))
+    for place, sheet in enumerate(out):
+        if node is not None:
+            out[place] = padded_sheet(sheet, node)
+            if out[place].cost + node.release > sheet.period:
+                raise Refused(4, "PaddedCost", sheet.name)
+            if out[place].jitter >= sheet.deadline:
+                raise Refused(4, "PaddedJitter", sheet.name)
+            assert not sheet_fault(out[place])
+    if out:
+        out[0] = out[0]._replace(interrupts=interrupts)
     return out
 
 
 def read_document(data):
-    """What a document prefers, and its node, if it says so, and its sheets, as they stand; or the first refusal."""
+    """What a document prefers, and its node, if it says so, its interrupts, and its sheets, as they stand; or the first
+    refusal."""
     tree = tree_of(data)
-    if set(tree) - {"task", "prefer", "node"}:
+    if set(tree) - {"task", "prefer", "node", "interrupt"}:
         raise Refused(4, "UnknownKey", 0, 0)
     tables = tree.get("task", [])
     if not are(tables, dict):
@@ -175,6 +222,7 @@ def read_document(data):
     if prefer is not None and prefer not in PREFERENCES:
         raise Refused(4, "BadPreference")
     node = read_node(tree["node"]) if "node" in tree else None
+    interrupts = read_interrupts(tree.get("interrupt", []))
     sheets = [read_task(table, number) for number, table in enumerate(tables, 1)]
     names = [sheet.name for sheet in sheets]
     for number, name in enumerate(names, 1):
@@ -182,7 +230,7 @@ def read_document(data):
             raise Refused(4, "SameName", number)
     if len(sheets) > TASKS_MOST:
         raise Refused(4, "TooManyTasks")
-    return prefer, node, sheets
+    return prefer, node, interrupts, sheets
 
 
 def are(value, kind):

@@ -5,7 +5,7 @@ import re
 import analysis
 from lines import Faulty, NUMBER
 from refusals import Refused
-from sets import by_limits, by_rank, is_name, padded, read_document, TASKS_MOST
+from sets import by_limits, by_rank, INTERRUPTS_MOST, is_name, padded, read_document, TASKS_MOST
 from toml_tree import tree_of
 
 MARK = b"#% "
@@ -27,33 +27,36 @@ class Ranked(tuple):
 
 def read_set(data, preference=None):
     """The set that a text says, by what the call prefers, else the text, else by weights; or the first refusal."""
-    own, node, sheets, owners = read_teams(data) if data.startswith(MARK) else (*read_document(data), {})
-    sheets = padded(sheets, node)
+    own, node, interrupts, sheets, owners = read_teams(data) if data.startswith(MARK) else (*read_document(data), {})
+    sheets = padded(sheets, node, interrupts)
     tasks = Ranked(by_limits(sheets) if (preference or own) == "deadline" else by_rank(sheets))
     tasks.own, tasks.owners = own, owners
     return tasks
 
 
 def read_teams(data):
-    """What the documents prefer, and their node, if one says so, the sheets of all, document by document, and the team of
-    each."""
+    """What the documents prefer, and their node, if one says so, the interrupts and sheets of all, document by document, and
+    the team of each sheet."""
     node, data = node_document(data)
     budgets = {} if node is None else read_budgets(node)
-    teams, preferring, overheads_of, part = [], [], [], 0
+    teams, preferring, overheads_of, interrupts, part = [], [], [], (), 0
     while data:
         part += 1
         team, document, data = next_document(data, part)
         try:
-            prefer, overheads, sheets = read_document(document)
+            prefer, overheads, more, sheets = read_document(document)
         except Refused as refusal:
             raise refusal.behind("team", team) from None
         teams.append((team, by_rank(sheets)))
         preferring += [(team, prefer)] * (prefer is not None)
         overheads_of += [(team, overheads)] * (overheads is not None)
+        interrupts += more
     for said, refusal in (preferring, "OtherPreference"), (overheads_of, "OtherNode"):
         for team, it in said:
             if it != said[0][1]:
                 raise Refused(4, refusal, team, said[0][0])
+    if len(interrupts) > INTERRUPTS_MOST:
+        raise Refused(4, "TooManyInterrupts")
     owner = {}
     for team, sheets in teams:
         for sheet in sheets:
@@ -64,7 +67,7 @@ def read_teams(data):
         raise Refused(4, "TooManyTasks")
     keep_budgets(budgets, teams)
     own, overheads = (said[0][1] if said else None for said in (preferring, overheads_of))
-    return own, overheads, [sheet for _, sheets in teams for sheet in sheets], owner
+    return own, overheads, interrupts, [sheet for _, sheets in teams for sheet in sheets], owner
 
 
 def node_document(data):

@@ -88,7 +88,10 @@ def why_not(tasks, order, i):
             return f"below {tasks[k].name}"
     last, reached = tasks[i].cost - 1, set().union(*(analysis.uses(tasks, k) for k in higher))
     inside = any(section.at < last < section.end and reached & set(section.locks) for section in tasks[i].sections)
-    return "ends-inside-a-section" if inside else "within-a-tick"
+    if inside:
+        return "ends-inside-a-section"
+    passes = analysis.passes(analysis.uninterrupted(tasks), i, set(higher))
+    return "within-interrupts" if passes else "within-a-tick"
 
 
 def worst(tasks, i=None):
