@@ -11,11 +11,12 @@ One that isn't valid is `refused: set`: which rule it breaks `desk check` says.
 
 Why this suffices. A task passes below others if some time up to its limit covers what it and they
 demand till then. Demand grows with time and with each task that comes above: this adds its cost at
-least, and no section that it could have blocked with is longer. So a chain that climbs from 1 past
-the limit, each number no more than the demand of the one before it, leaves no such time, and what
-can't stand below some tasks can't stand below more. `best`: each level's number is such a time, and
-an order better than this has, at the lowest level where they differ, a task of smaller rank, which
-the chains refute. `none`: in each order one member is below all other members, and is refuted.
+least, and no section that it could have blocked with is longer; what timers and interrupts take is
+the same in every order. So a chain that climbs from 1 past the limit, each number no more than the
+demand of the one before it, leaves no such time, and what can't stand below some tasks can't stand
+below more. `best`: each level's number is such a time, and an order better than this has, at the
+lowest level where they differ, a task of smaller rank, which the chains refute. `none`: in each
+order one member is below all other members, and is refuted.
 """
 import re
 import sys
@@ -25,8 +26,9 @@ from types import SimpleNamespace
 
 NAME = "[A-Za-z][A-Za-z0-9_-]{0,23}"
 NUMBER = "(?:0|[1-9][0-9]{0,9})"
-SET = {"task": list, "prefer": str, "node": dict}
-NODE = {"job": int, "lock": int, "late": int}
+SET = {"task": list, "prefer": str, "node": dict, "interrupt": list}
+NODE = {"job": int, "lock": int, "release": int, "late": int}
+INTERRUPT = {"period": int, "cost": int}
 TASK = {"name": str, "weight": int, "period": int, "deadline": int, "cost": int, "jitter": int,
         "section": list, "outranks": list}
 SECTION = {"locks": list, "at": int, "len": int}
@@ -71,13 +73,15 @@ def task_of(table, node):
     it.section = sections_of(it.section)
     it.locks = {lock for section in it.section for lock in section.locks}
     check_task(it)
-    before = node.job
+    before = node.job - node.release
     for section in it.section:
         calls = node.lock * len(section.locks)
         section.at, section.len, before = section.at + before, section.len + calls, before + calls
-    it.cost, it.jitter = it.cost + before, it.jitter + node.late
+    it.cost, it.jitter, it.timer = it.cost + before, it.jitter + node.late, node.release
     it.limit = it.deadline - it.jitter
     check_task(it)
+    if it.cost + it.timer > it.period:
+        raise ValueError
     return it
 
 
@@ -98,11 +102,15 @@ def check_task(it):
 
 def read_set(text):
     """The tasks by rank, which is by weight and then by name, each with what the node takes, if the
-    set says it. Where deadlines are preferred, a task's weight is the number of tasks of a longer
-    limit."""
-    root = values(tomllib.loads(text.decode("utf-8-sig")), SET, task=[], prefer="weight", node={})
-    node = values(root.node, NODE, job=0, lock=0, late=0)
-    if min(node.job, node.lock, node.late) < 0:
+    set says it; and the interrupts. Where deadlines are preferred, a task's weight is the number of
+    tasks of a longer limit."""
+    left_out = {"task": [], "prefer": "weight", "node": {}, "interrupt": []}
+    root = values(tomllib.loads(text.decode("utf-8-sig")), SET, **left_out)
+    node = values(root.node, NODE, job=0, lock=0, release=0, late=0)
+    interrupts = [values(table, INTERRUPT) for table in root.interrupt]
+    if not all(0 <= it <= 10_000_000 for it in (node.job, node.lock, node.late)) \
+            or not 0 <= node.release <= min(1000, node.job) or len(interrupts) > 8 \
+            or not all(100 <= it.period <= 10_000_000 and 0 <= it.cost <= it.period for it in interrupts):
         raise ValueError
     tasks = [task_of(table, node) for table in root.task]
     if text.startswith(b"#% ") or root.prefer not in ("weight", "deadline") \
@@ -111,16 +119,16 @@ def read_set(text):
     if root.prefer == "deadline":
         for it in tasks:
             it.weight = sum(other.limit > it.limit for other in tasks)
-    return sorted(tasks, key=lambda it: (it.weight, it.name))
+    return sorted(tasks, key=lambda it: (it.weight, it.name)), interrupts
 
 
 def read_certificate(text):
     """The version, `best` or `none`, and the levels or members. A level is its task's name, its
     number and its reasons; a member is a reason: a name, and a chain or the name behind `over`."""
     *lines, rest = text.decode("latin-1").split("\n")
-    if lines and not re.fullmatch("desk-certificate [12]", lines[0]):
+    if lines and not re.fullmatch("desk-certificate [123]", lines[0]):
         raise Refused("BadHead")
-    over = f"| over {NAME}" if lines and lines[0].endswith("2") else ""
+    over = f"| over {NAME}" if lines and not lines[0].endswith("1") else ""
     place = 1
 
     def following(pattern):
@@ -155,14 +163,22 @@ def read_certificate(text):
     return int(lines[0][-1]), claim, rows
 
 
-def demand(tasks, task, above, time):
+def jobs_within(it, time):
+    """How many jobs of a task become ready in so long."""
+    return -(-(time + it.jitter) // it.period)
+
+
+def demand(tasks, interrupts, task, above, time):
     """What may execute before the task is done, in so long from the latest instant at which it and
     those above are ready: its cost; one section, the longest, of a task below that names a lock
-    which it or one above uses; and each job of those above that becomes ready."""
+    which it or one above uses; each job of those above that becomes ready; the timer of each job of
+    any task; and each interrupt."""
     used = task.locks.union(*(it.locks for it in above))
     sections = [it for other in tasks if other not in [task, *above] for it in other.section]
     blocking = max((it.len for it in sections if used & {*it.locks}), default=0)
-    return task.cost + blocking + sum(-(-(time + it.jitter) // it.period) * it.cost for it in above)
+    jobs = sum(jobs_within(it, time) * it.cost for it in above)
+    timers = sum(jobs_within(it, time) * it.timer for it in tasks)
+    return task.cost + blocking + jobs + timers + sum(-(-time // it.period) * it.cost for it in interrupts)
 
 
 def must_outrank(task, other):
@@ -170,21 +186,29 @@ def must_outrank(task, other):
     return not other.is_above_all if task.is_above_all else other.name in task.outranks
 
 
-def refutes(tasks, task, above, reason):
+def refutes(tasks, interrupts, task, above, reason):
     """Whether a reason shows that the task can't stand below these: one of them that it must
     outrank, or a chain."""
     if isinstance(reason, str):
         return any(it.name == reason and must_outrank(task, it) for it in above)
-    rises = all(a < b <= demand(tasks, task, above, a) for a, b in zip(reason, reason[1:]))
+    steps = zip(reason, reason[1:])
+    rises = all(a < b <= demand(tasks, interrupts, task, above, a) for a, b in steps)
     return reason[0] == 1 and rises and max([0, *reason[:-1]]) <= task.limit < reason[-1]
 
 
-def check(tasks, version, claim, rows):
+def needed_version(tasks, interrupts):
+    """The first version that serves the set."""
+    if interrupts and tasks or any(it.timer for it in tasks):
+        return 3
+    is_bound = any(must_outrank(it, other) for it in tasks for other in tasks)
+    return 2 if is_bound or any(it.jitter for it in tasks) else 1
+
+
+def check(tasks, interrupts, version, claim, rows):
     """What the certificate shows. Each rule goes over all of it before the next one."""
     named = {it.name: it for it in tasks}
     order = [named.get(row[0]) for row in rows]
-    is_bound = any(must_outrank(it, other) for it in tasks for other in tasks)
-    if version == 1 and (is_bound or any(it.jitter for it in tasks)):
+    if version < needed_version(tasks, interrupts):
         raise Refused("WrongVersion")
     is_short = claim == "best" and len(rows) < len(tasks)
     if None in order or len({it.name for it in order}) < len(rows) or is_short:
@@ -192,7 +216,8 @@ def check(tasks, version, claim, rows):
 
     def refuse_wrong(level, among, reasons):
         for name, reason in reasons:
-            if not refutes(tasks, named[name], [it for it in among if it.name != name], reason):
+            others = [it for it in among if it.name != name]
+            if not refutes(tasks, interrupts, named[name], others, reason):
                 raise Refused(f"BadChain {level} {name}")
 
     def better(level):
@@ -210,7 +235,7 @@ def check(tasks, version, claim, rows):
             raise Refused(f"WrongTasks {level}")
     for level, (_, time, _) in enumerate(rows, 1):
         task, above = order[level - 1], order[level:]
-        if not 1 <= time <= task.limit or demand(tasks, task, above, time) > time \
+        if not 1 <= time <= task.limit or demand(tasks, interrupts, task, above, time) > time \
                 or any(must_outrank(task, it) for it in above):
             raise Refused(f"BadPass {level}")
     for level, (_, _, reasons) in enumerate(rows, 1):
@@ -225,11 +250,11 @@ def check(tasks, version, claim, rows):
 def said(set_text, certificate_text):
     """The line that is printed, and the status."""
     try:
-        tasks = read_set(set_text)
+        tasks, interrupts = read_set(set_text)
     except (TypeError, ValueError, RecursionError):
         return "refused: set", 4
     try:
-        return check(tasks, *read_certificate(certificate_text)), 0
+        return check(tasks, interrupts, *read_certificate(certificate_text)), 0
     except Refused as fault:
         return f"refused: {fault}", 5
 

@@ -23,11 +23,15 @@ valid. By deadlines:
 >>> len(desk.admit(SET).levels)
 2
 
-With what the node itself takes of a job and of a lock, and how late a job may begin:
+With what the node itself takes of a job and of a lock, what of a job's part its timer takes of
+whoever executes, how late a job may begin, and the node's ticks:
 
 >>> padded = desk.admit(desk.toml(SHEETS, node=desk.Node(job=20, lock=2, late=15)))
 >>> [(it.task, it.response) for it in padded.levels]
 [('lo', 23103), ('hi', 5039)]
+>>> taken = desk.toml(SHEETS, node=desk.Node(20, 2, 15, 5), interrupts=[desk.Interrupt(4000, 17)])
+>>> [(it.task, it.response) for it in desk.admit(taken).levels]
+[('lo', 23205), ('hi', 5078)]
 
 A no is a value, too, and is false where a yes is true. A refused input is an exception, with the
 line that `desk` prints and a sentence:
@@ -152,7 +156,8 @@ class Checked(_Answer):
 
 @dataclass(frozen=True)
 class Part:
-    """A part of a time: `kind` is cost, jitter, blocked (by `task`) or above (`jobs` of `task`). `team`
+    """A part of a time: `kind` is cost, node (what the node takes of a job), jitter, blocked (by `task`),
+    above (`jobs` of `task`), timers (of all tasks) or interrupt (`jobs` of that of a `number`). `team`
     is whose that task is, where the set is documents of teams. `ceiling_by` is a task above whose
     use of the lock makes it block, where the task itself doesn't use it."""
 
@@ -164,6 +169,7 @@ class Part:
     jobs: int | None = None
     team: str | None = None
     ceiling_by: str | None = None
+    number: int | None = None
 
 
 @dataclass(frozen=True)
@@ -410,19 +416,34 @@ class Played(_Answer):
 
 @dataclass(frozen=True)
 class Node:
-    """What the node itself takes of a job and of each lock, and how late a job may begin."""
+    """What the node itself takes of a job and of each lock, how late a job may begin, and what of `job` a
+    timer takes of whoever executes."""
 
     job: int = 0
     lock: int = 0
     late: int = 0
+    release: int = 0
+
+
+@dataclass(frozen=True)
+class Interrupt:
+    """One that no task asks for, as of a clock or a device."""
+
+    period: int
+    cost: int
 
 
 # A set is a document, or tasks.
 Sheets = Text | Iterable[Task]
 
 
-def toml(tasks: Iterable[Task], prefer: str | None = None, node: Node | None = None) -> str:
-    """The tasks as a document that the other functions read, what it prefers, and its node."""
+def toml(
+    tasks: Iterable[Task],
+    prefer: str | None = None,
+    node: Node | None = None,
+    interrupts: Iterable[Interrupt] = (),
+) -> str:
+    """The tasks as a document that the other functions read, what it prefers, its node and interrupts."""
 
     def word(name: str) -> str:
         return json.dumps(name, ensure_ascii=False)
@@ -448,7 +469,10 @@ def toml(tasks: Iterable[Task], prefer: str | None = None, node: Node | None = N
 
     head = [f"prefer = {word(prefer)}"] if prefer else []
     if node is not None:
-        head += ["[node]", *(f"{key} = {getattr(node, key)}" for key in ("job", "lock", "late"))]
+        keys = ("job", "lock", "release", "late")
+        head += ["[node]", *(f"{key} = {getattr(node, key)}" for key in keys)]
+    for it in interrupts:
+        head += ["[[interrupt]]", f"period = {it.period}", f"cost = {it.cost}"]
     return "".join(line + "\n" for line in [*head, *(line for it in tasks for line in lines(it))])
 
 
@@ -586,6 +610,8 @@ def _part(words: Sequence[str]) -> Part:
         )
     if words[0] == "above":
         return Part("above", int(words[4]), words[1], jobs=int(words[2]), team=_team(words))
+    if words[0] == "interrupt":
+        return Part("interrupt", int(words[4]), jobs=int(words[2]), number=int(words[1]))
     return Part(words[0], int(words[1]))
 
 

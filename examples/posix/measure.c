@@ -18,11 +18,12 @@
  *     -t FILE      the lines `thread` and `mutex` of the input, then who executed from when to
  *                  when, as `simulate` prints it: for `desk observe`
  *
- * First come the node's overheads; then how often and how long no task executed though a job was
- * ready (outside); then each task's greatest response from the arrival, rounded up, in
- * microseconds of the set: `beyond` if it is above the bound, `late` jobs past their deadline,
- * `open` ones that weren't done at `until`. Status 1: some job was late or beyond; 2: wrong input;
- * 3: the system refused something. What was measured is no bound: the worst case may not have come.
+ * First come the node's overheads, and what a set may say of them (`[node]`, `[[interrupt]]`); then
+ * how often and how long no task executed though a job was ready (outside); then each task's
+ * greatest response from the arrival, rounded up, in microseconds of the set: `beyond` if it is
+ * above the bound, `late` jobs past their deadline, `open` ones that weren't done at `until`.
+ * Status 1: some job was late or beyond; 2: wrong input; 3: the system refused something. What was
+ * measured is no bound: the worst case may not have come.
  */
 #define _GNU_SOURCE /* for sched_setaffinity, pthread_setname_np; all else is POSIX.1-2017 */
 #include "node.h"
@@ -171,7 +172,7 @@ static int find_lock(const char *name)
     return i;
 }
 
-/* A section LOCK+LOCK@AT:LEN, or j=JITTER, or over=NAMES. */
+/* A section LOCK+LOCK@AT:LEN; or j=, over=, node= or irq=, which need nothing done. */
 static int read_field(struct task *task, char *word)
 {
     char *times = strchr(word, '@'), *more;

@@ -10,6 +10,8 @@
 /* Turns of a probe, and the nanoseconds from one to the next: 800 ms in all, since by default Linux
  * leaves real-time threads 950 ms of each second. */
 enum { TURNS = 800, TURN = 997000, SAMPLES = 4000 };
+/* For how many nanoseconds pauses are looked for. */
+enum { LOOKED = 800000000 };
 
 struct gauge {
     const char *name, *text;
@@ -25,6 +27,13 @@ static struct gauge
     yield = {.name = "switch", .text = "sched_yield to an equal thread"},
     gap = {.name = "gap", .text = "pauses of the highest thread, those above 1000, in 0.8 s"},
     unseen;
+
+/* Pauses of the highest thread, by their begins. */
+struct pause {
+    int64_t begin, length;
+};
+static struct pause pauses[SAMPLES];
+static int pause_count;
 
 /* When the turns of the present probe begin. */
 static int64_t first;
@@ -62,10 +71,13 @@ static void *watch(void *gauge)
 
 static void *look(void *unused)
 {
-    int64_t last = now(CLOCK_MONOTONIC), end = last + 800000000;
-    while (last < end) {
+    int64_t last = now(CLOCK_MONOTONIC), end = last + LOOKED;
+    while (last < end && pause_count < SAMPLES) {
         int64_t time = now(CLOCK_MONOTONIC);
-        put(&gap, time - last > 1000 ? time - last : 0);
+        if (time - last > 1000) {
+            put(&gap, time - last);
+            pauses[pause_count++] = (struct pause){last, time - last};
+        }
         last = time;
     }
     return unused;
@@ -112,18 +124,71 @@ static void print_gauge(struct gauge *gauge)
                (long)sample[n / 2], (long)sample[n * 99 / 100], (long)sample[n - 1], gauge->text);
 }
 
-/* The greatest sample, in microseconds, rounded up. */
-static long greatest(const struct gauge *gauge)
+static long most(long a, long b)
 {
-    return gauge->count > 0 ? (long)((gauge->sample[gauge->count - 1] + 999) / 1000) : 0;
+    return a > b ? a : b;
 }
 
-/* What a set may say of the node: the greatest of each that was seen here. */
+/* In microseconds, rounded up. */
+static long rounded(int64_t nanoseconds)
+{
+    return (long)((nanoseconds + 999) / 1000);
+}
+
+static long greatest(const struct gauge *gauge)
+{
+    return gauge->count > 0 ? rounded(gauge->sample[gauge->count - 1]) : 0;
+}
+
+/* The median time from one pause to the next, in microseconds; all that was looked at, of one. */
+static long usual_distance(void)
+{
+    static int64_t distances[SAMPLES];
+    int count = pause_count - 1;
+    for (int i = 0; i < count; i++)
+        distances[i] = pauses[i + 1].begin - pauses[i].begin;
+    qsort(distances, (size_t)most(count, 0), sizeof distances[0], by_value);
+    return count < 1 ? LOOKED / 1000 : most(1, (long)(distances[count / 2] / 1000));
+}
+
+/* How long the pauses of the worst window of so many microseconds took. */
+static int64_t worst_within(long window)
+{
+    int64_t sum = 0, worst = 0;
+    for (int from = 0, to = 0; from < pause_count; sum -= pauses[from++].length) {
+        for (; to < pause_count && pauses[to].begin < pauses[from].begin + 1000 * window; to++)
+            sum += pauses[to].length;
+        worst = sum > worst ? sum : worst;
+    }
+    return worst;
+}
+
+/* An interrupt that takes no less than the pauses that were seen, in a window of any length: in
+ * each of its periods as much as they took in the worst window of that length. Short periods would
+ * count rare pauses often: the period is doubled until that is at most twice the mean. */
+static void print_interrupt(void)
+{
+    long period = usual_distance();
+    int64_t all = 0;
+    for (int i = 0; i < pause_count; i++)
+        all += pauses[i].length;
+    while (period < 100000 && worst_within(period) * LOOKED > 2 * all * 1000 * period)
+        period *= 2;
+    long cost = rounded(worst_within(period));
+    if (pause_count > 0)
+        printf("[[interrupt]] # no less than the pauses seen\nperiod = %ld\ncost = %ld\n", period,
+               cost < period ? cost : period);
+}
+
+/* What a set may say of the node: the greatest of each that was seen here. Of a job its timer is a
+ * part. */
 static void print_node(void)
 {
-    long busy = greatest(&late), asleep = greatest(&idle);
-    printf("[node] # the greatest seen, in us\njob = %ld\nlock = %ld\nlate = %ld\n", greatest(&job),
-           greatest(&lock), busy > asleep ? busy : asleep);
+    long timer = greatest(&release);
+    printf("[node] # the greatest seen, in us\njob = %ld\nlock = %ld\nrelease = %ld\nlate = %ld\n",
+           most(greatest(&job), timer), greatest(&lock), timer,
+           most(greatest(&late), greatest(&idle)));
+    print_interrupt();
 }
 
 void print_overheads(void)

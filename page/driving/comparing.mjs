@@ -3,10 +3,14 @@ import { digits, equal, expect, kinds, native } from './page.mjs';
 
 // (a comma stands behind the lock where its ceiling follows)
 const lock_of = words => words[7].replace(',', '');
+const plural = (count, word) => `${count} ${word}${count === '1' ? '' : 's'}`;
 const PARTS = { cost: it => `own cost: ${it[1]} µs`, jitter: it => `jitter: ${it[1]} µs`,
+  node: it => `what the node takes of it: ${it[1]} µs`,
+  timers: it => `timers of all tasks: ${it[1]} µs`,
+  interrupt: it => `interrupt ${it[1]}: ${plural(it[2], 'time')}, ${it[4]} µs`,
   blocked: it => `blocked by ${it[3]}, section ${it[5]}, lock ${lock_of(it)}` +
     `${it[10] ? `, its ceiling by ${it[10]}` : ''}: ${it[1]} µs`,
-  above: it => `${it[1]} above: ${it[2]} job${it[2] === '1' ? '' : 's'}, ${it[4]} µs` };
+  above: it => `${it[1]} above: ${plural(it[2], 'job')}, ${it[4]} µs` };
 // Each bar has the account's numbers, a part for each part of it, and their widths.
 function compare_bars(what, explain, { bars }) {
   const [accounted] = explain.text.split(/\nload \d+\n/);

@@ -1,13 +1,25 @@
-// Scenes of a set that says what its node takes: the desk prints the numbers with it, the text has
-// them without.
+// Scenes of a set that says what its node takes: its fields, its interrupts, and each number
+// without it.
 import { compare_set } from './comparing.mjs';
 import {
   PAGE_URL, browser, digits, equal, example, expect, lines_changed, look, native, put,
 } from './page.mjs';
 import { click_on } from './running.mjs';
 
-const fields = () => browser.run(() =>
-  ['job', 'lock', 'late'].map(it => document.getElementById(`node-${it}`).value).join());
+const fields = () => browser.run(() => ['job', 'lock', 'release', 'late']
+  .map(it => document.getElementById(`node-${it}`).value).join());
+const interrupts = () => browser.run(() => [...document.querySelectorAll('#overhead .interrupt')]
+  .map(it => [...it.querySelectorAll('input')].map(input => input.value).join(':')).join());
+// The fields that are marked, by their keys.
+const marked = () => browser.run(() => [...document.querySelectorAll('#overhead input.is-wrong')]
+  .map(it => it.id || it.getAttribute('aria-label')).join());
+const shown_in_the_text = async () => {
+  await browser.click('#set-place button');
+  return browser.run(() => {
+    const { value, selectionStart, selectionEnd } = document.getElementById('set');
+    return value.slice(selectionStart, selectionEnd);
+  });
+};
 const press_on_grip = async (task, ...keys) => {
   await browser.run(task =>
     document.querySelector(`[data-task="${task}"] .growth input`).focus(), task);
@@ -21,11 +33,11 @@ export async function of_a_node() {
   let seen = await put({ set });
   compare_set('what the node takes', set, seen);
   expect(seen.is_tabled, `has its table: ${seen.shown.untabled}`);
-  equal(`${seen.rows[3].cost} ${await fields()}`, '20000 20,2,15', 'as it is written');
-  // `limits` prints 20022, of which the node takes 22.
-  const furthest = Number(seen.answers.limits.text.match(/^lo cost \d+ (\d+)/m)[1]);
+  equal(`${seen.rows[2].cost} ${await fields()} ${await interrupts()}`,
+    '20000 20,2,5,15 4000:17', 'as it is written');
+  const furthest = Number(seen.answers.limits.text.match(/^lo cost 20000 (\d+)/m)[1]);
   seen = await press_on_grip('lo', 'End');
-  equal(seen.rows[3].cost, String(furthest - 22), 'as far as the order lets it, less the node\'s');
+  equal(seen.rows[2].cost, String(furthest), 'as far as the order lets it');
   equal(lines_changed(seen.set, set), 2, 'in one line');
   equal(seen.strip, 'verdict is-yes', 'which still passes');
   compare_set('a cost as far as it may go', seen.set, seen);
@@ -34,6 +46,7 @@ export async function of_a_node() {
   await browser.click('#undo');
   await in_the_run(set);
   await edited(set);
+  await interrupted(set);
   await mended(set);
 }
 async function in_the_run(set) {
@@ -51,12 +64,20 @@ async function edited(set) {
   compare_set('another lock', seen.set, seen);
   await browser.write('#node-job', '30');
   seen = await look();
-  equal(seen.strip, 'verdict is-no', 'what is too much');
+  equal(seen.strip, 'verdict is-yes', 'a longer job');
   compare_set('a longer job', seen.set, seen);
+  await browser.write('#node-job', '4');
+  seen = await look();
+  compare_set('a timer longer than a job', seen.set, seen);
+  equal(await marked(), 'node-release', 'is marked');
+  equal(await shown_in_the_text(), 'release = 5', 'and shown in the text');
   await browser.write('#node-job', '');
   seen = await look();
   expect(seen.set.includes('[node]\nlock = 1\n'), 'an empty field goes');
+  await browser.write('#node-release', '');
+  seen = await look();
   compare_set('no time for a job', seen.set, seen);
+  equal(await marked(), '', 'nothing is marked');
   await browser.write('#node-job', 'x');
   equal((await look()).set, seen.set, 'what is no number is not taken');
   await browser.click('#by-deadline');
@@ -64,7 +85,7 @@ async function edited(set) {
   expect(seen.set.includes('prefer = "deadline"\n\n[node]\n'), 'the preference stands above it');
   compare_set('a node, by deadline', seen.set, seen);
   await put({ set: example('shared-lock') });
-  equal(await fields(), ',,', 'of a set without a node');
+  equal(`${await fields()} ${await interrupts()}`, ',,, ', 'of a set without a node');
   await browser.write('#node-late', '9');
   seen = await look();
   equal(seen.set, example('shared-lock').replace('\n[[task]]', '\n[node]\nlate = 9\n\n[[task]]'),
@@ -76,6 +97,31 @@ async function edited(set) {
   expect(seen.set.startsWith('node = { job = 3, lock = 1, late = 9 }\n'), 'a node in one line');
   compare_set('a node in one line', seen.set, seen);
 }
+async function interrupted(set) {
+  const cost = '#overhead .interrupt:nth-child(1) label:nth-of-type(2) input';
+  await put({ set });
+  await browser.write(cost, '18');
+  let seen = await look();
+  equal(seen.set, set.replace('cost = 17', 'cost = 18'), 'an interrupt takes another time');
+  compare_set('another interrupt', seen.set, seen);
+  await browser.write(cost, '4001');
+  seen = await look();
+  compare_set('an interrupt past its period', seen.set, seen);
+  equal(await marked(), 'period of interrupt 1,cost of interrupt 1', 'is marked');
+  equal(await shown_in_the_text(), '[[interrupt]]', 'and shown in the text');
+  await browser.write(cost, '17');
+  await browser.click('#overhead > button');
+  seen = await look();
+  const fresh = '\n[[interrupt]]\nperiod = 4000\ncost = 10\n';
+  equal(seen.set, set.replace('cost = 17\n', `cost = 17\n${fresh}`),
+    'a new one stands behind the others');
+  compare_set('two interrupts', seen.set, seen);
+  await browser.click('#overhead .interrupt:nth-child(1) button');
+  seen = await look();
+  equal(await interrupts(), '4000:10', 'one goes');
+  await browser.click('#overhead .interrupt:nth-child(1) button');
+  equal((await look()).set.includes('interrupt'), false, 'and the other');
+}
 const click_on_mend = async what => {
   const { mends } = await look(), place = mends.map(digits).indexOf(what);
   expect(place >= 0, `what mends it: ${mends}, and not ${what}`);
@@ -83,25 +129,28 @@ const click_on_mend = async what => {
   return look();
 };
 async function mended(set) {
-  const late = set.replace('cost = 17\n', 'cost = 18\n');
+  const late = set.replace('deadline = 10000\n', 'deadline = 5083\n')
+    .replace('cost = 17\n', 'cost = 18\n');
   let seen = await put({ set: late });
-  equal(seen.strip, 'verdict is-no', 'a tick too much');
-  seen = await click_on_mend('ticks: jitter 15 → 14');
-  equal(seen.set, late, 'what the node takes of itself isn\'t written');
-  expect(/node itself takes more/.test(seen.shown.notice), seen.shown.notice);
-  seen = await click_on_mend('ticks: cost 38 → 37');
-  equal(seen.set, set, 'is written without what the node takes');
+  equal(seen.strip, 'verdict is-no', 'a tick that takes too much');
+  expect(!seen.mends.some(it => it.includes('jitter')),
+    'what the node takes of itself is no mending');
+  seen = await click_on_mend('hi: cost 1000 → 998');
+  equal(seen.set, late.replace('cost = 1000\n', 'cost = 998\n'),
+    'is written without what the node takes');
   compare_set('a mended node', seen.set, seen);
   // All execution goes as the desk's factor does, with what the node takes of it.
-  const slack = set.replace('deadline = 52', 'deadline = 60');
-  seen = await put({ set: slack });
+  seen = await put({ set });
   const factor = Number(seen.answers.limits.text.match(/^all (\d+)/m)[1]);
+  const times = it => Math.ceil(it * factor / 1000);
   await browser.run(() => document.querySelector('#scale input').focus());
   await browser.press('End');
   await browser.settled();
   seen = await look();
-  equal(seen.rows.map(it => it.cost).join(), [[37, 20], [1022, 22], [2020, 20], [20022, 22]]
-    .map(([cost, pad]) => Math.ceil(cost * factor / 1000) - pad).join(), `times ${factor}`);
+  equal(seen.rows.map(it => it.cost).join(), [[1017, 17], [2015, 15], [20017, 17]]
+    .map(([cost, pad]) => times(cost) - pad).join(), `times ${factor}`);
+  equal(`${await fields()} ${await interrupts()}`,
+    `${15 + times(5)},2,${times(5)},15 4000:${times(17)}`, 'timers and ticks, too');
   equal(seen.strip, 'verdict is-yes', 'still passes');
   compare_set('all execution of a node', seen.set, seen);
 }

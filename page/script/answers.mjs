@@ -38,6 +38,8 @@ function read_part(line) {
       lock: words[7].replace(',', ''), user: words[7].endsWith(',') ? words[10] : null };
   if (kind === 'above')
     return { kind, by: words[1], jobs: Number(words[2]), time: Number(words[4]) };
+  if (kind === 'interrupt')
+    return { kind, number: words[1], jobs: Number(words[2]), time: Number(words[4]) };
   return { kind, time: Number(words[1]) };
 }
 

@@ -15,10 +15,15 @@ function part_told(part) {
   if (part.kind === 'blocked')
     return `blocked by ${part.by}, section ${part.section}, lock ${part.lock}` +
       `${part.user ? `, its ceiling by ${part.user}` : ''}: ${us(part.time)}`;
-  return `${part.kind === 'cost' ? 'own cost' : part.kind}: ${us(part.time)}`;
+  if (part.kind === 'interrupt')
+    return `${label_of(part)}: ${plural(part.jobs, 'time')}, ${us(part.time)}`;
+  return `${CALLED[part.kind] ?? part.kind}: ${us(part.time)}`;
 }
+const CALLED =
+  { cost: 'own cost', node: 'what the node takes of it', timers: 'timers of all tasks' };
 const label_of = part => part.kind === 'above' ? part.by :
-  part.kind === 'blocked' ? `${part.lock} · ${part.by}` : part.kind;
+  part.kind === 'blocked' ? `${part.lock} · ${part.by}` :
+  part.kind === 'interrupt' ? `interrupt ${part.number}` : part.kind;
 
 function bound_told(account, deadline) {
   if (account?.over) return [`must stand above ${account.over}`];
@@ -292,7 +297,8 @@ export class Bars {
   }
   part_named(part) {
     if (part.kind === 'above') return `${part.by} above, ${plural(part.jobs, 'job')}`;
-    if (part.kind !== 'blocked') return part.kind === 'cost' ? 'own cost' : part.kind;
+    if (part.kind === 'interrupt') return `${label_of(part)}, ${plural(part.jobs, 'time')}`;
+    if (part.kind !== 'blocked') return CALLED[part.kind] ?? part.kind;
     const onclick = () => this.point(part.by, part.section);
     const button = element('button.small', { type: 'button', onclick },
       `${part.by}, section ${part.section}`);

@@ -22,7 +22,8 @@ function what_of({ kind, name, keys }, documents) {
   const told = key => {
     if (!NUMBERED.includes(key) || !sheets[0] || !sheets[1]) return key;
     const [before, now] = sheets.map(it => number_in(it, key) ?? 0);
-    return `${key} ${grouped(before)} → ${grouped(now)}`;
+    // (what the node takes of it may differ alone)
+    return before === now ? key : `${key} ${grouped(before)} → ${grouped(now)}`;
   };
   return keys.map(told).join(', ');
 }

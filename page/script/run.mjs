@@ -26,6 +26,8 @@ const COMES_TO = {
     'section that a task above waits for, and is done in time: no run shows a miss.',
   'within-a-tick': ({ name }) => `${name} doesn't pass, by no more than the first µs of the ` +
     'section that blocks it, which is over in a run: none shows a miss.',
+  'within-interrupts': ({ name }) => `${name} doesn't pass, by no more than what timers and ` +
+    'interrupts take, which a run doesn\'t have: none shows a miss.',
 };
 function worst_told(found) {
   const { name, fate, other } = found;

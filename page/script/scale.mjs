@@ -1,21 +1,25 @@
 // All execution at once, as on a slower processor: a grip for the factor on it, with how far
 // `limits` lets it go. It scales as the desk's factor does, in thousandths: each cost, and the
 // begin and the length of each section, rounded up; a section begins no earlier than the one before
-// it ends, and the cost is at least the end of the last.
+// it ends, and the cost is at least the end of the last; what timers and interrupts take.
 import { element, thousandths } from './dom.mjs';
-import { padded_execution } from './padding.mjs';
+import { padded_execution, taken } from './padding.mjs';
 import { name_of, number_in, put_key } from './toml.mjs';
 
-// What the factor is of: the cost and the sections of each task, with what the node takes of them.
-export const execution_of = document =>
-  new Map(document.tasks.map(it => [name_of(it), padded_execution(document, it)]));
+// What the factor is of: the cost and the sections of each task, with what the node takes of them,
+// its timers, which are in no cost, and the interrupts.
+export const execution_of = document => ({
+  tasks: new Map(document.tasks.map(it => [name_of(it), padded_execution(document, it)])),
+  timer: taken(document, 'release'), rest: taken(document, 'job') - taken(document, 'release'),
+  interrupts: document.interrupts.map(it => number_in(it, 'cost')),
+});
 
 const put_where_changed = (document, table, key, value) => value === number_in(table, key) ? [] :
   put_key(document, table, key, String(value));
 export function scaled(document, base, permille) {
   const times = value => Math.ceil(value * permille / 1000);
-  return document.tasks.flatMap(task => {
-    const was = base.get(name_of(task));
+  return [...scaled_node(document, base, times), ...document.tasks.flatMap(task => {
+    const was = base.tasks.get(name_of(task));
     if (!was?.cost || was.sections.length !== task.sections.length) return [];
     // (`end` is where a section ends with what the node takes, `stop` where without)
     let end = 0, stop = 0;
@@ -30,7 +34,16 @@ export function scaled(document, base, permille) {
     });
     const cost = Math.max(1, stop, Math.max(end, times(was.cost)) - was.pad);
     return [...edits, ...put_where_changed(document, task, 'cost', cost)];
-  });
+  })];
+}
+// (what of `job` is no timer's is in the costs, and scaled there)
+function scaled_node(document, { timer, rest, interrupts }, times) {
+  const { node, interrupts: tables } = document;
+  const edits = tables.length !== interrupts.length ? [] : tables.flatMap((it, place) =>
+    interrupts[place] ? put_where_changed(document, it, 'cost', times(interrupts[place])) : []);
+  if (!node || !timer) return edits;
+  return [...edits, ...put_where_changed(document, node, 'job', rest + times(timer)),
+    ...put_where_changed(document, node, 'release', times(timer))];
 }
 
 // The factor is of the execution that was there when somebody took the grip; when it is let go, it

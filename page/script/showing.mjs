@@ -8,10 +8,7 @@ import { offer } from './files.mjs';
 import { fates, judgement } from './judging.mjs';
 import { lanes } from './asking.mjs';
 import { lead, line_named } from './leading.mjs';
-import { cell_refused, span_refused } from './refusals.mjs';
-import {
-  learn_pads, pad_of, printed_in_accounts, printed_in_limits,
-} from './padding.mjs';
+import { cell_refused, node_refused, span_refused } from './refusals.mjs';
 import { show_lines, show_printed, unprint } from './printing.mjs';
 import {
   is_of_one, settle_run, show_choices, show_late_run, show_picture, undrawn,
@@ -74,7 +71,9 @@ export function show_verdict(admit) {
     `verdict ${admit.kind === 'admitted' ? 'is-yes' : admit.kind === 'infeasible' ? 'is-no' : ''}`;
   state.is_stale = admit.kind === 'refused';
   const wrong = admit.refusal ? cell_refused(admit.refusal) : null;
-  lead('set', admit.refusal ? span_refused(admit.sentence, wrong, state.document) : null);
+  const of_node = admit.refusal ? node_refused(admit.refusal) : null;
+  lead('set', admit.refusal ? span_refused(admit.sentence, wrong, of_node, state.document) : null);
+  parts.overhead.mark(of_node);
   parts.table.show(
     state.document, { wrong, bad: admit.kind === 'infeasible' ? admit.names : [] });
   at('answer').classList.toggle('is-stale', state.is_stale);
@@ -85,7 +84,6 @@ export function show_verdict(admit) {
 function show_explained(explained) {
   if (!explained) return show_conflict(null);
   state.explained = explained;
-  if (!lanes.set.waiting) learn_pads(state.document, printed_in_accounts(explained));
   show_conflict(explained);
   draw_bars();
   show_facts();
@@ -106,27 +104,21 @@ function show_limits(limits) {
   state.limits = limits;
   if (!lanes.growth.waiting) {
     state.is_growing = false;
-    learn_pads(state.document, printed_in_limits(limits));
     if (limits) hold_against(limits);
   }
   show_mends();
   draw_bars();
   show_facts();
 }
-// The costs of the table as the desk prints them, with what the node takes.
-const printed_costs = () => new Map([...parts.table.costs()].map(([name, cost]) =>
-  [name, cost === null ? null : cost + pad_of(name, 'cost')]));
-// The table is right where it reads of each task the deadline that the desk prints and the cost, or
-// no more than that where the node takes something.
+// The table is right where it reads of each task the deadline and the cost that the desk prints.
 function hold_against(limits) {
   const { document, explained, is_stale } = state;
   if (document.why !== null) return;
-  const costs = printed_costs();
+  const costs = parts.table.costs();
   const deadlines = new Map(document.tasks.map(it => [name_of(it), number_in(it, 'deadline')]));
   const cost_read = name => limit_of(limits, name, 'cost')?.value;
   const other = [...limits.tasks.keys()]
-    .find(it => pad_of(it, 'cost') < 0 ||
-      cost_read(it) !== undefined && costs.get(it) !== cost_read(it)) ??
+    .find(it => cost_read(it) !== undefined && costs.get(it) !== cost_read(it)) ??
     [...costs.keys()].find(it => limits.is_whole && !limits.tasks.has(it)) ??
       (is_stale || lanes.set.is_busy ? null :
       explained?.accounts.find(
@@ -149,7 +141,7 @@ export function draw_bars() {
     explained: state.explained, limits: state.limits, was: state.baseline, can_edit: why === null,
     deadlines: new Map(why === null ?
       tasks.map(it => [name_of(it), number_in(it, 'deadline')]) : []),
-    costs: why === null ? printed_costs() : new Map(),
+    costs: why === null ? parts.table.costs() : new Map(),
   });
   parts.scale.show(state.limits?.all, why === null && tasks.length > 0);
   show_difference();

@@ -4,7 +4,6 @@ import { ask } from './asking.mjs';
 import { at } from './dom.mjs';
 import { text_of_fragment } from './files.mjs';
 import { keep_set } from './keeping.mjs';
-import { learn_pads, pad_of } from './padding.mjs';
 import { show_lines } from './printing.mjs';
 import { draw_bars, show_document } from './showing.mjs';
 import { followed, parts, past, state } from './state.mjs';
@@ -23,7 +22,6 @@ function become(text, by = '') {
   notice('');
   if (by !== 'text') show_text_soon();
   state.document = followed(text);
-  learn_pads(state.document, []);
   ask();
   keep_set(state);
   show_document();
@@ -36,20 +34,17 @@ export function travel(text) {
   become(text);
   if (document.activeElement === at('set')) show_text();
 }
-// A cost as the desk prints it, with what the node takes.
-export function grow(name, printed) {
+export function grow(name, wanted) {
   const index = state.document.tasks.findIndex(it => name_of(it) === name);
   if (index < 0) return;
   const ends = sections_in(state.document.tasks[index]).map(it => (it.at ?? 0) + (it.len ?? 0));
-  const cost = Math.max(1, printed - pad_of(name, 'cost'), ...ends);
+  const cost = Math.max(1, wanted, ...ends);
   edit(set_number(state.document, index, 'cost', cost), `grip ${name} ${parts.bars.pulls}`);
 }
 // A number of a task, as far as `limits` says that it has to come. A period takes a later deadline
 // along, and a deadline a shorter period.
 export function mend(name, limit) {
-  const { document } = state, { key, section } = limit;
-  const most = limit.most - pad_of(name, key, section);
-  if (most < (key === 'jitter' ? 0 : 1)) return notice('The node itself takes more than that.');
+  const { document } = state, { key, section, most } = limit;
   const index = document.tasks.findIndex(it => name_of(it) === name);
   const task = document.tasks[index];
   if (!task) return;
