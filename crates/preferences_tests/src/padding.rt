@@ -16,7 +16,12 @@ fn read(alloc: Global, document: &str) -> Result<Preferred, TeamsFault> {
 
 // A task's numbers, its node and interrupts aside.
 fn numbers(sheet: &Sheet) -> (Name, u64, [u64; 4]) {
-    let times = [sheet.period(), sheet.deadline(), sheet.cost(), sheet.jitter()];
+    let times = [
+        sheet.period(),
+        sheet.deadline(),
+        sheet.cost(),
+        sheet.jitter(),
+    ];
     (sheet.name(), sheet.weight(), times)
 }
 
@@ -24,10 +29,12 @@ fn numbers(sheet: &Sheet) -> (Name, u64, [u64; 4]) {
 fn are_same(alloc: Global, first: &str, second: &str) -> Result<bool, Fail> {
     let (first, second) = (read(alloc, first)?.set, read(alloc, second)?.set);
     let (sheets, others) = (first.sheets(), second.sheets());
-    Ok(sheets.len() == others.len()
-        && sheets.iter().zip(others).all(|(sheet, other)| {
-            numbers(sheet) == numbers(other) && sheet.sections() == other.sections()
-        }))
+    Ok(
+        sheets.len() == others.len()
+            && sheets.iter().zip(others).all(|(sheet, other)| {
+                numbers(sheet) == numbers(other) && sheet.sections() == other.sections()
+            }),
+    )
 }
 
 #[test]
