@@ -5,7 +5,7 @@ use Rattle.task_sheet.specs.Sheet.{CriticalSection, task_at}
 use Rattle.ceiling_kernel.specs.Behaviours.{Covers, AreTaken, LiesWithin, AreSpanned, AreWithinSheets, AreApart, TakeTurns, cut_at, IsCut, AreCut, AreKnown}
 use Rattle.ceiling_kernel.specs.Tick.{Node, Job, job_at, job_task, is_inside, held_ceiling}
 use Rattle.ceiling_kernel.specs.Jumps.{change_after}
-use Rattle.ceiling_kernel.specs.Waits.{IsNode, holds_lock}
+use Rattle.ceiling_kernel.specs.Waits.{IsNode}
 use Rattle.ceiling_kernel.proofs.NodeLaws.{IsSoundTask, IsSound, sound}
 use Rattle.ceiling_kernel.proofs.BehaviourLaws.{taken_apart}
 use Rattle.ceiling_kernel.proofs.SectionLaws.{outside_before}
@@ -48,21 +48,6 @@ held-cut node x (s ∷ ss) e lt =
           let f : nat_lt s.at x ≡ false = le-ltb s.at x gone in
           let out : is_inside s e ≡ false = outside_before s e (omega arith) in
           rw (f, out, ih) (omega arith)
-    ]
-
-pub holds-cut : (x : ℕ) (ss : List CriticalSection) (e : ℕ) (lock : List ℕ) → e < x → holds_lock (cut_at x ss) e lock ≡ holds_lock ss e lock
-holds-cut x [] e lock lt = refl
-holds-cut x (s ∷ ss) e lock lt =
-    let ih : holds_lock (cut_at x ss) e lock ≡ holds_lock ss e lock = holds-cut x ss e lock lt in
-    elim (cases_lt s.at x) [
-      | inl begins ↦
-          let t : nat_lt s.at x ≡ true = lt-ltb s.at x begins in
-          let same : is_inside (cut x s) e ≡ is_inside s e = inside-cut x s e lt begins in
-          rw (t, same, ih)
-      | inr gone ↦
-          let f : nat_lt s.at x ≡ false = le-ltb s.at x gone in
-          let out : is_inside s e ≡ false = outside_before s e (omega arith) in
-          rw (f, out, ih)
     ]
 
 -- ---- the next boundary

@@ -17,7 +17,6 @@ pub mod FinishLaws
 pub mod KeptLaws
 pub mod ListsLaws
 pub mod QueueLaws
-pub mod OwnerLaws
 pub mod PriorityLaws
 pub mod MoveLaws
 pub mod ReleaseLaws

@@ -1,16 +1,16 @@
 -- No job waits for a lock.
-use Rattle.std.proofs.Common.{ℕ, zero, suc, ◌+◌, ◌<◌, ◌≤◌, ◌≡◌, ◌≢◌, ◌⊎◌, inl, inr, refl, sym, ap, ◌∙◌, subst, arith, Bool, true, false, ◌==◌, ◌&&◌, ◌||◌, List, [], ◌∷◌, length, Some, None}
+use Rattle.std.proofs.Common.{ℕ, zero, suc, ◌+◌, ◌<◌, ◌≤◌, ◌≡◌, ◌⊎◌, inl, inr, refl, sym, ap, ◌∙◌, subst, arith, Bool, true, false, ◌==◌, ◌&&◌, ◌||◌, List, [], ◌∷◌, length, Some, None}
 use Rattle.std.proofs.lemmas.Bool.{cases_eq, cases_Bool, cases_order, true≢false, and_parts, or_cases, or_right, eq-eqb, eqb-true}
 use Rattle.std.specs.List.{list_any}
 use Rattle.task_sheet.specs.Sheet.{CriticalSection}
 use Rattle.task_sheet.specs.Locks.{names_lock}
 use Rattle.ceiling_kernel.specs.Tick.{Node, Job, job_at, level_of_job, active_of, executed_before, picked, is_inside, ceiling, top_ceiling, held_ceiling}
-use Rattle.ceiling_kernel.specs.Waits.{IsNode, AreLegalJobs, holds_lock, asks_lock, NoOverrunBy, NobodyWaits, IsGranted, AskAnew}
+use Rattle.ceiling_kernel.specs.Waits.{IsNode, AreLegalJobs, holds_lock, asks_lock, NoOverrunBy, NobodyWaits, AskAnew}
 use Rattle.ceiling_kernel.specs.Behaviours.{AreApart, TakeTurns}
 use Rattle.ceiling_kernel.proofs.NodeLaws.{IsSound, sound}
 use Rattle.ceiling_kernel.proofs.BehaviourLaws.{turns_apart, ceiling-le_top, AreSoundJobs, sound_jobs}
 use Rattle.ceiling_kernel.proofs.SectionLaws.{inside_true, inside_from, outside_before, outside_after}
-use Rattle.ceiling_kernel.proofs.MachineLaws.{machine, is_high, rest_at, picked_is, IsPick, pending_from, pending_parts, start_of, idle_of, own_of, other_of}
+use Rattle.ceiling_kernel.proofs.MachineLaws.{machine, is_high, rest_at, picked_is, IsPick, pending_from, pending_parts, start_of, idle_of, other_of}
 use Rattle.ceiling_kernel.proofs.Busy.{began, done_later}
 
 or_false : (x y : Bool) → x ≡ false → y ≡ false → (x || y) ≡ false
@@ -178,52 +178,6 @@ module _ (node : Node) (jobs : List Job) (valid : IsSound node) (own_sections : 
         at_own_level = own;
         within_ceiling = within;
       }
-
-  -- no two jobs hold a lock
-  module _ (known : (j : ℕ) → j < length jobs → (job_at jobs j).task < length node.tasks) where
-    -- who holds a lock is a job
-    holder_is_job : (t j : ℕ) (r : List ℕ) → holds_lock (job_at jobs j).sections (executed_before node jobs t j) r ≡ true → j < length jobs
-    holder_is_job t j r h =
-        let c : (ceiling node r ≤ held_ceiling node (job_at jobs j).sections (executed_before node jobs t j)) × (0 < executed_before node jobs t j) × (executed_before node jobs t j < (job_at jobs j).executes) =
-        ceiling-le_held node 0 (job_at jobs j).executes (job_at jobs j).sections (executed_before node jobs t j) r (apart_at j) h in
-        (began_of t j c.1).0
-
-    -- in the tick of job p, which comes to hold a lock or holds it on, nobody else holds it
-    none_beside : (t p k : ℕ) (r : List ℕ) → NoOverrunBy node jobs t → picked node jobs t ≡ Some p → k ≢ p
-        → (holds_lock (job_at jobs p).sections (executed_before node jobs t p) r ≡ true → holds_lock (job_at jobs k).sections (executed_before node jobs t k) r ≡ true → p ≡ k)
-        → holds_lock (job_at jobs p).sections (executed_before node jobs (suc t) p) r ≡ true → holds_lock (job_at jobs k).sections (executed_before node jobs (suc t) k) r ≡ true → ⊥
-    none_beside t p k r none pick ne before hp hk =
-        let k_was : holds_lock (job_at jobs k).sections (executed_before node jobs t k) r ≡ true = subst (λ e. holds_lock (job_at jobs k).sections e r ≡ true) (other_of node jobs t p k pick ne) hk in
-        elim (holds_begins (job_at jobs p).sections (executed_before node jobs t p) r (subst (λ e. holds_lock (job_at jobs p).sections e r ≡ true) (own_of node jobs t p pick) hp)) [
-          | inl held ↦ ne (sym (before held k_was))
-          | inr asks ↦ (let g : IsGranted node jobs t p r = granted known t p r none pick asks in true≢false (sym k_was ∙ g.is_free k (holder_is_job t k r k_was)))
-        ]
-
-    pub one_owner : (t j k : ℕ) (r : List ℕ) → ((s : ℕ) → s < t → NoOverrunBy node jobs s)
-        → holds_lock (job_at jobs j).sections (executed_before node jobs t j) r ≡ true → holds_lock (job_at jobs k).sections (executed_before node jobs t k) r ≡ true → j ≡ k
-    one_owner zero j k r none hj hk =
-        let free : holds_lock (job_at jobs j).sections (executed_before node jobs 0 j) r ≡ false = holds_before 0 (job_at jobs j).executes (job_at jobs j).sections (executed_before node jobs 0 j) r (apart_at j) (omega (arith, start_of node jobs j)) in
-        absurd (true≢false (sym hj ∙ free))
-    one_owner (suc t) j k r none hj hk =
-        let before : (i l : ℕ) → holds_lock (job_at jobs i).sections (executed_before node jobs t i) r ≡ true → holds_lock (job_at jobs l).sections (executed_before node jobs t l) r ≡ true → i ≡ l =
-        λ i l. one_owner t i l r (λ s lt. none s (omega arith)) in
-        elim (picked node jobs t) as (λ o. picked node jobs t ≡ o → j ≡ k) [
-          | None ↦ λ idle. before j k
-              (subst (λ e. holds_lock (job_at jobs j).sections e r ≡ true) (idle_of node jobs t j idle) hj)
-              (subst (λ e. holds_lock (job_at jobs k).sections e r ≡ true) (idle_of node jobs t k idle) hk)
-          | Some p ↦ λ pick. elim (cases_eq j p) [
-            | inl j_runs ↦ elim (cases_eq k p) [
-              | inl k_runs ↦ j_runs ∙ sym k_runs
-              | inr ne ↦ absurd (none_beside t p k r (none t (omega arith)) pick ne (before p k) (subst (λ x. holds_lock (job_at jobs x).sections (executed_before node jobs (suc t) x) r ≡ true) j_runs hj) hk)
-            ]
-            | inr j_rests ↦ elim (cases_eq k p) [
-              | inl k_runs ↦ absurd (none_beside t p j r (none t (omega arith)) pick j_rests (before p j) (subst (λ x. holds_lock (job_at jobs x).sections (executed_before node jobs (suc t) x) r ≡ true) k_runs hk) hj)
-              | inr k_rests ↦ before j k
-                  (subst (λ e. holds_lock (job_at jobs j).sections e r ≡ true) (other_of node jobs t p j pick j_rests) hj)
-                  (subst (λ e. holds_lock (job_at jobs k).sections e r ≡ true) (other_of node jobs t p k pick k_rests) hk)
-            ]
-          ]
-        ] refl
 
 pub nobody_waits_law : (node : Node) (jobs : List Job) → IsNode node → AreLegalJobs node jobs → TakeTurns jobs → NobodyWaits node jobs
 nobody_waits_law node jobs valid legal turns = granted node jobs (sound node valid) (sound_jobs node jobs legal.within turns) legal.known

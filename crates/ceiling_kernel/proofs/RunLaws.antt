@@ -1,41 +1,35 @@
 -- The steps of a run, over the code's own lists.
-use Rattle.std.proofs.Common.{ℕ, suc, ◌+◌, ◌-◌, ◌<◌, ◌≤◌, ◌≡◌, ◌≢◌, ◌⊎◌, inl, inr, refl, sym, ap, ap₂, ◌∙◌, subst, arith, cond, List, length, set, get_or, map, replicate, Option, Some, None, Bool, true, false, slice_index_or, get_or-set_same, get_or-set_other, length-set}
+use Rattle.std.proofs.Common.{ℕ, suc, ◌+◌, ◌-◌, ◌<◌, ◌≤◌, ◌≡◌, ◌≢◌, ◌⊎◌, inl, inr, refl, sym, ap, ap₂, ◌∙◌, subst, arith, List, length, set, get_or, map, replicate, Option, Some, None, Bool, false, slice_index_or, get_or-set_same, get_or-set_other, length-set}
 use Rattle.std.specs.Option.{unwrap_or}
 use Rattle.std.proofs.lemmas.Option.{none-some}
-use Rattle.std.proofs.lemmas.Bool.{cases_eq, cases_Bool, true≢false}
+use Rattle.std.proofs.lemmas.Bool.{cases_eq, cases_Bool}
 use Rattle.std.proofs.lemmas.List.{get_or-replicate, length-replicate, get_or_default}
 use Rattle.std.proofs.lemmas.List.Elements.{All-get_or}
 use Rattle.task_sheet.specs.Sheet.{IsValidSheet, no_task, task_at}
 use Rattle.task_sheet.specs.TaskSet.{IsTaskSet}
-use Rattle.ceilings.specs.IsTableOf.{locks_of}
 use Rattle.ceiling_kernel.specs.declared.trace.Release.{Release}
 use Rattle.ceiling_kernel.specs.declared.tasks.NodeTask.{NodeTask}
 use Rattle.ceiling_kernel.specs.declared.run.Pending.{Pending}
 use Rattle.ceiling_kernel.specs.Tick.{Node, Job, job_at, job_task, level_in_order, executed_before, picked}
 use Rattle.ceiling_kernel.specs.Trace.{with_run, slices_before, finish_before}
 use Rattle.ceiling_kernel.specs.Jumps.{change_after, NoneReadyBetween}
-use Rattle.ceiling_kernel.specs.Waits.{IsNode, Overruns, NoOverrunBy, holds_lock}
+use Rattle.ceiling_kernel.specs.Waits.{IsNode, Overruns}
 use Rattle.ceiling_kernel.specs.Releases.{task_number, ready_of, job_of, jobs_of, no_release, release_at}
 use Rattle.ceiling_kernel.specs.Turns.{time_in_turn, job_in_turn, AreTurns, has_come, TasksKeepOrder}
 use Rattle.ceiling_kernel.specs.Runs.{IsOverrun}
 use Rattle.ceiling_kernel.specs.NodeTasks.{IsTaskOf}
 use Rattle.ceiling_kernel.specs.States.{active_at, best_slot, next_change, IsRunnable, IsPending, Kept, AreFinishes}
-use Rattle.ceiling_kernel.specs.Owners.{owner_of, with_owners, AreOwners}
 use Rattle.ceiling_kernel.specs.Lists.{list_at, with_tail, without_head, moved_to, Queues, IsAlone}
 use Rattle.ceiling_kernel.proofs.ReleaseLaws.{finish_first, job_is, jobs_length, place_is, read_at}
 use Rattle.ceiling_kernel.proofs.TurnLaws.{keeps_order, come_of, come_others, next_fresh, next_first, next_time}
 use Rattle.ceiling_kernel.specs.Behaviours.{AreApart}
 use Rattle.ceiling_kernel.proofs.NodeLaws.{IsSoundTask, IsSound, sound}
-use Rattle.ceiling_kernel.proofs.BehaviourLaws.{AreSoundJobs, sound_jobs}
 use Rattle.ceiling_kernel.specs.Behaviours.{IsCut, AreCut}
-use Rattle.ceiling_kernel.proofs.CutLaws.{holds-cut, cuts_within, cuts_apart}
 use Rattle.ceiling_kernel.proofs.MachineLaws.{picked_is, IsPick}
 use Rattle.ceiling_kernel.proofs.JumpLaws as jump
 use Rattle.ceiling_kernel.proofs.SlotLaws.{IsBestSlot, slot_some}
 use Rattle.ceiling_kernel.proofs.FinishLaws.{finish_stays, finish_now}
 use Rattle.ceiling_kernel.proofs.TaskLaws.{next_change-is}
-use Rattle.ceiling_kernel.proofs.LockLaws.{holds_before, one_owner}
-use Rattle.ceiling_kernel.proofs.OwnerLaws.{with_owners-length, owner_written, owners_leave, owners_join}
 use Rattle.ceiling_kernel.proofs.KeptLaws as laws
 use Rattle.ceiling_kernel.proofs.PriorityLaws as priority
 use Rattle.ceiling_kernel.proofs.MoveLaws as move
@@ -67,9 +61,6 @@ module _ (node : Node) (rs : List Release) (turns : List (ℕ × ℕ)) (runnable
       let l : length jobs ≡ length rs = jobs_length node.tasks rs in
       let e : job_at jobs j ≡ job_of node.tasks (release_at rs j) = job_is node.tasks rs j (omega arith) in
       subst (λ x. IsCut (task_at node.tasks x.task) x) (sym e) (record { some = (runnable.in_cost j (omega arith)).0; most = (runnable.in_cost j (omega arith)).1; sections = refl })
-
-  own_sections : AreSoundJobs node jobs
-  own_sections = sound_jobs node jobs (cuts_within node jobs is_sound known_of cuts_of) (cuts_apart node jobs is_sound known_of cuts_of)
 
   ready_is : (j : ℕ) → j < length rs → (job_at jobs j).ready ≡ ready_of (release_at rs j)
   ready_is j lt = ap (λ x. x.ready) (job_is node.tasks rs j lt)
@@ -174,21 +165,6 @@ module _ (node : Node) (rs : List Release) (turns : List (ℕ × ℕ)) (runnable
           → IsAlone (λ k. slice_index_or (set slots (task_number node.tasks (release_at rs turn)) (Some p)) k None)
       admit_alone lists queues alone p level active = move.alone_admit node jobs is_sound t come slots kept lists queues alone p (task_number node.tasks (release_at rs turn)) (runnable.known turn turn_in_list) level active
 
-      -- it holds no lock yet
-      pub admit_owners : (owner : List ℕ → Option ℕ) → AreOwners node.tasks slot_of owner → (p : Pending) → p.executed ≡ 0 → slot_of (task_number node.tasks (release_at rs turn)) ≡ None
-          → AreOwners node.tasks (λ k. slice_index_or (set slots (task_number node.tasks (release_at rs turn)) (Some p)) k None) owner
-      admit_owners owner are p executed free =
-          let i : ℕ = task_number node.tasks (release_at rs turn) in
-          let in_tasks : i < length node.tasks = runnable.known turn turn_in_list in
-          let in_slots : i < length slots = (let c : length slots ≡ length node.tasks = kept.slot_count in omega arith) in
-          let v : IsSoundTask node i = (let s : IsSound node = is_sound in s.each i in_tasks) in
-          let none_held : (lock : List ℕ) → holds_lock (task_at node.tasks i).sections p.executed lock ≡ false =
-          λ lock. holds_before 0 (task_at node.tasks i).cost (task_at node.tasks i).sections p.executed lock v.apart (omega arith) in
-          owners_join node.tasks slot_of owner are (λ k. slice_index_or (set slots i (Some p)) k None) owner i (λ k ne. get_or-set_other slots i k (Some p) None ne) p free
-          (get_or-set_same slots i (Some p) None in_slots)
-          (λ lock. let h = none_held lock in rw h refl)
-          (λ lock k q ne slot mine other. true≢false (sym mine ∙ none_held lock))
-
       pub overrun : (q : Pending) → slot_of (task_number node.tasks (release_at rs turn)) ≡ Some q → (r : Release) → release_at rs turn ≡ r → (time : ℕ) → time ≡ time_in_turn turns next → IsOverrun node rs r.name time
       overrun q taken r e time timed =
           let over : Overruns node jobs turn = laws.overruns_now node jobs is_sound known_of cuts_of t come slots kept turn turn_below turn_fresh turn_ready keep q (subst (λ x. slot_of x ≡ Some q) turn_task taken) in
@@ -217,12 +193,6 @@ module _ (node : Node) (rs : List Release) (turns : List (ℕ × ℕ)) (runnable
             name_is = ap (λ x. x.name) (sym e);
             time_is = timed ∙ (turn_time ∙ ready_is turn turn_in_list);
           }
-
-    -- before its end a job holds what its sheet says
-    holds_own : (j : ℕ) → j < length jobs → (e : ℕ) (lock : List ℕ) → e < (job_at jobs j).executes → holds_lock (job_task node jobs j).sections e lock ≡ true → holds_lock (job_at jobs j).sections e lock ≡ true
-    holds_own j lt e lock open_ held =
-        let c : IsCut (job_task node jobs j) (job_at jobs j) = cuts_of j lt in
-        ap (λ ss. holds_lock ss e lock) c.sections ∙ (holds-cut (job_at jobs j).executes (job_task node jobs j).sections e lock open_ ∙ held)
 
     -- ---- up to a limit, at which the next turn stands at the earliest
     module _ (limit : ℕ) (after : t < limit) (before_next : next < length turns → limit ≤ time_in_turn turns next) where
@@ -325,14 +295,6 @@ module _ (node : Node) (rs : List Release) (turns : List (ℕ × ℕ)) (runnable
 
         -- of what is kept of its task
         module _ (x : NodeTask) (is_x : IsTaskOf node p.task x) where
-          -- it gives back what it holds
-          pub leave_owners : (owners : List (Option ℕ)) → length owners ≡ length (locks_of node.tasks) → AreOwners node.tasks slot_of (owner_of node.tasks owners)
-              → AreOwners node.tasks (λ k. slice_index_or (set slots p.task None) k None) (owner_of node.tasks (with_owners owners x.sections.items p.executed None))
-          leave_owners owners count are =
-              owners_leave node.tasks slot_of (owner_of node.tasks owners) are (λ k. slice_index_or (set slots p.task None) k None) (owner_of node.tasks (with_owners owners x.sections.items p.executed None)) p.task
-              (λ k ne. get_or-set_other slots p.task k None None ne) p slot (get_or-set_same slots p.task None None task_in_slots)
-              (λ lock. owner_written node p.executed None lock owners p.task x.sections.items task_in count is_x.sections)
-
           change_is : next_change x.sections.items p.executed executes ≡ change_after (task_at node.tasks p.task).sections p.executed executes
           change_is = next_change-is node (task_at node.tasks p.task).sections x.sections.items p.executed executes is_x.sections
 
@@ -388,37 +350,6 @@ module _ (node : Node) (rs : List Release) (turns : List (ℕ × ℕ)) (runnable
             pub run_alone : (lists : List (List ℕ)) → Queues (λ k. slice_index_or slots k None) (list_at lists) → IsAlone slot_of → (p' : Pending) → p'.level ≡ p.level → p'.active ≡ active_at node p.task (p.executed + (stop - t))
                 → IsAlone (λ k. slice_index_or (set slots p.task (Some p')) k None)
             run_alone lists queues alone p' level active = move.alone_run node jobs is_sound t come slots kept lists queues alone p p' p.task task_in best slot level (next_is p'.active active)
-
-            no_overrun_before : (s : ℕ) → s < stop → NoOverrunBy node jobs s
-            no_overrun_before s lt k below ready = elim (cases_Bool (come k)) [
-              | inl has ↦ kept.no_overrun k has
-              | inr not ↦ (let l : limit ≤ (job_at jobs k).ready = all_later k not below in absurd (omega arith))
-            ]
-
-            -- then it takes what it holds
-            pub run_owners : p.executed + (stop - t) < executes → (p' : Pending) → p'.executed ≡ p.executed + (stop - t) → (owners : List (Option ℕ)) → length owners ≡ length (locks_of node.tasks) → AreOwners node.tasks slot_of (owner_of node.tasks owners)
-                → AreOwners node.tasks (λ k. slice_index_or (set slots p.task (Some p')) k None)
-                (owner_of node.tasks (with_owners (with_owners owners x.sections.items p.executed None) x.sections.items (p.executed + (stop - t)) (Some p.task)))
-            run_owners open_ p' executed owners count are =
-                let m : IsPending node jobs t come p.task p = is_p in
-                let given : List (Option ℕ) = with_owners owners x.sections.items p.executed None in
-                owners_join node.tasks (λ k. slice_index_or (set slots p.task None) k None) (owner_of node.tasks given) (leave_owners owners count are)
-                (λ k. slice_index_or (set slots p.task (Some p')) k None) (owner_of node.tasks (with_owners given x.sections.items (p.executed + (stop - t)) (Some p.task))) p.task
-                (λ k ne. get_or-set_other slots p.task k (Some p') None ne ∙ sym (get_or-set_other slots p.task k None None ne)) p'
-                (get_or-set_same slots p.task None None task_in_slots) (get_or-set_same slots p.task (Some p') None task_in_slots)
-                (λ lock. owner_written node (p.executed + (stop - t)) (Some p.task) lock given p.task x.sections.items task_in (with_owners-length owners x.sections.items p.executed None ∙ count) is_x.sections
-                ∙ ap (λ e. cond (holds_lock (task_at node.tasks p.task).sections e lock) (Some p.task) (owner_of node.tasks given lock)) (sym executed))
-                (λ lock k q ne at_k mine other.
-                let was : slot_of k ≡ Some q = sym (get_or-set_other slots p.task k None None ne) ∙ at_k in
-                let mq : IsPending node jobs t come k q = kept.pending k q was in
-                let differ : q.job ≢ p.job = λ same. ne (sym mq.own ∙ (ap task_no same ∙ m.own)) in
-                let mine_then : executed_before node jobs stop p.job ≡ p'.executed = ap (λ y. executed_before node jobs y p.job) (sym to_stop) ∙ (own ∙ sym executed) in
-                let other_then : executed_before node jobs stop q.job ≡ q.executed = ap (λ y. executed_before node jobs y q.job) (sym to_stop) ∙ (others q.job differ ∙ sym mq.executed) in
-                let mine_holds : holds_lock (job_at jobs p.job).sections (executed_before node jobs stop p.job) lock ≡ true =
-                subst (λ e. holds_lock (job_at jobs p.job).sections e lock ≡ true) (sym mine_then) (holds_own p.job job_below p'.executed lock (omega arith) (subst (λ i. holds_lock (task_at node.tasks i).sections p'.executed lock ≡ true) (sym m.own) mine)) in
-                let other_holds : holds_lock (job_at jobs q.job).sections (executed_before node jobs stop q.job) lock ≡ true =
-                subst (λ e. holds_lock (job_at jobs q.job).sections e lock ≡ true) (sym other_then) (holds_own q.job (kept.within q.job mq.released) q.executed lock mq.unfinished (subst (λ i. holds_lock (task_at node.tasks i).sections q.executed lock ≡ true) (sym mq.own) other)) in
-                differ (sym (one_owner node jobs is_sound own_sections known_of stop p.job q.job lock no_overrun_before mine_holds other_holds)))
 
             pub finish_kept : p.executed + (stop - t) ≡ executes → Kept node jobs stop come (set slots p.task None)
             finish_kept full =

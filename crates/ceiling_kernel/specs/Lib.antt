@@ -9,7 +9,6 @@ pub mod Turns
 pub mod NodeTasks
 pub mod NodeFields
 pub mod Lists
-pub mod Owners
 pub mod Runs
 pub mod States
 pub mod Readings

@@ -1,6 +1,4 @@
 -- How a `Kernel` keeps its node.
-use Rattle.std.specs.Prelude.{◌≡◌, length}
-use Rattle.ceilings.specs.IsTableOf.{locks_of}
 use Rattle.ceiling_kernel.specs.declared.kernel.Kernel.TheInside.{Inside}
 use Rattle.ceiling_kernel.specs.Tick.{Node, node_in}
 use Rattle.ceiling_kernel.specs.Waits.{IsNode}
@@ -14,4 +12,3 @@ node_of k = node_in k.set.now k.order.items
 pub record IsNodeKept (k : Inside) : Type 0 where
   pub node : IsNode (node_of k)
   pub tasks : KeepsTasks (node_of k) k.tasks.items
-  pub locks : k.locks ≡ length (locks_of k.set.now)

@@ -1,21 +1,15 @@
 -- What a kernel keeps of its tasks.
-use Rattle.std.specs.Prelude.{◌≡◌, ℕ, ◌+◌, ◌<◌, Bool, ◌&&◌, nat_lt, List, [], ◌∷◌, length, position, filter_map, slice_index_or}
-use Rattle.task_sheet.specs.Sheet.{CriticalSection, same_bytes, task_at}
-use Rattle.ceilings.specs.IsTableOf.{locks_of}
+use Rattle.std.specs.Prelude.{◌≡◌, ℕ, ◌+◌, ◌<◌, Bool, ◌&&◌, nat_lt, List, [], ◌∷◌, length, slice_index_or}
+use Rattle.task_sheet.specs.Sheet.{CriticalSection, task_at}
 use Rattle.ceiling_kernel.specs.declared.tasks.NodeSection.{NodeSection}
 use Rattle.ceiling_kernel.specs.declared.tasks.NodeTask.{NodeTask}
 use Rattle.ceiling_kernel.specs.Tick.{Node, level_in_order, top_ceiling}
-
--- the places of some locks among those that were seen
-abbrev pub places_in : List (List ℕ) → List (List ℕ) → List ℕ
-places_in seen locks = filter_map (λ lock. position (same_bytes lock) seen) locks
 
 -- what is kept of a section
 pub record IsSectionOf (node : Node) (x : CriticalSection) (s : NodeSection) : Type 0 where
   pub at : s.at ≡ x.at
   pub stop : s.stop ≡ x.at + x.len
   pub top : s.top ≡ top_ceiling node x.locks
-  pub locks : s.locks.items ≡ places_in (locks_of node.tasks) x.locks
 
 -- a job is inside a section, as it is kept, after e ticks
 abbrev pub is_within : NodeSection → ℕ → Bool

@@ -1,7 +1,6 @@
 -- What a simulation keeps from event to event: the invariant of the body.
 use Rattle.std.specs.Prelude.{◌≡◌, ℕ, ◌+◌, ◌-◌, ◌<◌, ◌≤◌, Bool, true, false, max, ◌&&◌, ◌||◌, nat_lt, nat_le, ◌==◌, if◌then◌else◌, Option, Some, None, IfNone, List, [], ◌∷◌, length, slice_index_or, reverse}
 use Rattle.task_sheet.specs.Sheet.{task_at}
-use Rattle.ceilings.specs.IsTableOf.{locks_of}
 use Rattle.ceiling_kernel.specs.declared.tasks.NodeSection.{NodeSection}
 use Rattle.ceiling_kernel.specs.declared.trace.Slice.{Slice}
 use Rattle.ceiling_kernel.specs.declared.trace.Release.{Release}
@@ -12,7 +11,6 @@ use Rattle.ceiling_kernel.specs.declared.run.Slices.{Slices}
 use Rattle.ceiling_kernel.specs.declared.run.Simulation.{Simulation}
 use Rattle.ceiling_kernel.specs.Lists.{listed, list_at, Queues, IsAlone}
 use Rattle.ceiling_kernel.specs.NodeTasks.{is_within}
-use Rattle.ceiling_kernel.specs.Owners.{owner_of, AreOwners}
 use Rattle.ceiling_kernel.specs.Tick.{Node, Job, job_at, level_in_order, held_ceiling, executed_before, picked}
 use Rattle.ceiling_kernel.specs.Trace.{slices_before, finish_before}
 use Rattle.ceiling_kernel.specs.Waits.{IsNode, AreLegalJobs, Overruns}
@@ -110,9 +108,6 @@ pub record IsRunning (node : Node) (rs : List Release) (turns : List (ℕ × ℕ
   pub list_count : length s.lists.items ≡ length node.tasks + 1
   pub queues : Queues (λ i. slice_index_or s.slots.items i None) (list_at (listed s.lists.items))
   pub alone : IsAlone (λ i. slice_index_or s.slots.items i None)
-  pub lock_count : length s.owners.items ≡ length (locks_of node.tasks)
-  pub owners : AreOwners node.tasks (λ i. slice_index_or s.slots.items i None)
-      (owner_of node.tasks s.owners.items)
   pub slices : slices_shown s.slices ≡ slices_before (picked node (jobs_of node.tasks rs)) s.now
   pub tidy : IsTidy s.slices
   pub finishes : AreFinishes node rs s.now s.finishes.items

@@ -1,31 +1,17 @@
 //! How a kernel's tasks are kept.
-ghost use Rattle.std.specs.Prelude.{◌≡◌, ◌<◌, ◌≤◌, ◌+◌, ◌^◌, ℕ, List, length, All, IfOk};
+ghost use Rattle.std.specs.Prelude.{◌<◌, ◌≤◌, ◌+◌, ◌^◌, List, length, All, IfOk};
 ghost use Rattle.task_sheet.specs.Sheet.{Task};
 ghost use Rattle.task_sheet.specs.declared.set.TheConstants.{TASK_LIMIT};
 ghost use Rattle.task_sheet.specs.TaskSet.{IsTaskSet};
-ghost use Rattle.ceilings.specs.IsTableOf.{IsTableOf, locks_of};
+ghost use Rattle.ceilings.specs.IsTableOf.{IsTableOf};
 ghost use Rattle.ceiling_kernel.specs.Tick.{node_in};
-ghost use Rattle.ceiling_kernel.specs.NodeTasks.{places_in, AreSectionsOf, KeepsTasks};
+ghost use Rattle.ceiling_kernel.specs.NodeTasks.{AreSectionsOf, KeepsTasks};
 
 use crate::levels::{level_of, top_of};
 use crate::tasks::{NodeSection, NodeTask};
 use ceilings::LockTable;
 use std::alloc::{AllocError, Global};
-use task_sheet::{Name, Section, TaskSet};
-
-// The places of locks in the order of first sight.
-fn places_of(alloc: Global, table: &LockTable, locks: &[Name]) -> Result<Vec<usize>, AllocError>
-    ensures { (U : List Task) → IsTableOf U table.now
-        → IfOk result (λ places. places.items ≡ places_in (locks_of U) locks.now) }
-{
-    let mut places = Vec::new(alloc);
-    for lock in locks {
-        if let Some(place) = table.index_of(*lock) {
-            places.push(place)?;
-        }
-    }
-    Ok(places)
-}
+use task_sheet::{Section, TaskSet};
 
 // What a kernel keeps of sections.
 fn sections_of(
@@ -47,7 +33,6 @@ fn sections_of(
             at: section.at,
             stop: section.at + section.len,
             top: top_of(table, order, &section.locks),
-            locks: places_of(alloc, table, &section.locks)?,
         })?;
     }
     Ok(kept)

@@ -2,7 +2,6 @@
 ghost use Rattle.std.specs.Prelude.{◌≡◌, ◌≤◌, length, IfOk, IfErr};
 ghost use Rattle.task_sheet.specs.declared.set.TheConstants.{TASK_LIMIT};
 ghost use Rattle.task_sheet.specs.Orders.{IsOrder};
-ghost use Rattle.ceilings.specs.IsTableOf.{locks_of};
 ghost use Rattle.ceiling_kernel.specs.Tick.{node_in};
 ghost use Rattle.ceiling_kernel.specs.Waits.{IsNode};
 
@@ -23,13 +22,12 @@ pub enum KernelFault {
     OutOfMemory,
 }
 
-/// A set's tasks, each at its level in an order, and how many locks they have.
+/// A set's tasks, each at its level in an order.
 #[derive(Drop)]
 pub struct Kernel<'a> {
     set: &'a TaskSet,
     order: Vec<usize>,
     tasks: Vec<NodeTask>,
-    locks: usize,
 }
 
 impl<'a> Model for Kernel<'a> {
@@ -69,12 +67,7 @@ impl<'a> Kernel<'a> {
         let table = LockTable::new(alloc, set)?;
         let tasks = tasks_of(alloc, &table, order, set)?;
         let order = order.to_vec(alloc)?;
-        Ok(Kernel {
-            set,
-            order,
-            tasks,
-            locks: table.count(),
-        })
+        Ok(Kernel { set, order, tasks })
     }
 
     // The set.
@@ -90,12 +83,5 @@ impl<'a> Kernel<'a> {
         ensures { KeepsTasks self.now result.now }
     {
         &self.tasks
-    }
-
-    // How many locks they have.
-    pub(crate) fn locks(&self) -> usize
-        ensures { result ≡ length (locks_of self.now.tasks) }
-    {
-        self.locks
     }
 }

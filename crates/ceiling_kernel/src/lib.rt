@@ -7,7 +7,6 @@ mod kernel;
 pub mod laws;
 mod levels;
 mod lists;
-mod owners;
 mod run;
 mod tasks;
 mod trace;

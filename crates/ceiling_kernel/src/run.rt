@@ -15,7 +15,6 @@ ghost use Rattle.ceiling_kernel.specs.States.{held_top, next_change, active_at, 
 use crate::accept::accept;
 use crate::kernel::Kernel;
 use crate::lists::{drop_first, empty_lists, enqueue, move_first, pick};
-use crate::owners::{is_within, set_owners};
 use crate::tasks::{NodeSection, NodeTask};
 use crate::trace::{JobRecord, Release, RunFault, Slice, Trace};
 use crate::turns::{Agenda, turns_of};
@@ -40,14 +39,13 @@ pub struct Slices {
 }
 
 /// The state between two events: a slot for each task's pending job, the lists of the tasks with one, by its active
-/// priority, the owner of each lock, the next turn, and when each job finished.
+/// priority, the next turn, the slices, and when each job finished.
 #[derive(Drop)]
 pub struct Simulation {
     pub now: u64,
     pub next: usize,
     pub slots: Vec<Option<Pending>>,
     pub lists: Vec<VecDeque<usize>>,
-    pub owners: Vec<Option<usize>>,
     pub slices: Slices,
     pub finishes: Vec<Option<u64>>,
 }
@@ -58,7 +56,7 @@ fn held(sections: &[NodeSection], executed: u64) -> u32
 {
     let mut best = 0;
     for section in sections {
-        if is_within(section, executed) {
+        if section.is_within(executed) {
             best = best.max(section.top);
         }
     }
@@ -160,7 +158,7 @@ impl Slices {
     }
 }
 
-// None for each of `count` tasks, locks or jobs.
+// None for each of `count` tasks or jobs.
 fn all_none<T: Drop>(alloc: Global, count: usize) -> Result<Vec<Option<T>>, AllocError>
     ensures { IfOk result (λ nones. nones.items ≡ replicate count None) }
 {
@@ -204,14 +202,12 @@ impl Simulation {
         let count = kernel.tasks().len();
         let slots = all_none(alloc, count)?;
         let lists = empty_lists(alloc, count + 1)?;
-        let owners = all_none(alloc, kernel.locks())?;
         let finishes = all_none(alloc, jobs)?;
         Ok(Simulation {
             now: 0,
             next: 0,
             slots,
             lists,
-            owners,
             slices: Slices {
                 closed: Vec::new(alloc),
                 current: None,
@@ -276,7 +272,6 @@ impl Simulation {
         self.slices.add(picked.job, self.now, stop)?;
         let executed = picked.executed + (stop - self.now);
         self.now = stop;
-        set_owners(&mut self.owners, &task.sections, picked.executed, None);
         if executed == runs {
             drop_first(&mut self.lists, picked.active);
             self.slots[picked.task] = None;
@@ -285,12 +280,6 @@ impl Simulation {
         }
         let active = active(task, executed);
         move_first(&mut self.lists, picked.active, active, picked.task)?;
-        set_owners(
-            &mut self.owners,
-            &task.sections,
-            executed,
-            Some(picked.task),
-        );
         self.slots[picked.task] = Some(Pending {
             job: picked.job,
             task: picked.task,

@@ -1,7 +1,5 @@
 use Rattle.std.proofs.Common.{◌+◌, ap, ◌∙◌, List, ℕ}
 use Rattle.task_sheet.specs.Sheet.{CriticalSection}
-use Rattle.ceilings.specs.IsTableOf.{locks_of}
-use Rattle.ceiling_kernel.specs.NodeTasks.{places_in}
 use Rattle.ceiling_kernel.specs.Tick.{node_in, top_ceiling}
 use Rattle.ceiling_kernel.proofs.TaskLaws.{sections-next}
 use Rattle.ceiling_kernel.proofs.build.sections_of.Goals as goal
@@ -13,5 +11,4 @@ loop-section-preserved c = λ U table.
       at = ap (λ (s : CriticalSection). s.at) c.section.view_is;
       stop = ap (λ (s : CriticalSection). s.at + s.len) c.section.view_is;
       top = c.top_of.ensures U table ∙ (ap (λ (locks : List (List ℕ)). top_ceiling (node_in U c.args.order.now) locks) c.deref.ensures.value ∙ ap (λ (s : CriticalSection). top_ceiling (node_in U c.args.order.now) s.locks) c.section.view_is);
-      locks = c.in_ok-places_of.ensures U table ∙ (ap (λ (locks : List (List ℕ)). places_in (locks_of U) locks) c.deref-in-loop-section.ensures.value ∙ ap (λ (s : CriticalSection). places_in (locks_of U) s.locks) c.section.view_is);
     })

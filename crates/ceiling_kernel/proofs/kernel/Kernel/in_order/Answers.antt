@@ -18,5 +18,4 @@ invariant_of-result c =
     record {
       node = record { tasks = c.tasks_of.ensures.set; order = subst (λ xs. IsOrderOf (below (length c.args.set.now)) xs) (sym order) c.requires.order };
       tasks = subst (λ xs. KeepsTasks (node_in c.args.set.now xs) c.in_ok-tasks.tasks.items) (sym order) c.in_ok-tasks.ensures.tasks;
-      locks = c.count.ensures.locks c.args.set.now c.in_ok-table.ensures;
     }

@@ -7,11 +7,10 @@ use Rattle.ceiling_kernel.specs.Turns.{time_in_turn, job_in_turn, has_come}
 use Rattle.ceiling_kernel.specs.NodeTasks.{IsTaskOf}
 use Rattle.ceiling_kernel.specs.States.{Kept}
 use Rattle.ceiling_kernel.specs.Lists.{listed, list_at, with_tail, Queues, IsAlone}
-use Rattle.ceiling_kernel.specs.Owners.{owner_of, AreOwners}
 use Rattle.ceiling_kernel.proofs.ListsLaws.{count_kept, listed_length}
 use Rattle.ceiling_kernel.proofs.PriorityLaws.{level_within}
 use Rattle.ceiling_kernel.proofs.ReleaseLaws.{place_is, some_from, none_from}
-use Rattle.ceiling_kernel.proofs.RunLaws.{admit_lists, admit_alone, admit_owners, slot_read, overrun, admit, in_list, task_in_turn, few_tasks}
+use Rattle.ceiling_kernel.proofs.RunLaws.{admit_lists, admit_alone, slot_read, overrun, admit, in_list, task_in_turn, few_tasks}
 use Rattle.ceiling_kernel.proofs.run.Simulation.admit.Goals as goal
 
 pub returns-then-is_some-clause-err : goal.returns-then-is_some-clause-err
@@ -58,9 +57,6 @@ returns-clause-ok c =
         list_count = count_kept s.lists.items c.enqueue.new.lists.items p.active (list_at (listed s.lists.items) p.active ++ get_or c.args.agenda.now.tasks.now (job_in_turn turns s.next) 0 ∷ []) c.in_ok-enqueue.ensures ∙ c.requires.running.list_count;
         queues = subst (λ x. Queues (λ k. slice_index_or (set s.slots.items (get_or c.args.agenda.now.tasks.now (job_in_turn turns s.next) 0) (Some p)) k None) (list_at x)) (sym c.in_ok-enqueue.ensures)
             (subst (λ x. Queues (λ k. slice_index_or (set s.slots.items x (Some p)) k None) (list_at (with_tail (listed s.lists.items) p.active x))) (sym i_is) lists);
-        lock_count = c.requires.running.lock_count;
-        owners = subst (λ x. AreOwners node.tasks (λ k. slice_index_or (set s.slots.items x (Some p)) k None) (owner_of node.tasks s.owners.items)) (sym i_is)
-            (admit_owners node rs c.args.agenda.now.turns.now c.requires.runnable s.now s.next s.slots.items c.requires.running.kept c.requires.next c.requires.ready (owner_of node.tasks s.owners.items) c.requires.running.owners p refl (read ∙ free));
         alone = subst (λ x. IsAlone (λ k. slice_index_or (set s.slots.items x (Some p)) k None)) (sym i_is) alone;
         slices = c.requires.running.slices;
         tidy = c.requires.running.tidy;

@@ -1,15 +1,11 @@
-use Rattle.std.proofs.Common.{◌≡◌, ◌+◌, ◌-◌, ◌<◌, ◌≤◌, refl, sym, ap, ◌∙◌, arith, All, List, length, vec_len, ℕ, subst, Option, Some, None, slice_index_or}
-use Rattle.ceilings.specs.IsTableOf.{locks_of}
-use Rattle.ceiling_kernel.specs.declared.tasks.NodeSection.{NodeSection}
+use Rattle.std.proofs.Common.{◌≡◌, ◌+◌, ◌-◌, ◌<◌, ◌≤◌, refl, sym, ap, ◌∙◌, arith, length, vec_len, ℕ, subst, Some, None, slice_index_or}
 use Rattle.std.specs.Option.{unwrap_or}
 use Rattle.ceiling_kernel.specs.declared.trace.Release.{Release}
 use Rattle.ceiling_kernel.specs.Tick.{job_at}
 use Rattle.ceiling_kernel.specs.Releases.{jobs_of}
 use Rattle.ceiling_kernel.specs.NodeTasks.{IsTaskOf}
 use Rattle.ceiling_kernel.specs.States.{best_slot, next_change}
-use Rattle.task_sheet.specs.Sheet.{task_at}
 use Rattle.ceiling_kernel.specs.Lists.{listed, list_at, Queues}
-use Rattle.ceiling_kernel.proofs.OwnerLaws.{with_owners-length, locks_within}
 use Rattle.ceiling_kernel.proofs.ListsLaws.{listed_length}
 use Rattle.ceiling_kernel.proofs.PriorityLaws.{active_within}
 use Rattle.ceiling_kernel.proofs.StopLaws.{done, runs_on}
@@ -31,8 +27,6 @@ returns-in_default c =
           list_count = c.requires.running.list_count;
           queues = c.requires.running.queues;
           alone = c.requires.running.alone;
-          lock_count = c.requires.running.lock_count;
-          owners = c.requires.running.owners;
           slices = c.requires.running.slices ∙ sym (idle_slices node rs c.args.agenda.now.turns.now c.requires.runnable s.now s.next s.slots.items c.requires.running.kept c.limit_of-limit.result lim.after lim.next (sym best));
           tidy = c.requires.running.tidy;
           finishes = idle_finishes node rs c.args.agenda.now.turns.now c.requires.runnable s.now s.next s.slots.items c.requires.running.kept c.limit_of-limit.result lim.after lim.next (sym best) s.finishes.items c.requires.running.finishes;
@@ -77,13 +71,6 @@ module _ (c : goal.After-index-tasks-picked) where
   in_lists =
       let within = list_is c.args.kernel.now c.args.agenda.now.releases.now c.args.agenda.now.turns.now c.requires.runnable c.args.self.now.now c.args.self.now.next c.args.self.now.slots.items c.requires.running.kept c.limit_of-limit.result c.limit_of-limit.ensures.after c.limit_of-limit.ensures.next c.in-Some.picked best (listed c.args.self.now.lists.items) c.requires.running.queues in
       omega (arith, within, listed_length c.args.self.now.lists.items)
-
-  -- the locks of its sections lie within room for all locks
-  within : (room : ℕ) → length (locks_of c.args.kernel.now.tasks) ≤ room → {sections : List NodeSection} → sections ≡ c.index-tasks-picked.result.sections.items
-      → All (λ r. All (λ place. place < room) r.locks.items) sections
-  within room few same =
-      subst (λ x. All (λ r. All (λ place. place < room) r.locks.items) x) (sym same)
-      (locks_within c.args.kernel.now (task_at c.args.kernel.now.tasks c.in-Some.picked.task).sections c.index-tasks-picked.result.sections.items room task.sections few)
 
   -- its job is one of the list
   in_list : c.in-Some.picked.job < length c.args.agenda.now.releases.now
@@ -149,7 +136,7 @@ returns-then-executed-runs c =
       ok = done c.args.kernel.now c.args.agenda.now.releases.now c.args.agenda.now.turns.now c.requires.runnable c.args.self.now c.requires.running c.limit_of-limit.result c.limit_of-limit.ensures.after c.limit_of-limit.ensures.next
           c.in-Some.picked (best known) c.index-tasks-picked.result (task known) c.stop_at-stop.result st.after st.limit (near run c.stop_at-stop.result st.within) (omega (arith, ends run, st.end)) c.args.until c.limit_of-limit.ensures.until
           _ refl refl c.in_ok-add.ensures.run c.in_ok-add.ensures.tidy
-          run.unwrap_or-runs.result (ends run) c.if-executed-runs.true refl c.drop_first.ensures (rw c.deref-3.ensures.value at c.set_owners.ensures) refl;
+          run.unwrap_or-runs.result (ends run) c.if-executed-runs.true refl c.drop_first.ensures refl;
     }
 
 pub returns : goal.returns
@@ -157,13 +144,12 @@ returns c =
     let known = (goal.at.returns c).After-index-tasks-picked in
     let run = (goal.at.returns c).After-unwrap_or-runs in
     let st = c.stop_at-stop.ensures in
-    let gives = rw c.deref-3.ensures.value at c.set_owners.ensures in
     record {
       ok = runs_on c.args.kernel.now c.args.agenda.now.releases.now c.args.agenda.now.turns.now c.requires.runnable c.args.self.now c.requires.running c.limit_of-limit.result c.limit_of-limit.ensures.after c.limit_of-limit.ensures.next
           c.in-Some.picked (best known) c.index-tasks-picked.result (task known) c.stop_at-stop.result st.after st.limit (near run c.stop_at-stop.result st.within) (omega (arith, ends run, st.end)) c.args.until c.limit_of-limit.ensures.until
           _ refl refl c.in_ok-add.ensures.run c.in_ok-add.ensures.tidy
           run.unwrap_or-runs.result (ends run) _ refl refl refl refl (c.active-active.ensures c.args.kernel.now c.in-Some.picked.task (task known)) c.if-executed-runs.false
-          refl c.in_ok-move_first.ensures (rw (c.deref-4.ensures.value, gives) at c.set_owners-2.ensures) refl;
+          refl c.in_ok-move_first.ensures refl;
     }
 
 pub pick-requires-clause-few : goal.pick-requires-clause-few
@@ -174,18 +160,6 @@ pick-requires-clause-queues c =
     let s = c.args.self.now in
     subst (λ x. Queues (λ k. slice_index_or x k None) (list_at (listed c.deref-2.result.now))) (sym c.deref.ensures.value)
     (subst (λ x. Queues (λ k. slice_index_or s.slots.items k None) (list_at (listed x))) (sym c.deref-2.ensures.value) c.requires.running.queues)
-
-pub set_owners-requires : goal.set_owners-requires
-set_owners-requires c =
-    let s = c.args.self.now in
-    within (goal.at.set_owners-requires c).After-index-tasks-picked (vec_len s.owners) (omega (arith, s.owners.ok.0, c.requires.running.lock_count)) c.deref-3.ensures.value
-
-pub set_owners-requires-2 : goal.set_owners-requires-2
-set_owners-requires-2 c =
-    let gives = rw c.deref-3.ensures.value at c.set_owners.ensures in
-    let few : length (locks_of c.args.kernel.now.tasks) ≤ vec_len c.set_owners.new.owners =
-    omega (arith, c.set_owners.new.owners.ok.0, ap (λ (xs : List (Option ℕ)). length xs) gives, with_owners-length c.args.self.now.owners.items c.index-tasks-picked.result.sections.items c.in-Some.picked.executed None, c.requires.running.lock_count) in
-    within (goal.at.set_owners-requires-2 c).After-index-tasks-picked (vec_len c.set_owners.new.owners) few c.deref-4.ensures.value
 
 pub drop_first-requires : goal.drop_first-requires
 drop_first-requires c = in_lists (goal.at.drop_first-requires c).After-index-tasks-picked

@@ -1,16 +1,12 @@
 use Rattle.std.proofs.Common.{◌≡◌, ℕ, replicate, None, Option, refl, sym, ap, ◌∙◌, length, subst, List, [], ◌+◌, slice_index_or}
-use Rattle.std.proofs.lemmas.List.{length-replicate}
-use Rattle.ceilings.specs.IsTableOf.{locks_of}
 use Rattle.ceiling_kernel.specs.declared.run.Pending.{Pending}
 use Rattle.ceiling_kernel.specs.Tick.{picked}
 use Rattle.ceiling_kernel.specs.Releases.{jobs_of}
 use Rattle.ceiling_kernel.specs.Turns.{has_come}
 use Rattle.ceiling_kernel.specs.States.{Kept, AreFinishes}
 use Rattle.ceiling_kernel.specs.Lists.{list_at, Queues, IsAlone}
-use Rattle.ceiling_kernel.specs.Owners.{owner_of, AreOwners}
 use Rattle.ceiling_kernel.proofs.ListsLaws.{count_started}
 use Rattle.ceiling_kernel.proofs.MoveLaws.{queues_start, alone_start}
-use Rattle.ceiling_kernel.proofs.OwnerLaws.{owners_start}
 use Rattle.ceiling_kernel.proofs.ReleaseLaws.{no_slices}
 use Rattle.ceiling_kernel.proofs.RunLaws.{kept_start, finishes_start}
 use Rattle.ceiling_kernel.proofs.run.Simulation.start.Goals as goal
@@ -20,7 +16,6 @@ returns c = λ rs turns runnable jobs.
     let node = c.args.kernel.now in
     let tasks : length node.tasks ≡ length c.tasks-count.result.now = sym c.tasks-count.ensures.count in
     let slots : c.in_ok-slots.slots.items ≡ replicate (length node.tasks) None = c.in_ok-slots.ensures ∙ ap (λ n. let r : List (Option Pending) = replicate n None in r) (sym tasks) in
-    let owners : c.in_ok-owners.owners.items ≡ replicate (length (locks_of node.tasks)) None = c.in_ok-owners.ensures ∙ ap (λ n. let r : List (Option ℕ) = replicate n None in r) c.locks.ensures in
     let finishes : c.in_ok-finishes.finishes.items ≡ replicate (length rs) None = c.in_ok-finishes.ensures ∙ ap (λ n. let r : List (Option ℕ) = replicate n None in r) (sym jobs) in (
       record {
         kept = subst (λ x. Kept node (jobs_of node.tasks rs) 0 (has_come turns 0) x) (sym slots) (kept_start node rs turns runnable);
@@ -28,15 +23,9 @@ returns c = λ rs turns runnable jobs.
         queues = subst (λ x. Queues (λ i. slice_index_or c.in_ok-slots.slots.items i None) (list_at x)) (sym c.in_ok-lists.ensures)
             (subst (λ x. Queues (λ i. slice_index_or x i None) (list_at (replicate (length c.tasks-count.result.now + 1) []))) (sym slots) (queues_start (length node.tasks) (length c.tasks-count.result.now + 1)));
         alone = subst (λ x. IsAlone (λ i. slice_index_or x i None)) (sym slots) (alone_start (length node.tasks));
-        lock_count = ap (λ (xs : List (Option ℕ)). length xs) owners ∙ length-replicate (length (locks_of node.tasks)) none_of;
-        owners = subst (λ x. AreOwners node.tasks (λ i. slice_index_or c.in_ok-slots.slots.items i None) (owner_of node.tasks x)) (sym owners)
-            (subst (λ x. AreOwners node.tasks (λ i. slice_index_or x i None) (owner_of node.tasks (replicate (length (locks_of node.tasks)) None))) (sym slots) (owners_start node.tasks (length node.tasks) (length (locks_of node.tasks))));
         slices = no_slices (picked node (jobs_of node.tasks rs));
         tidy = c.new.ensures.items;
         finishes = subst (λ x. AreFinishes node rs 0 x) (sym finishes) (finishes_start node rs turns runnable);
       },
       refl,
     )
-  where
-    none_of : Option ℕ
-    none_of = None
