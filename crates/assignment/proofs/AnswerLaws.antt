@@ -14,12 +14,29 @@ use Rattle.task_sheet.proofs.TaskLaws.{AllTasks-from_set}
 use Rattle.task_sheet.proofs.PassingLaws.{Refutes-fails, Refutes-from_reason}
 use Rattle.assignment.specs.Levels.{lets_stand}
 
-pub stands_by_response : (U : List Task) (i : ℕ) (H : Indexes) (r : ℕ) → IsFalse (is_bound U i H) → IsResponseOf U i H r → r ≤ (task_at U i).deadline → Stands U i H
-stands_by_response U i H r free response within = ((past_jitter (task_at U i) r, response.positive, omega (arith, within), omega (arith, response.fixed)), free)
+pub stands_by_response : (U : List Task) (i : ℕ) (H : Indexes) (r : ℕ) → IsFalse (is_bound U i H)
+    → IsResponseOf U i H r → r ≤ (task_at U i).deadline → Stands U i H
+stands_by_response U i H r free response within = (
+  (
+    past_jitter (task_at U i) r,
+    response.positive,
+    omega (arith, within),
+    omega (arith, response.fixed),
+  ),
+  free,
+)
 
-pub fails_by_reason : (U : List Task) (i : ℕ) (H : Indexes) (reason : ReasonData) → IsTaskSet U → IsReason U i H reason → ¬ Stands U i H
-fails_by_reason U i H reason valid is = Refutes-fails U (AllTasks-from_set U valid) i H reason (Refutes-from_reason U i H reason is)
+pub fails_by_reason : (U : List Task) (i : ℕ) (H : Indexes) (reason : ReasonData) → IsTaskSet U
+    → IsReason U i H reason → ¬ Stands U i H
+fails_by_reason U i H reason valid is =
+    Refutes-fails U (AllTasks-from_set U valid) i H reason (Refutes-from_reason U i H reason is)
 
-pub lets_stand-iff : (U : List Task) (i : ℕ) (H : Indexes) (answer : Outcome) → IsTaskSet U → IsOutcome U i H answer → IsTrue (lets_stand answer) ↔ Stands U i H
-lets_stand-iff U i H (Pass response) valid right = (λ _. stands_by_response U i H response right.0 right.1 right.2, λ _. refl)
-lets_stand-iff U i H (Fail reason) valid right = (λ so. absurd (both_ways false refl so), λ stands. absurd (fails_by_reason U i H (reason_of reason) valid right stands))
+pub lets_stand-iff : (U : List Task) (i : ℕ) (H : Indexes) (answer : Outcome) → IsTaskSet U
+    → IsOutcome U i H answer → IsTrue (lets_stand answer) ↔ Stands U i H
+lets_stand-iff U i H (Pass response) valid right =
+    (λ _. stands_by_response U i H response right.0 right.1 right.2, λ _. refl)
+lets_stand-iff U i H (Fail reason) valid right = (
+  λ so. absurd (both_ways false refl so),
+  λ stands.
+      absurd (fails_by_reason U i H (reason_of reason) valid right stands),
+)

@@ -1,5 +1,6 @@
 -- A climb with one level more, and its end.
-use Rattle.std.proofs.Common.{◌≡◌, ℕ, inl, inr, true, false, List, [], ◌∷◌, ◌++◌, length, Option, None, Some, is_some, MatchOption, refl, sym, ◌∙◌, ap, subst}
+use Rattle.std.proofs.Common.{◌≡◌, ℕ, inl, inr, true, false, List, [], ◌∷◌, ◌++◌, length, Option}
+use Rattle.std.proofs.Common.{None, Some, is_some, MatchOption, refl, sym, ◌∙◌, ap, subst}
 use Rattle.std.specs.Ordering.{nat_cmp}
 use Rattle.std.specs.FinSet as members
 use Rattle.std.proofs.lemmas.Bool.{cases_Bool, both_ways}
@@ -10,46 +11,73 @@ use Rattle.task_sheet.specs.MembersWords.{all_below}
 use Rattle.task_sheet.specs.Indexes.{indexes_of, below, IsPart, without_index}
 use Rattle.task_sheet.specs.Orders.{all_of}
 use Rattle.task_sheet.specs.Levels.{IsChosen, left_after, AllChosen}
-use Rattle.task_sheet.specs.Verdicts.{FailureData, LevelData, order_of, IsLevel, AllLevels, IsBestOrder, IsStuck}
+use Rattle.task_sheet.specs.Verdicts.{FailureData, LevelData, order_of, IsLevel, AllLevels}
+use Rattle.task_sheet.specs.Verdicts.{IsBestOrder, IsStuck}
 use Rattle.task_sheet.proofs.TaskLaws.{AllTasks-from_set}
 use Rattle.task_sheet.proofs.MembersIndexes.{indexes_of-all_below, indexes_of-remove}
 use Rattle.task_sheet.proofs.LevelLaws.{left_after-part, left_after-push, AllChosen-push}
-use Rattle.task_sheet.proofs.VerdictLaws.{AllLevels-push, IsVerdictOf-admitted, IsVerdictOf-infeasible}
+use Rattle.task_sheet.proofs.VerdictLaws.{AllLevels-push, IsVerdictOf-admitted}
+use Rattle.task_sheet.proofs.VerdictLaws.{IsVerdictOf-infeasible}
 use Rattle.assignment.specs.Levels.{IsObstructed}
 use Rattle.assignment.specs.Climbs.{ClimbState, IsClimbing, IsUnfinished}
 
-pub left-part : (U : List Task) (left : members.FinSet nat_cmp) (levels : List LevelData) → IsClimbing U left levels → IsPart (indexes_of left) (all_of U)
-left-part U left levels so = subst (λ X. IsPart X (all_of U)) (sym so.rest) (left_after-part (all_of U) (order_of levels))
+pub left-part : (U : List Task) (left : members.FinSet nat_cmp) (levels : List LevelData)
+    → IsClimbing U left levels → IsPart (indexes_of left) (all_of U)
+left-part U left levels so =
+    subst (λ X. IsPart X (all_of U)) (sym so.rest) (left_after-part (all_of U) (order_of levels))
 
-pub IsClimbing-push : (U : List Task) (left left' : members.FinSet nat_cmp) (levels levels' : List LevelData) (level : LevelData) → IsClimbing U left levels → IsChosen U (indexes_of left) level.task → IsLevel U (indexes_of left) level → left' ≡ members.remove left level.task → levels' ≡ levels ++ level ∷ [] → IsClimbing U left' levels'
+pub IsClimbing-push : (U : List Task) (left left' : members.FinSet nat_cmp)
+    (levels levels' : List LevelData) (level : LevelData) → IsClimbing U left levels
+    → IsChosen U (indexes_of left) level.task → IsLevel U (indexes_of left) level → left'
+    ≡ members.remove left level.task → levels' ≡ levels ++ level ∷ [] → IsClimbing U left' levels'
 IsClimbing-push U left left' levels levels' level so chosen is removed pushed =
-    let order : order_of levels' ≡ order_of levels ++ level.task ∷ [] = ap order_of pushed ∙ map_push (λ (l : LevelData). l.task) levels level in
+    let order : order_of levels' ≡ order_of levels ++ level.task ∷ [] = ap order_of pushed
+    ∙ map_push (λ (l : LevelData). l.task) levels level in
     record {
-      chosen = subst (λ ns. AllChosen U (all_of U) ns) (sym order) (AllChosen-push U (all_of U) (order_of levels) level.task so.chosen (subst (λ X. IsChosen U X level.task) so.rest chosen));
-      each = subst (λ ls. AllLevels U (all_of U) ls) (sym pushed) (AllLevels-push U (all_of U) levels level so.each (subst (λ X. IsLevel U X level) so.rest is));
-      rest = ap indexes_of removed ∙ indexes_of-remove left level.task ∙ ap (λ X. without_index X level.task) so.rest
-          ∙ sym (left_after-push (all_of U) (order_of levels) level.task) ∙ ap (λ ns. left_after (all_of U) ns) (sym order);
+      chosen = subst (λ ns. AllChosen U (all_of U) ns) (sym order)
+          (AllChosen-push U (all_of U) (order_of levels) level.task so.chosen
+          (subst (λ X. IsChosen U X level.task) so.rest chosen));
+      each = subst (λ ls. AllLevels U (all_of U) ls) (sym pushed) (AllLevels-push U (all_of U)
+          levels level so.each (subst (λ X. IsLevel U X level) so.rest is));
+      rest = ap indexes_of removed ∙ indexes_of-remove left level.task
+          ∙ ap (λ X. without_index X level.task) so.rest
+          ∙ sym (left_after-push (all_of U) (order_of levels) level.task)
+          ∙ ap (λ ns. left_after (all_of U) ns) (sym order);
     }
 
-pub not_unfinished : (climb : ClimbState) → climb.stuck ≡ false → ¬ IsUnfinished climb → (k : ℕ) → members.contains climb.left k ≡ false
+pub not_unfinished : (climb : ClimbState) → climb.stuck ≡ false → ¬ IsUnfinished climb → (k : ℕ)
+    → members.contains climb.left k ≡ false
 not_unfinished climb goes_on done k = elim (cases_Bool (members.contains climb.left k)) [
   | inl member ↦ absurd (done (record { some = (k, member); goes_on = goes_on }))
   | inr out ↦ out
 ]
 
-pub IsClimbing-admitted : (U : List Task) (left : members.FinSet nat_cmp) (levels : List LevelData) → IsClimbing U left levels → ((k : ℕ) → members.contains left k ≡ false) → IsBestOrder U levels
-IsClimbing-admitted U left levels so none = IsVerdictOf-admitted U levels so.chosen so.each (λ k. ap (λ X. X k) (sym so.rest) ∙ none k)
+pub IsClimbing-admitted : (U : List Task) (left : members.FinSet nat_cmp) (levels : List LevelData)
+    → IsClimbing U left levels → ((k : ℕ) → members.contains left k ≡ false) → IsBestOrder U levels
+IsClimbing-admitted U left levels so none =
+    IsVerdictOf-admitted U levels so.chosen so.each (λ k. ap (λ X. X k) (sym so.rest) ∙ none k)
 
-pub IsClimbing-infeasible : (U : List Task) (left : members.FinSet nat_cmp) (levels : List LevelData) (fails : List FailureData) → IsTaskSet U → IsClimbing U left levels → IsObstructed U (indexes_of left) fails → IsStuck U fails
+pub IsClimbing-infeasible : (U : List Task) (left : members.FinSet nat_cmp)
+    (levels : List LevelData) (fails : List FailureData) → IsTaskSet U → IsClimbing U left levels
+    → IsObstructed U (indexes_of left) fails → IsStuck U fails
 IsClimbing-infeasible U left levels fails valid so obstructed =
     let o = subst (λ X. IsObstructed U X fails) so.rest obstructed in
-    IsVerdictOf-infeasible U (AllTasks-from_set U valid) (order_of levels) fails o.obstruction.some.0 so.chosen o.obstruction.some.1 o.ranked o.each
+    IsVerdictOf-infeasible U (AllTasks-from_set U valid) (order_of levels) fails
+    o.obstruction.some.0 so.chosen o.obstruction.some.1 o.ranked o.each
 
-pub none_known : {X : Type 0} (P : X → Type 0) (o : Option X) → is_some o ≡ false → MatchOption o (Unit {0}) P
+pub none_known : {X : Type 0} (P : X → Type 0) (o : Option X) → is_some o ≡ false
+    → MatchOption o (Unit {0}) P
 none_known P None none = tt
 none_known P (Some x) none = absurd (both_ways true none refl)
 
-pub IsClimbing-start : (U : List Task) (left : members.FinSet nat_cmp) (n : ℕ) (levels : List LevelData) → left ≡ all_below n → n ≡ length U → levels ≡ [] → IsClimbing U left levels
+pub IsClimbing-start : (U : List Task) (left : members.FinSet nat_cmp) (n : ℕ)
+    (levels : List LevelData) → left ≡ all_below n → n ≡ length U → levels ≡ []
+    → IsClimbing U left levels
 IsClimbing-start U left n levels all count none =
-    let start : IsClimbing U left [] = record { chosen = tt; each = tt; rest = ap indexes_of all ∙ indexes_of-all_below n ∙ ap (λ m. below m) count } in
+    let start : IsClimbing U left [] = record {
+      chosen = tt;
+      each = tt;
+      rest = ap indexes_of all
+          ∙ indexes_of-all_below n ∙ ap (λ m. below m) count;
+    } in
     subst (λ ls. IsClimbing U left ls) (sym none) start

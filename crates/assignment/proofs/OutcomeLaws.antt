@@ -1,5 +1,6 @@
 -- A task that must stand above some of the tasks above it, by a row of those above which it must stand.
-use Rattle.std.proofs.Common.{◌≡◌, ℕ, ◌+◌, ◌<◌, ◌≤◌, ◌&&◌, inl, inr, List, length, IsTrue, IsFalse, ◌∙◌, sym, arith, below_more}
+use Rattle.std.proofs.Common.{◌≡◌, ℕ, ◌+◌, ◌<◌, ◌≤◌, ◌&&◌, inl, inr, List, length, IsTrue, IsFalse}
+use Rattle.std.proofs.Common.{◌∙◌, sym, arith, below_more}
 use Rattle.std.proofs.lemmas.Bool.{cases_Bool, and_parts, and_from, both_ways, ltb-true}
 use Rattle.task_sheet.specs.Sheet.{Task}
 use Rattle.task_sheet.specs.Indexes.{Indexes, IsPart, meet}
@@ -18,13 +19,15 @@ module _ (U : List Task) (i : ℕ) (row H : Indexes) (is : IsRowOf U i row) wher
     | inl bound ↦
         let at = some_below-witness (length U) (λ k. H k && must_outrank U i k) bound in
         let both = and_parts _ _ at.2 in
-        some_below-at 32 (λ k. row k && H k) at.0 (omega (arith, at.1)) (and_from _ _ (is at.0 at.1 ∙ both.1) both.0) ∙ sym bound
+        some_below-at 32 (λ k. row k && H k) at.0 (omega (arith, at.1))
+        (and_from _ _ (is at.0 at.1 ∙ both.1) both.0) ∙ sym bound
     | inr free ↦ elim (cases_Bool (meet row H)) [
       | inl meets ↦
           let at = some_below-witness 32 (λ k. row k && H k) meets in
           let both = and_parts _ _ at.2 in
           let within = ltb-true at.0 (length U) (part at.0 both.1) in
-          absurd (both_ways _ free (some_below-at (length U) (λ k. H k && must_outrank U i k) at.0 within (and_from _ _ both.1 (sym (is at.0 within) ∙ both.0))))
+          absurd (both_ways _ free (some_below-at (length U) (λ k. H k && must_outrank U i k) at.0
+          within (and_from _ _ both.1 (sym (is at.0 within) ∙ both.0))))
       | inr apart ↦ apart ∙ sym free
     ]
   ]
@@ -33,11 +36,13 @@ module _ (U : List Task) (i : ℕ) (row H : Indexes) (is : IsRowOf U i row) wher
   abbrev pub NoneOver : ℕ → Type 0
   NoneOver n = (j : ℕ) → j < n → IsTrue (H j) → IsFalse (must_outrank U i j)
 
-  pub NoneOver-more : (n : ℕ) → NoneOver n → n < length U → (IsTrue (row n) → IsTrue (H n) → ⊥) → NoneOver (n + 1)
-  NoneOver-more n none lt apart = below_more (λ j. IsTrue (H j) → IsFalse (must_outrank U i j)) n none (λ above. elim (cases_Bool (must_outrank U i n)) [
-    | inl named ↦ absurd (apart (is n lt ∙ named) above)
-    | inr other ↦ other
-  ])
+  pub NoneOver-more : (n : ℕ) → NoneOver n → n < length U → (IsTrue (row n) → IsTrue (H n) → ⊥)
+      → NoneOver (n + 1)
+  NoneOver-more n none lt apart = below_more (λ j. IsTrue (H j) → IsFalse (must_outrank U i j)) n
+      none (λ above. elim (cases_Bool (must_outrank U i n)) [
+        | inl named ↦ absurd (apart (is n lt ∙ named) above)
+        | inr other ↦ other
+      ])
 
   pub NoneOver-all : NoneOver (length U) → IsFalse (is_bound U i H)
   unfolding is_bound
@@ -49,5 +54,7 @@ module _ (U : List Task) (i : ℕ) (row H : Indexes) (is : IsRowOf U i row) wher
     | inr free ↦ free
   ]
 
-  pub IsLeastOver-here : (n : ℕ) → NoneOver n → n < length U → IsTrue (row n) → IsTrue (H n) → IsLeastOver U i H n
-  IsLeastOver-here n none lt named above = record { in_set = lt; above = above; named = sym (is n lt) ∙ named; least = none }
+  pub IsLeastOver-here : (n : ℕ) → NoneOver n → n < length U → IsTrue (row n) → IsTrue (H n)
+      → IsLeastOver U i H n
+  IsLeastOver-here n none lt named above =
+      record { in_set = lt; above = above; named = sym (is n lt) ∙ named; least = none }

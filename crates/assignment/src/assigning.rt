@@ -78,7 +78,7 @@ fn end_of(climb: Climb) -> Verdict
 }
 
 /// The verdict of a set: its best order with what shows it best, or its greatest obstruction with what shows it stuck.
-/// The error is want of memory.
+/// The error is out of memory.
 pub fn assign(alloc: Global, set: Arc<TaskSet>) -> Result<Verdict, AllocError>
     ensures of_set { IfOk result (λ verdict. verdict_set verdict ≡ set.value) }
     ensures verdict { IfOk result (λ verdict. IsVerdictOf set.value (verdict_of verdict)) }

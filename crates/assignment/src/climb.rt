@@ -63,7 +63,7 @@ pub struct Unfinished {
 }
 
 impl Climb {
-    /// A climb with all tasks of the set left. The error is want of memory; nothing else of the climb takes memory.
+    /// A climb with all tasks of the set left. The error is out of memory; nothing else of the climb takes memory.
     pub fn start(alloc: Global, set: Arc<TaskSet>) -> Result<Climb, AllocError>
         ensures { IfOk result (λ climb. climb
             ≡ record {
@@ -136,7 +136,7 @@ impl Climb {
         self.levels.push_reserved(level);
     }
 
-    /// The next level, without findings. The error is want of memory.
+    /// The next level, without findings. The error is out of memory.
     pub fn start_level(&self, alloc: Global) -> Result<Level, AllocError>
         requires { IsUnfinished self.now }
         ensures { IfOk result (λ level. level

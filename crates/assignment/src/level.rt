@@ -132,7 +132,7 @@ fn gather(
 }
 
 impl Level {
-    /// A level whose candidates are the tasks that are left, without findings. The error is want of memory; nothing
+    /// A level whose candidates are the tasks that are left, without findings. The error is out of memory; nothing
     /// else of the level takes memory.
     pub fn start(alloc: Global, set: Arc<TaskSet>, left: Members) -> Result<Level, AllocError>
         requires part { IsPart (indexes_of left) (all_of set.value) }
@@ -185,7 +185,7 @@ impl Level {
         None
     }
 
-    /// The question on a candidate, with the others that are left above it. The error is want of memory.
+    /// The question on a candidate, with the others that are left above it. The error is out of memory.
     pub fn question(&self, task: usize) -> Result<Question, AllocError>
         requires { IsTrue (contains self.now.left task) }
         ensures asked { IfOk result (λ question. IsAsked self.now question) }

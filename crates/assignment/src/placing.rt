@@ -41,7 +41,7 @@ pub enum Placing {
     Stuck(Members),
 }
 
-/// The tasks of places, in their order. The error is want of memory.
+/// The tasks of places, in their order. The error is out of memory.
 pub fn tasks_of_places(alloc: Global, places: &[Place]) -> Result<Vec<usize>, AllocError>
     ensures { IfOk result (λ order. order.items ≡ tasks_of_places places.now) }
 {

@@ -54,7 +54,7 @@ impl Model for Finding {
     ghost invariant = { λ f. IsRight f.question f.answer };
 }
 
-/// Memory was wanting; the question is handed back.
+/// Memory ran out; the question is handed back.
 #[derive(Drop)]
 pub struct AnswerFault {
     pub question: Question,
@@ -94,7 +94,7 @@ impl Question {
         self.task
     }
 
-    /// The answer to the question. The fault is want of memory.
+    /// The answer to the question. The fault is out of memory.
     pub fn answer(self, alloc: Global) -> Result<Finding, AnswerFault>
         ensures ok { IfOk result (λ finding. finding.question ≡ self) }
         ensures err { IfErr result (λ fault. fault.question ≡ self) }
@@ -105,7 +105,7 @@ impl Question {
         self.answer_by(alloc, &table)
     }
 
-    /// The answer to the question, by the table of its set's locks. The fault is want of memory.
+    /// The answer to the question, by the table of its set's locks. The fault is out of memory.
     pub fn answer_by(self, alloc: Global, table: &LockTable) -> Result<Finding, AnswerFault>
         requires { IsTableOf self.set table.now }
         ensures ok { IfOk result (λ finding. finding.question ≡ self) }

@@ -1,5 +1,7 @@
 -- The questions of a climb, and those of its verdict.
-use Rattle.std.proofs.Common.{◌≡◌, ℕ, zero, suc, ◌<◌, ◌≤◌, ◌⊎◌, inl, inr, true, false, ◌==◌, List, length, Ok, [], ◌∷◌, ◌++◌, slice_get, get_or, Some, IsTrue, IsFalse, refl, sym, ◌∙◌, ap, subst, arith}
+use Rattle.std.proofs.Common.{◌≡◌, ℕ, zero, suc, ◌<◌, ◌≤◌, ◌⊎◌, inl, inr, true, false, ◌==◌, List}
+use Rattle.std.proofs.Common.{length, Ok, [], ◌∷◌, ◌++◌, slice_get, get_or, Some, IsTrue, IsFalse}
+use Rattle.std.proofs.Common.{refl, sym, ◌∙◌, ap, subst, arith}
 use Rattle.std.specs.Ordering.{nat_cmp}
 use Rattle.std.specs.FinSet as members
 use Rattle.std.proofs.lemmas.List.Folds.{list_any-append, list_any_at}
@@ -11,7 +13,8 @@ use Rattle.task_sheet.specs.MembersWords.{all_below}
 use Rattle.task_sheet.specs.Indexes.{Indexes, indexes_of, without_index, among, listed_below}
 use Rattle.task_sheet.specs.Orders.{all_of}
 use Rattle.task_sheet.specs.Levels.{IsChosen, NoneStands, left_after, AllChosen}
-use Rattle.task_sheet.specs.Verdicts.{LevelData, FailureData, VerdictData, Admitted, Infeasible, tasks_of, order_of, AllLevels, IsBestOrder, IsVerdictOf}
+use Rattle.task_sheet.specs.Verdicts.{LevelData, FailureData, VerdictData, Admitted, Infeasible}
+use Rattle.task_sheet.specs.Verdicts.{tasks_of, order_of, AllLevels, IsBestOrder, IsVerdictOf}
 use Rattle.task_sheet.proofs.IndexLaws.{same_parts}
 use Rattle.task_sheet.proofs.MembersIndexes.{indexes_of-all_below, indexes_of-remove, same_members}
 use Rattle.task_sheet.proofs.TaskLaws.{AllTasks-from_set}
@@ -47,24 +50,32 @@ abbrev pub OrderFree : (QuestionData → Type 0) → List Task → Indexes → L
 OrderFree shut U L [] = Unit {0}
 OrderFree shut U L (i ∷ order) = FreeUpTo shut U L i × OrderFree shut U (without_index L i) order
 
-OrderFree-push : (shut : QuestionData → Type 0) (U : List Task) (L : Indexes) (placed : List ℕ) (i : ℕ) → OrderFree shut U L placed → FreeUpTo shut U (left_after L placed) i → OrderFree shut U L (placed ++ i ∷ [])
+OrderFree-push : (shut : QuestionData → Type 0) (U : List Task) (L : Indexes) (placed : List ℕ)
+    (i : ℕ) → OrderFree shut U L placed → FreeUpTo shut U (left_after L placed) i
+    → OrderFree shut U L (placed ++ i ∷ [])
 OrderFree-push shut U L [] i free next = (next, tt)
-OrderFree-push shut U L (j ∷ placed) i free next = (free.0, OrderFree-push shut U (without_index L j) placed i free.1 next)
+OrderFree-push shut U L (j ∷ placed) i free next =
+    (free.0, OrderFree-push shut U (without_index L j) placed i free.1 next)
 
 -- what has been asked on the way up
-pub record IsFreeClimb (shut : QuestionData → Type 0) (U : List Task) (c : ClimbState) : Type 0 where
+pub record IsFreeClimb (shut : QuestionData → Type 0) (U : List Task)
+    (c : ClimbState) : Type 0 where
   pub set : c.set ≡ U
   pub order : List ℕ
   pub chosen : AllChosen U (all_of U) order
   pub rest : indexes_of c.left ≡ left_after (all_of U) order
   pub free : OrderFree shut U (all_of U) order
-  pub stuck : c.stuck ≡ true → NoneStands U (indexes_of c.left) × ((k : ℕ) × IsTrue (members.contains c.left k)) × AllFree shut U (indexes_of c.left)
+  pub stuck : c.stuck ≡ true → NoneStands U (indexes_of c.left)
+      × ((k : ℕ) × IsTrue (members.contains c.left k)) × AllFree shut U (indexes_of c.left)
 
 -- ---- a level that is decided
-below_is : (U : List Task) (left : members.FinSet nat_cmp) (q : QuestionData) → IsBelow U (indexes_of left) q → q ≡ question_on U left q.task
-below_is U left q below = question_is q U left below.same (same_members q.above (members.remove left q.task) (below.above ∙ sym (indexes_of-remove left q.task)))
+below_is : (U : List Task) (left : members.FinSet nat_cmp) (q : QuestionData)
+    → IsBelow U (indexes_of left) q → q ≡ question_on U left q.task
+below_is U left q below = question_is q U left below.same (same_members q.above
+    (members.remove left q.task) (below.above ∙ sym (indexes_of-remove left q.task)))
 
-found_up_to : (l : LevelState) (i j : ℕ) → IsDecided l → IsChosen l.set (indexes_of l.left) i → j ≤ i → IsTrue (members.contains l.left j) → IsFalse (members.contains l.missing j)
+found_up_to : (l : LevelState) (i j : ℕ) → IsDecided l → IsChosen l.set (indexes_of l.left) i
+    → j ≤ i → IsTrue (members.contains l.left j) → IsFalse (members.contains l.missing j)
 found_up_to l i j decided chosen le member = elim decided [
   | inl all ↦ all j member
   | inr some ↦ elim (cases_order j some.0) [
@@ -76,41 +87,68 @@ found_up_to l i j decided chosen le member = elim decided [
   ]
 ]
 
-found_all : (l : LevelState) (j : ℕ) → IsDecided l → NoneStands l.set (indexes_of l.left) → IsTrue (members.contains l.left j) → IsFalse (members.contains l.missing j)
+found_all : (l : LevelState) (j : ℕ) → IsDecided l → NoneStands l.set (indexes_of l.left)
+    → IsTrue (members.contains l.left j) → IsFalse (members.contains l.missing j)
 found_all l j decided none member = elim decided [
   | inl all ↦ all j member
   | inr some ↦ absurd (none some.0 some.1.candidate some.1.stands)
 ]
 
-level_free : (shut : QuestionData → Type 0) (l : LevelState) (i : ℕ) → NoneShut shut l → IsDecided l → IsChosen l.set (indexes_of l.left) i → FreeUpTo shut l.set (indexes_of l.left) i
+level_free : (shut : QuestionData → Type 0) (l : LevelState) (i : ℕ) → NoneShut shut l → IsDecided l
+    → IsChosen l.set (indexes_of l.left) i → FreeUpTo shut l.set (indexes_of l.left) i
 level_free shut l i none decided chosen q below le bad =
-    none q.task below.member (found_up_to l i q.task decided chosen le below.member) (subst shut (below_is l.set l.left q below) bad)
+    none q.task below.member (found_up_to l i q.task decided chosen le below.member)
+    (subst shut (below_is l.set l.left q below) bad)
 
-level_all_free : (shut : QuestionData → Type 0) (l : LevelState) → NoneShut shut l → IsDecided l → NoneStands l.set (indexes_of l.left) → AllFree shut l.set (indexes_of l.left)
+level_all_free : (shut : QuestionData → Type 0) (l : LevelState) → NoneShut shut l → IsDecided l
+    → NoneStands l.set (indexes_of l.left) → AllFree shut l.set (indexes_of l.left)
 level_all_free shut l none decided stuck q below bad =
-    none q.task below.member (found_all l q.task decided stuck below.member) (subst shut (below_is l.set l.left q below) bad)
+    none q.task below.member (found_all l q.task decided stuck below.member)
+    (subst shut (below_is l.set l.left q below) bad)
 
 -- ---- a level is closed
-pub IsFreeClimb-placed : (shut : QuestionData → Type 0) (U : List Task) (old new : ClimbState) (l : LevelState) → IsFreeClimb shut U old → l.set ≡ U → l.left ≡ old.left → NoneShut shut l → IsDecided l → old.stuck ≡ false → IsPlaced old new → IsFreeClimb shut U new
+pub IsFreeClimb-placed : (shut : QuestionData → Type 0) (U : List Task) (old new : ClimbState)
+    (l : LevelState) → IsFreeClimb shut U old → l.set ≡ U → l.left ≡ old.left → NoneShut shut l
+    → IsDecided l → old.stuck ≡ false → IsPlaced old new → IsFreeClimb shut U new
 IsFreeClimb-placed shut U old new l so set left none decided goes_on placed =
     let L = indexes_of old.left in
-    let chosen : IsChosen U L placed.level.task = subst (λ (V : List Task). IsChosen V L placed.level.task) so.set placed.chosen in
-    let at_level : IsChosen l.set (indexes_of l.left) placed.level.task = subst (λ (V : List Task). IsChosen V (indexes_of l.left) placed.level.task) (sym set) (subst (λ (m : members.FinSet nat_cmp). IsChosen U (indexes_of m) placed.level.task) (sym left) chosen) in
-    let free : FreeUpTo shut U L placed.level.task = subst (λ (m : members.FinSet nat_cmp). FreeUpTo shut U (indexes_of m) placed.level.task) left (subst (λ (V : List Task). FreeUpTo shut V (indexes_of l.left) placed.level.task) set (level_free shut l placed.level.task none decided at_level)) in
+    let chosen : IsChosen U L placed.level.task =
+    subst (λ (V : List Task). IsChosen V L placed.level.task) so.set placed.chosen in
+    let at_level : IsChosen l.set (indexes_of l.left) placed.level.task =
+    subst (λ (V : List Task). IsChosen V (indexes_of l.left) placed.level.task) (sym set)
+    (subst (λ (m : members.FinSet nat_cmp). IsChosen U (indexes_of m) placed.level.task)
+    (sym left) chosen) in
+    let free : FreeUpTo shut U L placed.level.task =
+    subst (λ (m : members.FinSet nat_cmp). FreeUpTo shut U (indexes_of m) placed.level.task)
+    left (subst (λ (V : List Task). FreeUpTo shut V (indexes_of l.left) placed.level.task) set
+    (level_free shut l placed.level.task none decided at_level)) in
     record {
       set = ap (λ (c : ClimbState). c.set) placed.after ∙ so.set;
       order = so.order ++ placed.level.task ∷ [];
-      chosen = AllChosen-push U (all_of U) so.order placed.level.task so.chosen (subst (λ X. IsChosen U X placed.level.task) so.rest chosen);
-      rest = ap (λ (c : ClimbState). indexes_of c.left) placed.after ∙ indexes_of-remove old.left placed.level.task ∙ ap (λ X. without_index X placed.level.task) so.rest ∙ sym (left_after-push (all_of U) so.order placed.level.task);
-      free = OrderFree-push shut U (all_of U) so.order placed.level.task so.free (subst (λ X. FreeUpTo shut U X placed.level.task) so.rest free);
+      chosen = AllChosen-push U (all_of U) so.order placed.level.task so.chosen
+          (subst (λ X. IsChosen U X placed.level.task) so.rest chosen);
+      rest = ap (λ (c : ClimbState). indexes_of c.left) placed.after ∙ indexes_of-remove old.left
+          placed.level.task ∙ ap (λ X. without_index X placed.level.task) so.rest
+          ∙ sym (left_after-push (all_of U) so.order placed.level.task);
+      free = OrderFree-push shut U (all_of U) so.order placed.level.task so.free
+          (subst (λ X. FreeUpTo shut U X placed.level.task) so.rest free);
       stuck = λ is. absurd (both_ways new.stuck (ap (λ (c : ClimbState). c.stuck) placed.after) is);
     }
 
-pub IsFreeClimb-ended : (shut : QuestionData → Type 0) (U : List Task) (old new : ClimbState) (l : LevelState) → IsFreeClimb shut U old → l.set ≡ U → l.left ≡ old.left → NoneShut shut l → IsDecided l → ((k : ℕ) × IsTrue (members.contains old.left k)) → IsEnded old new → IsFreeClimb shut U new
+pub IsFreeClimb-ended : (shut : QuestionData → Type 0) (U : List Task) (old new : ClimbState)
+    (l : LevelState) → IsFreeClimb shut U old → l.set ≡ U → l.left ≡ old.left → NoneShut shut l
+    → IsDecided l → ((k : ℕ) × IsTrue (members.contains old.left k)) → IsEnded old new
+    → IsFreeClimb shut U new
 IsFreeClimb-ended shut U old new l so set left none decided some ended =
-    let stuck : NoneStands U (indexes_of old.left) = subst (λ (V : List Task). NoneStands V (indexes_of old.left)) so.set ended.none in
-    let at_level : NoneStands l.set (indexes_of l.left) = subst (λ (V : List Task). NoneStands V (indexes_of l.left)) (sym set) (subst (λ (m : members.FinSet nat_cmp). NoneStands U (indexes_of m)) (sym left) stuck) in
-    let free : AllFree shut U (indexes_of old.left) = subst (λ (m : members.FinSet nat_cmp). AllFree shut U (indexes_of m)) left (subst (λ (V : List Task). AllFree shut V (indexes_of l.left)) set (level_all_free shut l none decided at_level)) in
+    let stuck : NoneStands U (indexes_of old.left) =
+    subst (λ (V : List Task). NoneStands V (indexes_of old.left)) so.set ended.none in
+    let at_level : NoneStands l.set (indexes_of l.left) =
+    subst (λ (V : List Task). NoneStands V (indexes_of l.left)) (sym set)
+    (subst (λ (m : members.FinSet nat_cmp). NoneStands U (indexes_of m)) (sym left) stuck) in
+    let free : AllFree shut U (indexes_of old.left) =
+    subst (λ (m : members.FinSet nat_cmp). AllFree shut U (indexes_of m)) left
+    (subst (λ (V : List Task). AllFree shut V (indexes_of l.left)) set
+    (level_all_free shut l none decided at_level)) in
     let same : old.left ≡ new.left = sym (ap (λ (c : ClimbState). c.left) ended.after) in
     record {
       set = ap (λ (c : ClimbState). c.set) ended.after ∙ so.set;
@@ -120,54 +158,80 @@ IsFreeClimb-ended shut U old new l so set left none decided some ended =
       free = so.free;
       stuck = λ is. (
         subst (λ (m : members.FinSet nat_cmp). NoneStands U (indexes_of m)) same stuck,
-        (some.0, subst (λ (m : members.FinSet nat_cmp). IsTrue (members.contains m some.0)) same some.1),
+        (
+          some.0,
+          subst (λ (m : members.FinSet nat_cmp). IsTrue (members.contains m some.0)) same
+              some.1,
+        ),
         subst (λ (m : members.FinSet nat_cmp). AllFree shut U (indexes_of m)) same free,
       );
     }
 
 -- ---- the verdict
 -- what the rising list of L below n names
-among_listed : (n : ℕ) (L : Indexes) (k : ℕ) → among (listed_below n L) k ≡ true → (k < n) × (L k ≡ true)
+among_listed : (n : ℕ) (L : Indexes) (k : ℕ) → among (listed_below n L) k ≡ true → (k < n)
+    × (L k ≡ true)
 among_listed zero L k named = absurd (both_ways false refl named)
 among_listed (suc n) L k named = elim (cases_Bool (L n)) [
-  | inl member ↦ elim (or_cases (among (listed_below n L) k) (among (n ∷ []) k) (sym (list_any-append (λ x. x == k) (listed_below n L) (n ∷ [])) ∙ rw member at named)) [
-    | inl before ↦ let h = among_listed n L k before in (omega (arith, h.0), h.1)
-    | inr last ↦ elim (or_cases (n == k) false last) [
-      | inl e ↦ let is : n ≡ k = eqb-true n k e in (omega arith, subst (λ j. L j ≡ true) is member)
-      | inr none ↦ absurd (both_ways false refl none)
-    ]
-  ]
+  | inl member ↦ elim (or_cases (among (listed_below n L) k) (among (n ∷ []) k)
+      (sym (list_any-append (λ x. x == k) (listed_below n L) (n ∷ [])) ∙ rw member at named)) [
+        | inl before ↦ let h = among_listed n L k before in (omega (arith, h.0), h.1)
+        | inr last ↦ elim (or_cases (n == k) false last) [
+          | inl e ↦ let is : n ≡ k = eqb-true n k e in (omega arith, subst (λ j. L j ≡ true) is member)
+          | inr none ↦ absurd (both_ways false refl none)
+        ]
+      ]
   | inr out ↦ let h = among_listed n L k (rw out at named) in (omega (arith, h.0), h.1)
 ]
 
-levels_free : (shut : QuestionData → Type 0) (U : List Task) (L : Indexes) (levels : List LevelData) → AllChosen U L (order_of levels) → AllLevels U L levels → OrderFree shut U L (order_of levels) → (q : QuestionData) → IsOfLevels U L levels q → shut q → ⊥
+levels_free : (shut : QuestionData → Type 0) (U : List Task) (L : Indexes) (levels : List LevelData)
+    → AllChosen U L (order_of levels) → AllLevels U L levels → OrderFree shut U L (order_of levels)
+    → (q : QuestionData) → IsOfLevels U L levels q → shut q → ⊥
 levels_free shut U L [] chosen all free q asked bad = asked
 levels_free shut U L (level ∷ levels) chosen all free q (inl here) bad =
     elim (or_cases (level.task == q.task) (among (tasks_of level.fails) q.task) here.task) [
       | inl e ↦
           let is : level.task ≡ q.task = eqb-true level.task q.task e in
-          free.0 q (record { same = here.same; member = subst (λ j. L j ≡ true) is chosen.0.member; above = here.above }) (omega arith) bad
+          free.0 q (record {
+            same = here.same;
+            member = subst (λ j. L j ≡ true) is chosen.0.member;
+            above = here.above;
+          }) (omega arith) bad
       | inr fails ↦
-          let h = among_listed level.task L q.task (ap (λ ns. among ns q.task) (sym all.0.lesser) ∙ fails) in
-          free.0 q (record { same = here.same; member = h.1; above = here.above }) (omega (arith, h.0)) bad
+          let h = among_listed level.task L q.task
+          (ap (λ ns. among ns q.task) (sym all.0.lesser) ∙ fails) in
+          free.0 q (record { same = here.same; member = h.1; above = here.above })
+          (omega (arith, h.0)) bad
     ]
-levels_free shut U L (level ∷ levels) chosen all free q (inr later) bad = levels_free shut U (without_index L level.task) levels chosen.1 all.1 free.1 q later bad
+levels_free shut U L (level ∷ levels) chosen all free q (inr later) bad =
+    levels_free shut U (without_index L level.task) levels chosen.1 all.1 free.1 q later bad
 
-admitted_free : (shut : QuestionData → Type 0) (U : List Task) (c : ClimbState) (levels : List LevelData) → AllTasks U → IsFreeClimb shut U c → ¬ IsUnfinished c → IsBestOrder U levels → (q : QuestionData) → IsOfLevels U (all_of U) levels q → shut q → ⊥
+admitted_free : (shut : QuestionData → Type 0) (U : List Task) (c : ClimbState)
+    (levels : List LevelData) → AllTasks U → IsFreeClimb shut U c → ¬ IsUnfinished c
+    → IsBestOrder U levels → (q : QuestionData) → IsOfLevels U (all_of U) levels q → shut q → ⊥
 admitted_free shut U c levels valid so done best q asked bad = elim (cases_Bool c.stuck) [
   | inl stuck ↦
       let h = so.stuck stuck in
-      let stands : NoneStands U (left_after (all_of U) so.order) = subst (λ X. NoneStands U X) so.rest h.0 in
-      let some : left_after (all_of U) so.order h.1.0 ≡ true = ap (λ X. X h.1.0) (sym so.rest) ∙ h.1.1 in
+      let stands : NoneStands U (left_after (all_of U) so.order) =
+      subst (λ X. NoneStands U X) so.rest h.0 in
+      let some : left_after (all_of U) so.order h.1.0 ≡ true = ap (λ X. X h.1.0) (sym so.rest)
+      ∙ h.1.1 in
       let greatest = AllChosen-obstruction U valid so.order so.chosen h.1.0 some stands in
-      absurd (IsObstruction-fails U valid (left_after (all_of U) so.order) greatest.obstruction (IsBestOrder-feasible U levels best))
+      absurd (IsObstruction-fails U valid (left_after (all_of U) so.order) greatest.obstruction
+      (IsBestOrder-feasible U levels best))
   | inr goes_on ↦
-      let none : (k : ℕ) → left_after (all_of U) so.order k ≡ false = λ k. ap (λ X. X k) (sym so.rest) ∙ not_unfinished c goes_on done k in
-      let same : so.order ≡ order_of levels = IsBest-one U so.order (order_of levels) (AllChosen-best U so.order so.chosen none) best.best in
-      levels_free shut U (all_of U) levels (subst (λ ns. AllChosen U (all_of U) ns) same so.chosen) best.each (subst (λ ns. OrderFree shut U (all_of U) ns) same so.free) q asked bad
+      let none : (k : ℕ) → left_after (all_of U) so.order k ≡ false =
+      λ k. ap (λ X. X k) (sym so.rest) ∙ not_unfinished c goes_on done k in
+      let same : so.order ≡ order_of levels = IsBest-one U so.order (order_of levels)
+      (AllChosen-best U so.order so.chosen none) best.best in
+      levels_free shut U (all_of U) levels (subst (λ ns. AllChosen U (all_of U) ns) same so.chosen)
+      best.each (subst (λ ns. OrderFree shut U (all_of U) ns) same so.free) q asked bad
 ]
 
-infeasible_free : (shut : QuestionData → Type 0) (U : List Task) (c : ClimbState) (fails : List FailureData) → AllTasks U → IsFreeClimb shut U c → ¬ IsUnfinished c → IsVerdictOf U (Infeasible fails) → (q : QuestionData) → IsAmong U (among (tasks_of fails)) (tasks_of fails) q → shut q → ⊥
+infeasible_free : (shut : QuestionData → Type 0) (U : List Task) (c : ClimbState)
+    (fails : List FailureData) → AllTasks U → IsFreeClimb shut U c → ¬ IsUnfinished c
+    → IsVerdictOf U (Infeasible fails) → (q : QuestionData)
+    → IsAmong U (among (tasks_of fails)) (tasks_of fails) q → shut q → ⊥
 infeasible_free shut U c fails valid so done is q asked bad = elim (cases_Bool c.stuck) [
   | inl stuck ↦
       let h = so.stuck stuck in
@@ -176,42 +240,67 @@ infeasible_free shut U c fails valid so done is q asked bad = elim (cases_Bool c
       let some : L h.1.0 ≡ true = ap (λ X. X h.1.0) (sym so.rest) ∙ h.1.1 in
       let greatest = AllChosen-obstruction U valid so.order so.chosen h.1.0 some stands in
       let S = among (tasks_of fails) in
-      let same : S ≡ indexes_of c.left = same_parts S L (greatest.greatest S is.greatest.obstruction) (is.greatest.greatest L greatest.obstruction) ∙ sym so.rest in
-      h.2 q (record { same = asked.same; member = ap (λ X. X q.task) (sym same) ∙ asked.task; above = asked.above ∙ ap (λ X. without_index X q.task) same }) bad
+      let same : S ≡ indexes_of c.left =
+      same_parts S L (greatest.greatest S is.greatest.obstruction)
+      (is.greatest.greatest L greatest.obstruction) ∙ sym so.rest in
+      h.2 q (record {
+        same = asked.same;
+        member = ap (λ X. X q.task) (sym same) ∙ asked.task;
+        above = asked.above ∙ ap (λ X. without_index X q.task) same;
+      }) bad
   | inr goes_on ↦
-      let none : (k : ℕ) → left_after (all_of U) so.order k ≡ false = λ k. ap (λ X. X k) (sym so.rest) ∙ not_unfinished c goes_on done k in
+      let none : (k : ℕ) → left_after (all_of U) so.order k ≡ false =
+      λ k. ap (λ X. X k) (sym so.rest) ∙ not_unfinished c goes_on done k in
       let best = AllChosen-best U so.order so.chosen none in
       absurd (IsStuck-infeasible U valid fails is (so.order, best.passing))
 ]
 
 -- no question of the verdict is one of those shut out
-pub verdict_free : (shut : QuestionData → Type 0) (U : List Task) (c : ClimbState) (v : VerdictData) → AllTasks U → IsFreeClimb shut U c → ¬ IsUnfinished c → IsVerdictOf U v → (q : QuestionData) → IsOfVerdict U v q → shut q → ⊥
-verdict_free shut U c (Admitted levels) valid so done is q asked bad = admitted_free shut U c levels valid so done is q asked bad
-verdict_free shut U c (Infeasible fails) valid so done is q asked bad = infeasible_free shut U c fails valid so done is q asked bad
+pub verdict_free : (shut : QuestionData → Type 0) (U : List Task) (c : ClimbState) (v : VerdictData)
+    → AllTasks U → IsFreeClimb shut U c → ¬ IsUnfinished c → IsVerdictOf U v → (q : QuestionData)
+    → IsOfVerdict U v q → shut q → ⊥
+verdict_free shut U c (Admitted levels) valid so done is q asked bad =
+    admitted_free shut U c levels valid so done is q asked bad
+verdict_free shut U c (Infeasible fails) valid so done is q asked bad =
+    infeasible_free shut U c fails valid so done is q asked bad
 
 -- ---- the candidate at a place
-pub candidate_member : (n : ℕ) (L : Indexes) (place k : ℕ) → slice_get (listed_below n L) place ≡ Some k → L k ≡ true
+pub candidate_member : (n : ℕ) (L : Indexes) (place k : ℕ)
+    → slice_get (listed_below n L) place ≡ Some k → L k ≡ true
 candidate_member n L place k at =
     let lt = slice_get_within (listed_below n L) place k at in
-    let is : get_or (listed_below n L) place k ≡ k = get_or_from_slice_get (listed_below n L) place k k at in
+    let is : get_or (listed_below n L) place k ≡ k =
+    get_or_from_slice_get (listed_below n L) place k k at in
     (among_listed n L k (list_any_at (λ x. x == k) (listed_below n L) place k lt (eq-eqb _ k is))).1
 
 -- ---- the way up
-pub IsFreeClimb-start : (shut : QuestionData → Type 0) (U V : List Task) (c : ClimbState) → V ≡ U → c ≡ (let d : ClimbState = record { set = V; levels = []; left = all_below (length V); stuck = false } in d) → IsFreeClimb shut U c
+pub IsFreeClimb-start : (shut : QuestionData → Type 0) (U V : List Task) (c : ClimbState) → V ≡ U
+    → c ≡ (let d : ClimbState =
+    record { set = V; levels = []; left = all_below (length V); stuck = false } in d)
+    → IsFreeClimb shut U c
 IsFreeClimb-start shut U V c same e = record {
   set = ap (λ (d : ClimbState). d.set) e ∙ same;
   order = [];
   chosen = tt;
-  rest = ap (λ (d : ClimbState). indexes_of d.left) e ∙ indexes_of-all_below (length V) ∙ ap (λ (W : List Task). all_of W) same;
+  rest = ap (λ (d : ClimbState). indexes_of d.left) e ∙ indexes_of-all_below (length V)
+      ∙ ap (λ (W : List Task). all_of W) same;
   free = tt;
   stuck = λ is. absurd (both_ways c.stuck (ap (λ (d : ClimbState). d.stuck) e) is);
 }
 
-pub IsFreeClimb-closed : (shut : QuestionData → Type 0) (U : List Task) (old : ClimbState) (l : LevelState) (new : ClimbState) → IsFreeClimb shut U old → l.set ≡ U → l.left ≡ old.left → NoneShut shut l → IsDecided l → IsUnfinished old → IsPlaced old new ⊎ IsEnded old new → IsFreeClimb shut U new
-IsFreeClimb-closed shut U old l new so set left none decided goes (inl placed) = IsFreeClimb-placed shut U old new l so set left none decided goes.goes_on placed
-IsFreeClimb-closed shut U old l new so set left none decided goes (inr ended) = IsFreeClimb-ended shut U old new l so set left none decided goes.some ended
+pub IsFreeClimb-closed : (shut : QuestionData → Type 0) (U : List Task) (old : ClimbState)
+    (l : LevelState) (new : ClimbState) → IsFreeClimb shut U old → l.set ≡ U → l.left ≡ old.left
+    → NoneShut shut l → IsDecided l → IsUnfinished old → IsPlaced old new ⊎ IsEnded old new
+    → IsFreeClimb shut U new
+IsFreeClimb-closed shut U old l new so set left none decided goes (inl placed) =
+    IsFreeClimb-placed shut U old new l so set left none decided goes.goes_on placed
+IsFreeClimb-closed shut U old l new so set left none decided goes (inr ended) =
+    IsFreeClimb-ended shut U old new l so set left none decided goes.some ended
 
 -- what a finished climb gives
-pub finished_free : (shut : QuestionData → Type 0) (U : List Task) (c : ClimbState) (v : Verdict) → IsTaskSet U → IsFreeClimb shut U c → Finishes c (Ok v) → (q : QuestionData) → IsOfVerdict U (verdict_of v) q → shut q → ⊥
+pub finished_free : (shut : QuestionData → Type 0) (U : List Task) (c : ClimbState) (v : Verdict)
+    → IsTaskSet U → IsFreeClimb shut U c → Finishes c (Ok v) → (q : QuestionData)
+    → IsOfVerdict U (verdict_of v) q → shut q → ⊥
 finished_free shut U c v valid so done q asked bad =
-    verdict_free shut U c (verdict_of v) (AllTasks-from_set U valid) so done.0 (subst (λ (V : List Task). IsVerdictOf V (verdict_of v)) so.set done.2) q asked bad
+    verdict_free shut U c (verdict_of v) (AllTasks-from_set U valid) so done.0
+    (subst (λ (V : List Task). IsVerdictOf V (verdict_of v)) so.set done.2) q asked bad

@@ -1,5 +1,7 @@
 -- What the workers of a level hand on, all together.
-use Rattle.std.proofs.Common.{◌≡◌, ℕ, zero, suc, ◌+◌, ◌<◌, ◌≤◌, Bool, true, false, cond, List, [], ◌∷◌, ◌++◌, map, Option, Some, Result, Ok, Err, sym, refl, ap, ◌∙◌, subst, ⊎_elim, arith, eq-eqb, ne_eqb}
+use Rattle.std.proofs.Common.{◌≡◌, ℕ, zero, suc, ◌+◌, ◌<◌, ◌≤◌, Bool, true, false, cond, List, []}
+use Rattle.std.proofs.Common.{◌∷◌, ◌++◌, map, Option, Some, Result, Ok, Err, sym, refl, ap, ◌∙◌}
+use Rattle.std.proofs.Common.{subst, ⊎_elim, arith, eq-eqb, ne_eqb}
 use Rattle.std.proofs.lemmas.Bool.{cases_lt, cases_eq}
 use Rattle.std.specs.Prelude.{IfErr}
 use Rattle.std.specs.List.{AllByRecursion, Contains}
@@ -7,14 +9,17 @@ use Rattle.std.specs.Global.{Vec}
 use Rattle.std.specs.Ordering.{nat_cmp}
 use Rattle.std.specs.FinSet as members
 use Rattle.std.proofs.lemmas.List.{map-append, append-nil, append_assoc}
-use Rattle.std.proofs.lemmas.List.Elements.{All-nil, All-cons, All-append, Contains-append_left, Contains-append_right, Contains-append_cases}
+use Rattle.std.proofs.lemmas.List.Elements.{All-nil, All-cons, All-append, Contains-append_left}
+use Rattle.std.proofs.lemmas.List.Elements.{Contains-append_right, Contains-append_cases}
 use Rattle.task_sheet.specs.Sheet.{Task}
 use Rattle.assignment.specs.Questions.{QuestionData, FindingData}
 use Rattle.assignment.specs.Levels.{LevelState}
 use Rattle.candidate_workers.specs.declared.asking.WorkFault.{WorkFault}
 use Rattle.candidate_workers.specs.declared.asking.WorkFault.TheVariants as work
 use Rattle.candidate_workers.specs.declared.assaying.AssayFault.{AssayFault}
-use Rattle.candidate_workers.specs.declared.assaying.AssayFault.TheVariants.{BadWorkers, ThreadRefused, GateShut, OutOfMemory}
+use Rattle.candidate_workers.specs.declared.assaying.AssayFault.TheVariants.{BadWorkers}
+use Rattle.candidate_workers.specs.declared.assaying.AssayFault.TheVariants.{ThreadRefused}
+use Rattle.candidate_workers.specs.declared.assaying.AssayFault.TheVariants.{GateShut, OutOfMemory}
 use Rattle.candidate_workers.specs.declared.claims.ClaimTable.{ClaimTable}
 use Rattle.candidate_workers.specs.declared.claims.ClaimSeat.{ClaimSeat}
 use Rattle.candidate_workers.specs.declared.gathering.Claimed.{Claimed}
@@ -23,95 +28,155 @@ use Rattle.candidate_workers.specs.Claims.{count_of, candidate_at, joined}
 use Rattle.candidate_workers.specs.Counting.{times}
 use Rattle.candidate_workers.specs.Seats.{seat_view, table_level, finding_task, AreSeatTasks}
 use Rattle.candidate_workers.specs.Faults.{IsHanded, NoVerdict, MayFail, fault_of, is_shut}
-use Rattle.candidate_workers.specs.Crews.{tasks_handed, work_faults, faults_of, rank_of, IsFirstFault, whole_view, AreClaims}
+use Rattle.candidate_workers.specs.Crews.{tasks_handed, work_faults, faults_of, rank_of}
+use Rattle.candidate_workers.specs.Crews.{IsFirstFault, whole_view, AreClaims}
 use Rattle.candidate_workers.proofs.Lists.{times-append, once_yes}
 
 -- ---- lists of what was handed on
-pub tasks_handed-push : (hs : List (Result (Vec FindingData) WorkFault)) (findings : Vec FindingData) → tasks_handed (hs ++ Ok findings ∷ []) ≡ tasks_handed hs ++ map finding_task findings.items
+pub tasks_handed-push : (hs : List (Result (Vec FindingData) WorkFault))
+    (findings : Vec FindingData)
+    → tasks_handed (hs ++ Ok findings ∷ []) ≡ tasks_handed hs ++ map finding_task findings.items
 tasks_handed-push [] findings = append-nil (map finding_task findings.items)
-tasks_handed-push (Ok first ∷ hs) findings = ap (λ ks. map finding_task first.items ++ ks) (tasks_handed-push hs findings) ∙ sym (append_assoc (map finding_task first.items) (tasks_handed hs) (map finding_task findings.items))
+tasks_handed-push (Ok first ∷ hs) findings = ap (λ ks. map finding_task first.items ++ ks)
+    (tasks_handed-push hs findings) ∙ sym (append_assoc (map finding_task first.items)
+    (tasks_handed hs) (map finding_task findings.items))
 tasks_handed-push (Err fault ∷ hs) findings = tasks_handed-push hs findings
 
-pub work_faults-append : (hs more : List (Result (Vec FindingData) WorkFault)) → work_faults (hs ++ more) ≡ work_faults hs ++ work_faults more
+pub work_faults-append : (hs more : List (Result (Vec FindingData) WorkFault))
+    → work_faults (hs ++ more) ≡ work_faults hs ++ work_faults more
 work_faults-append [] more = refl
 work_faults-append (Ok findings ∷ hs) more = work_faults-append hs more
-work_faults-append (Err fault ∷ hs) more = ap (λ fs. fault_of fault ∷ fs) (work_faults-append hs more)
+work_faults-append (Err fault ∷ hs) more =
+    ap (λ fs. fault_of fault ∷ fs) (work_faults-append hs more)
 
 -- where there is no fault, there was none before
-pub none_before : (hs : List (Result (Vec FindingData) WorkFault)) (h : Result (Vec FindingData) WorkFault) → work_faults (hs ++ h ∷ []) ≡ [] → work_faults hs ≡ []
+pub none_before : (hs : List (Result (Vec FindingData) WorkFault))
+    (h : Result (Vec FindingData) WorkFault) → work_faults (hs ++ h ∷ []) ≡ [] → work_faults hs ≡ []
 none_before [] h none = refl
 none_before (Ok findings ∷ hs) h none = none_before hs h none
 none_before (Err fault ∷ hs) h none = absurd (cc)
 
-pub fault_counts : (hs : List (Result (Vec FindingData) WorkFault)) (fault : WorkFault) → work_faults (hs ++ Err fault ∷ []) ≡ [] → ⊥
+pub fault_counts : (hs : List (Result (Vec FindingData) WorkFault)) (fault : WorkFault)
+    → work_faults (hs ++ Err fault ∷ []) ≡ [] → ⊥
 fault_counts [] fault none = cc
 fault_counts (Ok findings ∷ hs) fault none = fault_counts hs fault none
 fault_counts (Err first ∷ hs) fault none = cc
 
 -- ---- the first of the faults
-pub first_of_none : (other : AssayFault) (faults : List AssayFault) → faults ≡ [] → IsFirstFault (faults ++ other ∷ []) (Some other)
-first_of_none other faults none = subst (λ fs. IsFirstFault (fs ++ other ∷ []) (Some other)) (sym none) ((0, omega arith, refl), All-cons (λ x. rank_of other ≤ rank_of x) other [] (omega arith) (All-nil (λ x. rank_of other ≤ rank_of x)))
+pub first_of_none : (other : AssayFault) (faults : List AssayFault) → faults ≡ []
+    → IsFirstFault (faults ++ other ∷ []) (Some other)
+first_of_none other faults none = subst (λ fs. IsFirstFault (fs ++ other ∷ []) (Some other))
+    (sym none) (
+      (0, omega arith, refl),
+      All-cons (λ x. rank_of other ≤ rank_of x) other []
+          (omega arith) (All-nil (λ x. rank_of other ≤ rank_of x)),
+    )
 
-pub first_of_later : (fault other : AssayFault) (faults : List AssayFault) → rank_of other < rank_of fault → IsFirstFault faults (Some fault) → IsFirstFault (faults ++ other ∷ []) (Some other)
+pub first_of_later : (fault other : AssayFault) (faults : List AssayFault) → rank_of other < rank_of
+    fault → IsFirstFault faults (Some fault) → IsFirstFault (faults ++ other ∷ []) (Some other)
 first_of_later fault other faults less first = (
   Contains-append_right faults (other ∷ []) other (0, omega arith, refl),
-  All-append (λ x. rank_of other ≤ rank_of x) faults (other ∷ []) (λ k d lt. let a = first.1 k d lt in omega arith) (All-cons (λ x. rank_of other ≤ rank_of x) other [] (omega arith) (All-nil (λ x. rank_of other ≤ rank_of x))),
+  All-append (λ x. rank_of other ≤ rank_of x) faults (other ∷ [])
+      (λ k d lt. let a = first.1 k d lt in omega arith) (All-cons (λ x. rank_of other ≤ rank_of x)
+      other [] (omega arith) (All-nil (λ x. rank_of other ≤ rank_of x))),
 )
 
-pub first_of_earlier : (fault other : AssayFault) (faults : List AssayFault) → rank_of fault ≤ rank_of other → IsFirstFault faults (Some fault) → IsFirstFault (faults ++ other ∷ []) (Some fault)
+pub first_of_earlier : (fault other : AssayFault) (faults : List AssayFault)
+    → rank_of fault ≤ rank_of other → IsFirstFault faults (Some fault)
+    → IsFirstFault (faults ++ other ∷ []) (Some fault)
 first_of_earlier fault other faults less first = (
   Contains-append_left faults (other ∷ []) fault first.0,
-  All-append (λ x. rank_of fault ≤ rank_of x) faults (other ∷ []) first.1 (All-cons (λ x. rank_of fault ≤ rank_of x) other [] less (All-nil (λ x. rank_of fault ≤ rank_of x))),
+  All-append (λ x. rank_of fault ≤ rank_of x) faults (other ∷ []) first.1 (All-cons
+      (λ x. rank_of fault ≤ rank_of x) other [] less (All-nil (λ x. rank_of fault ≤ rank_of x))),
 )
 
 -- of one more worker
-pub first_of_more : (start faults : List AssayFault) (hs : List (Result (Vec FindingData) WorkFault)) (h : Result (Vec FindingData) WorkFault) (first : Option AssayFault) → faults ≡ start ++ work_faults hs → IsFirstFault (faults ++ work_faults (h ∷ [])) first → IsFirstFault (start ++ work_faults (hs ++ h ∷ [])) first
-first_of_more start faults hs h first e is = subst (λ fs. IsFirstFault fs first) (ap (λ fs. fs ++ work_faults (h ∷ [])) e ∙ append_assoc start (work_faults hs) (work_faults (h ∷ [])) ∙ sym (ap (λ fs. start ++ fs) (work_faults-append hs (h ∷ [])))) is
+pub first_of_more : (start faults : List AssayFault)
+    (hs : List (Result (Vec FindingData) WorkFault)) (h : Result (Vec FindingData) WorkFault)
+    (first : Option AssayFault) → faults ≡ start ++ work_faults hs
+    → IsFirstFault (faults ++ work_faults (h ∷ [])) first
+    → IsFirstFault (start ++ work_faults (hs ++ h ∷ [])) first
+first_of_more start faults hs h first e is = subst (λ fs. IsFirstFault fs first)
+    (ap (λ fs. fs ++ work_faults (h ∷ [])) e ∙ append_assoc start (work_faults hs)
+    (work_faults (h ∷ [])) ∙ sym (ap (λ fs. start ++ fs) (work_faults-append hs (h ∷ [])))) is
 
 -- ---- each fault says why there is no verdict
-worker_named : (may : QuestionData → Type 0) (U : List Task) (workers : ℕ) (fault : WorkFault) → MayFail may U fault → NoVerdict may U workers (fault_of fault)
+worker_named : (may : QuestionData → Type 0) (U : List Task) (workers : ℕ) (fault : WorkFault)
+    → MayFail may U fault → NoVerdict may U workers (fault_of fault)
 worker_named may U workers (work.GateShut task) is = is
 worker_named may U workers work.OutOfMemory is = tt
 
-work_named : (shut may : QuestionData → Type 0) (U : List Task) (left : members.FinSet nat_cmp) (workers : ℕ) (hs : List (Result (Vec FindingData) WorkFault)) (fault : AssayFault) → AllByRecursion (λ h. IsHanded shut may U left h) hs → Contains (work_faults hs) fault → NoVerdict may U workers fault
+work_named : (shut may : QuestionData → Type 0) (U : List Task) (left : members.FinSet nat_cmp)
+    (workers : ℕ) (hs : List (Result (Vec FindingData) WorkFault)) (fault : AssayFault)
+    → AllByRecursion (λ h. IsHanded shut may U left h) hs → Contains (work_faults hs) fault
+    → NoVerdict may U workers fault
 work_named shut may U left workers [] fault all at = absurd (omega (arith, at.1))
-work_named shut may U left workers (Ok findings ∷ hs) fault all at = work_named shut may U left workers hs fault all.1 at
-work_named shut may U left workers (Err first ∷ hs) fault all (zero, lt, here) = subst (λ (f : AssayFault). NoVerdict may U workers f) here (worker_named may U workers first all.0)
-work_named shut may U left workers (Err first ∷ hs) fault all (suc k, lt, there) = work_named shut may U left workers hs fault all.1 (k, omega arith, there)
+work_named shut may U left workers (Ok findings ∷ hs) fault all at =
+    work_named shut may U left workers hs fault all.1 at
+work_named shut may U left workers (Err first ∷ hs) fault all (zero, lt, here) =
+    subst (λ (f : AssayFault). NoVerdict may U workers f) here
+    (worker_named may U workers first all.0)
+work_named shut may U left workers (Err first ∷ hs) fault all (suc k, lt, there) =
+    work_named shut may U left workers hs fault all.1 (k, omega arith, there)
 
-refused_named : (may : QuestionData → Type 0) (U : List Task) (workers : ℕ) (refused : Bool) (fault : AssayFault) → Contains (cond refused (ThreadRefused ∷ []) []) fault → NoVerdict may U workers fault
-refused_named may U workers true fault (zero, lt, here) = subst (λ (f : AssayFault). NoVerdict may U workers f) here tt
+refused_named : (may : QuestionData → Type 0) (U : List Task) (workers : ℕ) (refused : Bool)
+    (fault : AssayFault) → Contains (cond refused (ThreadRefused ∷ []) []) fault
+    → NoVerdict may U workers fault
+refused_named may U workers true fault (zero, lt, here) =
+    subst (λ (f : AssayFault). NoVerdict may U workers f) here tt
 refused_named may U workers true fault (suc k, lt, there) = absurd (omega arith)
 refused_named may U workers false fault at = absurd (omega (arith, at.1))
 
-pub crew_named : (shut may : QuestionData → Type 0) (U : List Task) (left : members.FinSet nat_cmp) (workers : ℕ) (crew : Crew) (fault : AssayFault) → AllByRecursion (λ h. IsHanded shut may U left h) crew.handed.items → IsFirstFault (faults_of crew) (Some fault) → NoVerdict may U workers fault
-crew_named shut may U left workers crew fault all first = ⊎_elim (λ at. refused_named may U workers crew.refused fault at) (λ at. work_named shut may U left workers crew.handed.items fault all at) (Contains-append_cases (cond crew.refused (ThreadRefused ∷ []) []) (work_faults crew.handed.items) fault first.0)
+pub crew_named : (shut may : QuestionData → Type 0) (U : List Task) (left : members.FinSet nat_cmp)
+    (workers : ℕ) (crew : Crew) (fault : AssayFault)
+    → AllByRecursion (λ h. IsHanded shut may U left h) crew.handed.items
+    → IsFirstFault (faults_of crew) (Some fault) → NoVerdict may U workers fault
+crew_named shut may U left workers crew fault all first =
+    ⊎_elim (λ at. refused_named may U workers crew.refused fault at)
+    (λ at. work_named shut may U left workers crew.handed.items fault all at) (Contains-append_cases
+    (cond crew.refused (ThreadRefused ∷ []) []) (work_faults crew.handed.items) fault first.0)
 
 -- a crew without faults was refused no thread, and none of its workers has one
-pub no_fault : (refused : Bool) (faults : List AssayFault) → cond refused (ThreadRefused ∷ []) [] ++ faults ≡ [] → (refused ≡ false) × (faults ≡ [])
+pub no_fault : (refused : Bool) (faults : List AssayFault)
+    → cond refused (ThreadRefused ∷ []) [] ++ faults ≡ [] → (refused ≡ false) × (faults ≡ [])
 no_fault true faults none = absurd (cc)
 no_fault false faults none = (refl, none)
 
 -- ---- the tasks of the findings, by the places of a view
-times-map : (c : ℕ → ℕ) (j : ℕ) (a b : List ℕ) → times j (map c (a ++ b)) ≡ times j (map c a) + times j (map c b)
+times-map : (c : ℕ → ℕ) (j : ℕ) (a b : List ℕ)
+    → times j (map c (a ++ b)) ≡ times j (map c a) + times j (map c b)
 times-map c j a b = ap (times j) (map-append c a b) ∙ times-append j (map c a) (map c b)
 
-pub told_of : (table : ClaimTable) (level : LevelState) (seat : ClaimSeat) (tasks : List ℕ) → table_level table ≡ level → tasks ≡ map (candidate_at level) ((seat_view seat).failed ++ (seat_view seat).passed) → AreSeatTasks table seat tasks
+pub told_of : (table : ClaimTable) (level : LevelState) (seat : ClaimSeat) (tasks : List ℕ)
+    → table_level table ≡ level → tasks ≡ map (candidate_at level)
+    ((seat_view seat).failed ++ (seat_view seat).passed) → AreSeatTasks table seat tasks
 told_of table level seat tasks same e = record {
-  each = λ j. ap (times j) (e ∙ ap (λ (l : LevelState). map (candidate_at l) ((seat_view seat).failed ++ (seat_view seat).passed)) (sym same)) ∙ times-map (candidate_at (table_level table)) j (seat_view seat).failed (seat_view seat).passed;
+  each = λ j. ap (times j) (e ∙ ap (λ (l : LevelState). map (candidate_at l)
+      ((seat_view seat).failed ++ (seat_view seat).passed)) (sym same)) ∙ times-map
+      (candidate_at (table_level table)) j (seat_view seat).failed (seat_view seat).passed;
 }
 
-pub told_joined : (table : ClaimTable) (seat own other : ClaimSeat) (tasks more : List ℕ) → seat_view seat ≡ joined (seat_view own) (seat_view other) → AreSeatTasks table own tasks → AreSeatTasks table other more → AreSeatTasks table seat (tasks ++ more)
+pub told_joined : (table : ClaimTable) (seat own other : ClaimSeat) (tasks more : List ℕ)
+    → seat_view seat ≡ joined (seat_view own) (seat_view other) → AreSeatTasks table own tasks
+    → AreSeatTasks table other more → AreSeatTasks table seat (tasks ++ more)
 told_joined table seat own other tasks more e mine theirs = record {
   each = λ j.
       let c = candidate_at (table_level table) in
-      let failed : times j (map c (seat_view seat).failed) ≡ times j (map c (seat_view own).failed) + times j (map c (seat_view other).failed) = ap (λ v. times j (map c v.failed)) e ∙ times-map c j (seat_view own).failed (seat_view other).failed in
-      let passed : times j (map c (seat_view seat).passed) ≡ times j (map c (seat_view own).passed) + times j (map c (seat_view other).passed) = ap (λ v. times j (map c v.passed)) e ∙ times-map c j (seat_view own).passed (seat_view other).passed in
+      let failed : times j (map c (seat_view seat).failed)
+      ≡ times j (map c (seat_view own).failed) + times j (map c (seat_view other).failed) =
+      ap (λ v. times j (map c v.failed)) e
+      ∙ times-map c j (seat_view own).failed (seat_view other).failed in
+      let passed : times j (map c (seat_view seat).passed)
+      ≡ times j (map c (seat_view own).passed) + times j (map c (seat_view other).passed) =
+      ap (λ v. times j (map c v.passed)) e
+      ∙ times-map c j (seat_view own).passed (seat_view other).passed in
       omega (arith, times-append j tasks more, mine.each j, theirs.each j);
 }
 
 -- ---- where no question may be shut out, none is
-pub never_shut : {V : Type 0} (may : QuestionData → Type 0) (U : List Task) (workers : ℕ) (r : Result V AssayFault) → IfErr r (λ fault. NoVerdict may U workers fault) → IfErr r (λ fault. ((q : QuestionData) → may q → ⊥) → is_shut fault ≡ false)
+pub never_shut : {V : Type 0} (may : QuestionData → Type 0) (U : List Task) (workers : ℕ)
+    (r : Result V AssayFault) → IfErr r (λ fault. NoVerdict may U workers fault)
+    → IfErr r (λ fault. ((q : QuestionData) → may q → ⊥) → is_shut fault ≡ false)
 never_shut may U workers (Ok verdict) is = tt
 never_shut may U workers (Err BadWorkers) is = λ never. refl
 never_shut may U workers (Err ThreadRefused) is = λ never. refl
@@ -123,9 +188,16 @@ times-map_least : (c : ℕ → ℕ) (k : ℕ) (xs : List ℕ) → times k xs ≤
 times-map_least c k [] = omega arith
 times-map_least c k (y ∷ ys) =
     let rest = times-map_least c k ys in
-    ⊎_elim (λ (e : y ≡ k). let one : times k (y ∷ ys) ≡ 1 + times k ys = ap (λ (b : Bool). cond b 1 0 + times k ys) (eq-eqb y k e) in let other : times (c k) (map c (y ∷ ys)) ≡ 1 + times (c k) (map c ys) = ap (λ (b : Bool). cond b 1 0 + times (c k) (map c ys)) (eq-eqb (c y) (c k) (ap c e)) in omega arith) (λ (ne : y ≡ k → ⊥). let none : times k (y ∷ ys) ≡ 0 + times k ys = ap (λ (b : Bool). cond b 1 0 + times k ys) (ne_eqb y k ne) in omega arith) (cases_eq y k)
+    ⊎_elim (λ (e : y ≡ k). let one : times k (y ∷ ys) ≡ 1 + times k ys =
+    ap (λ (b : Bool). cond b 1 0 + times k ys) (eq-eqb y k e) in
+    let other : times (c k) (map c (y ∷ ys)) ≡ 1 + times (c k) (map c ys) =
+    ap (λ (b : Bool). cond b 1 0 + times (c k) (map c ys)) (eq-eqb (c y) (c k) (ap c e)) in
+    omega arith) (λ (ne : y ≡ k → ⊥). let none : times k (y ∷ ys) ≡ 0 + times k ys =
+    ap (λ (b : Bool). cond b 1 0 + times k ys) (ne_eqb y k ne) in omega arith) (cases_eq y k)
 
-pub found_up_to : (level : LevelState) (tasks : List ℕ) (claimed : Claimed) (k : ℕ) → AreClaims level tasks claimed → k < count_of level → k ≤ claimed.least → 0 < times (candidate_at level k) tasks
+pub found_up_to : (level : LevelState) (tasks : List ℕ) (claimed : Claimed) (k : ℕ)
+    → AreClaims level tasks claimed → k < count_of level → k ≤ claimed.least
+    → 0 < times (candidate_at level k) tasks
 found_up_to level tasks claimed k so small up =
     let v = whole_view claimed in
     let c = candidate_at level in
@@ -134,4 +206,5 @@ found_up_to level tasks claimed k so small up =
     let told = so.told (c k) in
     let failed = times-map_least c k v.failed in
     let passed = times-map_least c k v.passed in
-    ⊎_elim (λ (h : 0 < times k v.cut). let above = so.cut_above k h in absurd (omega arith)) (λ (h : times k v.cut ≤ 0). omega arith) (cases_lt 0 (times k v.cut))
+    ⊎_elim (λ (h : 0 < times k v.cut). let above = so.cut_above k h in absurd (omega arith))
+    (λ (h : times k v.cut ≤ 0). omega arith) (cases_lt 0 (times k v.cut))

@@ -1,5 +1,6 @@
 -- How often tasks are released, and interrupts come, within a time.
-use Rattle.std.proofs.Common.{◌≡◌, ℕ, ◌+◌, ◌-◌, ◌*◌, ◌<◌, ◌≤◌, Bool, true, false, cond, List, [], ◌∷◌, sum_by, arith}
+use Rattle.std.proofs.Common.{◌≡◌, ℕ, ◌+◌, ◌-◌, ◌*◌, ◌<◌, ◌≤◌, Bool, true, false, cond, List, []}
+use Rattle.std.proofs.Common.{◌∷◌, sum_by, arith}
 use Rattle.std.specs.Int.{div_ceil}
 use Rattle.std.proofs.lemmas.Grind.{div_ceil_times}
 use Rattle.std.proofs.lemmas.List.Sums.{sum_by-cons}
@@ -13,26 +14,43 @@ use Rattle.candidate_workers.specs.Threads.{comes_within, events_within}
 abbrev pub no_interrupt : Interrupt
 no_interrupt = record { period = 0; cost = 0 }
 
-pub comes-few : (time : ℕ) (x : Interrupt) → IsInterrupt x → time ≤ 10000000 → comes_within time x ≤ 200000
+pub comes-few : (time : ℕ) (x : Interrupt) → IsInterrupt x → time ≤ 10000000
+    → comes_within time x ≤ 200000
 comes-few time x valid le =
     let some : 0 < x.period = omega (arith, valid.period_from) in
     let jobs = div_ceil (time + 0) x.period in
     let least : jobs * 100 ≤ jobs * x.period = mul-le-mul_left jobs valid.period_from in
     omega (arith, (div_ceil_times (time + 0) x.period some).1, least, valid.period_to)
 
-pub releases-few : (t : Task) (time : ℕ) → IsValidSheet t → time ≤ 10000000 → releases_within t time ≤ 30000
+pub releases-few : (t : Task) (time : ℕ) → IsValidSheet t → time ≤ 10000000
+    → releases_within t time ≤ 30000
 releases-few t time valid le =
     let some : 0 < t.period = omega (arith, valid.period_from) in
     let jobs = div_ceil (time + t.jitter) t.period in
     let least : jobs * 1000 ≤ jobs * t.period = mul-le-mul_left jobs valid.period_from in
-    omega (arith, (div_ceil_times (time + t.jitter) t.period some).1, least, valid.period_to, valid.jitter, valid.deadline_to)
+    omega (
+      arith,
+      (div_ceil_times (time + t.jitter) t.period some).1,
+      least,
+      valid.period_to,
+      valid.jitter,
+      valid.deadline_to,
+    )
 
 -- those beyond the first tick are some of all
-later-few : (time : ℕ) (xs : List Interrupt) → sum_by (later_interrupts time) xs ≤ sum_by (comes_within time) xs
+later-few : (time : ℕ) (xs : List Interrupt)
+    → sum_by (later_interrupts time) xs ≤ sum_by (comes_within time) xs
 later-few time [] = omega arith
 later-few time (x ∷ xs) =
-    omega (arith, later-few time xs, sum_by-cons (later_interrupts time) x xs, sum_by-cons (comes_within time) x xs)
+    omega (
+      arith,
+      later-few time xs,
+      sum_by-cons (later_interrupts time) x xs,
+      sum_by-cons
+          (comes_within time) x xs,
+    )
 
-pub later-within : (counts : Bool) (time : ℕ) (t : Task) → cond counts (later_releases time t) 0 + sum_by (later_interrupts time) t.interrupts ≤ events_within time t
+pub later-within : (counts : Bool) (time : ℕ) (t : Task) → cond counts (later_releases time t)
+    0 + sum_by (later_interrupts time) t.interrupts ≤ events_within time t
 later-within true time t = omega (arith, later-few time t.interrupts)
 later-within false time t = omega (arith, later-few time t.interrupts)

@@ -1,12 +1,15 @@
 -- The busy interval, over any machine that executes one job a tick: no list, lock or section occurs here.
-use Rattle.std.proofs.Common.{ℕ, zero, suc, ◌+◌, ◌-◌, ◌<◌, ◌≤◌, ◌≡◌, ◌≢◌, ◌⊎◌, inl, inr, refl, sym, ap, ◌∙◌, subst, arith, if◌then◌else◌, Bool, true, false, Option, Some, None, nat_le, nat_lt, ◌&&◌, add-zero, add-suc}
+use Rattle.std.proofs.Common.{ℕ, zero, suc, ◌+◌, ◌-◌, ◌<◌, ◌≤◌, ◌≡◌, ◌≢◌, ◌⊎◌, inl, inr, refl, sym}
+use Rattle.std.proofs.Common.{ap, ◌∙◌, subst, arith, if◌then◌else◌, Bool, true, false, Option, Some}
+use Rattle.std.proofs.Common.{None, nat_le, nat_lt, ◌&&◌, add-zero, add-suc}
 use Rattle.std.proofs.lemmas.Bool.{cases_eq, cases_lt, cases_Bool, true≢false, le-leb, lt-ltb}
 use Rattle.ceiling_kernel.proofs.SumLaws.{total, total-le, total-lt, total-add, term-le, total-one}
 
 -- n jobs; when each is ready, and its cost; whether it is high (of the level in question or above);
 -- rest j e: how many ticks the section still takes that low job j is inside of after e ticks, if its ceiling reaches the level, else 0;
 -- done t j: how many ticks job j has executed before tick t; run t: the job that tick t picks.
-pub record IsMachine (n : ℕ) (ready cost : ℕ → ℕ) (high : ℕ → Bool) (rest : ℕ → ℕ → ℕ) (done : ℕ → ℕ → ℕ) (run : ℕ → Option ℕ) : Type 0 where
+pub record IsMachine (n : ℕ) (ready cost : ℕ → ℕ) (high : ℕ → Bool) (rest : ℕ → ℕ → ℕ)
+    (done : ℕ → ℕ → ℕ) (run : ℕ → Option ℕ) : Type 0 where
   pub at_start : (j : ℕ) → done 0 j ≡ 0
   pub when_idle : (t j : ℕ) → run t ≡ None → done (suc t) j ≡ done t j
   pub of_picked : (t p : ℕ) → run t ≡ Some p → done (suc t) p ≡ suc (done t p)
@@ -16,17 +19,21 @@ pub record IsMachine (n : ℕ) (ready cost : ℕ → ℕ) (high : ℕ → Bool) 
   pub picked_unfinished : (t p : ℕ) → run t ≡ Some p → done t p < cost p
   pub works : (t k : ℕ) → k < n → ready k ≤ t → done t k < cost k → (p : ℕ) × (run t ≡ Some p)
   -- where a pending job is high or inside a section that reaches the level, so is the picked one
-  pub hot_first : (t p k : ℕ) → run t ≡ Some p → k < n → ready k ≤ t → done t k < cost k → (high k ≡ true) ⊎ (0 < rest k (done t k)) → (high p ≡ true) ⊎ (0 < rest p (done t p))
+  pub hot_first : (t p k : ℕ) → run t ≡ Some p → k < n → ready k ≤ t → done t k < cost k
+      → (high k ≡ true) ⊎ (0 < rest k (done t k)) → (high p ≡ true) ⊎ (0 < rest p (done t p))
   pub rest_low : (j e : ℕ) → high j ≡ true → rest j e ≡ 0
   pub rest_first : (j : ℕ) → rest j 0 ≡ 0
   pub rest_next : (j e : ℕ) → 0 < rest j e → rest j e ≡ suc (rest j (suc e))
   pub rest_inside : (j e : ℕ) → 0 < rest j e → e < cost j
 
-module _ (n : ℕ) (ready cost : ℕ → ℕ) (high : ℕ → Bool) (rest : ℕ → ℕ → ℕ) (done : ℕ → ℕ → ℕ) (run : ℕ → Option ℕ) (machine : IsMachine n ready cost high rest done run) where
+module _ (n : ℕ) (ready cost : ℕ → ℕ) (high : ℕ → Bool) (rest : ℕ → ℕ → ℕ) (done : ℕ → ℕ → ℕ)
+    (run : ℕ → Option ℕ) (machine : IsMachine n ready cost high rest done run) where
   -- a tick leaves a job as it is, or was the job's own
-  pub tick_cases : (t j : ℕ) → (done (suc t) j ≡ done t j) ⊎ ((run t ≡ Some j) × (done (suc t) j ≡ suc (done t j)))
+  pub tick_cases : (t j : ℕ) → (done (suc t) j ≡ done t j)
+      ⊎ ((run t ≡ Some j) × (done (suc t) j ≡ suc (done t j)))
   tick_cases t j =
-      elim (run t) as (λ r. run t ≡ r → (done (suc t) j ≡ done t j) ⊎ ((run t ≡ Some j) × (done (suc t) j ≡ suc (done t j)))) [
+      elim (run t) as (λ r. run t ≡ r → (done (suc t) j ≡ done t j)
+      ⊎ ((run t ≡ Some j) × (done (suc t) j ≡ suc (done t j)))) [
         | None ↦ λ e. inl (machine.when_idle t j e)
         | Some p ↦ λ e. elim (cases_eq j p) [
           | inl same ↦
@@ -57,7 +64,8 @@ module _ (n : ℕ) (ready cost : ℕ → ℕ) (high : ℕ → Bool) (rest : ℕ 
   began zero j h = let none : done 0 j ≡ 0 = machine.at_start j in absurd (omega arith)
   began (suc t) j h =
       elim (tick_cases t j) [
-        | inl e ↦ let before : (j < n) × (ready j ≤ t) = began t j (omega arith) in (before.0, omega arith)
+        | inl e ↦ let before : (j < n) × (ready j ≤ t) = began t j (omega arith) in
+            (before.0, omega arith)
         | inr m ↦
             let there : j < n = machine.picked_exists t j m.0 in
             let was : ready j ≤ t = machine.picked_ready t j m.0 in
@@ -75,19 +83,27 @@ module _ (n : ℕ) (ready cost : ℕ → ℕ) (high : ℕ → Bool) (rest : ℕ 
       ])
 
   -- a job that is inside a reaching section after a tick was so before, or entered it in that tick
-  rest_cases : (t j : ℕ) → 0 < rest j (done (suc t) j) → (0 < rest j (done t j)) ⊎ ((run t ≡ Some j) × (rest j (done t j) ≡ 0))
+  rest_cases : (t j : ℕ) → 0 < rest j (done (suc t) j) → (0 < rest j (done t j))
+      ⊎ ((run t ≡ Some j) × (rest j (done t j) ≡ 0))
   rest_cases t j h =
       elim (tick_cases t j) [
-        | inl e ↦ inl (let same : rest j (done (suc t) j) ≡ rest j (done t j) = ap (rest j) e in omega arith)
-        | inr m ↦ elim (cases_eq (rest j (done t j)) 0) [ inl z ↦ inr (m.0, z) | inr nz ↦ inl (omega arith) ]
+        | inl e ↦ inl (let same : rest j (done (suc t) j) ≡ rest j (done t j) = ap (rest j) e in
+            omega arith)
+        | inr m ↦ elim (cases_eq (rest j (done t j)) 0) [
+          | inl z ↦ inr (m.0, z)
+          | inr nz ↦ inl (omega arith)
+        ]
       ]
 
   -- in the tick in which a low job enters, no other is inside
-  alone : (t j k : ℕ) → run t ≡ Some j → rest j (done t j) ≡ 0 → 0 < rest j (done (suc t) j) → 0 < rest k (done t k) → ⊥
+  alone : (t j k : ℕ) → run t ≡ Some j → rest j (done t j) ≡ 0 → 0 < rest j (done (suc t) j)
+      → 0 < rest k (done t k) → ⊥
   alone t j k mine outside enters inside =
       let b : (k < n) × (ready k ≤ t) = rest_began t k inside in
-      elim (machine.hot_first t j k mine b.0 b.1 (machine.rest_inside k (done t k) inside) (inr inside)) [
-        | inl is_high ↦ let none : rest j (done (suc t) j) ≡ 0 = machine.rest_low j (done (suc t) j) is_high in omega arith
+      elim (machine.hot_first t j k mine b.0 b.1 (machine.rest_inside k (done t k) inside)
+      (inr inside)) [
+        | inl is_high ↦ let none : rest j (done (suc t) j) ≡ 0 =
+            machine.rest_low j (done (suc t) j) is_high in omega arith
         | inr hot ↦ omega arith
       ]
 
@@ -118,7 +134,8 @@ module _ (n : ℕ) (ready cost : ℕ → ℕ) (high : ℕ → Bool) (rest : ℕ 
   abbrev pub Left : ℕ → Type 0
   Left a = (j : ℕ) × (j < n) × (high j ≡ true) × (ready j < a) × (done a j < cost j)
 
-  left_below : (a m : ℕ) → ((j : ℕ) → j < m → high j ≡ true → ready j < a → cost j ≤ done a j) ⊎ ((j : ℕ) × (j < m) × (high j ≡ true) × (ready j < a) × (done a j < cost j))
+  left_below : (a m : ℕ) → ((j : ℕ) → j < m → high j ≡ true → ready j < a → cost j ≤ done a j)
+      ⊎ ((j : ℕ) × (j < m) × (high j ≡ true) × (ready j < a) × (done a j < cost j))
   left_below a zero = inl (λ j lt h r. absurd (omega arith))
   left_below a (suc m) =
       elim (left_below a m) [
@@ -139,7 +156,8 @@ module _ (n : ℕ) (ready cost : ℕ → ℕ) (high : ℕ → Bool) (rest : ℕ 
             | inl open_ ↦ elim (cases_Bool (high m)) [
               | inl is_high ↦ inr (m, omega arith, is_high, early, open_)
               | inr is_low ↦ inl (λ j lt h r. elim (cases_eq j m) [
-                | inl e ↦ let same : high j ≡ high m = ap high e in absurd (true≢false (sym h ∙ (same ∙ is_low)))
+                | inl e ↦ let same : high j ≡ high m = ap high e in
+                    absurd (true≢false (sym h ∙ (same ∙ is_low)))
                 | inr ne ↦ none j (omega arith) h r
               ])
             ]
@@ -152,9 +170,11 @@ module _ (n : ℕ) (ready cost : ℕ → ℕ) (high : ℕ → Bool) (rest : ℕ 
 
   -- The work of the window from a to b that is still to be done at tick u: of a high job that becomes ready in it what it lacks, of a low one the rest of its section
   abbrev pub to_do : ℕ → ℕ → ℕ → ℕ → ℕ
-  to_do a b u j = if high j then (if nat_le a (ready j) && nat_lt (ready j) b then cost j - done u j else 0) else rest j (done u j)
+  to_do a b u j = if high j then (if nat_le a (ready j)
+      && nat_lt (ready j) b then cost j - done u j else 0) else rest j (done u j)
 
-  to_do-high : (a b u j : ℕ) → high j ≡ true → a ≤ ready j → ready j < b → to_do a b u j ≡ cost j - done u j
+  to_do-high : (a b u j : ℕ) → high j ≡ true → a ≤ ready j → ready j < b
+      → to_do a b u j ≡ cost j - done u j
   to_do-high a b u j h lo hi =
       let x : nat_le a (ready j) ≡ true = le-leb a (ready j) lo in
       let y : nat_lt (ready j) b ≡ true = lt-ltb (ready j) b hi in
@@ -167,13 +187,16 @@ module _ (n : ℕ) (ready cost : ℕ → ℕ) (high : ℕ → Bool) (rest : ℕ 
   to_do_falls : (a b u j : ℕ) → done (suc u) j ≡ done u j → to_do a b (suc u) j ≡ to_do a b u j
   to_do_falls a b u j e = rw e
 
-  step_falls : (a b u : ℕ) → IsQuiet a → a ≤ u → u < b → Left (suc u) → total (to_do a b (suc u)) n < total (to_do a b u) n
+  step_falls : (a b u : ℕ) → IsQuiet a → a ≤ u → u < b → Left (suc u)
+      → total (to_do a b (suc u)) n < total (to_do a b u) n
   step_falls a b u quiet lo hi left =
       let k : ℕ = left.0 in
-      let open_ : done u k < cost k = (let g : done u k ≤ done (suc u) k = done_grows u k in omega arith) in
+      let open_ : done u k < cost k =
+      (let g : done u k ≤ done (suc u) k = done_grows u k in omega arith) in
       let w : (p : ℕ) × (run u ≡ Some p) = machine.works u k left.1 (omega arith) open_ in
       let p : ℕ = w.0 in
-      let hot : (high p ≡ true) ⊎ (0 < rest p (done u p)) = machine.hot_first u p k w.1 left.1 (omega arith) open_ (inl left.2) in
+      let hot : (high p ≡ true) ⊎ (0 < rest p (done u p)) =
+      machine.hot_first u p k w.1 left.1 (omega arith) open_ (inl left.2) in
       let one : done (suc u) p ≡ suc (done u p) = machine.of_picked u p w.1 in
       let unfinished : done u p < cost p = machine.picked_unfinished u p w.1 in
       let was_ready : ready p ≤ u = machine.picked_ready u p w.1 in
@@ -182,22 +205,31 @@ module _ (n : ℕ) (ready cost : ℕ → ℕ) (high : ℕ → Bool) (rest : ℕ 
         | inl is_high ↦
             let from_a : a ≤ ready p = elim (cases_lt (ready p) a) [
               | inl early ↦
-                  let fin : cost p ≤ done a p = quiet p (machine.picked_exists u p w.1) is_high early in
+                  let fin : cost p ≤ done a p =
+                  quiet p (machine.picked_exists u p w.1) is_high early in
                   let grown : done a p ≤ done (a + (u - a)) p = done_mono a (u - a) p in
                   let at_u : a + (u - a) ≡ u = omega arith in
                   let grown_u : done a p ≤ done u p = subst (λ x. done a p ≤ done x p) at_u grown in
                   absurd (omega arith)
               | inr late ↦ late
             ] in
-            let x : to_do a b u p ≡ cost p - done u p = to_do-high a b u p is_high from_a (omega arith) in
-            let y : to_do a b (suc u) p ≡ cost p - done (suc u) p = to_do-high a b (suc u) p is_high from_a (omega arith) in
+            let x : to_do a b u p ≡ cost p - done u p =
+            to_do-high a b u p is_high from_a (omega arith) in
+            let y : to_do a b (suc u) p ≡ cost p - done (suc u) p =
+            to_do-high a b (suc u) p is_high from_a (omega arith) in
             omega (arith, x, y)
         | inr is_low ↦
-            let inside : 0 < rest p (done u p) = elim hot [ inl is_high ↦ absurd (true≢false (sym is_high ∙ is_low)) | inr inside ↦ inside ] in
-            let next : rest p (done u p) ≡ suc (rest p (suc (done u p))) = machine.rest_next p (done u p) inside in
+            let inside : 0 < rest p (done u p) =
+            elim hot [
+              | inl is_high ↦ absurd (true≢false (sym is_high ∙ is_low))
+              | inr inside ↦ inside
+            ] in
+            let next : rest p (done u p) ≡ suc (rest p (suc (done u p))) =
+            machine.rest_next p (done u p) inside in
             let same : rest p (done (suc u) p) ≡ rest p (suc (done u p)) = ap (rest p) one in
             let x : to_do a b u p ≡ rest p (done u p) = to_do-low a b u p is_low in
-            let y : to_do a b (suc u) p ≡ rest p (done (suc u) p) = to_do-low a b (suc u) p is_low in
+            let y : to_do a b (suc u) p ≡ rest p (done (suc u) p) =
+            to_do-low a b (suc u) p is_low in
             omega arith
       ] in
       total-lt (to_do a b (suc u)) (to_do a b u) n p (machine.picked_exists u p w.1) less
@@ -207,7 +239,8 @@ module _ (n : ℕ) (ready cost : ℕ → ℕ) (high : ℕ → Bool) (rest : ℕ 
             let here : to_do a b u j ≡ to_do a b u p = ap (to_do a b u) e in
             omega arith
         | inr ne ↦
-            let same : to_do a b (suc u) j ≡ to_do a b u j = to_do_falls a b u j (machine.of_other u p j w.1 ne) in
+            let same : to_do a b (suc u) j ≡ to_do a b u j =
+            to_do_falls a b u j (machine.of_other u p j w.1 ne) in
             omega arith
       ])
 
@@ -224,7 +257,9 @@ module _ (n : ℕ) (ready cost : ℕ → ℕ) (high : ℕ → Bool) (rest : ℕ 
       ]
 
   -- in m ticks from a quiet one either a quiet one comes or m ticks of work are done
-  quiet_or_busy : (a b m : ℕ) → IsQuiet a → a + m ≤ b → ((q : ℕ) × (a < q) × (q ≤ a + m) × IsQuiet q) ⊎ (total (to_do a b (a + m)) n + m ≤ total (to_do a b a) n)
+  quiet_or_busy : (a b m : ℕ) → IsQuiet a → a + m ≤ b
+      → ((q : ℕ) × (a < q) × (q ≤ a + m) × IsQuiet q)
+      ⊎ (total (to_do a b (a + m)) n + m ≤ total (to_do a b a) n)
   quiet_or_busy a b zero quiet within = inr (simp add-zero (omega arith))
   quiet_or_busy a b (suc m) quiet within =
       elim (quiet_or_busy a b m quiet (omega arith)) [
@@ -233,14 +268,16 @@ module _ (n : ℕ) (ready cost : ℕ → ℕ) (high : ℕ → Bool) (rest : ℕ 
             elim (quiet_or_left (suc (a + m))) [
               | inl q ↦ inl (suc (a + m), omega arith, omega arith, q)
               | inr left ↦
-                  let falls : total (to_do a b (suc (a + m))) n < total (to_do a b (a + m)) n = step_falls a b (a + m) quiet (omega arith) (omega arith) left in
+                  let falls : total (to_do a b (suc (a + m))) n < total (to_do a b (a + m)) n =
+                  step_falls a b (a + m) quiet (omega arith) (omega arith) left in
                   inr (simp add-suc (omega arith))
             ]
       ]
 
   -- the cost of the high jobs that become ready in the window
   abbrev pub work : ℕ → ℕ → ℕ → ℕ
-  work a b j = if high j then (if nat_le a (ready j) && nat_lt (ready j) b then cost j else 0) else 0
+  work a b j =
+      if high j then (if nat_le a (ready j) && nat_lt (ready j) b then cost j else 0) else 0
 
   to_do-le : (a b j : ℕ) → to_do a b a j ≤ work a b j + rest j (done a j)
   to_do-le a b j =
@@ -252,12 +289,18 @@ module _ (n : ℕ) (ready cost : ℕ → ℕ) (high : ℕ → Bool) (rest : ℕ 
         | inr is_low ↦ rw is_low (omega arith)
       ]
 
-  module _ (w blocked : ℕ) (some : 0 < w) (rest_most : (j e : ℕ) → rest j e ≤ blocked) (fits : (a : ℕ) → total (work a (a + w)) n + blocked ≤ w) where
+  module _ (w blocked : ℕ) (some : 0 < w) (rest_most : (j e : ℕ) → rest j e ≤ blocked)
+      (fits : (a : ℕ) → total (work a (a + w)) n + blocked ≤ w) where
     work_at_start : (a : ℕ) → total (to_do a (a + w) a) n ≤ w
     work_at_start a =
-        let each : total (to_do a (a + w) a) n ≤ total (λ j. work a (a + w) j + rest j (done a j)) n = total-le (to_do a (a + w) a) (λ j. work a (a + w) j + rest j (done a j)) n (λ j lt. to_do-le a (a + w) j) in
-        let parts : total (λ j. work a (a + w) j + rest j (done a j)) n ≡ total (work a (a + w)) n + total (λ j. rest j (done a j)) n = total-add (work a (a + w)) (λ j. rest j (done a j)) n in
-        let low : total (λ j. rest j (done a j)) n ≤ blocked = total-one (λ j. rest j (done a j)) n blocked (λ j lt. rest_most j (done a j)) (one_inside a) in
+        let each : total (to_do a (a + w) a) n
+        ≤ total (λ j. work a (a + w) j + rest j (done a j)) n = total-le (to_do a (a + w) a)
+        (λ j. work a (a + w) j + rest j (done a j)) n (λ j lt. to_do-le a (a + w) j) in
+        let parts : total (λ j. work a (a + w) j + rest j (done a j)) n
+        ≡ total (work a (a + w)) n + total (λ j. rest j (done a j)) n =
+        total-add (work a (a + w)) (λ j. rest j (done a j)) n in
+        let low : total (λ j. rest j (done a j)) n ≤ blocked = total-one (λ j. rest j (done a j)) n
+        blocked (λ j lt. rest_most j (done a j)) (one_inside a) in
         let room : total (work a (a + w)) n + blocked ≤ w = fits a in
         omega arith
 
@@ -271,8 +314,10 @@ module _ (n : ℕ) (ready cost : ℕ → ℕ) (high : ℕ → Bool) (rest : ℕ 
             | inr left ↦
                 let from_a : a ≤ ready left.0 = left_in_window a w quiet left in
                 let lacks : done (a + w) left.0 < cost left.0 = left.4 in
-                let mine : to_do a (a + w) (a + w) left.0 ≡ cost left.0 - done (a + w) left.0 = to_do-high a (a + w) (a + w) left.0 left.2 from_a left.3 in
-                let term : to_do a (a + w) (a + w) left.0 ≤ total (to_do a (a + w) (a + w)) n = term-le (to_do a (a + w) (a + w)) n left.0 left.1 in
+                let mine : to_do a (a + w) (a + w) left.0 ≡ cost left.0 - done (a + w) left.0 =
+                to_do-high a (a + w) (a + w) left.0 left.2 from_a left.3 in
+                let term : to_do a (a + w) (a + w) left.0 ≤ total (to_do a (a + w) (a + w)) n =
+                term-le (to_do a (a + w) (a + w)) n left.0 left.1 in
                 let start : total (to_do a (a + w) a) n ≤ w = work_at_start a in
                 absurd (omega arith)
           ]
@@ -282,18 +327,21 @@ module _ (n : ℕ) (ready cost : ℕ → ℕ) (high : ℕ → Bool) (rest : ℕ 
     quiet_at_start j lt h r = absurd (omega arith)
 
     -- from a quiet tick at most `fuel` before the job is ready, the job finishes in time
-    finishes_from : (fuel a j : ℕ) → ready j < a + fuel → a ≤ ready j → IsQuiet a → j < n → high j ≡ true → cost j ≤ done (ready j + w) j
+    finishes_from : (fuel a j : ℕ) → ready j < a + fuel → a ≤ ready j → IsQuiet a → j < n
+        → high j ≡ true → cost j ≤ done (ready j + w) j
     finishes_from zero a j near before quiet lt h = absurd (omega arith)
     finishes_from (suc fuel) a j near before quiet lt h =
         let next : (q : ℕ) × (a < q) × (q ≤ a + w) × IsQuiet q = next_quiet a quiet in
         elim (cases_lt (ready j) next.0) [
           | inl past ↦
               let fin : cost j ≤ done next.0 j = next.3 j lt h past in
-              let later : done next.0 j ≤ done (ready j + w) j = done_later next.0 (ready j + w) j (omega (arith, next.2)) in
+              let later : done next.0 j ≤ done (ready j + w) j =
+              done_later next.0 (ready j + w) j (omega (arith, next.2)) in
               omega arith
           | inr again ↦ finishes_from fuel next.0 j (omega (arith, next.1)) again next.3 lt h
         ]
 
     -- THE BOUND: each high job finishes within w ticks after it is ready
     pub finishes : (j : ℕ) → j < n → high j ≡ true → cost j ≤ done (ready j + w) j
-    finishes j lt h = finishes_from (suc (ready j)) 0 j (omega arith) (omega arith) quiet_at_start lt h
+    finishes j lt h =
+        finishes_from (suc (ready j)) 0 j (omega arith) (omega arith) quiet_at_start lt h

@@ -1,5 +1,7 @@
 -- When a job finishes.
-use Rattle.std.proofs.Common.{Option, ap, ◌-◌, ℕ, zero, suc, ◌+◌, ◌<◌, ◌≤◌, ◌≡◌, ◌⊎◌, inl, inr, refl, sym, ◌∙◌, subst, arith, true, false, cond, List, Some, None, nat_le, add-suc, add-zero}
+use Rattle.std.proofs.Common.{Option, ap, ◌-◌, ℕ, zero, suc, ◌+◌, ◌<◌, ◌≤◌, ◌≡◌, ◌⊎◌, inl, inr}
+use Rattle.std.proofs.Common.{refl, sym, ◌∙◌, subst, arith, true, false, cond, List, Some, None}
+use Rattle.std.proofs.Common.{nat_le, add-suc, add-zero}
 use Rattle.std.proofs.lemmas.Option.{none-some}
 use Rattle.std.specs.Option.{option_or}
 use Rattle.std.proofs.lemmas.Bool.{cases_eq, cases_lt, le-leb, lt-leb}
@@ -19,7 +21,8 @@ module _ (node : Node) (jobs : List Job) (j : ℕ) where
   unfolding finish_before
   finish_start = refl
 
-  pub finish_step : (t : ℕ) → finish_before node jobs (suc t) j ≡ option_or (finish_before node jobs t j) (cond (nat_le cost (done (suc t))) (Some (suc t)) None)
+  pub finish_step : (t : ℕ) → finish_before node jobs (suc t) j ≡ option_or
+      (finish_before node jobs t j) (cond (nat_le cost (done (suc t))) (Some (suc t)) None)
   unfolding finish_before
   finish_step t = refl
 
@@ -28,14 +31,17 @@ module _ (node : Node) (jobs : List Job) (j : ℕ) where
       elim (picked node jobs t) as (λ r. picked node jobs t ≡ r → done t ≤ done (suc t)) [
         | None ↦ λ e. (let s : done (suc t) ≡ done t = idle_of node jobs t j e in omega arith)
         | Some p ↦ λ e. elim (cases_eq j p) [
-          | inl same ↦ (let s : done (suc t) ≡ suc (done t) = subst (λ x. executed_before node jobs (suc t) x ≡ suc (executed_before node jobs t x)) (sym same) (own_of node jobs t p e) in omega arith)
+          | inl same ↦ (let s : done (suc t) ≡ suc (done t) =
+              subst (λ x. executed_before node jobs (suc t) x ≡ suc (executed_before node jobs t x))
+              (sym same) (own_of node jobs t p e) in omega arith)
           | inr ne ↦ (let s : done (suc t) ≡ done t = other_of node jobs t p j e ne in omega arith)
         ]
       ] refl
 
   pub grows_by : (t k : ℕ) → done t ≤ done (t + k)
   grows_by t zero = rw add-zero (omega arith)
-  grows_by t (suc k) = let a : done t ≤ done (t + k) = grows_by t k in let b : done (t + k) ≤ done (suc (t + k)) = grows (t + k) in rw add-suc (omega arith)
+  grows_by t (suc k) = let a : done t ≤ done (t + k) = grows_by t k in
+      let b : done (t + k) ≤ done (suc (t + k)) = grows (t + k) in rw add-suc (omega arith)
 
   -- an unfinished job has no finish
   pub finish_none : (t : ℕ) → done t < cost → finish_before node jobs t j ≡ None
@@ -47,23 +53,27 @@ module _ (node : Node) (jobs : List Job) (j : ℕ) where
       finish_step t ∙ rw (before, f)
 
   -- a finished one has
-  pub finish_some : (t : ℕ) → 0 < cost → cost ≤ done t → (f : ℕ) × (finish_before node jobs t j ≡ Some f)
+  pub finish_some : (t : ℕ) → 0 < cost → cost ≤ done t → (f : ℕ)
+      × (finish_before node jobs t j ≡ Some f)
   finish_some zero some le = let z : done 0 ≡ 0 = start_of node jobs j in absurd (omega arith)
   finish_some (suc t) some le =
       let tr : nat_le cost (done (suc t)) ≡ true = le-leb cost (done (suc t)) le in
-      elim (finish_before node jobs t j) as (λ o. finish_before node jobs t j ≡ o → (f : ℕ) × (finish_before node jobs (suc t) j ≡ Some f)) [
+      elim (finish_before node jobs t j) as (λ o. finish_before node jobs t j ≡ o → (f : ℕ)
+      × (finish_before node jobs (suc t) j ≡ Some f)) [
         | None ↦ λ e. (suc t, finish_step t ∙ rw (e, tr))
         | Some f ↦ λ e. (f, finish_step t ∙ rw e)
       ] refl
 
-  pub finish_later : (t k f : ℕ) → finish_before node jobs t j ≡ Some f → finish_before node jobs (t + k) j ≡ Some f
+  pub finish_later : (t k f : ℕ) → finish_before node jobs t j ≡ Some f
+      → finish_before node jobs (t + k) j ≡ Some f
   finish_later t zero f e = rw add-zero e
   finish_later t (suc k) f e =
       let before : finish_before node jobs (t + k) j ≡ Some f = finish_later t k f e in
       rw add-suc (finish_step (t + k) ∙ rw before)
 
   -- what is known of its finish stays while it executes nothing, or doesn't finish
-  pub finish_stays : (t k : ℕ) → 0 < cost → (done (t + k) ≡ done t) ⊎ (done (t + k) < cost) → finish_before node jobs (t + k) j ≡ finish_before node jobs t j
+  pub finish_stays : (t k : ℕ) → 0 < cost → (done (t + k) ≡ done t) ⊎ (done (t + k) < cost)
+      → finish_before node jobs (t + k) j ≡ finish_before node jobs t j
   finish_stays t k some h =
       elim (cases_lt (done t) cost) [
         | inl open_ ↦
@@ -75,7 +85,8 @@ module _ (node : Node) (jobs : List Job) (j : ℕ) where
       ]
 
   -- a job that finishes with the last of k ticks
-  pub finish_now : (t k : ℕ) → done (t + k) < cost → cost ≤ done (t + suc k) → finish_before node jobs (t + suc k) j ≡ Some (t + suc k)
+  pub finish_now : (t k : ℕ) → done (t + k) < cost → cost ≤ done (t + suc k)
+      → finish_before node jobs (t + suc k) j ≡ Some (t + suc k)
   finish_now t k before after =
       let none : finish_before node jobs (t + k) j ≡ None = finish_none (t + k) before in
       let after' : cost ≤ done (suc (t + k)) = rw add-suc at after in
@@ -83,10 +94,12 @@ module _ (node : Node) (jobs : List Job) (j : ℕ) where
       rw add-suc (finish_step (t + k) ∙ rw (none, tr))
 
   -- the finish is the end of the tick in which the job executes the last of its cost
-  pub finish_is : (t f : ℕ) → 0 < cost → finish_before node jobs t j ≡ Some f → (f ≤ t) × IsFinishAt node jobs j f
+  pub finish_is : (t f : ℕ) → 0 < cost → finish_before node jobs t j ≡ Some f → (f ≤ t)
+      × IsFinishAt node jobs j f
   finish_is zero f some e = absurd (none-some f (sym finish_start ∙ e))
   finish_is (suc t) f some e =
-      elim (finish_before node jobs t j) as (λ o. finish_before node jobs t j ≡ o → (f ≤ suc t) × IsFinishAt node jobs j f) [
+      elim (finish_before node jobs t j) as
+      (λ o. finish_before node jobs t j ≡ o → (f ≤ suc t) × IsFinishAt node jobs j f) [
         | Some g ↦ λ is.
             let later : finish_before node jobs (suc t) j ≡ Some g = finish_step t ∙ rw is in
             let both : ◌≡◌ {A = Option ℕ} (Some g) (Some f) = sym later ∙ e in
@@ -94,19 +107,28 @@ module _ (node : Node) (jobs : List Job) (j : ℕ) where
             let was : (f ≤ t) × IsFinishAt node jobs j f = finish_is t f some (is ∙ ap Some same) in
             (omega (arith, was.0), was.1)
         | None ↦ λ is.
-            let now : cond (nat_le cost (done (suc t))) (Some (suc t)) None ≡ Some f = sym (finish_step t ∙ rw is) ∙ e in
+            let now : cond (nat_le cost (done (suc t))) (Some (suc t)) None ≡ Some f =
+            sym (finish_step t ∙ rw is) ∙ e in
             let open_ : done t < cost = elim (cases_lt (done t) cost) [
               | inl lt ↦ lt
-              | inr ge ↦ (let g : (g : ℕ) × (finish_before node jobs t j ≡ Some g) = finish_some t some ge in absurd (none-some g.0 (sym is ∙ g.1)))
+              | inr ge ↦ (let g : (g : ℕ) × (finish_before node jobs t j ≡ Some g) =
+                  finish_some t some ge in absurd (none-some g.0 (sym is ∙ g.1)))
             ] in
             elim (cases_lt (done (suc t)) cost) [
-              | inl less ↦ (let no : nat_le cost (done (suc t)) ≡ false = lt-leb cost (done (suc t)) less in let m : ◌≡◌ {A = Option ℕ} None (Some f) = rw no at now in absurd (none-some f m))
+              | inl less ↦
+                  (let no : nat_le cost (done (suc t)) ≡ false = lt-leb cost (done (suc t)) less in
+                  let m : ◌≡◌ {A = Option ℕ} None (Some f) = rw no at now in absurd (none-some f m))
               | inr full ↦
                   let yes_ : nat_le cost (done (suc t)) ≡ true = le-leb cost (done (suc t)) full in
                   let n : ◌≡◌ {A = Option ℕ} (Some (suc t)) (Some f) = rw yes_ at now in
                   let same : suc t ≡ f = cc (n) in
                   let back : suc t - 1 ≡ t = omega arith in
-                  let mine : IsFinishAt node jobs j (suc t) = record { some = omega arith; before = subst (λ x. done x < cost) (sym back) open_; after = full } in
+                  let mine : IsFinishAt node jobs j (suc t) = record {
+                    some = omega arith;
+                    before =
+                        subst (λ x. done x < cost) (sym back) open_;
+                    after = full;
+                  } in
                   (omega arith, subst (IsFinishAt node jobs j) same mine)
             ]
       ] refl
@@ -116,5 +138,6 @@ module _ (node : Node) (jobs : List Job) (j : ℕ) where
   unfinished_is t some e =
       elim (cases_lt (done t) cost) [
         | inl lt ↦ lt
-        | inr ge ↦ (let g : (g : ℕ) × (finish_before node jobs t j ≡ Some g) = finish_some t some ge in absurd (none-some g.0 (sym e ∙ g.1)))
+        | inr ge ↦ (let g : (g : ℕ) × (finish_before node jobs t j ≡ Some g) =
+            finish_some t some ge in absurd (none-some g.0 (sym e ∙ g.1)))
       ]

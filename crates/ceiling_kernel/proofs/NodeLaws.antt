@@ -1,11 +1,15 @@
 -- What the laws need of a node: levels, ceilings, and sections apart.
-use Rattle.std.proofs.Common.{ℕ, ◌+◌, ◌<◌, ◌≤◌, ◌≡◌, inl, inr, refl, sym, ap, ◌∙◌, subst, arith, true, false, cond, ◌==◌, nat_lt, List, [], ◌∷◌, length, Option, Some, None, eqb, count_by}
+use Rattle.std.proofs.Common.{ℕ, ◌+◌, ◌<◌, ◌≤◌, ◌≡◌, inl, inr, refl, sym, ap, ◌∙◌, subst, arith}
+use Rattle.std.proofs.Common.{true, false, cond, ◌==◌, nat_lt, List, [], ◌∷◌, length, Option, Some}
+use Rattle.std.proofs.Common.{None, eqb, count_by}
 use Rattle.std.specs.Option.{option_or, unwrap_or}
-use Rattle.std.proofs.lemmas.Bool.{cases_Bool, cases_lt, true≢false, eqb-true, eq-eqb, lt-ltb, ltb-true, le-ltb, cases_eq}
+use Rattle.std.proofs.lemmas.Bool.{cases_Bool, cases_lt, true≢false, eqb-true, eq-eqb, lt-ltb}
+use Rattle.std.proofs.lemmas.Bool.{ltb-true, le-ltb, cases_eq}
 use Rattle.std.proofs.lemmas.List.{get_or_past}
 use Rattle.std.proofs.lemmas.List.Elements.{All-get_or}
 use Rattle.std.proofs.lemmas.List.Sums.{sum_by-cons}
-use Rattle.task_sheet.specs.Sheet.{Task, CriticalSection, AreSections, IsSection, IsValidSheet, no_task, task_at}
+use Rattle.task_sheet.specs.Sheet.{Task, CriticalSection, AreSections, IsSection, IsValidSheet}
+use Rattle.task_sheet.specs.Sheet.{no_task, task_at}
 use Rattle.task_sheet.specs.TaskSet.{IsTaskSet}
 use Rattle.task_sheet.specs.Locks.{uses, ceiling_from}
 use Rattle.task_sheet.specs.Indexes.{among}
@@ -17,7 +21,8 @@ use Rattle.ceiling_kernel.specs.Waits.{IsNode, lateness_of}
 use Rattle.ceiling_kernel.specs.Bounds.{above_of, after_of}
 
 -- ---- sections
-apart_of : (begin cost : ℕ) (ss : List CriticalSection) → begin ≤ cost → AreSections begin cost ss → AreApart begin ss cost
+apart_of : (begin cost : ℕ) (ss : List CriticalSection) → begin ≤ cost → AreSections begin cost ss
+    → AreApart begin ss cost
 apart_of begin cost [] within h = within
 apart_of begin cost (s ∷ ss) within h =
     let here : IsSection begin cost s = h.0 in
@@ -34,14 +39,19 @@ times-nil i = refl
 
 pub times-here : (i x : ℕ) (xs : List ℕ) → (x == i) ≡ true → times i (x ∷ xs) ≡ 1 + times i xs
 unfolding times
-times-here i x xs h = sum_by-cons (λ y. cond (y == i) 1 0) x xs ∙ ap (λ b. cond b 1 0 + times i xs) h
+times-here i x xs h = sum_by-cons (λ y. cond (y == i) 1 0) x xs
+    ∙ ap (λ b. cond b 1 0 + times i xs) h
 
 pub times-not : (i x : ℕ) (xs : List ℕ) → (x == i) ≡ false → times i (x ∷ xs) ≡ times i xs
 unfolding times
-times-not i x xs h = sum_by-cons (λ y. cond (y == i) 1 0) x xs ∙ (ap (λ b. cond b 1 0 + times i xs) h ∙ omega arith)
+times-not i x xs h = sum_by-cons (λ y. cond (y == i) 1 0) x xs
+    ∙ (ap (λ b. cond b 1 0 + times i xs) h ∙ omega arith)
 
 pub times-grow : (i x : ℕ) (xs : List ℕ) → times i xs ≤ times i (x ∷ xs)
-times-grow i x xs = elim (cases_Bool (x == i)) [ inl here ↦ omega (arith, times-here i x xs here) | inr not ↦ omega (arith, times-not i x xs not) ]
+times-grow i x xs = elim (cases_Bool (x == i)) [
+  | inl here ↦ omega (arith, times-here i x xs here)
+  | inr not ↦ omega (arith, times-not i x xs not)
+]
 
 pub level_named : (l : ℕ) (order : List ℕ) (i : ℕ) → 0 < times i order → l ≤ level_from l order i
 level_named l [] i h = absurd (omega (arith, times-nil i))
@@ -58,13 +68,15 @@ pub level_past : (l : ℕ) (order : List ℕ) (i : ℕ) → times i order ≡ 0 
 level_past l [] i h = refl
 level_past l (x ∷ order) i h =
     elim (cases_Bool (x == i)) [
-      | inl here ↦ (let more : times i (x ∷ order) ≡ 1 + times i order = times-here i x order here in absurd (omega arith))
+      | inl here ↦ (let more : times i (x ∷ order) ≡ 1 + times i order =
+          times-here i x order here in absurd (omega arith))
       | inr not ↦
           let more : times i (x ∷ order) ≡ times i order = times-not i x order not in
           rw not (level_past (l + 1) order i (omega arith))
     ]
 
-same_level : (l : ℕ) (order : List ℕ) (i k : ℕ) → 0 < times i order → 0 < times k order → level_from l order i ≡ level_from l order k → i ≡ k
+same_level : (l : ℕ) (order : List ℕ) (i k : ℕ) → 0 < times i order → 0 < times k order
+    → level_from l order i ≡ level_from l order k → i ≡ k
 same_level l [] i k hi hk e = absurd (omega (arith, times-nil i))
 same_level l (x ∷ order) i k hi hk e =
     elim (cases_Bool (x == i)) [
@@ -72,7 +84,8 @@ same_level l (x ∷ order) i k hi hk e =
         | inl xk ↦ sym (eqb-true x i xi) ∙ eqb-true x k xk
         | inr nk ↦
             let more : times k (x ∷ order) ≡ times k order = times-not k x order nk in
-            let up : l + 1 ≤ level_from (l + 1) order k = level_named (l + 1) order k (omega arith) in
+            let up : l + 1 ≤ level_from (l + 1) order k =
+            level_named (l + 1) order k (omega arith) in
             let e' : l ≡ level_from (l + 1) order k = rw (xi, nk) at e in
             absurd (omega arith)
       ]
@@ -80,21 +93,25 @@ same_level l (x ∷ order) i k hi hk e =
           let more_i : times i (x ∷ order) ≡ times i order = times-not i x order ni in
           elim (cases_Bool (x == k)) [
             | inl xk ↦
-                let up : l + 1 ≤ level_from (l + 1) order i = level_named (l + 1) order i (omega arith) in
+                let up : l + 1 ≤ level_from (l + 1) order i =
+                level_named (l + 1) order i (omega arith) in
                 let e' : level_from (l + 1) order i ≡ l = rw (ni, xk) at e in
                 absurd (omega arith)
             | inr nk ↦
                 let more_k : times k (x ∷ order) ≡ times k order = times-not k x order nk in
-                let e' : level_from (l + 1) order i ≡ level_from (l + 1) order k = rw (ni, nk) at e in
+                let e' : level_from (l + 1) order i ≡ level_from (l + 1) order k =
+                rw (ni, nk) at e in
                 same_level (l + 1) order i k (omega arith) (omega arith) e'
           ]
     ]
 
 -- ---- ceilings
-ceiling_above : (U : List Task) (l : ℕ) (order : List ℕ) (lock : List ℕ) (c : ℕ) → ceiling_from l U order lock ≡ Some c → l ≤ c
+ceiling_above : (U : List Task) (l : ℕ) (order : List ℕ) (lock : List ℕ) (c : ℕ)
+    → ceiling_from l U order lock ≡ Some c → l ≤ c
 ceiling_above U l [] lock c e = absurd (cc)
 ceiling_above U l (x ∷ order) lock c e =
-    elim (ceiling_from (l + 1) U order lock) as (λ o. ceiling_from (l + 1) U order lock ≡ o → option_or o (cond (uses (task_at U x) lock) (Some l) None) ≡ Some c → l ≤ c) [
+    elim (ceiling_from (l + 1) U order lock) as (λ o. ceiling_from (l + 1) U order lock ≡ o
+    → option_or o (cond (uses (task_at U x) lock) (Some l) None) ≡ Some c → l ≤ c) [
       | Some d ↦ λ is h.
           let up : l + 1 ≤ d = ceiling_above U (l + 1) order lock d is in
           let same : d ≡ c = cc in
@@ -109,29 +126,37 @@ ceiling_above U l (x ∷ order) lock c e =
     ] refl e
 
 -- a user's level is at most the ceiling
-user_level : (U : List Task) (l : ℕ) (order : List ℕ) (lock : List ℕ) (i : ℕ) → 0 < times i order → uses (task_at U i) lock ≡ true → level_from l order i ≤ unwrap_or (ceiling_from l U order lock) 0
+user_level : (U : List Task) (l : ℕ) (order : List ℕ) (lock : List ℕ) (i : ℕ) → 0 < times i order
+    → uses (task_at U i) lock ≡ true
+    → level_from l order i ≤ unwrap_or (ceiling_from l U order lock) 0
 user_level U l [] lock i h u = absurd (omega (arith, times-nil i))
 user_level U l (x ∷ order) lock i h u =
-    elim (ceiling_from (l + 1) U order lock) as (λ o. ceiling_from (l + 1) U order lock ≡ o → level_from l (x ∷ order) i ≤ unwrap_or (option_or o (cond (uses (task_at U x) lock) (Some l) None)) 0) [
+    elim (ceiling_from (l + 1) U order lock) as
+    (λ o. ceiling_from (l + 1) U order lock ≡ o → level_from l (x ∷ order) i
+    ≤ unwrap_or (option_or o (cond (uses (task_at U x) lock) (Some l) None)) 0) [
       | Some d ↦ λ is.
           let up : l + 1 ≤ d = ceiling_above U (l + 1) order lock d is in
           elim (cases_Bool (x == i)) [
             | inl here ↦ rw here (omega arith)
             | inr not ↦
                 let more : times i (x ∷ order) ≡ times i order = times-not i x order not in
-                let ih : level_from (l + 1) order i ≤ unwrap_or (ceiling_from (l + 1) U order lock) 0 = user_level U (l + 1) order lock i (omega arith) u in
+                let ih : level_from (l + 1) order i ≤ unwrap_or (ceiling_from (l + 1) U order lock)
+                0 = user_level U (l + 1) order lock i (omega arith) u in
                 let ih' : level_from (l + 1) order i ≤ d = rw is at ih in
                 rw not ih'
           ]
       | None ↦ λ is. elim (cases_Bool (x == i)) [
         | inl here ↦
-            let ux : uses (task_at U x) lock ≡ true = subst (λ z. uses (task_at U z) lock ≡ true) (sym (eqb-true x i here)) u in
+            let ux : uses (task_at U x) lock ≡ true =
+            subst (λ z. uses (task_at U z) lock ≡ true) (sym (eqb-true x i here)) u in
             rw (here, ux) (omega arith)
         | inr not ↦
             let more : times i (x ∷ order) ≡ times i order = times-not i x order not in
-            let ih : level_from (l + 1) order i ≤ unwrap_or (ceiling_from (l + 1) U order lock) 0 = user_level U (l + 1) order lock i (omega arith) u in
+            let ih : level_from (l + 1) order i ≤ unwrap_or (ceiling_from (l + 1) U order lock) 0 =
+            user_level U (l + 1) order lock i (omega arith) u in
             let ih' : level_from (l + 1) order i ≤ 0 = rw is at ih in
-            let up : l + 1 ≤ level_from (l + 1) order i = level_named (l + 1) order i (omega arith) in
+            let up : l + 1 ≤ level_from (l + 1) order i =
+            level_named (l + 1) order i (omega arith) in
             absurd (omega arith)
       ]
     ] refl
@@ -143,20 +168,31 @@ pub record IsUserAt (U : List Task) (l : ℕ) (order : List ℕ) (lock : List �
   pub level : level_from l order task ≡ c
   pub user : uses (task_at U task) lock ≡ true
 
-ceiling_user : (U : List Task) (l : ℕ) (order : List ℕ) (lock : List ℕ) (c : ℕ) → ((k : ℕ) → times k order ≤ 1) → ceiling_from l U order lock ≡ Some c → IsUserAt U l order lock c
+ceiling_user : (U : List Task) (l : ℕ) (order : List ℕ) (lock : List ℕ) (c : ℕ)
+    → ((k : ℕ) → times k order ≤ 1) → ceiling_from l U order lock ≡ Some c
+    → IsUserAt U l order lock c
 ceiling_user U l [] lock c once e = absurd (cc)
 ceiling_user U l (x ∷ order) lock c once e =
-    elim (ceiling_from (l + 1) U order lock) as (λ o. ceiling_from (l + 1) U order lock ≡ o → option_or o (cond (uses (task_at U x) lock) (Some l) None) ≡ Some c → IsUserAt U l (x ∷ order) lock c) [
+    elim (ceiling_from (l + 1) U order lock) as (λ o. ceiling_from (l + 1) U order lock ≡ o
+    → option_or o (cond (uses (task_at U x) lock) (Some l) None) ≡ Some c
+    → IsUserAt U l (x ∷ order) lock c) [
       | Some d ↦ λ is h.
           let same : d ≡ c = cc in
-          let ih : IsUserAt U (l + 1) order lock d = ceiling_user U (l + 1) order lock d (λ k. omega (arith, once k, times-grow k x order)) is in
+          let ih : IsUserAt U (l + 1) order lock d = ceiling_user U (l + 1) order lock d
+          (λ k. omega (arith, once k, times-grow k x order)) is in
           let i : ℕ = ih.task in
           let o : times i (x ∷ order) ≤ 1 = once i in
           let n : 0 < times i order = ih.named in
           let grow : times i order ≤ times i (x ∷ order) = times-grow i x order in
           elim (cases_Bool (x == i)) [
-            | inl here ↦ (let more' : times i (x ∷ order) ≡ 1 + times i order = times-here i x order here in absurd (omega arith))
-            | inr not ↦ record { task = i; named = omega arith; level = rw not (ih.level ∙ same); user = ih.user }
+            | inl here ↦ (let more' : times i (x ∷ order) ≡ 1 + times i order =
+                times-here i x order here in absurd (omega arith))
+            | inr not ↦ record {
+              task = i;
+              named = omega arith;
+              level = rw not (ih.level ∙ same);
+              user = ih.user;
+            }
           ]
       | None ↦ λ is h. elim (cases_Bool (uses (task_at U x) lock)) [
         | inl here ↦
@@ -174,7 +210,8 @@ among-times : (order : List ℕ) (h : ℕ) → among order h ≡ nat_lt 0 (times
 among-times [] h = sym (le-ltb 0 (times h []) (omega (arith, times-nil h)))
 among-times (x ∷ order) h =
     elim (cases_Bool (x == h)) [
-      | inl here ↦ (let t : nat_lt 0 (times h (x ∷ order)) ≡ true = lt-ltb 0 (times h (x ∷ order)) (omega (arith, times-here h x order here)) in rw (here, t))
+      | inl here ↦ (let t : nat_lt 0 (times h (x ∷ order)) ≡ true =
+          lt-ltb 0 (times h (x ∷ order)) (omega (arith, times-here h x order here)) in rw (here, t))
       | inr not ↦ rw (not, times-not h x order not) (among-times order h)
     ]
 
@@ -185,22 +222,27 @@ among-none : (order : List ℕ) (h : ℕ) → times h order ≡ 0 → among orde
 among-none order h none = among-times order h ∙ le-ltb 0 (times h order) (omega arith)
 
 -- where the tasks of an order stand, each stands below those after it
-stands-after : (U : List Task) (order : List ℕ) (i : ℕ) → AllStand U order → 0 < times i order → Stands U i (among (after_of order i))
+stands-after : (U : List Task) (order : List ℕ) (i : ℕ) → AllStand U order → 0 < times i order
+    → Stands U i (among (after_of order i))
 stands-after U [] i all named = absurd (omega (arith, times-nil i))
 stands-after U (x ∷ order) i all named =
     elim (cases_Bool (x == i)) [
       | inl here ↦ rw here (subst (λ k. Stands U k (among order)) (eqb-true x i here) all.0)
-      | inr not ↦ rw not (stands-after U order i all.1 (let more : times i (x ∷ order) ≡ times i order = times-not i x order not in omega arith))
+      | inr not ↦ rw not (stands-after U order i all.1
+          (let more : times i (x ∷ order) ≡ times i order = times-not i x order not in omega arith))
     ]
 
 -- who stands after a task stands at a higher level
-after-higher : (l : ℕ) (order : List ℕ) (i : ℕ) → 0 < l → ((k : ℕ) → times k order ≤ 1) → 0 < times i order → (h : ℕ) → among (after_of order i) h ≡ nat_lt (level_from l order i) (level_from l order h)
+after-higher : (l : ℕ) (order : List ℕ) (i : ℕ) → 0 < l → ((k : ℕ) → times k order ≤ 1)
+    → 0 < times i order → (h : ℕ)
+    → among (after_of order i) h ≡ nat_lt (level_from l order i) (level_from l order h)
 after-higher l [] i some once named h = absurd (omega (arith, times-nil i))
 after-higher l (x ∷ order) i some once named h =
     elim (cases_Bool (x == i)) [
       | inl here ↦ rw here (elim (cases_Bool (x == h)) [
         | inl xh ↦
-            let none : times h order ≡ 0 = (let o : times h (x ∷ order) ≤ 1 = once h in let more : times h (x ∷ order) ≡ 1 + times h order = times-here h x order xh in omega arith) in
+            let none : times h order ≡ 0 = (let o : times h (x ∷ order) ≤ 1 = once h in let more :
+            times h (x ∷ order) ≡ 1 + times h order = times-here h x order xh in omega arith) in
             let f : nat_lt l l ≡ false = le-ltb l l (omega arith) in
             rw (xh, f) (among-none order h none)
         | inr nh ↦ elim (cases_eq (times h order) 0) [
@@ -209,21 +251,30 @@ after-higher l (x ∷ order) i some once named h =
               let f : nat_lt l 0 ≡ false = le-ltb l 0 (omega arith) in
               rw (nh, z, f) (among-none order h none)
           | inr one ↦
-              let up : l + 1 ≤ level_from (l + 1) order h = level_named (l + 1) order h (omega arith) in
-              let t : nat_lt l (level_from (l + 1) order h) ≡ true = lt-ltb l (level_from (l + 1) order h) (omega arith) in
+              let up : l + 1 ≤ level_from (l + 1) order h =
+              level_named (l + 1) order h (omega arith) in
+              let t : nat_lt l (level_from (l + 1) order h) ≡ true =
+              lt-ltb l (level_from (l + 1) order h) (omega arith) in
               rw (nh, t) (among-some order h (omega arith))
         ]
       ])
       | inr not ↦
-          let some_i : 0 < times i order = (let more : times i (x ∷ order) ≡ times i order = times-not i x order not in omega arith) in
-          let ih : among (after_of order i) h ≡ nat_lt (level_from (l + 1) order i) (level_from (l + 1) order h) = after-higher (l + 1) order i (omega arith) (λ k. omega (arith, once k, times-grow k x order)) some_i h in
+          let some_i : 0 < times i order = (let more : times i (x ∷ order) ≡ times i order =
+          times-not i x order not in omega arith) in
+          let ih : among (after_of order i) h ≡ nat_lt (level_from (l + 1) order i)
+          (level_from (l + 1) order h) = after-higher (l + 1) order i (omega arith)
+          (λ k. omega (arith, once k, times-grow k x order)) some_i h in
           let up : l + 1 ≤ level_from (l + 1) order i = level_named (l + 1) order i some_i in
           rw not (elim (cases_Bool (x == h)) [
             | inl xh ↦
-                let none : times h order ≡ 0 = (let o : times h (x ∷ order) ≤ 1 = once h in let more : times h (x ∷ order) ≡ 1 + times h order = times-here h x order xh in omega arith) in
+                let none : times h order ≡ 0 =
+                (let o : times h (x ∷ order) ≤ 1 = once h in let more : times h (x ∷ order)
+                ≡ 1 + times h order = times-here h x order xh in omega arith) in
                 let z : level_from (l + 1) order h ≡ 0 = level_past (l + 1) order h none in
-                let f : nat_lt (level_from (l + 1) order i) l ≡ false = le-ltb (level_from (l + 1) order i) l (omega arith) in
-                let g : nat_lt (level_from (l + 1) order i) 0 ≡ false = le-ltb (level_from (l + 1) order i) 0 (omega arith) in
+                let f : nat_lt (level_from (l + 1) order i) l ≡ false =
+                le-ltb (level_from (l + 1) order i) l (omega arith) in
+                let g : nat_lt (level_from (l + 1) order i) 0 ≡ false =
+                le-ltb (level_from (l + 1) order i) 0 (omega arith) in
                 rw (xh, f) (ih ∙ (ap (nat_lt (level_from (l + 1) order i)) z ∙ g))
             | inr nh ↦ rw nh ih
           ])
@@ -245,13 +296,16 @@ pub record IsSoundTask (node : Node) (i : ℕ) : Type 0 where
   pub deadline_within : (task_at node.tasks i).deadline ≤ (task_at node.tasks i).period
   pub period_from_one : 0 < (task_at node.tasks i).period
   -- its jobs are late by what its limit leaves of the deadline at most, and by less than a period
-  pub late_within : limit_of (task_at node.tasks i) + lateness_of (task_at node.tasks i) ≤ (task_at node.tasks i).deadline
+  pub late_within : limit_of (task_at node.tasks i) + lateness_of (task_at node.tasks i)
+      ≤ (task_at node.tasks i).deadline
   pub late_before : lateness_of (task_at node.tasks i) < (task_at node.tasks i).period
 
 pub record IsSound (node : Node) : Type 0 where
   pub each : (i : ℕ) → i < length node.tasks → IsSoundTask node i
-  pub levels_differ : (i k : ℕ) → i < length node.tasks → k < length node.tasks → level_in_order node i ≡ level_in_order node k → i ≡ k
-  pub users_below : (i : ℕ) (lock : List ℕ) → uses (task_at node.tasks i) lock ≡ true → level_in_order node i ≤ ceiling node lock
+  pub levels_differ : (i k : ℕ) → i < length node.tasks → k < length node.tasks
+      → level_in_order node i ≡ level_in_order node k → i ≡ k
+  pub users_below : (i : ℕ) (lock : List ℕ) → uses (task_at node.tasks i) lock ≡ true
+      → level_in_order node i ≤ ceiling node lock
 
 module _ (node : Node) (ok : IsNode node) where
   times-order : (i : ℕ) → times i node.order ≡ cond (nat_lt i (length node.tasks)) 1 0
@@ -274,7 +328,8 @@ module _ (node : Node) (ok : IsNode node) where
       ]
 
   valid_at : (i : ℕ) → i < length node.tasks → IsValidSheet (task_at node.tasks i)
-  valid_at i lt = (let set : IsTaskSet node.tasks = ok.tasks in All-get_or IsValidSheet node.tasks i no_task lt set.valid)
+  valid_at i lt = (let set : IsTaskSet node.tasks = ok.tasks in
+      All-get_or IsValidSheet node.tasks i no_task lt set.valid)
 
   pub sound : IsSound node
   sound = record {
@@ -284,9 +339,11 @@ module _ (node : Node) (ok : IsNode node) where
         record {
           level_from_one = omega arith;
           takes_time = v.cost_from;
-          apart = apart_of 0 (task_at node.tasks i).cost (task_at node.tasks i).sections (omega arith) v.sections;
+          apart = apart_of 0 (task_at node.tasks i).cost (task_at node.tasks i).sections
+              (omega arith) v.sections;
           deadline_within = v.deadline_to;
-          period_from_one = (let p : 1000 ≤ (task_at node.tasks i).period = v.period_from in omega arith);
+          period_from_one =
+              (let p : 1000 ≤ (task_at node.tasks i).period = v.period_from in omega arith);
           late_within = late_room (task_at node.tasks i) v;
           late_before = late_less (task_at node.tasks i) v;
         };
@@ -301,14 +358,20 @@ module _ (node : Node) (ok : IsNode node) where
   }
 
   -- who stands at the ceiling of a lock, where that is at least a level
-  pub top_user : (lock : List ℕ) (level : ℕ) → 0 < level → level ≤ ceiling node lock → (h : ℕ) × (h < length node.tasks) × (level ≤ level_in_order node h) × (uses (task_at node.tasks h) lock ≡ true)
+  pub top_user : (lock : List ℕ) (level : ℕ) → 0 < level → level ≤ ceiling node lock → (h : ℕ)
+      × (h < length node.tasks) × (level ≤ level_in_order node h)
+      × (uses (task_at node.tasks h) lock ≡ true)
   top_user lock level some le =
-      elim (ceiling_from 1 node.tasks node.order lock) as (λ o. ceiling_from 1 node.tasks node.order lock ≡ o → level ≤ unwrap_or o 0 → (h : ℕ) × (h < length node.tasks) × (level ≤ level_in_order node h) × (uses (task_at node.tasks h) lock ≡ true)) [
+      elim (ceiling_from 1 node.tasks node.order lock) as (λ o. ceiling_from 1 node.tasks node.order
+      lock ≡ o → level ≤ unwrap_or o 0 → (h : ℕ) × (h < length node.tasks)
+      × (level ≤ level_in_order node h) × (uses (task_at node.tasks h) lock ≡ true)) [
         | None ↦ λ is h. absurd (omega arith)
         | Some c ↦ λ is h.
-            let at_top : IsUserAt node.tasks 1 node.order lock c = ceiling_user node.tasks 1 node.order lock c at_most_once is in
+            let at_top : IsUserAt node.tasks 1 node.order lock c =
+            ceiling_user node.tasks 1 node.order lock c at_most_once is in
             let i : ℕ = at_top.task in
-            let once : times i node.order ≡ cond (nat_lt i (length node.tasks)) 1 0 = times-order i in
+            let once : times i node.order ≡ cond (nat_lt i (length node.tasks)) 1 0 =
+            times-order i in
             let n : 0 < times i node.order = at_top.named in
             let l : level_in_order node i ≡ c = at_top.level in
             elim (cases_Bool (nat_lt i (length node.tasks))) [
@@ -317,10 +380,15 @@ module _ (node : Node) (ok : IsNode node) where
             ]
       ] refl le
 
-pub after_is_above : (node : Node) → IsNode node → (i h : ℕ) → i < length node.tasks → among (after_of node.order i) h ≡ above_of node i h
-after_is_above node ok i h lt = after-higher 1 node.order i (omega arith) (at_most_once node ok) (named node ok i lt) h
+pub after_is_above : (node : Node) → IsNode node → (i h : ℕ) → i < length node.tasks
+    → among (after_of node.order i) h ≡ above_of node i h
+after_is_above node ok i h lt =
+    after-higher 1 node.order i (omega arith) (at_most_once node ok) (named node ok i lt) h
 
-pub stands_above : (node : Node) → IsNode node → AllStand node.tasks node.order → (i : ℕ) → i < length node.tasks → Stands node.tasks i (above_of node i)
+pub stands_above : (node : Node) → IsNode node → AllStand node.tasks node.order → (i : ℕ)
+    → i < length node.tasks → Stands node.tasks i (above_of node i)
 stands_above node ok all i lt =
-    let same : among (after_of node.order i) ≡ above_of node i = λ x h. after_is_above node ok i h lt x in
-    subst (λ H. Stands node.tasks i H) same (stands-after node.tasks node.order i all (named node ok i lt))
+    let same : among (after_of node.order i) ≡ above_of node i =
+    λ x h. after_is_above node ok i h lt x in
+    subst (λ H. Stands node.tasks i H) same
+    (stands-after node.tasks node.order i all (named node ok i lt))

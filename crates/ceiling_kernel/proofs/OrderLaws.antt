@@ -1,5 +1,7 @@
 -- What the tests of an order show.
-use Rattle.std.proofs.Common.{ℕ, zero, suc, ◌+◌, ◌<◌, ◌≤◌, ◌≡◌, ◌↔◌, inl, inr, refl, sym, ap, ◌∙◌, arith, true, false, cond, ◌==◌, nat_lt, List, [], ◌∷◌, length, count_by, All, eqb}
+use Rattle.std.proofs.Common.{ℕ, zero, suc, ◌+◌, ◌<◌, ◌≤◌, ◌≡◌, ◌↔◌, inl, inr, refl, sym, ap, ◌∙◌}
+use Rattle.std.proofs.Common.{arith, true, false, cond, ◌==◌, nat_lt, List, [], ◌∷◌, length}
+use Rattle.std.proofs.Common.{count_by, All, eqb}
 use Rattle.std.proofs.lemmas.Bool.{cases_Bool, cases_lt, eq-eqb, ne_eqb, lt-ltb, le-ltb}
 use Rattle.task_sheet.specs.Indexes.{below}
 use Rattle.task_sheet.specs.Orders.{IsOrderOf}
@@ -13,7 +15,8 @@ AllBelow n (x ∷ xs) = (x < n) × AllBelow n xs
 
 below_from_All : (n : ℕ) (xs : List ℕ) → All (λ x. x < n) xs → AllBelow n xs
 below_from_All n [] h = tt
-below_from_All n (x ∷ xs) h = (h 0 0 (omega arith), below_from_All n xs (λ k d lt. h (suc k) d (omega arith)))
+below_from_All n (x ∷ xs) h =
+    (h 0 0 (omega arith), below_from_All n xs (λ k d lt. h (suc k) d (omega arith)))
 
 All_from_below : (n : ℕ) (xs : List ℕ) → AllBelow n xs → All (λ x. x < n) xs
 All_from_below n [] h k d lt = absurd (omega arith)
@@ -36,10 +39,14 @@ below_from_times n (x ∷ xs) h =
           let one : times x (x ∷ xs) ≡ 1 + times x xs = times-here x x xs t in
           let none : times x (x ∷ xs) ≡ 0 = h x ge in
           absurd (omega arith)
-    ] in
-    (mine, below_from_times n xs (λ k le. (let g : times k xs ≤ times k (x ∷ xs) = times-grow k x xs in let z : times k (x ∷ xs) ≡ 0 = h k le in omega arith)))
+    ] in (
+      mine,
+      below_from_times n xs (λ k le. (let g : times k xs ≤ times k (x ∷ xs) =
+          times-grow k x xs in let z : times k (x ∷ xs) ≡ 0 = h k le in omega arith)),
+    )
 
-times-order : (n : ℕ) (order : List ℕ) → IsOrderOf (below n) order → (k : ℕ) → times k order ≡ cond (nat_lt k n) 1 0
+times-order : (n : ℕ) (order : List ℕ) → IsOrderOf (below n) order → (k : ℕ)
+    → times k order ≡ cond (nat_lt k n) 1 0
 unfolding times
 times-order n order h k = h k
 
@@ -47,18 +54,25 @@ times-count : (k : ℕ) (xs : List ℕ) → times k xs ≡ count_by (λ x. x == 
 unfolding times
 times-count k xs = refl
 
-pub order_iff : (n : ℕ) (order : List ℕ) → (All (λ x. x < n) order × ((k : ℕ) → k < n → count_by (λ x. x == k) order ≡ 1)) ↔ IsOrderOf (below n) order
+pub order_iff : (n : ℕ) (order : List ℕ)
+    → (All (λ x. x < n) order × ((k : ℕ) → k < n → count_by (λ x. x == k) order ≡ 1))
+    ↔ IsOrderOf (below n) order
 order_iff n order = (forth, back)
   where
-    forth : (All (λ x. x < n) order × ((k : ℕ) → k < n → count_by (λ x. x == k) order ≡ 1)) → IsOrderOf (below n) order
+    forth : (All (λ x. x < n) order × ((k : ℕ) → k < n → count_by (λ x. x == k) order ≡ 1))
+        → IsOrderOf (below n) order
     forth h k = elim (cases_lt k n) [
-      | inl lt ↦ (let t : nat_lt k n ≡ true = lt-ltb k n lt in h.1 k lt ∙ sym (ap (λ b. cond b 1 0) t))
-      | inr ge ↦ (let f : nat_lt k n ≡ false = le-ltb k n ge in sym (times-count k order) ∙ (times-past n k order (below_from_All n order h.0) ge ∙ sym (ap (λ b. cond b 1 0) f)))
+      | inl lt ↦
+          (let t : nat_lt k n ≡ true = lt-ltb k n lt in h.1 k lt ∙ sym (ap (λ b. cond b 1 0) t))
+      | inr ge ↦ (let f : nat_lt k n ≡ false = le-ltb k n ge in sym (times-count k order)
+          ∙ (times-past n k order (below_from_All n order h.0) ge ∙ sym (ap (λ b. cond b 1 0) f)))
     ]
 
-    back : IsOrderOf (below n) order → All (λ x. x < n) order × ((k : ℕ) → k < n → count_by (λ x. x == k) order ≡ 1)
+    back : IsOrderOf (below n) order → All (λ x. x < n) order
+        × ((k : ℕ) → k < n → count_by (λ x. x == k) order ≡ 1)
     back h = (
-      All_from_below n order (below_from_times n order (λ k le. (let f : nat_lt k n ≡ false = le-ltb k n le in times-order n order h k ∙ ap (λ b. cond b 1 0) f))),
+      All_from_below n order (below_from_times n order (λ k le. (let f : nat_lt k n ≡ false =
+          le-ltb k n le in times-order n order h k ∙ ap (λ b. cond b 1 0) f))),
       λ k lt. (let t : nat_lt k n ≡ true = lt-ltb k n lt in h k ∙ ap (λ b. cond b 1 0) t),
     )
 
@@ -66,8 +80,11 @@ order_iff n order = (forth, back)
 total-times : (n : ℕ) (xs : List ℕ) → AllBelow n xs → total (λ k. times k xs) n ≡ length xs
 total-times n [] h = total-zero (λ k. times k []) n (λ k lt. times-nil k)
 total-times n (x ∷ xs) h =
-    let same : total (λ k. times k (x ∷ xs)) n ≡ total (λ k. cond (x == k) 1 0 + times k xs) n = total-same (λ k. times k (x ∷ xs)) (λ k. cond (x == k) 1 0 + times k xs) n (λ k lt. split k) in
-    let parts : total (λ k. cond (x == k) 1 0 + times k xs) n ≡ total (λ k. cond (x == k) 1 0) n + total (λ k. times k xs) n = total-add (λ k. cond (x == k) 1 0) (λ k. times k xs) n in
+    let same : total (λ k. times k (x ∷ xs)) n ≡ total (λ k. cond (x == k) 1 0 + times k xs) n =
+    total-same (λ k. times k (x ∷ xs)) (λ k. cond (x == k) 1 0 + times k xs) n
+    (λ k lt. split k) in
+    let parts : total (λ k. cond (x == k) 1 0 + times k xs) n ≡ total (λ k. cond (x == k) 1 0)
+    n + total (λ k. times k xs) n = total-add (λ k. cond (x == k) 1 0) (λ k. times k xs) n in
     let one : total (λ k. cond (x == k) 1 0) n ≡ 1 = total-single (λ k. 1) n x h.0 in
     let ih : total (λ k. times k xs) n ≡ length xs = total-times n xs h.1 in
     omega arith
@@ -81,9 +98,11 @@ total-times n (x ∷ xs) h =
 total-ones : (f : ℕ → ℕ) (n : ℕ) → ((k : ℕ) → k < n → f k ≡ 1) → total f n ≡ n
 unfolding total
 total-ones f zero h = refl
-total-ones f (suc n) h = (let before : total f n ≡ n = total-ones f n (λ k lt. h k (omega arith)) in let here : f n ≡ 1 = h n (omega arith) in omega arith)
+total-ones f (suc n) h = (let before : total f n ≡ n = total-ones f n (λ k lt. h k (omega arith)) in
+    let here : f n ≡ 1 = h n (omega arith) in omega arith)
 
 pub order_length : (n : ℕ) (order : List ℕ) → IsOrderOf (below n) order → length order ≡ n
 order_length n order h =
     let parts = (order_iff n order).1 h in
-    sym (total-times n order (below_from_All n order parts.0)) ∙ total-ones (λ k. times k order) n (λ k lt. times-count k order ∙ parts.1 k lt)
+    sym (total-times n order (below_from_All n order parts.0))
+    ∙ total-ones (λ k. times k order) n (λ k lt. times-count k order ∙ parts.1 k lt)

@@ -1,6 +1,8 @@
 -- What the pick is: the one pending job that no pending job goes before.
-use Rattle.std.proofs.Common.{ℕ, zero, suc, ◌<◌, ◌≤◌, ◌≡◌, ◌≢◌, ◌⊎◌, inl, inr, refl, sym, ap, ◌∙◌, subst, arith, Bool, true, false, ◌==◌, Option, Some, None, nat_lt}
-use Rattle.std.proofs.lemmas.Bool.{cases_eq, cases_lt, cases_Bool, true≢false, lt-ltb, le-ltb, ltb-true, eq-eqb, ne_eqb}
+use Rattle.std.proofs.Common.{ℕ, zero, suc, ◌<◌, ◌≤◌, ◌≡◌, ◌≢◌, ◌⊎◌, inl, inr, refl, sym, ap, ◌∙◌}
+use Rattle.std.proofs.Common.{subst, arith, Bool, true, false, ◌==◌, Option, Some, None, nat_lt}
+use Rattle.std.proofs.lemmas.Bool.{cases_eq, cases_lt, cases_Bool, true≢false, lt-ltb, le-ltb}
+use Rattle.std.proofs.lemmas.Bool.{ltb-true, eq-eqb, ne_eqb}
 use Rattle.ceiling_kernel.specs.Tick.{gives_way, better_of, best}
 
 module _ (pending : ℕ → Bool) (active level : ℕ → ℕ) where
@@ -50,15 +52,18 @@ module _ (pending : ℕ → Bool) (active level : ℕ → ℕ) where
         | inr ge ↦
             elim (cases_eq (active k) (active j)) [
               | inr ne ↦
-                  let x : nat_lt (active k) (active j) ≡ true = lt-ltb (active k) (active j) (omega arith) in
+                  let x : nat_lt (active k) (active j) ≡ true =
+                  lt-ltb (active k) (active j) (omega arith) in
                   let z : true ≡ false = rw x at h in
                   absurd (true≢false z)
               | inl e ↦
                   elim (cases_lt (level j) (level k)) [
                     | inl lower ↦
                         let y : (active k == active j) ≡ true = eq-eqb (active k) (active j) e in
-                        let x : nat_lt (active k) (active j) ≡ false = le-ltb (active k) (active j) (omega arith) in
-                        let w : nat_lt (level j) (level k) ≡ true = lt-ltb (level j) (level k) lower in
+                        let x : nat_lt (active k) (active j) ≡ false =
+                        le-ltb (active k) (active j) (omega arith) in
+                        let w : nat_lt (level j) (level k) ≡ true =
+                        lt-ltb (level j) (level k) lower in
                         let z : true ≡ false = rw (x, y, w) at h in
                         absurd (true≢false z)
                     | inr not_lower ↦ inr (sym e, not_lower)
@@ -67,17 +72,25 @@ module _ (pending : ℕ → Bool) (active level : ℕ → ℕ) where
       ]
 
   pub same_place : (k j : ℕ) → k ≡ j → NotBefore k j
-  same_place k j e = let a : active k ≡ active j = ap active e in let l : level k ≡ level j = ap level e in inr (a, omega arith)
+  same_place k j e = let a : active k ≡ active j = ap active e in let l : level k ≡ level j =
+      ap level e in inr (a, omega arith)
 
-  step : (n : ℕ) (r : Option ℕ) → IsOutcome n r → IsOutcome (suc n) (better_of pending active level r n)
+  step : (n : ℕ) (r : Option ℕ) → IsOutcome n r
+      → IsOutcome (suc n) (better_of pending active level r n)
   step n None h =
       elim (cases_Bool (pending n)) [
         | inl is ↦ rw is (record {
           below = omega arith;
           is_pending = is;
-          first = λ k lt p. elim (cases_eq k n) [ inl e ↦ same_place k n e | inr ne ↦ absurd (true≢false (sym p ∙ h k (omega arith))) ];
+          first = λ k lt p. elim (cases_eq k n) [
+            | inl e ↦ same_place k n e
+            | inr ne ↦ absurd (true≢false (sym p ∙ h k (omega arith)))
+          ];
         })
-        | inr not ↦ rw not (λ k lt. elim (cases_eq k n) [ inl e ↦ ap pending e ∙ not | inr ne ↦ h k (omega arith) ])
+        | inr not ↦ rw not (λ k lt. elim (cases_eq k n) [
+          | inl e ↦ ap pending e ∙ not
+          | inr ne ↦ h k (omega arith)
+        ])
       ]
   step n (Some j) h =
       elim (cases_Bool (pending n)) [
@@ -85,18 +98,29 @@ module _ (pending : ℕ → Bool) (active level : ℕ → ℕ) where
           | inl way ↦ rw (is, way) (record {
             below = omega arith;
             is_pending = is;
-            first = λ k lt p. elim (cases_eq k n) [ inl e ↦ same_place k n e | inr ne ↦ trans k j n (h.first k (omega arith) p) (yields j n way) ];
+            first = λ k lt p. elim (cases_eq k n) [
+              | inl e ↦ same_place k n e
+              | inr ne ↦ trans k j n (h.first k (omega arith) p) (yields j n way)
+            ];
           })
           | inr holds ↦ rw (is, holds) (record {
             below = (let b : j < n = h.below in omega arith);
             is_pending = h.is_pending;
-            first = λ k lt p. elim (cases_eq k n) [ inl e ↦ trans k n j (same_place k n e) (stays j n holds) | inr ne ↦ h.first k (omega arith) p ];
+            first = λ k lt p. elim (cases_eq k n) [
+              | inl e ↦ trans k n j (same_place k n e)
+                  (stays j n holds)
+              | inr ne ↦ h.first k (omega arith) p
+            ];
           })
         ]
         | inr not ↦ rw not (record {
           below = (let b : j < n = h.below in omega arith);
           is_pending = h.is_pending;
-          first = λ k lt p. elim (cases_eq k n) [ inl e ↦ absurd (true≢false (sym p ∙ (ap pending e ∙ not))) | inr ne ↦ h.first k (omega arith) p ];
+          first = λ k lt p.
+              elim (cases_eq k n) [
+                | inl e ↦ absurd (true≢false (sym p ∙ (ap pending e ∙ not)))
+                | inr ne ↦ h.first k (omega arith) p
+              ];
         })
       ]
 
@@ -109,17 +133,22 @@ module _ (pending : ℕ → Bool) (active level : ℕ → ℕ) where
   best_some n j e = subst (IsOutcome n) e (outcome n)
 
   pub best_none : (n k : ℕ) → best pending active level n ≡ None → k < n → pending k ≡ false
-  best_none n k e lt = (let none : IsOutcome n None = subst (IsOutcome n) e (outcome n) in none k lt)
+  best_none n k e lt =
+      (let none : IsOutcome n None = subst (IsOutcome n) e (outcome n) in none k lt)
 
-  pub best_exists : (n k : ℕ) → k < n → pending k ≡ true → (j : ℕ) × (best pending active level n ≡ Some j)
+  pub best_exists : (n k : ℕ) → k < n → pending k ≡ true → (j : ℕ)
+      × (best pending active level n ≡ Some j)
   best_exists n k lt p =
-      elim (best pending active level n) as (λ r. best pending active level n ≡ r → (j : ℕ) × (best pending active level n ≡ Some j)) [
+      elim (best pending active level n) as (λ r. best pending active level n ≡ r → (j : ℕ)
+      × (best pending active level n ≡ Some j)) [
         | None ↦ λ e. absurd (true≢false (sym p ∙ best_none n k e lt))
         | Some j ↦ λ e. (j, e)
       ] refl
 
   -- the pick is the job before which no other pending one may go
-  pub best_is : (n j : ℕ) → j < n → pending j ≡ true → ((k : ℕ) → k < n → pending k ≡ true → k ≢ j → (active k < active j) ⊎ ((active k ≡ active j) × (level j < level k))) → best pending active level n ≡ Some j
+  pub best_is : (n j : ℕ) → j < n → pending j ≡ true → ((k : ℕ) → k < n → pending k ≡ true → k ≢ j
+      → (active k < active j) ⊎ ((active k ≡ active j) × (level j < level k)))
+      → best pending active level n ≡ Some j
   best_is n j lt p h =
       let found : (i : ℕ) × (best pending active level n ≡ Some i) = best_exists n j lt p in
       let i : ℕ = found.0 in
@@ -128,25 +157,37 @@ module _ (pending : ℕ → Bool) (active level : ℕ → ℕ) where
         | inl e ↦ found.1 ∙ ap Some e
         | inr ne ↦
             elim (h i is.below is.is_pending ne) [
-              | inl worse ↦ elim (is.first j lt p) [ inl better ↦ absurd (omega arith) | inr equal ↦ absurd (omega arith) ]
-              | inr tied ↦ elim (is.first j lt p) [ inl better ↦ absurd (omega arith) | inr equal ↦ absurd (omega arith) ]
+              | inl worse ↦ elim (is.first j lt p) [
+                | inl better ↦ absurd (omega arith)
+                | inr equal ↦ absurd (omega arith)
+              ]
+              | inr tied ↦ elim (is.first j lt p) [
+                | inl better ↦ absurd (omega arith)
+                | inr equal ↦ absurd (omega arith)
+              ]
             ]
       ]
 
-  pub best_none_is : (n : ℕ) → ((k : ℕ) → k < n → pending k ≡ false) → best pending active level n ≡ None
+  pub best_none_is : (n : ℕ) → ((k : ℕ) → k < n → pending k ≡ false)
+      → best pending active level n ≡ None
   best_none_is n h =
-      elim (best pending active level n) as (λ r. best pending active level n ≡ r → best pending active level n ≡ None) [
+      elim (best pending active level n) as
+      (λ r. best pending active level n ≡ r → best pending active level n ≡ None) [
         | None ↦ λ e. e
-        | Some j ↦ λ e. let is : IsBest n j = best_some n j e in absurd (true≢false (sym is.is_pending ∙ h j is.below))
+        | Some j ↦ λ e. let is : IsBest n j = best_some n j e in
+            absurd (true≢false (sym is.is_pending ∙ h j is.below))
       ] refl
 
 -- the pick depends on the pending jobs and on their active priorities alone
-pub best_same : (p q : ℕ → Bool) (a b level : ℕ → ℕ) (n : ℕ) → ((k : ℕ) → k < n → p k ≡ q k) → ((k : ℕ) → k < n → a k ≡ b k) → best p a level n ≡ best q b level n
+pub best_same : (p q : ℕ → Bool) (a b level : ℕ → ℕ) (n : ℕ) → ((k : ℕ) → k < n → p k ≡ q k)
+    → ((k : ℕ) → k < n → a k ≡ b k) → best p a level n ≡ best q b level n
 unfolding best
 best_same p q a b level zero hp ha = refl
 best_same p q a b level (suc n) hp ha =
-    let before : best p a level n ≡ best q b level n = best_same p q a b level n (λ k lt. hp k (omega arith)) (λ k lt. ha k (omega arith)) in
-    rw before (elim (best q b level n) as (λ r. best q b level n ≡ r → better_of p a level r n ≡ better_of q b level r n) [
+    let before : best p a level n ≡ best q b level n =
+    best_same p q a b level n (λ k lt. hp k (omega arith)) (λ k lt. ha k (omega arith)) in
+    rw before (elim (best q b level n) as
+    (λ r. best q b level n ≡ r → better_of p a level r n ≡ better_of q b level r n) [
       | None ↦ λ e. rw (hp n (omega arith))
       | Some k ↦ λ e.
           let is : IsBest q b level n k = best_some q b level n k e in

@@ -1,5 +1,7 @@
 -- The jobs and the records of a release list, and what a run reads of its lists.
-use Rattle.std.proofs.Common.{ℕ, zero, suc, ◌+◌, ◌<◌, ◌≡◌, refl, sym, ap, ap₂, ◌∙◌, arith, List, [], ◌∷◌, ◌++◌, length, get_or, map, take, Option, Some, None, true, false, is_some, slice_index_or}
+use Rattle.std.proofs.Common.{ℕ, zero, suc, ◌+◌, ◌<◌, ◌≡◌, refl, sym, ap, ap₂, ◌∙◌, arith, List, []}
+use Rattle.std.proofs.Common.{◌∷◌, ◌++◌, length, get_or, map, take, Option, Some, None, true, false}
+use Rattle.std.proofs.Common.{is_some, slice_index_or}
 use Rattle.std.proofs.lemmas.Bool.{true≢false}
 use Rattle.std.proofs.lemmas.List.{length-map, length-take, take_more, get_or_default}
 use Rattle.task_sheet.specs.Sheet.{Task}
@@ -11,7 +13,8 @@ use Rattle.ceiling_kernel.specs.Releases.{task_number, job_of, jobs_of, release_
 use Rattle.ceiling_kernel.specs.Runs.{record_of, records_from}
 
 -- ---- releases and jobs
-pub job_is : (U : List Task) (rs : List Release) (j : ℕ) → j < length rs → job_at (jobs_of U rs) j ≡ job_of U (release_at rs j)
+pub job_is : (U : List Task) (rs : List Release) (j : ℕ) → j < length rs
+    → job_at (jobs_of U rs) j ≡ job_of U (release_at rs j)
 job_is U [] j lt = absurd (omega arith)
 job_is U (r ∷ rs) zero lt = refl
 job_is U (r ∷ rs) (suc j) lt = job_is U rs j (omega arith)
@@ -19,17 +22,20 @@ job_is U (r ∷ rs) (suc j) lt = job_is U rs j (omega arith)
 pub jobs_length : (U : List Task) (rs : List Release) → length (jobs_of U rs) ≡ length rs
 jobs_length U rs = length-map rs (job_of U)
 
-numbers_at : (U : List Task) (rs : List Release) (j : ℕ) → j < length rs → get_or (map (task_number U) rs) j 0 ≡ task_number U (release_at rs j)
+numbers_at : (U : List Task) (rs : List Release) (j : ℕ) → j < length rs
+    → get_or (map (task_number U) rs) j 0 ≡ task_number U (release_at rs j)
 numbers_at U [] j lt = absurd (omega arith)
 numbers_at U (r ∷ rs) zero lt = refl
 numbers_at U (r ∷ rs) (suc j) lt = numbers_at U rs j (omega arith)
 
 -- the kept index of a release's task
-pub place_is : (U : List Task) (rs : List Release) (places : List ℕ) (j : ℕ) → places ≡ map (task_number U) rs → j < length rs → get_or places j 0 ≡ task_number U (release_at rs j)
+pub place_is : (U : List Task) (rs : List Release) (places : List ℕ) (j : ℕ) → places
+    ≡ map (task_number U) rs → j < length rs → get_or places j 0 ≡ task_number U (release_at rs j)
 place_is U rs places j e lt = ap (λ x. get_or x j 0) e ∙ numbers_at U rs j lt
 
 -- what `v[i]` reads, at another default
-pub read_at : {X : Type 0} (xs : List X) (i : ℕ) (x d : X) → i < length xs → x ≡ slice_index_or xs i x → slice_index_or xs i d ≡ x
+pub read_at : {X : Type 0} (xs : List X) (i : ℕ) (x d : X) → i < length xs
+    → x ≡ slice_index_or xs i x → slice_index_or xs i d ≡ x
 read_at xs i x d lt e = get_or_default xs i d x lt ∙ sym e
 
 pub some_from : (o : Option Pending) → true ≡ is_some o → (q : Pending) × (o ≡ Some q)
@@ -49,16 +55,23 @@ unfolding finish_before
 finish_first node jobs j = refl
 
 -- ---- records
-records-more : (node : Node) (jobs : List Job) (t k : ℕ) (rs : List Release) (r : Release) → records_from node jobs t k (rs ++ r ∷ []) ≡ records_from node jobs t k rs ++ record_of node jobs t (k + length rs) r ∷ []
-records-more node jobs t k [] r = (let e : k + 0 ≡ k = omega arith in ap (λ x. record_of node jobs t x r ∷ []) (sym e))
+records-more : (node : Node) (jobs : List Job) (t k : ℕ) (rs : List Release) (r : Release)
+    → records_from node jobs t k (rs ++ r ∷ []) ≡ records_from node jobs t k rs
+    ++ record_of node jobs t (k + length rs) r ∷ []
+records-more node jobs t k [] r =
+    (let e : k + 0 ≡ k = omega arith in ap (λ x. record_of node jobs t x r ∷ []) (sym e))
 records-more node jobs t k (s ∷ rs) r =
     let e : k + 1 + length rs ≡ k + suc (length rs) = omega arith in
-    ap (λ x. record_of node jobs t k s ∷ x) (records-more node jobs t (k + 1) rs r ∙ ap (λ x. records_from node jobs t (k + 1) rs ++ record_of node jobs t x r ∷ []) e)
+    ap (λ x. record_of node jobs t k s ∷ x) (records-more node jobs t (k + 1) rs r
+    ∙ ap (λ x. records_from node jobs t (k + 1) rs ++ record_of node jobs t x r ∷ []) e)
 
-pub records-next : (node : Node) (jobs : List Job) (t : ℕ) (rs : List Release) (k : ℕ) (r : Release) → k < length rs → r ≡ get_or rs k r →
-    records_from node jobs t 0 (take (k + 1) rs) ≡ records_from node jobs t 0 (take k rs) ++ record_of node jobs t k r ∷ []
+pub records-next : (node : Node) (jobs : List Job) (t : ℕ) (rs : List Release) (k : ℕ) (r : Release)
+    → k < length rs → r ≡ get_or rs k r →
+    records_from node jobs t 0 (take (k + 1) rs) ≡ records_from node jobs t 0 (take k rs)
+    ++ record_of node jobs t k r ∷ []
 records-next node jobs t rs k r lt same =
     let n : 0 + length (take k rs) ≡ k = omega (arith, length-take k rs) in
     ap (records_from node jobs t 0) (take_more rs k r lt)
     ∙ (records-more node jobs t 0 (take k rs) (get_or rs k r)
-    ∙ ap₂ (λ m x. records_from node jobs t 0 (take k rs) ++ record_of node jobs t m x ∷ []) n (sym same))
+    ∙ ap₂ (λ m x. records_from node jobs t 0 (take k rs) ++ record_of node jobs t m x ∷ []) n
+    (sym same))

@@ -1,7 +1,10 @@
 -- What the best of the slots is.
-use Rattle.std.proofs.Common.{ℕ, zero, suc, ◌<◌, ◌≤◌, ◌≡◌, ◌⊎◌, inl, inr, refl, sym, ap, ◌∙◌, subst, arith, List, [], ◌∷◌, Option, Some, None, Bool, true, false, ◌||◌, ◌&&◌, ◌==◌, nat_lt, slice_index_or}
+use Rattle.std.proofs.Common.{ℕ, zero, suc, ◌<◌, ◌≤◌, ◌≡◌, ◌⊎◌, inl, inr, refl, sym, ap, ◌∙◌, subst}
+use Rattle.std.proofs.Common.{arith, List, [], ◌∷◌, Option, Some, None, Bool, true, false, ◌||◌}
+use Rattle.std.proofs.Common.{◌&&◌, ◌==◌, nat_lt, slice_index_or}
 use Rattle.std.proofs.lemmas.Option.{none-some}
-use Rattle.std.proofs.lemmas.Bool.{cases_Bool, cases_eq, cases_lt, true≢false, lt-ltb, le-ltb, ltb-true, eq-eqb, ne_eqb}
+use Rattle.std.proofs.lemmas.Bool.{cases_Bool, cases_eq, cases_lt, true≢false, lt-ltb, le-ltb}
+use Rattle.std.proofs.lemmas.Bool.{ltb-true, eq-eqb, ne_eqb}
 use Rattle.ceiling_kernel.specs.declared.run.Pending.{Pending}
 use Rattle.ceiling_kernel.specs.States.{better_pending, best_slot}
 
@@ -10,13 +13,17 @@ abbrev pub NotFirst : Pending → Pending → Type 0
 NotFirst q p = (q.active < p.active) ⊎ ((q.active ≡ p.active) × (p.level ≤ q.level))
 
 not_first_same : (q p : Pending) → q ≡ p → NotFirst q p
-not_first_same q p e = let a : q.active ≡ p.active = ap (λ x. x.active) e in let l : q.level ≡ p.level = ap (λ x. x.level) e in inr (a, omega arith)
+not_first_same q p e = let a : q.active ≡ p.active = ap (λ x. x.active) e in
+    let l : q.level ≡ p.level = ap (λ x. x.level) e in inr (a, omega arith)
 
 not_first_trans : (a b c : Pending) → NotFirst a b → NotFirst b c → NotFirst a c
 not_first_trans a b c x y =
     elim x [
       | inl lt ↦ elim y [ inl lt' ↦ inl (omega arith) | inr eq' ↦ inl (omega (arith, eq'.0)) ]
-      | inr eq ↦ elim y [ inl lt' ↦ inl (omega (arith, eq.0)) | inr eq' ↦ inr (eq.0 ∙ eq'.0, omega (arith, eq.1, eq'.1)) ]
+      | inr eq ↦ elim y [
+        | inl lt' ↦ inl (omega (arith, eq.0))
+        | inr eq' ↦ inr (eq.0 ∙ eq'.0, omega (arith, eq.1, eq'.1))
+      ]
     ]
 
 abbrev yields : Pending → Pending → Bool
@@ -55,7 +62,8 @@ yields_false q p h =
                 elim (cases_lt p.level q.level) [
                   | inl lower ↦
                       let y : (q.active == p.active) ≡ true = eq-eqb q.active p.active e in
-                      let x : nat_lt q.active p.active ≡ false = le-ltb q.active p.active (omega arith) in
+                      let x : nat_lt q.active p.active ≡ false =
+                      le-ltb q.active p.active (omega arith) in
                       let w : nat_lt p.level q.level ≡ true = lt-ltb p.level q.level lower in
                       let z : true ≡ false = rw (x, y, w) at h in
                       absurd (true≢false z)
@@ -71,13 +79,15 @@ pub record IsBetter (found : Option Pending) (j b : Pending) : Type 0 where
   pub other : (k : Pending) → found ≡ Some k → NotFirst k b
 
 better_is : (found : Option Pending) (j : Pending) → IsBetter found j (better_pending found j)
-better_is None j = record { one_of = inl refl; mine = not_first_same j j refl; other = λ k e. absurd (cc) }
+better_is None j =
+    record { one_of = inl refl; mine = not_first_same j j refl; other = λ k e. absurd (cc) }
 better_is (Some q) j =
     elim (cases_Bool (yields q j)) [
       | inl way ↦ rw way (record {
         one_of = inl refl;
         mine = not_first_same j j refl;
-        other = λ k e. (let same : q ≡ k = cc in subst (λ x. NotFirst x j) same (yields_true q j way));
+        other =
+            λ k e. (let same : q ≡ k = cc in subst (λ x. NotFirst x j) same (yields_true q j way));
       })
       | inr holds ↦ rw holds (record {
         one_of = inr refl;
@@ -86,12 +96,14 @@ better_is (Some q) j =
       })
     ]
 
-pub record IsBestSlot (slots : List (Option Pending)) (found : Option Pending) (p : Pending) : Type 0 where
+pub record IsBestSlot (slots : List (Option Pending)) (found : Option Pending)
+    (p : Pending) : Type 0 where
   pub from : (found ≡ Some p) ⊎ ((i : ℕ) × (slice_index_or slots i None ≡ Some p))
   pub first : (i : ℕ) (k : Pending) → slice_index_or slots i None ≡ Some k → NotFirst k p
   pub other : (k : Pending) → found ≡ Some k → NotFirst k p
 
-pub slot_some : (slots : List (Option Pending)) (found : Option Pending) (p : Pending) → best_slot slots found ≡ Some p → IsBestSlot slots found p
+pub slot_some : (slots : List (Option Pending)) (found : Option Pending) (p : Pending)
+    → best_slot slots found ≡ Some p → IsBestSlot slots found p
 slot_some [] found p e = record {
   from = inl e;
   first = λ i k h. absurd (cc);
@@ -105,37 +117,49 @@ slot_some (None ∷ slots) found p e =
       other = ih.other;
     }
   where
-    after_none : ((i : ℕ) (k : Pending) → slice_index_or slots i None ≡ Some k → NotFirst k p) → (i : ℕ) (k : Pending) → slice_index_or (None ∷ slots) i None ≡ Some k → NotFirst k p
+    after_none : ((i : ℕ) (k : Pending) → slice_index_or slots i None ≡ Some k → NotFirst k p)
+        → (i : ℕ) (k : Pending) → slice_index_or (None ∷ slots) i None ≡ Some k → NotFirst k p
     after_none h zero k e = absurd (cc)
     after_none h (suc i) k e = h i k e
 slot_some (Some j ∷ slots) found p e =
     let b : IsBetter found j (better_pending found j) = better_is found j in
-    let ih : IsBestSlot slots (Some (better_pending found j)) p = slot_some slots (Some (better_pending found j)) p e in
+    let ih : IsBestSlot slots (Some (better_pending found j)) p =
+    slot_some slots (Some (better_pending found j)) p e in
     let up : NotFirst (better_pending found j) p = ih.other (better_pending found j) refl in
     record {
       from = elim ih.from [
         | inl f ↦
             let same : better_pending found j ≡ p = cc in
-            elim b.one_of [ inl mine ↦ inr (0, ap Some (sym mine ∙ same)) | inr was ↦ inl (was ∙ ap Some same) ]
+            elim b.one_of [
+              | inl mine ↦ inr (0, ap Some (sym mine ∙ same))
+              | inr was ↦ inl (was ∙ ap Some same)
+            ]
         | inr s ↦ inr (suc s.0, s.1)
       ];
       first = after_some (not_first_trans j (better_pending found j) p b.mine up) ih.first;
       other = λ k h. not_first_trans k (better_pending found j) p (b.other k h) up;
     }
   where
-    after_some : NotFirst j p → ((i : ℕ) (k : Pending) → slice_index_or slots i None ≡ Some k → NotFirst k p) → (i : ℕ) (k : Pending) → slice_index_or (Some j ∷ slots) i None ≡ Some k → NotFirst k p
+    after_some : NotFirst j p
+        → ((i : ℕ) (k : Pending) → slice_index_or slots i None ≡ Some k → NotFirst k p)
+        → (i : ℕ) (k : Pending) → slice_index_or (Some j ∷ slots) i None ≡ Some k → NotFirst k p
     after_some here h zero k e = let same : j ≡ k = cc in subst (λ x. NotFirst x p) same here
     after_some here h (suc i) k e = h i k e
 
-pub slot_none : (slots : List (Option Pending)) (found : Option Pending) → best_slot slots found ≡ None → (found ≡ None) × ((i : ℕ) (k : Pending) → slice_index_or slots i None ≡ Some k → ⊥)
+pub slot_none : (slots : List (Option Pending)) (found : Option Pending) → best_slot slots found
+    ≡ None → (found ≡ None) × ((i : ℕ) (k : Pending) → slice_index_or slots i None ≡ Some k → ⊥)
 slot_none [] found e = (e, λ i k h. (cc))
 slot_none (None ∷ slots) found e =
-    let ih : (found ≡ None) × ((i : ℕ) (k : Pending) → slice_index_or slots i None ≡ Some k → ⊥) = slot_none slots found e in
+    let ih : (found ≡ None) × ((i : ℕ) (k : Pending) → slice_index_or slots i None ≡ Some k → ⊥) =
+    slot_none slots found e in
     (ih.0, after ih.1)
   where
-    after : ((i : ℕ) (k : Pending) → slice_index_or slots i None ≡ Some k → ⊥) → (i : ℕ) (k : Pending) → slice_index_or (None ∷ slots) i None ≡ Some k → ⊥
+    after : ((i : ℕ) (k : Pending) → slice_index_or slots i None ≡ Some k → ⊥)
+        → (i : ℕ) (k : Pending) → slice_index_or (None ∷ slots) i None ≡ Some k → ⊥
     after h zero k e = cc
     after h (suc i) k e = h i k e
 slot_none (Some j ∷ slots) found e =
-    let ih : (Some (better_pending found j) ≡ None) × ((i : ℕ) (k : Pending) → slice_index_or slots i None ≡ Some k → ⊥) = slot_none slots (Some (better_pending found j)) e in
+    let ih : (Some (better_pending found j) ≡ None)
+    × ((i : ℕ) (k : Pending) → slice_index_or slots i None ≡ Some k → ⊥) =
+    slot_none slots (Some (better_pending found j)) e in
     absurd (none-some (better_pending found j) (sym ih.0))

@@ -1,5 +1,6 @@
 -- Sums over the numbers below n.
-use Rattle.std.proofs.Common.{ℕ, zero, suc, ◌+◌, ◌<◌, ◌≤◌, ◌≡◌, inl, inr, refl, sym, ap, subst, arith, eqb, if◌then◌else◌, true, false, ◌==◌}
+use Rattle.std.proofs.Common.{ℕ, zero, suc, ◌+◌, ◌<◌, ◌≤◌, ◌≡◌, inl, inr, refl, sym, ap, subst}
+use Rattle.std.proofs.Common.{arith, eqb, if◌then◌else◌, true, false, ◌==◌}
 use Rattle.std.proofs.lemmas.Bool.{cases_eq, eq-eqb, ne_eqb}
 use Rattle.task_sheet.specs.Indexes.{sum_below}
 
@@ -22,7 +23,8 @@ total-le f g (suc n) h =
     omega arith
 
 -- one term less makes the sum less
-pub total-lt : (f g : ℕ → ℕ) (n p : ℕ) → p < n → f p < g p → ((j : ℕ) → j < n → f j ≤ g j) → total f n < total g n
+pub total-lt : (f g : ℕ → ℕ) (n p : ℕ) → p < n → f p < g p → ((j : ℕ) → j < n → f j ≤ g j)
+    → total f n < total g n
 unfolding total
 total-lt f g zero p lt less h = absurd (omega arith)
 total-lt f g (suc n) p lt less h =
@@ -33,14 +35,16 @@ total-lt f g (suc n) p lt less h =
           let at_n : f n < g n = subst (λ x. f x < g x) e less in
           omega arith
       | inr ne ↦
-          let before : total f n < total g n = total-lt f g n p (omega arith) less (λ j below. h j (omega arith)) in
+          let before : total f n < total g n =
+          total-lt f g n p (omega arith) less (λ j below. h j (omega arith)) in
           omega arith
     ]
 
 pub total-add : (f g : ℕ → ℕ) (n : ℕ) → total (λ j. f j + g j) n ≡ total f n + total g n
 unfolding total
 total-add f g zero = refl
-total-add f g (suc n) = let before : total (λ j. f j + g j) n ≡ total f n + total g n = total-add f g n in omega arith
+total-add f g (suc n) = let before : total (λ j. f j + g j) n ≡ total f n + total g n =
+    total-add f g n in omega arith
 
 pub total-same : (f g : ℕ → ℕ) (n : ℕ) → ((j : ℕ) → j < n → f j ≡ g j) → total f n ≡ total g n
 unfolding total
@@ -69,17 +73,20 @@ total-zero f (suc n) h =
     omega arith
 
 -- where at most one term isn't 0, the sum is at most what bounds each term
-pub total-one : (f : ℕ → ℕ) (n b : ℕ) → ((j : ℕ) → j < n → f j ≤ b) → ((j k : ℕ) → 0 < f j → 0 < f k → j ≡ k) → total f n ≤ b
+pub total-one : (f : ℕ → ℕ) (n b : ℕ) → ((j : ℕ) → j < n → f j ≤ b)
+    → ((j k : ℕ) → 0 < f j → 0 < f k → j ≡ k) → total f n ≤ b
 unfolding total
 total-one f zero b h one = omega arith
 total-one f (suc n) b h one =
     elim (cases_eq (f n) 0) [
-      | inl none ↦ let before : total f n ≤ b = total-one f n b (λ j lt. h j (omega arith)) one in omega arith
+      | inl none ↦ let before : total f n ≤ b = total-one f n b (λ j lt. h j (omega arith)) one in
+          omega arith
       | inr some ↦
           let rest : total f n ≡ 0 =
           total-zero f n (λ j lt. elim (cases_eq (f j) 0) [
             | inl z ↦ z
-            | inr nz ↦ let same : j ≡ n = one j n (omega arith) (omega arith) in absurd (omega arith)
+            | inr nz ↦ let same : j ≡ n = one j n (omega arith) (omega arith) in
+                absurd (omega arith)
           ]) in
           let here : f n ≤ b = h n (omega arith) in
           omega arith
@@ -93,11 +100,13 @@ total-single c (suc n) t lt =
     elim (cases_eq t n) [
       | inl e ↦
           let rest : total (λ h. if t == h then c h else 0) n ≡ 0 =
-          total-zero (λ h. if t == h then c h else 0) n (λ j below. let ne : eqb t j ≡ false = ne_eqb t j (λ s. omega arith) in rw ne) in
+          total-zero (λ h. if t == h then c h else 0) n
+          (λ j below. let ne : eqb t j ≡ false = ne_eqb t j (λ s. omega arith) in rw ne) in
           let here : eqb t n ≡ true = eq-eqb t n e in
           rw (rest, here) (let same : c n ≡ c t = ap c (sym e) in omega arith)
       | inr ne ↦
-          let before : total (λ h. if t == h then c h else 0) n ≡ c t = total-single c n t (omega arith) in
+          let before : total (λ h. if t == h then c h else 0) n ≡ c t =
+          total-single c n t (omega arith) in
           let here : eqb t n ≡ false = ne_eqb t n ne in
           rw (before, here) (omega arith)
     ]

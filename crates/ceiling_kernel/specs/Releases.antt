@@ -118,12 +118,12 @@ refusal_of U rs until =
     (refuse_if (nat_lt RELEASE_LIMIT (length rs)) fault.TooMany))))))
 
 -- ---- how they are found
--- a fault is want of memory, or the refusal
+-- a fault is out of memory, or the refusal
 abbrev pub IsRefusal : RunFault → Option RunFault → Type 0
 IsRefusal fault.OutOfMemory refusal = Unit {0}
 IsRefusal e refusal = refusal ≡ Some e
 
--- a fault is want of memory, or names the first release whose task is unknown
+-- a fault is out of memory, or names the first release whose task is unknown
 abbrev pub IsUnknown : List Task → List Release → RunFault → Type 0
 IsUnknown U rs fault.OutOfMemory = Unit {0}
 IsUnknown U rs e =

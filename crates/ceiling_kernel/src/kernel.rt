@@ -18,7 +18,7 @@ use task_sheet::TaskSet;
 pub enum KernelFault {
     /// The order doesn't name each index of the set once.
     WrongOrder,
-    /// Want of memory.
+    /// Out of memory.
     OutOfMemory,
 }
 

@@ -58,7 +58,7 @@ pub enum RunFault {
     TooMany,
     /// A job of the task becomes ready at this time, and its job before isn't finished then.
     Overrun { name: Name, time: u64 },
-    /// Want of memory.
+    /// Out of memory.
     OutOfMemory,
 }
 

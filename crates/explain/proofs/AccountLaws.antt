@@ -1,5 +1,7 @@
 -- The responses of an order, each with its parts.
-use Rattle.std.proofs.Common.{◌≡◌, ℕ, ◌+◌, ◌<◌, ◌≤◌, Bool, true, false, ◌==◌, ◌||◌, inl, inr, List, [], ◌∷◌, ◌++◌, length, get_or, drop, All, append_assoc, refl, sym, ◌∙◌, ap, subst, arith}
+use Rattle.std.proofs.Common.{◌≡◌, ℕ, ◌+◌, ◌<◌, ◌≤◌, Bool, true, false, ◌==◌, ◌||◌, inl, inr, List}
+use Rattle.std.proofs.Common.{[], ◌∷◌, ◌++◌, length, get_or, drop, All, append_assoc, refl, sym}
+use Rattle.std.proofs.Common.{◌∙◌, ap, subst, arith}
 use Rattle.std.proofs.lemmas.Bool.{cases_eq, eq-eqb, ne_eqb, ltb-true}
 use Rattle.std.proofs.lemmas.List.{drop_more, get_or-map, length-map}
 use Rattle.std.proofs.lemmas.List.Elements.{All-from_recursion}
@@ -8,7 +10,8 @@ use Rattle.task_sheet.specs.TaskSet.{IsTaskSet}
 use Rattle.task_sheet.specs.Indexes.{Indexes, IsPart, with_index, without_index, among}
 use Rattle.task_sheet.specs.Demand.{IsResponseOf}
 use Rattle.task_sheet.specs.Orders.{all_of, IsOrderOf, AllStand}
-use Rattle.task_sheet.proofs.IndexLaws.{without-part_of, IsOrderOf-among, IsOrderOf-head, IsOrderOf-rest, order-below}
+use Rattle.task_sheet.proofs.IndexLaws.{without-part_of, IsOrderOf-among, IsOrderOf-head}
+use Rattle.task_sheet.proofs.IndexLaws.{IsOrderOf-rest, order-below}
 use Rattle.task_sheet.proofs.PassingLaws.{IsResponseOf-one, Passes-iff_response}
 use Rattle.task_sheet.proofs.TaskLaws.{AllTasks-from_set}
 use Rattle.assignment.specs.Places.{PlaceData}
@@ -18,28 +21,41 @@ use Rattle.explain.specs.declared.accounts.Account.{Account}
 
 -- each response of an order that passes is in time
 module _ (U : List Task) (valid : AllTasks U) where
-  in-time : (L : Indexes) (places : List PlaceData) → IsOrderOf L (tasks_of_places places) → IsPart L (all_of U) → AllRespond U L places → AllStand U (tasks_of_places places) → AreInTime U places
+  in-time : (L : Indexes) (places : List PlaceData) → IsOrderOf L (tasks_of_places places)
+      → IsPart L (all_of U) → AllRespond U L places → AllStand U (tasks_of_places places)
+      → AreInTime U places
   in-time L [] each part responds stands = tt
   in-time L (p ∷ places) each part responds stands =
       let above = tasks_of_places places in
       let rest : IsOrderOf (without_index L p.task) above = IsOrderOf-rest L p.task above each in
       let part' = without-part_of (length U) L p.task part in
-      let same : among above ≡ without_index L p.task = IsOrderOf-among (without_index L p.task) above rest in
-      let lt : p.task < length U = ltb-true p.task (length U) (part p.task (IsOrderOf-head L p.task above each)) in
-      let response : IsResponseOf U p.task (among above) p.response = subst (λ (X : Indexes). IsResponseOf U p.task X p.response) (sym same) responds.0 in
+      let same : among above ≡ without_index L p.task =
+      IsOrderOf-among (without_index L p.task) above rest in
+      let lt : p.task < length U =
+      ltb-true p.task (length U) (part p.task (IsOrderOf-head L p.task above each)) in
+      let response : IsResponseOf U p.task (among above) p.response =
+      subst (λ (X : Indexes). IsResponseOf U p.task X p.response) (sym same) responds.0 in
       let found = (Passes-iff_response U valid p.task (among above) lt).0 stands.0.0 in (
         record {
           in_set = lt;
-          others = All-from_recursion (λ k. k < length U) above (order-below (length U) (without_index L p.task) above rest part');
+          others = All-from_recursion (λ k. k < length U) above
+              (order-below (length U) (without_index L p.task) above rest part');
           response = response;
-          in_time = omega (arith, IsResponseOf-one U p.task (among above) p.response found.0 response found.1, found.2);
+          in_time = omega (
+            arith,
+            IsResponseOf-one U p.task (among above) p.response found.0
+                response found.1,
+            found.2,
+          );
         },
         in-time (without_index L p.task) places rest part' responds.1 stands.1,
       )
 
-pub best-in_time : (U : List Task) (places : List PlaceData) → IsTaskSet U → IsBestPlacing U places → AreInTime U places
+pub best-in_time : (U : List Task) (places : List PlaceData) → IsTaskSet U → IsBestPlacing U places
+    → AreInTime U places
 best-in_time U places set best =
-    in-time U (AllTasks-from_set U set) (all_of U) places best.best.passing.each_once (λ k h. h) best.each best.best.passing.each_stands
+    in-time U (AllTasks-from_set U set) (all_of U) places best.best.passing.each_once (λ k h. h)
+    best.each best.best.passing.each_stands
 
 -- ---- which tasks
 flip : (i k : ℕ) → (k == i) ≡ (i == k)
@@ -53,30 +69,54 @@ moved true true c = refl
 moved true false c = refl
 moved false b c = refl
 
-pub among-more : (members : Indexes) (i : ℕ) (names all : List ℕ) → ((k : ℕ) → (members k || among (i ∷ names) k) ≡ among all k) → (k : ℕ) → (with_index members i k || among names k) ≡ among all k
+pub among-more : (members : Indexes) (i : ℕ) (names all : List ℕ)
+    → ((k : ℕ) → (members k || among (i ∷ names) k) ≡ among all k) → (k : ℕ)
+    → (with_index members i k || among names k) ≡ among all k
 among-more members i names all before k =
-    ap (λ b. (b || members k) || among names k) (flip i k) ∙ moved (i == k) (members k) (among names k) ∙ before k
+    ap (λ b. (b || members k) || among names k) (flip i k)
+    ∙ moved (i == k) (members k) (among names k) ∙ before k
 
 -- a place further
-pub among-next : (before after : Indexes) (places : List PlaceData) (idx : ℕ) (p : PlaceData) (i : ℕ) → idx < length places → p ≡ get_or places idx p → p.task ≡ i → after ≡ with_index before i
-    → ((k : ℕ) → (before k || among (tasks_of_places (drop idx places)) k) ≡ among (tasks_of_places places) k)
-    → (k : ℕ) → (after k || among (tasks_of_places (drop (idx + 1) places)) k) ≡ among (tasks_of_places places) k
+pub among-next : (before after : Indexes) (places : List PlaceData) (idx : ℕ) (p : PlaceData)
+    (i : ℕ) → idx < length places → p ≡ get_or places idx p → p.task ≡ i
+    → after ≡ with_index before i
+    → ((k : ℕ) → (before k || among (tasks_of_places (drop idx places)) k)
+    ≡ among (tasks_of_places places) k)
+    → (k : ℕ) → (after k || among (tasks_of_places (drop (idx + 1) places)) k)
+    ≡ among (tasks_of_places places) k
 among-next before after places idx p i lt is same more so k =
     let rest = drop (idx + 1) places in
-    let here : drop idx places ≡ p ∷ rest = drop_more places idx p lt ∙ ap (λ (q : PlaceData). q ∷ rest) (sym is) in
-    let names : tasks_of_places (drop idx places) ≡ i ∷ tasks_of_places rest = ap (λ (ps : List PlaceData). tasks_of_places ps) here ∙ ap (λ n. n ∷ tasks_of_places rest) same in
+    let here : drop idx places ≡ p ∷ rest = drop_more places idx p lt
+    ∙ ap (λ (q : PlaceData). q ∷ rest) (sym is) in
+    let names : tasks_of_places (drop idx places) ≡ i ∷ tasks_of_places rest =
+    ap (λ (ps : List PlaceData). tasks_of_places ps) here
+    ∙ ap (λ n. n ∷ tasks_of_places rest) same in
     ap (λ (X : Indexes). X k || among (tasks_of_places rest) k) more
-    ∙ among-more before i (tasks_of_places rest) (tasks_of_places places) (λ j. ap (λ ns. before j || among ns j) (sym names) ∙ so j) k
+    ∙ among-more before i (tasks_of_places rest) (tasks_of_places places)
+    (λ j. ap (λ ns. before j || among ns j) (sym names) ∙ so j) k
 
-pub places-within : (n m : ℕ) (places : List PlaceData) → n ≤ m → All (λ k. k < n) (tasks_of_places places) → All (λ (p : PlaceData). p.task < m) places
+pub places-within : (n m : ℕ) (places : List PlaceData) → n ≤ m
+    → All (λ k. k < n) (tasks_of_places places) → All (λ (p : PlaceData). p.task < m) places
 places-within n m places le all k d lt =
-    let same : get_or (tasks_of_places places) k d.task ≡ (get_or places k d).task = get_or-map (λ (p : PlaceData). p.task) places k d d.task lt in
-    omega (arith, all k d.task (omega (arith, lt, length-map places (λ (p : PlaceData). p.task))), same)
+    let same : get_or (tasks_of_places places) k d.task ≡ (get_or places k d).task =
+    get_or-map (λ (p : PlaceData). p.task) places k d d.task lt in
+    omega (
+      arith,
+      all k d.task
+          (omega (arith, lt, length-map places (λ (p : PlaceData). p.task))),
+      same,
+    )
 
 -- ---- one account after the other
-pub AreResponseAccounts-next : (U : List Task) (places rest after : List PlaceData) (p : PlaceData) (before now : List Account) (a : Account) → rest ≡ p ∷ after → now ≡ before ++ a ∷ []
-    → IsResponseAccount U (tasks_of_places after) p a → ((accounts : List Account) → AreResponseAccounts U rest accounts → AreResponseAccounts U places (before ++ accounts))
-    → (accounts : List Account) → AreResponseAccounts U after accounts → AreResponseAccounts U places (now ++ accounts)
+pub AreResponseAccounts-next : (U : List Task) (places rest after : List PlaceData) (p : PlaceData)
+    (before now : List Account) (a : Account) → rest ≡ p ∷ after → now ≡ before ++ a ∷ []
+    → IsResponseAccount U (tasks_of_places after) p a → ((accounts : List Account)
+    → AreResponseAccounts U rest accounts → AreResponseAccounts U places (before ++ accounts))
+    → (accounts : List Account) → AreResponseAccounts U after accounts
+    → AreResponseAccounts U places (now ++ accounts)
 AreResponseAccounts-next U places rest after p before now a split pushed is whole accounts are =
-    let one_more = whole (a ∷ accounts) (subst (λ (ps : List PlaceData). AreResponseAccounts U ps (a ∷ accounts)) (sym split) (is, are)) in
-    subst (λ (all : List Account). AreResponseAccounts U places all) (sym (ap (λ (some : List Account). some ++ accounts) pushed ∙ append_assoc before (a ∷ []) accounts)) one_more
+    let one_more = whole (a ∷ accounts) (subst (λ (ps : List PlaceData). AreResponseAccounts U ps
+    (a ∷ accounts)) (sym split) (is, are)) in
+    subst (λ (all : List Account). AreResponseAccounts U places all)
+    (sym (ap (λ (some : List Account). some ++ accounts) pushed
+    ∙ append_assoc before (a ∷ []) accounts)) one_more

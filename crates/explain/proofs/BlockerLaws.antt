@@ -1,27 +1,34 @@
 -- The first of the sections that block longest.
-use Rattle.std.proofs.Common.{◌≡◌, ◌≢◌, ℕ, ◌+◌, ◌<◌, inl, inr, Bool, true, false, cond, ◌&&◌, List, [], ◌∷◌, length, slice_get, Some, None, refl, sym, ◌∙◌, ap, subst, arith}
+use Rattle.std.proofs.Common.{◌≡◌, ◌≢◌, ℕ, ◌+◌, ◌<◌, inl, inr, Bool, true, false, cond, ◌&&◌, List}
+use Rattle.std.proofs.Common.{[], ◌∷◌, length, slice_get, Some, None, refl, sym, ◌∙◌, ap, subst}
+use Rattle.std.proofs.Common.{arith}
 use Rattle.std.specs.List.{find, list_any}
-use Rattle.std.proofs.lemmas.Bool.{cases_Bool, cases_eq, both_ways, and_parts, and_from, or_cases, or_left, or_right}
-use Rattle.std.proofs.lemmas.Option.{none-some, same_Some, slice_get_within, slice_get-get_or, get_or_from_slice_get}
+use Rattle.std.proofs.lemmas.Bool.{cases_Bool, cases_eq, both_ways, and_parts, and_from, or_cases}
+use Rattle.std.proofs.lemmas.Bool.{or_left, or_right}
+use Rattle.std.proofs.lemmas.Option.{none-some, same_Some, slice_get_within, slice_get-get_or}
+use Rattle.std.proofs.lemmas.Option.{get_or_from_slice_get}
 use Rattle.task_sheet.specs.Sheet.{CriticalSection, Task, task_at}
 use Rattle.task_sheet.specs.Indexes.{Indexes, with_index, some_below}
 use Rattle.task_sheet.specs.Locks.{uses, reaches}
 use Rattle.task_sheet.specs.Demand.{blocking_of, Blocks}
 use Rattle.task_sheet.proofs.Below.{some_below-at, some_below-witness}
 use Rattle.task_sheet.proofs.BlockingLaws.{blocking-above, blocking-some}
-use Rattle.explain.specs.Parts.{BlockerData, has_user, reached_lock, BlocksAt, IsFirstBlocker}
-use Rattle.explain.specs.Blockers.{HasNoneBefore, IsFirstOf}
+use Rattle.explain.specs.Blocking.{BlockerData, has_user, reached_lock, BlocksAt, IsFirstBlocker}
+use Rattle.explain.specs.Blocking.{HasNoneBefore, IsFirstOf}
 
 -- ---- a section is reached where a lock of it has a user
 module _ (U : List Task) (X : Indexes) where
   abbrev reach : List (List ℕ) → Bool
   reach locks = some_below (length U) (λ k. X k && list_any (λ lock. uses (task_at U k) lock) locks)
 
-  reach-at : (locks : List (List ℕ)) (k : ℕ) → k < length U → X k ≡ true → list_any (λ lock. uses (task_at U k) lock) locks ≡ true → reach locks ≡ true
+  reach-at : (locks : List (List ℕ)) (k : ℕ) → k < length U → X k ≡ true
+      → list_any (λ lock. uses (task_at U k) lock) locks ≡ true → reach locks ≡ true
   reach-at locks k lt member used =
-      some_below-at (length U) (λ k. X k && list_any (λ lock. uses (task_at U k) lock) locks) k lt (and_from _ _ member used)
+      some_below-at (length U) (λ k. X k && list_any (λ lock. uses (task_at U k) lock) locks) k lt
+      (and_from _ _ member used)
 
-  found-reach : (locks : List (List ℕ)) (lock : List ℕ) → find (has_user U X) locks ≡ Some lock → reach locks ≡ true
+  found-reach : (locks : List (List ℕ)) (lock : List ℕ) → find (has_user U X) locks ≡ Some lock
+      → reach locks ≡ true
   found-reach [] lock found = absurd (none-some lock found)
   found-reach (l ∷ locks) lock found = elim (cases_Bool (has_user U X l)) [
     | inl used ↦
@@ -29,50 +36,63 @@ module _ (U : List Task) (X : Indexes) where
         let both = and_parts (X at.0) (uses (task_at U at.0) l) at.2 in
         reach-at (l ∷ locks) at.0 at.1 both.0 (or_left _ _ both.1)
     | inr unused ↦
-        let rest = found-reach locks lock (sym (ap (λ b. cond b (Some l) (find (has_user U X) locks)) unused) ∙ found) in
-        let at = some_below-witness (length U) (λ k. X k && list_any (λ lock. uses (task_at U k) lock) locks) rest in
+        let rest = found-reach locks lock
+        (sym (ap (λ b. cond b (Some l) (find (has_user U X) locks)) unused) ∙ found) in
+        let at = some_below-witness (length U)
+        (λ k. X k && list_any (λ lock. uses (task_at U k) lock) locks) rest in
         let both = and_parts (X at.0) (list_any (λ lock. uses (task_at U at.0) lock) locks) at.2 in
         reach-at (l ∷ locks) at.0 at.1 both.0 (or_right _ _ both.1)
   ]
 
   none-reach : (locks : List (List ℕ)) → find (has_user U X) locks ≡ None → ¬ (reach locks ≡ true)
   none-reach [] none reached =
-      let at = some_below-witness (length U) (λ k. X k && list_any (λ lock. uses (task_at U k) lock) []) reached in
+      let at = some_below-witness (length U)
+      (λ k. X k && list_any (λ lock. uses (task_at U k) lock) []) reached in
       both_ways false refl (and_parts (X at.0) false at.2).1
   none-reach (l ∷ locks) none reached = elim (cases_Bool (has_user U X l)) [
     | inl used ↦ none-some l (sym none ∙ ap (λ b. cond b (Some l) (find (has_user U X) locks)) used)
     | inr unused ↦
-        let rest = none-reach locks (sym (ap (λ b. cond b (Some l) (find (has_user U X) locks)) unused) ∙ none) in
-        let at = some_below-witness (length U) (λ k. X k && list_any (λ lock. uses (task_at U k) lock) (l ∷ locks)) reached in
-        let both = and_parts (X at.0) (list_any (λ lock. uses (task_at U at.0) lock) (l ∷ locks)) at.2 in
+        let rest = none-reach locks
+        (sym (ap (λ b. cond b (Some l) (find (has_user U X) locks)) unused) ∙ none) in
+        let at = some_below-witness (length U)
+        (λ k. X k && list_any (λ lock. uses (task_at U k) lock) (l ∷ locks)) reached in
+        let both =
+        and_parts (X at.0) (list_any (λ lock. uses (task_at U at.0) lock) (l ∷ locks)) at.2 in
         elim (or_cases _ _ both.1) [
-          | inl here ↦ both_ways (has_user U X l) unused (some_below-at (length U) (λ k. X k && uses (task_at U k) l) at.0 at.1 (and_from _ _ both.0 here))
+          | inl here ↦ both_ways (has_user U X l) unused (some_below-at (length U)
+              (λ k. X k && uses (task_at U k) l) at.0 at.1 (and_from _ _ both.0 here))
           | inr later ↦ rest (reach-at locks at.0 at.1 both.0 later)
         ]
   ]
 
-  pub lock-reaches : (s : CriticalSection) (lock : List ℕ) → reached_lock U X s ≡ Some lock → reaches U X s ≡ true
+  pub lock-reaches : (s : CriticalSection) (lock : List ℕ) → reached_lock U X s ≡ Some lock
+      → reaches U X s ≡ true
   lock-reaches s lock found = found-reach s.locks lock found
 
   pub no_lock-reaches : (s : CriticalSection) → reached_lock U X s ≡ None → ¬ (reaches U X s ≡ true)
   no_lock-reaches s none = none-reach s.locks none
 
 -- ---- the sections of a task, one after the other
-pub HasNoneBefore-start : (U : List Task) (X : Indexes) (task len : ℕ) → HasNoneBefore U X task len 0
+pub HasNoneBefore-start : (U : List Task) (X : Indexes) (task len : ℕ)
+    → HasNoneBefore U X task len 0
 HasNoneBefore-start U X task len = λ place s lt. absurd (omega arith)
 
 -- one more, which is shorter or isn't reached
-pub HasNoneBefore-more : (U : List Task) (X : Indexes) (task len place : ℕ) (s : CriticalSection) → HasNoneBefore U X task len place → slice_get (task_at U task).sections place ≡ Some s
+pub HasNoneBefore-more : (U : List Task) (X : Indexes) (task len place : ℕ) (s : CriticalSection)
+    → HasNoneBefore U X task len place → slice_get (task_at U task).sections place ≡ Some s
     → (reaches U X s ≡ true → s.len ≢ len) → HasNoneBefore U X task len (place + 1)
-HasNoneBefore-more U X task len place s before at here = λ k other lt there reached. elim (cases_eq k place) [
-  | inl e ↦
-      let same : s ≡ other = same_Some s other (sym at ∙ sym (ap (λ n. slice_get (task_at U task).sections n) e) ∙ there) in
-      subst (λ (x : CriticalSection). reaches U X x ≡ true → x.len ≢ len) same here reached
-  | inr ne ↦ before k other (omega arith) there reached
-]
+HasNoneBefore-more U X task len place s before at here =
+    λ k other lt there reached. elim (cases_eq k place) [
+      | inl e ↦
+          let same : s ≡ other = same_Some s other
+          (sym at ∙ sym (ap (λ n. slice_get (task_at U task).sections n) e) ∙ there) in
+          subst (λ (x : CriticalSection). reaches U X x ≡ true → x.len ≢ len) same here reached
+      | inr ne ↦ before k other (omega arith) there reached
+    ]
 
 -- ---- the tasks, by rank
-BlocksAt-Blocks : (U : List Task) (i : ℕ) (H : Indexes) (task place : ℕ) (s : CriticalSection) → BlocksAt U i H task place s → Blocks U i H s
+BlocksAt-Blocks : (U : List Task) (i : ℕ) (H : Indexes) (task place : ℕ) (s : CriticalSection)
+    → BlocksAt U i H task place s → Blocks U i H s
 BlocksAt-Blocks U i H task place s b =
     let lt = slice_get_within (task_at U task).sections place s b.section in
     record {
@@ -88,13 +108,18 @@ abbrev pub NoneAmong : List Task → Indexes → ℕ → ℕ → Type 0
 NoneAmong U X len n =
     (k : ℕ) → k < n → X k ≡ false → HasNoneBefore U X k len (length (task_at U k).sections)
 
-pub NoneAmong-more : (U : List Task) (X : Indexes) (len n : ℕ) → NoneAmong U X len n → (X n ≡ false → HasNoneBefore U X n len (length (task_at U n).sections)) → NoneAmong U X len (n + 1)
+pub NoneAmong-more : (U : List Task) (X : Indexes) (len n : ℕ) → NoneAmong U X len n
+    → (X n ≡ false → HasNoneBefore U X n len (length (task_at U n).sections))
+    → NoneAmong U X len (n + 1)
 NoneAmong-more U X len n before here = λ k lt outside. elim (cases_eq k n) [
-  | inl e ↦ subst (λ j. X j ≡ false → HasNoneBefore U X j len (length (task_at U j).sections)) (sym e) here outside
+  | inl e ↦ subst (λ j. X j ≡ false → HasNoneBefore U X j len (length (task_at U j).sections))
+      (sym e) here outside
   | inr ne ↦ before k (omega arith) outside
 ]
 
-first-blocks : (U : List Task) (i : ℕ) (H : Indexes) (owner : ℕ) (b : BlockerData) → owner < length U → with_index H i owner ≡ false → NoneAmong U (with_index H i) (blocking_of U i H) owner
+first-blocks : (U : List Task) (i : ℕ) (H : Indexes) (owner : ℕ) (b : BlockerData)
+    → owner < length U → with_index H i owner ≡ false
+    → NoneAmong U (with_index H i) (blocking_of U i H) owner
     → IsFirstOf U (with_index H i) owner (blocking_of U i H) b → IsFirstBlocker U i H b
 first-blocks U i H owner b lt outside before is =
     let X = with_index H i in
@@ -104,7 +129,8 @@ first-blocks U i H owner b lt outside before is =
       blocks = record {
         in_set = subst (λ k. k < length U) (sym is.owner) lt;
         outside = subst (λ k. X k ≡ false) (sym is.owner) outside;
-        section = subst (λ k. slice_get (task_at U k).sections b.place ≡ Some is.section) (sym is.owner) is.placed;
+        section = subst (λ k. slice_get (task_at U k).sections b.place ≡ Some is.section)
+            (sym is.owner) is.placed;
         reached = lock-reaches U X is.section b.lock is.lock;
       };
       len = is.len_is ∙ sym is.long;
@@ -112,16 +138,20 @@ first-blocks U i H owner b lt outside before is =
       first = λ task place s blocks earlier.
           let most = blocking-above U i H s (BlocksAt-Blocks U i H task place s blocks) in
           let shorter : s.len ≢ longest = elim earlier [
-            | inl lower ↦ before task (subst (λ k. task < k) is.owner lower) blocks.outside place s (slice_get_within (task_at U task).sections place s blocks.section) blocks.section blocks.reached
+            | inl lower ↦ before task (subst (λ k. task < k) is.owner lower) blocks.outside place s
+                (slice_get_within (task_at U task).sections place s blocks.section) blocks.section
+                blocks.reached
             | inr same ↦
                 let e : task ≡ owner = same.0 ∙ is.owner in
-                is.first place s same.1 (subst (λ k. slice_get (task_at U k).sections place ≡ Some s) e blocks.section) blocks.reached
+                is.first place s same.1 (subst (λ k. slice_get (task_at U k).sections place
+                ≡ Some s) e blocks.section) blocks.reached
           ] in
           subst (λ n. s.len < n) (sym is.len_is) (omega (arith, most, shorter));
       lock = is.lock;
     }
 
-none-blocks : (U : List Task) (i : ℕ) (H : Indexes) → NoneAmong U (with_index H i) (blocking_of U i H) (length U) → blocking_of U i H ≡ 0
+none-blocks : (U : List Task) (i : ℕ) (H : Indexes)
+    → NoneAmong U (with_index H i) (blocking_of U i H) (length U) → blocking_of U i H ≡ 0
 none-blocks U i H none = elim (blocking-some U i H) [
   | inl zero ↦ zero
   | inr some ↦
@@ -129,15 +159,20 @@ none-blocks U i H none = elim (blocking-some U i H) [
       let b = some.1 in
       let place = b.section.0 in
       let at : slice_get (task_at U b.task).sections place ≡ Some s =
-      slice_get-get_or (task_at U b.task).sections place s b.section.1 ∙ ap (λ (x : CriticalSection). Some x) b.section.2 in
+      slice_get-get_or (task_at U b.task).sections place s b.section.1
+      ∙ ap (λ (x : CriticalSection). Some x) b.section.2 in
       absurd (none b.task b.in_set b.outside place s b.section.1 at b.reached (sym some.2))
 ]
 
 -- ---- the same of the members X and the length that the search holds
-pub first-found : (U : List Task) (i : ℕ) (H X : Indexes) (len owner : ℕ) (b : BlockerData) → X ≡ with_index H i → len ≡ blocking_of U i H → owner < length U → X owner ≡ false → NoneAmong U X len owner
+pub first-found : (U : List Task) (i : ℕ) (H X : Indexes) (len owner : ℕ) (b : BlockerData)
+    → X ≡ with_index H i → len ≡ blocking_of U i H → owner < length U → X owner ≡ false
+    → NoneAmong U X len owner
     → IsFirstOf U X owner len b → IsFirstBlocker U i H b
 first-found U i H X len owner b same long lt outside before is =
-    first-blocks U i H owner b lt (rw same at outside) (rw (same, long) at before) (rw (same, long) at is)
+    first-blocks U i H owner b lt (rw same at outside) (rw (same, long) at before)
+    (rw (same, long) at is)
 
-pub none-found : (U : List Task) (i : ℕ) (H X : Indexes) (len : ℕ) → X ≡ with_index H i → len ≡ blocking_of U i H → NoneAmong U X len (length U) → blocking_of U i H ≡ 0
+pub none-found : (U : List Task) (i : ℕ) (H X : Indexes) (len : ℕ) → X ≡ with_index H i
+    → len ≡ blocking_of U i H → NoneAmong U X len (length U) → blocking_of U i H ≡ 0
 none-found U i H X len same long none = none-blocks U i H (rw (same, long) at none)

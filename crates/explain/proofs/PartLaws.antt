@@ -1,15 +1,21 @@
 -- The parts of a demand add up.
-use Rattle.std.proofs.Common.{◌≡◌, ℕ, zero, suc, ◌+◌, ◌<◌, ◌≤◌, inl, inr, true, cond, List, [], ◌∷◌, length, map, sum_by, Option, Some, None, refl, sym, ◌∙◌, ap, arith}
+use Rattle.std.proofs.Common.{◌≡◌, ℕ, zero, suc, ◌+◌, ◌<◌, ◌≤◌, inl, inr, true, cond, List, [], ◌∷◌}
+use Rattle.std.proofs.Common.{length, map, sum_by, Option, Some, None, refl, sym, ◌∙◌, ap, arith}
 use Rattle.std.proofs.lemmas.Bool.{cases_eq, ltb-true}
 use Rattle.std.proofs.lemmas.List.Sums.{sum_by-append, sum_by-cons}
 use Rattle.task_sheet.specs.declared.node.Interrupt.{Interrupt}
 use Rattle.task_sheet.specs.Sheet.{Task, task_at}
 use Rattle.task_sheet.specs.Indexes.{Indexes, IsPart, below, no_index, without_index, sum_below}
-use Rattle.task_sheet.specs.Demand.{interference_of, interference_within, interrupt_within, interrupts_of, interrupts_within, blocking_of, demand_of, past_jitter, IsResponseOf}
+use Rattle.task_sheet.specs.Demand.{interference_of, interference_within, interrupt_within}
+use Rattle.task_sheet.specs.Demand.{interrupts_of, interrupts_within, blocking_of, demand_of}
+use Rattle.task_sheet.specs.Demand.{past_jitter, IsResponseOf}
 use Rattle.task_sheet.specs.Orders.{all_of, IsOrderOf}
-use Rattle.task_sheet.proofs.IndexLaws.{without-gone, without-kept, without-part_of, IsOrderOf-among, IsOrderOf-head, IsOrderOf-rest}
+use Rattle.task_sheet.proofs.IndexLaws.{without-gone, without-kept, without-part_of}
+use Rattle.task_sheet.proofs.IndexLaws.{IsOrderOf-among, IsOrderOf-head, IsOrderOf-rest}
 use Rattle.task_sheet.proofs.PassingLaws.{IsResponseOf-iff}
-use Rattle.explain.specs.Parts.{AboveData, PartsData, BlockerData, IsBlockerOf, IsPartsOf, above_at, all_interrupts, blocked_by, interruption_at, timer_within, timers_within, total_of}
+use Rattle.explain.specs.Parts.{AboveData, PartsData, IsPartsOf, above_at, all_interrupts}
+use Rattle.explain.specs.Parts.{interruption_at, timer_within, timers_within, total_of}
+use Rattle.explain.specs.Blocking.{BlockerData, IsBlockerOf, blocked_by}
 use Rattle.explain.specs.declared.parts.Interruption.{Interruption}
 
 module _ (f : ℕ → ℕ) where
@@ -17,22 +23,27 @@ module _ (f : ℕ → ℕ) where
   part_of L h = cond (L h) (f h) 0
 
   -- a task past the end takes nothing away
-  sum-past : (n : ℕ) (L : Indexes) (i : ℕ) → n ≤ i → sum_below n (part_of (without_index L i)) ≡ sum_below n (part_of L)
+  sum-past : (n : ℕ) (L : Indexes) (i : ℕ) → n ≤ i
+      → sum_below n (part_of (without_index L i)) ≡ sum_below n (part_of L)
   sum-past zero L i le = refl
   sum-past (suc n) L i le =
-      let here : part_of (without_index L i) n ≡ part_of L n = ap (λ b. cond b (f n) 0) (without-kept L i n (λ e. omega arith)) in
+      let here : part_of (without_index L i) n ≡ part_of L n =
+      ap (λ b. cond b (f n) 0) (without-kept L i n (λ e. omega arith)) in
       omega (arith, sum-past n L i (omega arith), here)
 
   -- one task's part, and the rest
-  sum-one : (n : ℕ) (L : Indexes) (i : ℕ) → i < n → L i ≡ true → sum_below n (part_of L) ≡ f i + sum_below n (part_of (without_index L i))
+  sum-one : (n : ℕ) (L : Indexes) (i : ℕ) → i < n → L i ≡ true
+      → sum_below n (part_of L) ≡ f i + sum_below n (part_of (without_index L i))
   sum-one zero L i lt member = absurd (omega arith)
   sum-one (suc n) L i lt member = elim (cases_eq n i) [
     | inl e ↦
         let own : part_of L n ≡ f i = ap (λ k. part_of L k) e ∙ ap (λ b. cond b (f i) 0) member in
-        let gone : part_of (without_index L i) n ≡ 0 = ap (λ b. cond b (f n) 0) (without-gone L i n e) in
+        let gone : part_of (without_index L i) n ≡ 0 =
+        ap (λ b. cond b (f n) 0) (without-gone L i n e) in
         omega (arith, own, gone, sum-past n L i (omega arith))
     | inr ne ↦
-        let here : part_of (without_index L i) n ≡ part_of L n = ap (λ b. cond b (f n) 0) (without-kept L i n ne) in
+        let here : part_of (without_index L i) n ≡ part_of L n =
+        ap (λ b. cond b (f n) 0) (without-kept L i n ne) in
         omega (arith, here, sum-one n L i (omega arith) member)
   ]
 
@@ -41,36 +52,54 @@ module _ (f : ℕ → ℕ) where
   sum-none (suc n) = omega (arith, sum-none n)
 
   -- the parts of an order's tasks
-  pub sum-order : (n : ℕ) (L : Indexes) (order : List ℕ) → IsOrderOf L order → IsPart L (below n) → sum_by f order ≡ sum_below n (part_of L)
-  sum-order n L [] each part = sym (ap (λ (X : Indexes). sum_below n (part_of X)) (sym (IsOrderOf-among L [] each)) ∙ sum-none n)
+  pub sum-order : (n : ℕ) (L : Indexes) (order : List ℕ) → IsOrderOf L order → IsPart L (below n)
+      → sum_by f order ≡ sum_below n (part_of L)
+  sum-order n L [] each part = sym (ap (λ (X : Indexes). sum_below n (part_of X))
+      (sym (IsOrderOf-among L [] each)) ∙ sum-none n)
   sum-order n L (i ∷ above) each part =
       let member = IsOrderOf-head L i above each in
-      let rest = sum-order n (without_index L i) above (IsOrderOf-rest L i above each) (without-part_of n L i part) in
-      rw (sum_by-cons f i above) (omega (arith, rest, sum-one n L i (ltb-true i n (part i member)) member))
+      let rest = sum-order n (without_index L i) above (IsOrderOf-rest L i above each)
+      (without-part_of n L i part) in
+      rw (sum_by-cons f i above)
+      (omega (arith, rest, sum-one n L i (ltb-true i n (part i member)) member))
 
 -- the first of what is summed, and the rest
 sum_first : (n : ℕ) (f : ℕ → ℕ) → sum_below (suc n) f ≡ f 0 + sum_below n (λ k. f (suc k))
 sum_first zero f = omega arith
 sum_first (suc n) f = omega (arith, sum_first n f)
 
-times_of : (U : List Task) (time : ℕ) (order : List ℕ) → sum_by (λ (a : AboveData). a.time) (map (above_at U time) order) ≡ sum_by (λ h. interference_of (task_at U h) time) order
+times_of : (U : List Task) (time : ℕ) (order : List ℕ) → sum_by (λ (a : AboveData). a.time)
+    (map (above_at U time) order) ≡ sum_by (λ h. interference_of (task_at U h) time) order
 times_of U time [] = refl
 times_of U time (h ∷ order) =
-    rw (sum_by-cons (λ (a : AboveData). a.time) (above_at U time h) (map (above_at U time) order), sum_by-cons (λ h. interference_of (task_at U h) time) h order, times_of U time order) refl
+    rw (
+      sum_by-cons (λ (a : AboveData). a.time) (above_at U time h) (map (above_at U time) order),
+      sum_by-cons (λ h. interference_of (task_at U h) time) h order,
+      times_of U time order,
+    ) refl
 
 -- ---- timers and interrupts
 -- what is summed over the tasks of a set, by their indexes
-sum_tasks : (f : Task → ℕ) (U : List Task) → sum_below (length U) (λ k. f (task_at U k)) ≡ sum_by f U
+sum_tasks : (f : Task → ℕ) (U : List Task)
+    → sum_below (length U) (λ k. f (task_at U k)) ≡ sum_by f U
 sum_tasks f [] = refl
-sum_tasks f (t ∷ U) = rw (sum_by-cons f t U, sym (sum_tasks f U)) (sum_first (length U) (λ k. f (task_at (t ∷ U) k)))
+sum_tasks f (t ∷ U) =
+    rw (sum_by-cons f t U, sym (sum_tasks f U)) (sum_first (length U) (λ k. f (task_at (t ∷ U) k)))
 
-interruptions_of : (time : ℕ) (xs : List Interrupt) → sum_by (λ (x : Interruption). x.time) (map (interruption_at time) xs) ≡ sum_by (interrupt_within time) xs
+interruptions_of : (time : ℕ) (xs : List Interrupt) → sum_by (λ (x : Interruption). x.time)
+    (map (interruption_at time) xs) ≡ sum_by (interrupt_within time) xs
 interruptions_of time [] = refl
 interruptions_of time (x ∷ xs) =
-    rw (sum_by-cons (λ (x : Interruption). x.time) (interruption_at time x) (map (interruption_at time) xs), sum_by-cons (interrupt_within time) x xs, interruptions_of time xs) refl
+    rw (
+      sum_by-cons (λ (x : Interruption). x.time) (interruption_at time x) (map (interruption_at
+          time) xs),
+      sum_by-cons (interrupt_within time) x xs,
+      interruptions_of time xs,
+    ) refl
 
 -- those of a task, and those of the rest
-interrupted_sum : (time : ℕ) (U : List Task) → timers_within U time + sum_by (interrupt_within time) (all_interrupts U) ≡ sum_by (interrupts_of time) U
+interrupted_sum : (time : ℕ) (U : List Task) → timers_within U time + sum_by (interrupt_within time)
+    (all_interrupts U) ≡ sum_by (interrupts_of time) U
 interrupted_sum time [] = refl
 interrupted_sum time (t ∷ U) =
     omega (
@@ -81,27 +110,56 @@ interrupted_sum time (t ∷ U) =
       interrupted_sum time U,
     )
 
-interrupts-parts : (U : List Task) (time : ℕ) → timers_within U time + sum_by (λ (x : Interruption). x.time) (map (interruption_at time) (all_interrupts U)) ≡ interrupts_within U time
+interrupts-parts : (U : List Task) (time : ℕ)
+    → timers_within U time + sum_by (λ (x : Interruption). x.time)
+    (map (interruption_at time) (all_interrupts U)) ≡ interrupts_within U time
 unfolding interrupts_within
 interrupts-parts U time =
-    omega (arith, interruptions_of time (all_interrupts U), interrupted_sum time U, sum_tasks (interrupts_of time) U)
+    omega (
+      arith,
+      interruptions_of time (all_interrupts U),
+      interrupted_sum time U,
+      sum_tasks
+          (interrupts_of time) U,
+    )
 
-blocked_is : (U : List Task) (i : ℕ) (H : Indexes) (b : Option BlockerData) → IsBlockerOf U i H b → blocked_by b ≡ blocking_of U i H
+blocked_is : (U : List Task) (i : ℕ) (H : Indexes) (b : Option BlockerData) → IsBlockerOf U i H b
+    → blocked_by b ≡ blocking_of U i H
 blocked_is U i H None none = sym none
 blocked_is U i H (Some b) first = first.longest
 
-pub parts-demand : (U : List Task) (i : ℕ) (H : Indexes) (order : List ℕ) (time : ℕ) (parts : PartsData) → IsPartsOf U i H order time parts → IsOrderOf H order → IsPart H (all_of U)
+pub parts-demand : (U : List Task) (i : ℕ) (H : Indexes) (order : List ℕ) (time : ℕ)
+    (parts : PartsData) → IsPartsOf U i H order time parts → IsOrderOf H order → IsPart H (all_of U)
     → total_of parts ≡ demand_of U i H time + (task_at U i).jitter
 unfolding demand_of
 parts-demand U i H order time parts is each part =
     let above : sum_by (λ (a : AboveData). a.time) parts.above ≡ interference_within U H time =
-    ap (λ (xs : List AboveData). sum_by (λ (a : AboveData). a.time) xs) is.above ∙ times_of U time order ∙ sum-order (λ h. interference_of (task_at U h) time) (length U) H order each part in
-    let interrupts : sum_by (λ (x : Interruption). x.time) parts.interrupts ≡ sum_by (λ (x : Interruption). x.time) (map (interruption_at time) (all_interrupts U)) =
+    ap (λ (xs : List AboveData). sum_by (λ (a : AboveData). a.time) xs) is.above ∙ times_of U time
+    order ∙ sum-order (λ h. interference_of (task_at U h) time) (length U) H order each part in
+    let interrupts : sum_by (λ (x : Interruption). x.time) parts.interrupts
+    ≡ sum_by (λ (x : Interruption). x.time) (map (interruption_at time) (all_interrupts U)) =
     ap (λ (xs : List Interruption). sum_by (λ (x : Interruption). x.time) xs) is.interrupts in
-    omega (arith, is.cost, is.jitter, blocked_is U i H parts.blocker is.blocker, above, is.timers, interrupts, interrupts-parts U time)
+    omega (
+      arith,
+      is.cost,
+      is.jitter,
+      blocked_is U i H parts.blocker is.blocker,
+      above,
+      is.timers,
+      interrupts,
+      interrupts-parts U time,
+    )
 
-pub parts-response : (U : List Task) (i : ℕ) (H : Indexes) (order : List ℕ) (response : ℕ) (parts : PartsData) → IsResponseOf U i H response → IsPartsOf U i H order (past_jitter (task_at U i) response) parts
+pub parts-response : (U : List Task) (i : ℕ) (H : Indexes) (order : List ℕ) (response : ℕ)
+    (parts : PartsData) → IsResponseOf U i H response
+    → IsPartsOf U i H order (past_jitter (task_at U i) response) parts
     → IsOrderOf H order → IsPart H (all_of U) → total_of parts ≡ response
 parts-response U i H order response parts right is each part =
     let found = (IsResponseOf-iff U i H response).0 right in
-    omega (arith, parts-demand U i H order (past_jitter (task_at U i) response) parts is each part, right.fixed, right.positive, found.2)
+    omega (
+      arith,
+      parts-demand U i H order (past_jitter (task_at U i) response) parts is each part,
+      right.fixed,
+      right.positive,
+      found.2,
+    )

@@ -1,6 +1,6 @@
 pub mod Conflict
+pub mod Blocking
 pub mod Parts
-pub mod Blockers
 pub mod Accounts
 pub mod Needs
 pub mod Explanations

@@ -7,7 +7,8 @@ use Rattle.task_sheet.specs.Overheads.{overhead_of}
 use Rattle.task_sheet.specs.Locks.{uses}
 use Rattle.task_sheet.specs.Indexes.{indexes_of, listed_below}
 use Rattle.lines.specs.Naming.{name_at, named}
-use Rattle.explain.specs.Parts.{AboveData, BlockerData, PartsData}
+use Rattle.explain.specs.Parts.{AboveData, PartsData}
+use Rattle.explain.specs.Blocking.{BlockerData}
 use Rattle.explain.specs.Load.{load_of}
 use Rattle.explain.specs.declared.parts.Interruption.{Interruption}
 use Rattle.explain.specs.declared.accounts.Account.{Account}

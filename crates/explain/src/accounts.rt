@@ -75,7 +75,7 @@ fn response_account(
     })
 }
 
-/// The account of each response of an order of a set, the lowest level first. The error is want of memory.
+/// The account of each response of an order of a set, the lowest level first. The error is out of memory.
 pub(crate) fn response_accounts(
     alloc: Global,
     tabled: TabledSet<'_>,

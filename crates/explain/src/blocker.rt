@@ -3,8 +3,8 @@ ghost use Rattle.std.specs.Prelude.{◌≡◌, ◌<◌, length, find, IfSome, If
 ghost use Rattle.task_sheet.specs.Sheet.{task_at};
 ghost use Rattle.task_sheet.specs.Indexes.{indexes_of};
 ghost use Rattle.ceilings.specs.IsTableOf.{IsTableOf};
-ghost use Rattle.explain.specs.Parts.{IsBlockerOf, has_user, reached_lock, BlockerData};
-ghost use Rattle.explain.specs.Blockers.{HasNoneBefore, IsFirstOf};
+ghost use Rattle.explain.specs.Blocking.{IsBlockerOf, has_user, reached_lock, BlockerData};
+ghost use Rattle.explain.specs.Blocking.{HasNoneBefore, IsFirstOf};
 
 use crate::tabled::TabledSet;
 use blocking::blocking;

@@ -23,7 +23,7 @@ pub enum Explanation {
 }
 
 /// What explains a placing of a set: the parts of its responses, or a least conflict with what its tasks need
-/// (Audsley et al. 1993; Audsley 1991). The table is that of the set. The error is want of memory.
+/// (Audsley et al. 1993; Audsley 1991). The table is that of the set. The error is out of memory.
 pub fn explain(
     alloc: Global,
     set: &TaskSet,

@@ -80,7 +80,7 @@ fn chain_account(
 }
 
 /// What a task needs at least with these above it, where it doesn't pass with them; they are listed in an order. The table is
-/// that of the set. The error is want of memory.
+/// that of the set. The error is out of memory.
 pub fn needs_account(
     alloc: Global,
     set: &TaskSet,
@@ -124,7 +124,7 @@ fn need_of(
     Ok(Need::Needs(account))
 }
 
-/// Why each task of a conflict may not stand below the others, by rank. The error is want of memory.
+/// Why each task of a conflict may not stand below the others, by rank. The error is out of memory.
 pub(crate) fn needs_of(
     alloc: Global,
     tabled: TabledSet<'_>,

@@ -86,7 +86,7 @@ fn push_needs_of(
 }
 
 /// The lines of one task in an explanation of a placing of its set: its level with the parts of its response, or a least
-/// conflict and, where the task is of it, what it needs. The error is want of memory.
+/// conflict and, where the task is of it, what it needs. The error is out of memory.
 pub fn task_text(
     alloc: Global,
     set: &TaskSet,

@@ -68,7 +68,7 @@ fn above_at(set: &TaskSet, task: usize, time: u64) -> Above
     }
 }
 
-// The parts of the tasks above, in their order, in a window of `time` microseconds. The error is want of memory.
+// The parts of the tasks above, in their order, in a window of `time` microseconds. The error is out of memory.
 fn above_parts(
     alloc: Global,
     set: &TaskSet,
@@ -139,7 +139,7 @@ fn push_interruptions(
     Ok(())
 }
 
-// The parts of the interrupts of a set, by the rank of their tasks, in a window. The error is want of memory.
+// The parts of the interrupts of a set, by the rank of their tasks, in a window. The error is out of memory.
 fn interrupt_parts(alloc: Global, set: &TaskSet, time: u64) -> Result<Vec<Interruption>, AllocError>
     requires { time ≤ PERIOD_TO }
     ensures { IfOk result (λ parts. parts.items
@@ -153,7 +153,7 @@ fn interrupt_parts(alloc: Global, set: &TaskSet, time: u64) -> Result<Vec<Interr
 }
 
 /// The parts of what a task demands in a window of `time` microseconds with these above it, and of its jitter; those
-/// above are listed in their order. The table is that of the set. The error is want of memory.
+/// above are listed in their order. The table is that of the set. The error is out of memory.
 pub fn parts_of(
     alloc: Global,
     set: &TaskSet,

@@ -228,7 +228,7 @@ fn push_parts(
     push_interrupted(text, parts)
 }
 
-/// The lines of the parts of a time, each once and where it is above 0. The error is want of memory.
+/// The lines of the parts of a time, each once and where it is above 0. The error is out of memory.
 pub fn parts_text(alloc: Global, set: &TaskSet, account: &Account) -> Result<String, AllocError>
     ensures { IfOk result (λ text. string_bytes text
         ≡ parts_lines set.now account.now.task account.now.parts) }
@@ -318,7 +318,7 @@ fn push_load(text: &mut String, set: &TaskSet) -> Result<(), AllocError>
 }
 
 /// The lines that explain a placing of a set, after the first line of the verdict: the levels with the parts of their
-/// responses, or a least conflict with what its tasks need; and the load. The error is want of memory.
+/// responses, or a least conflict with what its tasks need; and the load. The error is out of memory.
 pub fn explanation_text(
     alloc: Global,
     set: &TaskSet,

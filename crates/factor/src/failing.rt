@@ -60,7 +60,7 @@ fn longest_free(set: &TaskSet, table: &LockTable, tasks: Members) -> Option<usiz
 /// The task that fails first past the factor of a set: the first of which the next factor takes something past its limit,
 /// its cost its period, its timer the shortest period or an interrupt on its account the time between two; or else, of the
 /// tasks that are then in the way of every order, the one with the longest limit of those that need not stand above another.
-/// The set has a task. The error is want of memory.
+/// The set has a task. The error is out of memory.
 pub fn first_to_fail(alloc: Global, set: &TaskSet, factor: u64) -> Result<usize, AllocError>
     requires kept { IsTaskSet set.now }
     requires some { 0 < length set.now }

@@ -34,7 +34,7 @@ fn order_passes_at(
 }
 
 /// The greatest factor, in thousandths, with which an order of the set that passes still passes as it stands. It is 1000 at
-/// least. The set has a task. The error is want of memory.
+/// least. The set has a task. The error is out of memory.
 pub fn factor_in_order(alloc: Global, set: &TaskSet, order: &[usize]) -> Result<u64, AllocError>
     requires kept { IsTaskSet set.now }
     requires some { 0 < length set.now }

@@ -40,7 +40,7 @@ fn passes_at(alloc: Global, set: &TaskSet, factor: u64) -> Result<bool, AllocErr
 /// that many thousandths of its time, as on a slower processor: each cost, the begin and the length of each section, each
 /// timer and interrupt, rounded up. Where that takes a section into the next one, or past the cost, the next one begins
 /// later, or the cost is the section's end. No cost is taken past its period, no timer past the shortest one, and no
-/// interrupt past the time between two. None where no factor helps. The set has a task. The error is want of memory.
+/// interrupt past the time between two. None where no factor helps. The set has a task. The error is out of memory.
 pub fn factor(alloc: Global, set: &TaskSet) -> Result<Option<u64>, AllocError>
     requires { 0 < length set.now }
     ensures answer { IfOk result (λ answer. AnswersFactor set.now answer) }

@@ -131,7 +131,7 @@ fn scaled_sheets(alloc: Global, set: &TaskSet, factor: u64) -> Result<Vec<Sheet>
     Ok(others)
 }
 
-/// The set with each task scaled. The error is want of memory.
+/// The set with each task scaled. The error is out of memory.
 pub(crate) fn scaled(alloc: Global, set: &TaskSet, factor: u64) -> Result<TaskSet, AllocError>
     requires may { MayScale set.now factor }
     requires short { factor ≤ FACTOR_END }

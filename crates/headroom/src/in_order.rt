@@ -98,7 +98,7 @@ fn room_at(
 }
 
 /// The greatest cost that a task may have, in microseconds, with which an order of the set that passes still passes as
-/// it stands, all else equal. The table is that of the set. The error is want of memory.
+/// it stands, all else equal. The table is that of the set. The error is out of memory.
 pub fn headroom_in_order(
     alloc: Global,
     set: &TaskSet,

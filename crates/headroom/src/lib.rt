@@ -79,7 +79,7 @@ fn headroom_from(
 
 /// The greatest cost that a task may have, in microseconds, with which some order of the set passes, all else equal;
 /// none where no cost that its sheet may have helps. A sheet may have each cost from 1, or the end of its last section,
-/// to its period. The table is that of the set, and is made once for all its tasks. The error is want of memory.
+/// to its period. The table is that of the set, and is made once for all its tasks. The error is out of memory.
 pub fn headroom(
     alloc: Global,
     set: &TaskSet,

@@ -7,7 +7,7 @@ ghost use Rattle.headroom.specs.Remade.{remade};
 use std::alloc::{AllocError, Global};
 use task_sheet::{Interrupt, Outranks, Section, Sheet};
 
-/// Sections that say the same. The error is want of memory.
+/// Sections that say the same. The error is out of memory.
 pub fn copy_sections(alloc: Global, sections: &[Section]) -> Result<Vec<Section>, AllocError>
     ensures { IfOk result (λ copies. copies.items ≡ sections.now) }
 {

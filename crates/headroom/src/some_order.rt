@@ -9,7 +9,7 @@ use std::alloc::{AllocError, Global};
 use task_sheet::{Members, TaskSet};
 
 /// An order of the set that passes, in which those with the longest limits stand as low as they may; none where none
-/// passes. The table is that of the set. The error is want of memory.
+/// passes. The table is that of the set. The error is out of memory.
 pub(crate) fn some_order(
     alloc: Global,
     set: &TaskSet,

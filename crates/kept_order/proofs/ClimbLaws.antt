@@ -1,23 +1,29 @@
 -- Levels from the lowest up: the chosen tasks make the best order that keeps a list, or none does.
-use Rattle.std.proofs.Common.{◌≡◌, ℕ, inl, inr, ◌+◌, ◌<◌, true, false, ◌==◌, List, [], ◌∷◌, ◌++◌, length, refl, sym, ◌∙◌, ap, subst, arith}
+use Rattle.std.proofs.Common.{◌≡◌, ℕ, inl, inr, ◌+◌, ◌<◌, true, false, ◌==◌, List, [], ◌∷◌, ◌++◌}
+use Rattle.std.proofs.Common.{length, refl, sym, ◌∙◌, ap, subst, arith}
 use Rattle.std.specs.Ordering.{nat_cmp}
 use Rattle.std.specs.FinSet as members
 use Rattle.std.proofs.lemmas.Bool.{cases_Bool, cases_eq, or_cases, both_ways, eqb-true}
 use Rattle.std.proofs.lemmas.List.{map_push}
 use Rattle.task_sheet.specs.Sheet.{Task, AllTasks}
 use Rattle.task_sheet.specs.MembersWords.{all_below}
-use Rattle.task_sheet.specs.Indexes.{Indexes, indexes_of, no_index, without_index, below, among, IsPart}
+use Rattle.task_sheet.specs.Indexes.{Indexes, indexes_of, no_index, without_index, below, among}
+use Rattle.task_sheet.specs.Indexes.{IsPart}
 use Rattle.task_sheet.specs.Demand.{IsResponseOf}
 use Rattle.task_sheet.specs.Orders.{all_of, IsOrderOf, IsBetter}
 use Rattle.task_sheet.specs.Levels.{left_after}
-use Rattle.task_sheet.proofs.MembersIndexes.{indexes_of-empty, indexes_of-all_below, indexes_of-remove, member_of-len}
-use Rattle.task_sheet.proofs.IndexLaws.{without-parts, IsOrderOf-among, IsOrderOf-head, IsOrderOf-rest, IsOrderOf-cons}
+use Rattle.task_sheet.proofs.MembersIndexes.{indexes_of-empty, indexes_of-all_below}
+use Rattle.task_sheet.proofs.MembersIndexes.{indexes_of-remove, member_of-len}
+use Rattle.task_sheet.proofs.IndexLaws.{without-parts, IsOrderOf-among, IsOrderOf-head}
+use Rattle.task_sheet.proofs.IndexLaws.{IsOrderOf-rest, IsOrderOf-cons}
 use Rattle.task_sheet.proofs.LevelLaws.{left_after-part, left_after-push}
 use Rattle.assignment.specs.Places.{PlaceData}
 use Rattle.assignment.specs.Placings.{tasks_of_places, AllRespond}
 use Rattle.assignment.proofs.FeasibilityLaws.{some_left}
-use Rattle.kept_order.specs.Keeping.{IsPassingKept, IsBestKept, IsKeptPlacing, StandsKept, NoneStandsKept, IsChosenKept}
-use Rattle.kept_order.proofs.KeepsLaws.{StandsKept-part, AllStandKept, AllStandKept-from, AllStandKept-stand, AllStandKept-keeps}
+use Rattle.kept_order.specs.Keeping.{IsPassingKept, IsBestKept, IsKeptPlacing, StandsKept}
+use Rattle.kept_order.specs.Keeping.{NoneStandsKept, IsChosenKept}
+use Rattle.kept_order.proofs.KeepsLaws.{StandsKept-part, AllStandKept, AllStandKept-from}
+use Rattle.kept_order.proofs.KeepsLaws.{AllStandKept-stand, AllStandKept-keeps}
 
 module _ (U : List Task) (kept : List ℕ) where
   -- ---- the order of the chosen
@@ -26,57 +32,77 @@ module _ (U : List Task) (kept : List ℕ) where
   AllChosenKept L [] = Unit {0}
   AllChosenKept L (i ∷ placed) = IsChosenKept U kept L i × AllChosenKept (without_index L i) placed
 
-  pub AllChosenKept-push : (L : Indexes) (placed : List ℕ) (i : ℕ) → AllChosenKept L placed → IsChosenKept U kept (left_after L placed) i
+  pub AllChosenKept-push : (L : Indexes) (placed : List ℕ) (i : ℕ) → AllChosenKept L placed
+      → IsChosenKept U kept (left_after L placed) i
       → AllChosenKept L (placed ++ i ∷ [])
   AllChosenKept-push L [] i chosen next = (next, tt)
-  AllChosenKept-push L (j ∷ placed) i chosen next = (chosen.0, AllChosenKept-push (without_index L j) placed i chosen.1 next)
+  AllChosenKept-push L (j ∷ placed) i chosen next =
+      (chosen.0, AllChosenKept-push (without_index L j) placed i chosen.1 next)
 
-  AllChosenKept-order : (L : Indexes) (order : List ℕ) → AllChosenKept L order → ((k : ℕ) → left_after L order k ≡ false)
+  AllChosenKept-order : (L : Indexes) (order : List ℕ) → AllChosenKept L order
+      → ((k : ℕ) → left_after L order k ≡ false)
       → IsOrderOf L order × AllStandKept U kept order
   AllChosenKept-order L [] chosen none = ((λ k. rw (none k)), tt)
   AllChosenKept-order L (i ∷ above) chosen none =
       let rest = AllChosenKept-order (without_index L i) above chosen.1 none in
-      let same = IsOrderOf-among (without_index L i) above rest.0 in
-      (IsOrderOf-cons L i above chosen.0.member rest.0, (subst (λ X. StandsKept U kept i X) (sym same) chosen.0.stands, rest.1))
+      let same = IsOrderOf-among (without_index L i) above rest.0 in (
+        IsOrderOf-cons L i above chosen.0.member rest.0,
+        (subst (λ X. StandsKept U kept i X) (sym same) chosen.0.stands, rest.1),
+      )
 
-  AllChosenKept-unbeaten : (L : Indexes) (order other : List ℕ) → AllChosenKept L order → IsOrderOf L other → AllStandKept U kept other → ¬ IsBetter other order
+  AllChosenKept-unbeaten : (L : Indexes) (order other : List ℕ) → AllChosenKept L order
+      → IsOrderOf L other → AllStandKept U kept other → ¬ IsBetter other order
   AllChosenKept-unbeaten L [] [] chosen each all better = better
   AllChosenKept-unbeaten L [] (x ∷ xs) chosen each all better = better
   AllChosenKept-unbeaten L (y ∷ ys) [] chosen each all better = better
   AllChosenKept-unbeaten L (y ∷ ys) (x ∷ xs) chosen each all better =
       let rest = IsOrderOf-rest L x xs each in
       elim better [
-        | inl lt ↦ chosen.0.first x lt (IsOrderOf-head L x xs each) (subst (λ X. StandsKept U kept x X) (IsOrderOf-among (without_index L x) xs rest) all.0)
-        | inr later ↦ AllChosenKept-unbeaten (without_index L y) ys xs chosen.1 (subst (λ j. IsOrderOf (without_index L j) xs) later.0 rest) all.1 later.1
+        | inl lt ↦ chosen.0.first x lt (IsOrderOf-head L x xs each)
+            (subst (λ X. StandsKept U kept x X) (IsOrderOf-among (without_index L x) xs rest) all.0)
+        | inr later ↦ AllChosenKept-unbeaten (without_index L y) ys xs chosen.1
+            (subst (λ j. IsOrderOf (without_index L j) xs) later.0 rest) all.1 later.1
       ]
 
-  AllChosenKept-best : (order : List ℕ) → AllChosenKept (all_of U) order → ((k : ℕ) → left_after (all_of U) order k ≡ false) → IsBestKept U kept order
+  AllChosenKept-best : (order : List ℕ) → AllChosenKept (all_of U) order
+      → ((k : ℕ) → left_after (all_of U) order k ≡ false) → IsBestKept U kept order
   AllChosenKept-best order chosen none =
       let both = AllChosenKept-order (all_of U) order chosen none in
       record {
         passing = record {
-          passing = record { each_once = both.0; each_stands = AllStandKept-stand U kept order both.1 };
+          passing =
+              record { each_once = both.0; each_stands = AllStandKept-stand U kept order both.1 };
           keeps = AllStandKept-keeps U kept order both.1;
         };
         unbeaten = λ other so.
-            AllChosenKept-unbeaten (all_of U) order other chosen so.passing.each_once (AllStandKept-from U kept other so.passing.each_stands so.keeps);
+            AllChosenKept-unbeaten (all_of U) order other chosen so.passing.each_once
+            (AllStandKept-from U kept other so.passing.each_stands so.keeps);
       }
 
   -- ---- no such order where none of those that are left may stand
-  clears : (S : Indexes) (order : List ℕ) → AllTasks U → NoneStandsKept U kept S → IsPart S (among order) → AllStandKept U kept order → (k : ℕ) → ¬ (S k ≡ true)
+  clears : (S : Indexes) (order : List ℕ) → AllTasks U → NoneStandsKept U kept S
+      → IsPart S (among order) → AllStandKept U kept order → (k : ℕ) → ¬ (S k ≡ true)
   clears S [] valid stuck part all k h = both_ways false refl (part k h)
   clears S (i ∷ above) valid stuck part all k h =
       let rest : (j : ℕ) → S j ≡ true → (j ≡ i → ⊥) → among above j ≡ true =
-      λ j e ne. elim (or_cases (i == j) (among above j) (part j e)) [ inl same ↦ absurd (ne (sym (eqb-true i j same))) | inr r ↦ r ] in
+      λ j e ne. elim (or_cases (i == j) (among above j) (part j e)) [
+        | inl same ↦
+            absurd (ne (sym (eqb-true i j same)))
+        | inr r ↦ r
+      ] in
       elim (cases_Bool (S i)) [
-        | inl member ↦ stuck i member (StandsKept-part U kept i _ _ valid (λ j e. let both = without-parts S i j e in rest j both.0 both.1) all.0)
-        | inr out ↦ clears S above valid stuck (λ j e. rest j e (λ same. both_ways (S i) out (rw same at e))) all.1 k h
+        | inl member ↦ stuck i member (StandsKept-part U kept i _ _ valid
+            (λ j e. let both = without-parts S i j e in rest j both.0 both.1) all.0)
+        | inr out ↦ clears S above valid stuck
+            (λ j e. rest j e (λ same. both_ways (S i) out (rw same at e))) all.1 k h
       ]
 
-  stuck-none : (S : Indexes) (k : ℕ) → AllTasks U → IsPart S (all_of U) → S k ≡ true → NoneStandsKept U kept S → (order : List ℕ) → ¬ IsPassingKept U kept order
+  stuck-none : (S : Indexes) (k : ℕ) → AllTasks U → IsPart S (all_of U) → S k ≡ true
+      → NoneStandsKept U kept S → (order : List ℕ) → ¬ IsPassingKept U kept order
   stuck-none S k valid part member stuck order so =
       let all = IsOrderOf-among (all_of U) order so.passing.each_once in
-      clears S order valid stuck (subst (λ X. IsPart S X) (sym all) part) (AllStandKept-from U kept order so.passing.each_stands so.keeps) k member
+      clears S order valid stuck (subst (λ X. IsPart S X) (sym all) part)
+      (AllStandKept-from U kept order so.passing.each_stands so.keeps) k member
 
   -- ---- places from the lowest up
   -- these are placed, each with its response, and L is left
@@ -85,46 +111,74 @@ module _ (U : List Task) (kept : List ℕ) where
     pub each : AllRespond U (all_of U) places
     pub rest : L ≡ left_after (all_of U) (tasks_of_places places)
 
-AllRespond-push : (U : List Task) (L : Indexes) (places : List PlaceData) (p : PlaceData) → AllRespond U L places
-    → IsResponseOf U p.task (without_index (left_after L (tasks_of_places places)) p.task) p.response → AllRespond U L (places ++ p ∷ [])
+AllRespond-push : (U : List Task) (L : Indexes) (places : List PlaceData) (p : PlaceData)
+    → AllRespond U L places
+    → IsResponseOf U p.task (without_index (left_after L (tasks_of_places places)) p.task)
+    p.response → AllRespond U L (places ++ p ∷ [])
 AllRespond-push U L [] p each next = (next, tt)
-AllRespond-push U L (q ∷ places) p each next = (each.0, AllRespond-push U (without_index L q.task) places p each.1 next)
+AllRespond-push U L (q ∷ places) p each next =
+    (each.0, AllRespond-push U (without_index L q.task) places p each.1 next)
 
 module _ (U : List Task) (kept : List ℕ) where
-  pub IsPlacedKept-part : (L : Indexes) (places : List PlaceData) → IsPlacedKept U kept L places → IsPart L (all_of U)
-  IsPlacedKept-part L places so = subst (λ X. IsPart X (all_of U)) (sym so.rest) (left_after-part (all_of U) (tasks_of_places places))
+  pub IsPlacedKept-part : (L : Indexes) (places : List PlaceData) → IsPlacedKept U kept L places
+      → IsPart L (all_of U)
+  IsPlacedKept-part L places so = subst (λ X. IsPart X (all_of U)) (sym so.rest)
+      (left_after-part (all_of U) (tasks_of_places places))
 
-  pub IsPlacedKept-start : (left : members.FinSet nat_cmp) (n : ℕ) (places : List PlaceData) → left ≡ all_below n → n ≡ length U → places ≡ [] → IsPlacedKept U kept (indexes_of left) places
+  pub IsPlacedKept-start : (left : members.FinSet nat_cmp) (n : ℕ) (places : List PlaceData) → left
+      ≡ all_below n → n ≡ length U → places ≡ [] → IsPlacedKept U kept (indexes_of left) places
   IsPlacedKept-start left n places all count none =
-      let start : IsPlacedKept U kept (indexes_of left) [] = record { chosen = tt; each = tt; rest = ap indexes_of all ∙ indexes_of-all_below n ∙ ap (λ m. below m) count } in
+      let start : IsPlacedKept U kept (indexes_of left) [] = record {
+        chosen = tt;
+        each = tt;
+        rest =
+            ap indexes_of all ∙ indexes_of-all_below n ∙ ap (λ m. below m) count;
+      } in
       subst (λ ps. IsPlacedKept U kept (indexes_of left) ps) (sym none) start
 
-  pub IsPlacedKept-push : (left left' : members.FinSet nat_cmp) (places places' : List PlaceData) (p : PlaceData) → IsPlacedKept U kept (indexes_of left) places → IsChosenKept U kept (indexes_of left) p.task → IsResponseOf U p.task (without_index (indexes_of left) p.task) p.response → left' ≡ members.remove left p.task → places' ≡ places ++ p ∷ [] → IsPlacedKept U kept (indexes_of left') places'
+  pub IsPlacedKept-push : (left left' : members.FinSet nat_cmp) (places places' : List PlaceData)
+      (p : PlaceData) → IsPlacedKept U kept (indexes_of left) places
+      → IsChosenKept U kept (indexes_of left) p.task → IsResponseOf U p.task
+      (without_index (indexes_of left) p.task) p.response → left' ≡ members.remove left p.task
+      → places' ≡ places ++ p ∷ [] → IsPlacedKept U kept (indexes_of left') places'
   IsPlacedKept-push left left' places places' p so chosen is removed pushed =
-      let order : tasks_of_places places' ≡ tasks_of_places places ++ p.task ∷ [] = ap tasks_of_places pushed ∙ map_push (λ (q : PlaceData). q.task) places p in
+      let order : tasks_of_places places' ≡ tasks_of_places places ++ p.task ∷ [] =
+      ap tasks_of_places pushed ∙ map_push (λ (q : PlaceData). q.task) places p in
       record {
-        chosen = subst (λ ns. AllChosenKept U kept (all_of U) ns) (sym order) (AllChosenKept-push U kept (all_of U) (tasks_of_places places) p.task so.chosen (subst (λ X. IsChosenKept U kept X p.task) so.rest chosen));
-        each = subst (λ ps. AllRespond U (all_of U) ps) (sym pushed) (AllRespond-push U (all_of U) places p so.each (subst (λ X. IsResponseOf U p.task (without_index X p.task) p.response) so.rest is));
-        rest = ap indexes_of removed ∙ indexes_of-remove left p.task ∙ ap (λ X. without_index X p.task) so.rest
-            ∙ sym (left_after-push (all_of U) (tasks_of_places places) p.task) ∙ ap (λ ns. left_after (all_of U) ns) (sym order);
+        chosen = subst (λ ns. AllChosenKept U kept (all_of U) ns) (sym order)
+            (AllChosenKept-push U kept (all_of U) (tasks_of_places places) p.task so.chosen
+            (subst (λ X. IsChosenKept U kept X p.task) so.rest chosen));
+        each = subst (λ ps. AllRespond U (all_of U) ps) (sym pushed)
+            (AllRespond-push U (all_of U) places p so.each
+            (subst (λ X. IsResponseOf U p.task (without_index X p.task) p.response) so.rest is));
+        rest = ap indexes_of removed ∙ indexes_of-remove left p.task
+            ∙ ap (λ X. without_index X p.task) so.rest
+            ∙ sym (left_after-push (all_of U) (tasks_of_places places) p.task)
+            ∙ ap (λ ns. left_after (all_of U) ns) (sym order);
       }
 
-  pub IsPlacedKept-best : (left : members.FinSet nat_cmp) (places : List PlaceData) → IsPlacedKept U kept (indexes_of left) places → left ≡ members.empty → IsKeptPlacing U kept places
+  pub IsPlacedKept-best : (left : members.FinSet nat_cmp) (places : List PlaceData) → IsPlacedKept U
+      kept (indexes_of left) places → left ≡ members.empty → IsKeptPlacing U kept places
   IsPlacedKept-best left places so none =
       let nothing : indexes_of left ≡ no_index = ap indexes_of none ∙ indexes_of-empty in
       record {
-        best = AllChosenKept-best U kept (tasks_of_places places) so.chosen (λ k. ap (λ (X : Indexes). X k) (sym so.rest ∙ nothing));
+        best = AllChosenKept-best U kept (tasks_of_places places) so.chosen
+            (λ k. ap (λ (X : Indexes). X k) (sym so.rest ∙ nothing));
         each = so.each;
       }
 
-  pub IsPlacedKept-none : (left : members.FinSet nat_cmp) (places : List PlaceData) → AllTasks U → IsPlacedKept U kept (indexes_of left) places → ¬ (left ≡ members.empty) → NoneStandsKept U kept (indexes_of left) → (order : List ℕ) → ¬ IsPassingKept U kept order
+  pub IsPlacedKept-none : (left : members.FinSet nat_cmp) (places : List PlaceData) → AllTasks U
+      → IsPlacedKept U kept (indexes_of left) places → ¬ (left ≡ members.empty)
+      → NoneStandsKept U kept (indexes_of left) → (order : List ℕ) → ¬ IsPassingKept U kept order
   IsPlacedKept-none left places valid so some stuck =
       let part = IsPlacedKept-part (indexes_of left) places so in
       let member = member_of-len left (length U) part (some_left left some) in
       stuck-none U kept (indexes_of left) member.0 valid part member.2 stuck
 
 -- ---- the tasks that are left are asked by rank
-pub one_more_fails : (U : List Task) (kept : List ℕ) (L : Indexes) (i : ℕ) → ((j : ℕ) → j < i → L j ≡ true → ¬ StandsKept U kept j (without_index L j)) → (L i ≡ true → ¬ StandsKept U kept i (without_index L i))
+pub one_more_fails : (U : List Task) (kept : List ℕ) (L : Indexes) (i : ℕ)
+    → ((j : ℕ) → j < i → L j ≡ true → ¬ StandsKept U kept j (without_index L j))
+    → (L i ≡ true → ¬ StandsKept U kept i (without_index L i))
     → (j : ℕ) → j < i + 1 → L j ≡ true → ¬ StandsKept U kept j (without_index L j)
 one_more_fails U kept L i before here j lt member = elim (cases_eq j i) [
   | inl e ↦ subst (λ k. L k ≡ true → ¬ StandsKept U kept k (without_index L k)) (sym e) here member

@@ -1,6 +1,9 @@
 -- Orders that keep a list, task by task.
-use Rattle.std.proofs.Common.{◌≡◌, ℕ, inl, inr, Bool, true, false, ◌==◌, ◌&&◌, ◌||◌, ◌+◌, ◌<◌, Option, Some, None, IfSome, List, [], ◌∷◌, length, get_or, drop, refl, sym, ◌∙◌, ap, subst}
-use Rattle.std.proofs.lemmas.Bool.{cases_Bool, or_cases, or_left, or_right, and_parts, and_from, both_ways, true≢false, eq-eqb, eqb-true}
+use Rattle.std.proofs.Common.{◌≡◌, ℕ, inl, inr, Bool, true, false, ◌==◌, ◌&&◌, ◌||◌, ◌+◌, ◌<◌}
+use Rattle.std.proofs.Common.{Option, Some, None, IfSome, List, [], ◌∷◌, length, get_or, drop, refl}
+use Rattle.std.proofs.Common.{sym, ◌∙◌, ap, subst}
+use Rattle.std.proofs.lemmas.Bool.{cases_Bool, or_cases, or_left, or_right, and_parts, and_from}
+use Rattle.std.proofs.lemmas.Bool.{both_ways, true≢false, eq-eqb, eqb-true}
 use Rattle.std.proofs.lemmas.List.{at_drop_more}
 use Rattle.task_sheet.specs.Sheet.{Task, AllTasks}
 use Rattle.task_sheet.specs.Indexes.{Indexes, IsPart, among}
@@ -10,16 +13,19 @@ use Rattle.task_sheet.proofs.PassingLaws.{Stands-part, is_bound-at}
 use Rattle.kept_order.specs.Keeping.{stands_below, Keeps, is_held, StandsKept}
 
 -- ---- a task that is held
-pub held-below : (kept : List ℕ) (H : Indexes) (i k : ℕ) → H k ≡ true → stands_below kept k i ≡ true → is_held kept H i ≡ true
+pub held-below : (kept : List ℕ) (H : Indexes) (i k : ℕ) → H k ≡ true → stands_below kept k i ≡ true
+    → is_held kept H i ≡ true
 held-below [] H i k member below = absurd (true≢false (sym below))
-held-below (x ∷ above) H i k member below = elim (or_cases ((x == k) && among above i) (stands_below above k i) below) [
-  | inl here ↦
-      let both = and_parts (x == k) (among above i) here in
-      or_left _ _ (and_from _ _ (ap H (eqb-true x k both.0) ∙ member) both.1)
-  | inr later ↦ or_right _ _ (held-below above H i k member later)
-]
+held-below (x ∷ above) H i k member below =
+    elim (or_cases ((x == k) && among above i) (stands_below above k i) below) [
+      | inl here ↦
+          let both = and_parts (x == k) (among above i) here in
+          or_left _ _ (and_from _ _ (ap H (eqb-true x k both.0) ∙ member) both.1)
+      | inr later ↦ or_right _ _ (held-below above H i k member later)
+    ]
 
-pub below-held : (kept : List ℕ) (H : Indexes) (i : ℕ) → is_held kept H i ≡ true → (k : ℕ) × (H k ≡ true) × (stands_below kept k i ≡ true)
+pub below-held : (kept : List ℕ) (H : Indexes) (i : ℕ) → is_held kept H i ≡ true → (k : ℕ)
+    × (H k ≡ true) × (stands_below kept k i ≡ true)
 below-held [] H i held = absurd (true≢false (sym held))
 below-held (x ∷ above) H i held = elim (or_cases (H x && among above i) (is_held above H i) held) [
   | inl here ↦
@@ -31,7 +37,8 @@ below-held (x ∷ above) H i held = elim (or_cases (H x && among above i) (is_he
 ]
 
 -- fewer hold less
-pub held-part : (kept : List ℕ) (H G : Indexes) (i : ℕ) → IsPart H G → is_held kept G i ≡ false → is_held kept H i ≡ false
+pub held-part : (kept : List ℕ) (H G : Indexes) (i : ℕ) → IsPart H G → is_held kept G i ≡ false
+    → is_held kept H i ≡ false
 held-part kept H G i part free = elim (cases_Bool (is_held kept H i)) [
   | inl held ↦
       let found = below-held kept H i held in
@@ -39,44 +46,56 @@ held-part kept H G i part free = elim (cases_Bool (is_held kept H i)) [
   | inr so ↦ so
 ]
 
-pub StandsKept-part : (U : List Task) (kept : List ℕ) (i : ℕ) (H G : Indexes) → AllTasks U → IsPart H G → StandsKept U kept i G → StandsKept U kept i H
-StandsKept-part U kept i H G valid part stands = (Stands-part U valid i H G part stands.0, held-part kept H G i part stands.1)
+pub StandsKept-part : (U : List Task) (kept : List ℕ) (i : ℕ) (H G : Indexes) → AllTasks U
+    → IsPart H G → StandsKept U kept i G → StandsKept U kept i H
+StandsKept-part U kept i H G valid part stands =
+    (Stands-part U valid i H G part stands.0, held-part kept H G i part stands.1)
 
 -- the list from a place on
-pub held-step : (kept : List ℕ) (H : Indexes) (i k : ℕ) (b : Bool) → k < length kept → b ≡ (H (get_or kept k 0) && among (drop (k + 1) kept) i)
+pub held-step : (kept : List ℕ) (H : Indexes) (i k : ℕ) (b : Bool) → k < length kept
+    → b ≡ (H (get_or kept k 0) && among (drop (k + 1) kept) i)
     → is_held (drop k kept) H i ≡ (b || is_held (drop (k + 1) kept) H i)
-held-step kept H i k b lt is = at_drop_more (λ xs. is_held xs H i) kept k 0 lt ∙ ap (λ a. a || is_held (drop (k + 1) kept) H i) (sym is)
+held-step kept H i k b lt is = at_drop_more (λ xs. is_held xs H i) kept k 0 lt
+    ∙ ap (λ a. a || is_held (drop (k + 1) kept) H i) (sym is)
 
 -- a response of a task that nobody holds
-pub stands_kept : (U : List Task) (kept : List ℕ) (i : ℕ) (H : Indexes) (o : Option ℕ) → is_held kept H i ≡ false → IfSome o (λ _. Stands U i H) → IfSome o (λ _. StandsKept U kept i H)
+pub stands_kept : (U : List Task) (kept : List ℕ) (i : ℕ) (H : Indexes) (o : Option ℕ) → is_held
+    kept H i ≡ false → IfSome o (λ _. Stands U i H) → IfSome o (λ _. StandsKept U kept i H)
 stands_kept U kept i H None free stands = tt
 stands_kept U kept i H (Some r) free stands = (stands, free)
 
 -- a task that must stand above one that is above it may not stand
-pub over_fails : (U : List Task) (i : ℕ) (H : Indexes) (k : ℕ) → IsLeastOver U i H k → ¬ Stands U i H
-over_fails U i H k over stands = both_ways _ stands.1 (is_bound-at U i H k over.in_set over.above over.named)
+pub over_fails : (U : List Task) (i : ℕ) (H : Indexes) (k : ℕ) → IsLeastOver U i H k
+    → ¬ Stands U i H
+over_fails U i H k over stands =
+    both_ways _ stands.1 (is_bound-at U i H k over.in_set over.above over.named)
 
 -- ---- an order that keeps a list, from its lowest task up
-pub Keeps-head : (kept : List ℕ) (i : ℕ) (above : List ℕ) → Keeps kept (i ∷ above) → is_held kept (among above) i ≡ false
+pub Keeps-head : (kept : List ℕ) (i : ℕ) (above : List ℕ) → Keeps kept (i ∷ above)
+    → is_held kept (among above) i ≡ false
 Keeps-head kept i above keeps = elim (cases_Bool (is_held kept (among above) i)) [
   | inl held ↦
       let found = below-held kept (among above) i held in
-      absurd (both_ways _ (keeps found.0 i found.2) (or_left _ _ (and_from _ _ (eq-eqb i i refl) found.1)))
+      absurd (both_ways _ (keeps found.0 i found.2)
+      (or_left _ _ (and_from _ _ (eq-eqb i i refl) found.1)))
   | inr so ↦ so
 ]
 
-pub Keeps-rest : (kept : List ℕ) (i : ℕ) (above : List ℕ) → Keeps kept (i ∷ above) → Keeps kept above
+pub Keeps-rest : (kept : List ℕ) (i : ℕ) (above : List ℕ) → Keeps kept (i ∷ above)
+    → Keeps kept above
 Keeps-rest kept i above keeps a b below = elim (cases_Bool (stands_below above b a)) [
   | inl so ↦ absurd (both_ways _ (keeps a b below) (or_right _ _ so))
   | inr so ↦ so
 ]
 
-pub Keeps-cons : (kept : List ℕ) (i : ℕ) (above : List ℕ) → is_held kept (among above) i ≡ false → Keeps kept above → Keeps kept (i ∷ above)
+pub Keeps-cons : (kept : List ℕ) (i : ℕ) (above : List ℕ) → is_held kept (among above) i ≡ false
+    → Keeps kept above → Keeps kept (i ∷ above)
 Keeps-cons kept i above free keeps a b below = elim (cases_Bool (stands_below (i ∷ above) b a)) [
   | inl so ↦ elim (or_cases ((i == b) && among above a) (stands_below above b a) so) [
     | inl here ↦
         let both = and_parts (i == b) (among above a) here in
-        absurd (both_ways _ free (held-below kept (among above) i a both.1 (subst (λ m. stands_below kept a m ≡ true) (sym (eqb-true i b both.0)) below)))
+        absurd (both_ways _ free (held-below kept (among above) i a both.1
+        (subst (λ m. stands_below kept a m ≡ true) (sym (eqb-true i b both.0)) below)))
     | inr later ↦ absurd (both_ways _ (keeps a b below) later)
   ]
   | inr so ↦ so
@@ -87,15 +106,22 @@ abbrev pub AllStandKept : List Task → List ℕ → List ℕ → Type 0
 AllStandKept U kept [] = Unit {0}
 AllStandKept U kept (i ∷ above) = StandsKept U kept i (among above) × AllStandKept U kept above
 
-pub AllStandKept-from : (U : List Task) (kept order : List ℕ) → AllStand U order → Keeps kept order → AllStandKept U kept order
+pub AllStandKept-from : (U : List Task) (kept order : List ℕ) → AllStand U order → Keeps kept order
+    → AllStandKept U kept order
 AllStandKept-from U kept [] all keeps = tt
-AllStandKept-from U kept (i ∷ above) all keeps =
-    ((all.0, Keeps-head kept i above keeps), AllStandKept-from U kept above all.1 (Keeps-rest kept i above keeps))
+AllStandKept-from U kept (i ∷ above) all keeps = (
+  (all.0, Keeps-head kept i above keeps),
+  AllStandKept-from U kept above all.1
+      (Keeps-rest kept i above keeps),
+)
 
-pub AllStandKept-stand : (U : List Task) (kept order : List ℕ) → AllStandKept U kept order → AllStand U order
+pub AllStandKept-stand : (U : List Task) (kept order : List ℕ) → AllStandKept U kept order
+    → AllStand U order
 AllStandKept-stand U kept [] all = tt
 AllStandKept-stand U kept (i ∷ above) all = (all.0.0, AllStandKept-stand U kept above all.1)
 
-pub AllStandKept-keeps : (U : List Task) (kept order : List ℕ) → AllStandKept U kept order → Keeps kept order
+pub AllStandKept-keeps : (U : List Task) (kept order : List ℕ) → AllStandKept U kept order
+    → Keeps kept order
 AllStandKept-keeps U kept [] all = λ a b below. refl
-AllStandKept-keeps U kept (i ∷ above) all = Keeps-cons kept i above all.0.1 (AllStandKept-keeps U kept above all.1)
+AllStandKept-keeps U kept (i ∷ above) all =
+    Keeps-cons kept i above all.0.1 (AllStandKept-keeps U kept above all.1)

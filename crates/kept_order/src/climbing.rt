@@ -105,7 +105,7 @@ fn lowest(set: &TaskSet, table: &LockTable, kept: &[usize], left: Members) -> Op
 }
 
 /// The best of the orders that pass and keep the list, with its responses; none where there is none. The table is that of
-/// the set. The error is want of memory.
+/// the set. The error is out of memory.
 pub(crate) fn climb(
     alloc: Global,
     set: &TaskSet,

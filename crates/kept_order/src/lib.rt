@@ -65,7 +65,7 @@ fn first_parted(
 
 /// The best of the orders of a set that pass and keep another order, which need not have all tasks of the set: no two of
 /// its tasks stand the other way round. Else the first pair that has to change, or what is in the way of all orders. The
-/// table is that of the set. The error is want of memory.
+/// table is that of the set. The error is out of memory.
 pub fn keep_order(
     alloc: Global,
     set: &TaskSet,

@@ -1,14 +1,18 @@
 -- Of jobs that keep their promises nothing is said to be broken.
-use Rattle.std.proofs.Common.{ℕ, suc, ◌-◌, ◌≤◌, ◌≡◌, refl, ap, ◌∙◌, arith, All, true, false, not, List, [], ◌∷◌, ◌++◌, Option, None, Some, IfSome}
+use Rattle.std.proofs.Common.{ℕ, suc, ◌-◌, ◌≤◌, ◌≡◌, refl, ap, ◌∙◌, arith, All, true, false, not}
+use Rattle.std.proofs.Common.{List, [], ◌∷◌, ◌++◌, Option, None, Some, IfSome}
 use Rattle.std.proofs.lemmas.Bool.{le-ltb}
 use Rattle.std.specs.List.{list_all}
 use Rattle.observed.specs.declared.seen.Seen.{Seen}
-use Rattle.observed_lines.specs.Breaks.{breaks_any, breaks_blocking, breaks_bound, breaks_cost, breaks_foreign, breaks_idle, breaks_period, is_kept, is_short}
+use Rattle.observed_lines.specs.Breaks.{breaks_any, breaks_blocking, breaks_bound, breaks_cost}
+use Rattle.observed_lines.specs.Breaks.{breaks_foreign, breaks_idle, breaks_period, is_kept}
+use Rattle.observed_lines.specs.Breaks.{is_short}
 use Rattle.observed_lines.specs.Broken.{broken_lines, broken_words}
 use Rattle.kept_promises.specs.Kept.{Keeps}
 
 -- a time that isn't short of a limit, is short of it by no tolerance
-not_short : (tolerance : ℕ) (time : Option ℕ) (limit : ℕ) → IfSome time (λ t. limit ≤ t) → is_short tolerance time limit ≡ false
+not_short : (tolerance : ℕ) (time : Option ℕ) (limit : ℕ) → IfSome time (λ t. limit ≤ t)
+    → is_short tolerance time limit ≡ false
 not_short tolerance None limit enough = refl
 not_short tolerance (Some t) limit enough = le-ltb tolerance (limit - t) (omega (arith, enough))
 
@@ -41,15 +45,19 @@ module _ (tolerance : ℕ) (s : Seen) (keeps : Keeps s) where
 rest_keeps : (s : Seen) (seen : List Seen) → All Keeps (s ∷ seen) → All Keeps seen
 rest_keeps s seen all k d lt = all (suc k) d (omega (arith, lt))
 
-pub all_are_kept : (tolerance : ℕ) (seen : List Seen) → All Keeps seen → is_kept tolerance seen ≡ true
+pub all_are_kept : (tolerance : ℕ) (seen : List Seen) → All Keeps seen
+    → is_kept tolerance seen ≡ true
 all_are_kept tolerance [] all = refl
 all_are_kept tolerance (s ∷ seen) all =
     let here : breaks_any tolerance s ≡ false = any tolerance s (all 0 s (omega arith)) in
-    let rest : list_all (λ (x : Seen). not (breaks_any tolerance x)) seen ≡ true = all_are_kept tolerance seen (rest_keeps s seen all) in
+    let rest : list_all (λ (x : Seen). not (breaks_any tolerance x)) seen ≡ true =
+    all_are_kept tolerance seen (rest_keeps s seen all) in
     rw (here, rest) refl
 
-pub none_written : (tolerance : ℕ) (seen : List Seen) → All Keeps seen → broken_lines tolerance seen ≡ []
+pub none_written : (tolerance : ℕ) (seen : List Seen) → All Keeps seen
+    → broken_lines tolerance seen ≡ []
 none_written tolerance [] all = refl
 none_written tolerance (s ∷ seen) all =
     let here : broken_words tolerance s ≡ [] = written tolerance s (all 0 s (omega arith)) in
-    ap (λ (words : List ℕ). words ++ broken_lines tolerance seen) here ∙ none_written tolerance seen (rest_keeps s seen all)
+    ap (λ (words : List ℕ). words ++ broken_lines tolerance seen) here
+    ∙ none_written tolerance seen (rest_keeps s seen all)

@@ -1,5 +1,7 @@
 -- The levels of a best order, and what is promised at them.
-use Rattle.std.proofs.Common.{ℕ, zero, suc, ◌+◌, ◌<◌, ◌≡◌, inl, inr, refl, sym, ap, ◌∙◌, arith, All, Bool, true, false, List, [], ◌∷◌, length, get_or, Some, slice_index_or, position, nat_lt, eqb}
+use Rattle.std.proofs.Common.{ℕ, zero, suc, ◌+◌, ◌<◌, ◌≡◌, inl, inr, refl, sym, ap, ◌∙◌, arith, All}
+use Rattle.std.proofs.Common.{Bool, true, false, List, [], ◌∷◌, length, get_or, Some}
+use Rattle.std.proofs.Common.{slice_index_or, position, nat_lt, eqb}
 use Rattle.std.proofs.lemmas.Bool.{cases_Bool, cases_eq, eq-eqb, ne_eqb, lt-ltb}
 use Rattle.std.proofs.lemmas.List.Sums.{position_or_len_is}
 use Rattle.std.proofs.lemmas.Slice.Eq.{bytes_eq-Decides}
@@ -21,16 +23,20 @@ use Rattle.observed.specs.Pieces.{level_of}
 use Rattle.observed.specs.Promises.{promise_of, promises_of}
 
 -- the first place that passes a test
-pub position_is : {X : Type 0} (p : X → Bool) (xs : List X) (i : ℕ) (d : X) → i < length xs → ((k : ℕ) → k < i → p (get_or xs k d) ≡ false) → p (get_or xs i d) ≡ true → position p xs ≡ Some i
+pub position_is : {X : Type 0} (p : X → Bool) (xs : List X) (i : ℕ) (d : X) → i < length xs
+    → ((k : ℕ) → k < i → p (get_or xs k d) ≡ false) → p (get_or xs i d) ≡ true
+    → position p xs ≡ Some i
 position_is p xs i d lt before here =
     let at = position_or_len_is p xs i d (omega (arith, lt)) before (λ _. here) in
     let small : nat_lt i (length xs) ≡ true = lt-ltb i (length xs) lt in
     rw (at, small) refl
 
 -- two tasks of one name are one
-pub one_name : (U : List Task) → IsTaskSet U → (i k : ℕ) → i < length U → k < length U → same_bytes (task_at U i).name (task_at U k).name ≡ true → i ≡ k
+pub one_name : (U : List Task) → IsTaskSet U → (i k : ℕ) → i < length U → k < length U
+    → same_bytes (task_at U i).name (task_at U k).name ≡ true → i ≡ k
 one_name U set i k is ks same =
-    let equal : (task_at U i).name ≡ (task_at U k).name = (bytes_eq-Decides (task_at U i).name (task_at U k).name).0 same in
+    let equal : (task_at U i).name ≡ (task_at U k).name =
+    (bytes_eq-Decides (task_at U i).name (task_at U k).name).0 same in
     sym (place_of_name U set.distinct i is)
     ∙ ap (λ (name : List ℕ). position_or_len (λ (s : Task). same_bytes s.name name) U) equal
     ∙ place_of_name U set.distinct k ks
@@ -42,13 +48,16 @@ pub record IsPlaced (U : List Task) (places : List PlaceData) (i level : ℕ) : 
   pub task : place.task ≡ i
   pub within : level < length (promises_of U places)
   pub promise : slice_index_or (promises_of U places) level no_promise ≡ promise_of U place above
-  pub others : (k : ℕ) → k < level → same_bytes (slice_index_or (promises_of U places) k no_promise).name (task_at U i).name ≡ false
+  pub others : (k : ℕ) → k < level → same_bytes
+      (slice_index_or (promises_of U places) k no_promise).name (task_at U i).name ≡ false
   pub after : after_of (tasks_of_places places) i ≡ tasks_of_places above
   pub level_is : (first : ℕ) → level_from first (tasks_of_places places) i ≡ first + level
-  pub done : (rs : List Release) (until : ℕ) (trace : Trace) → AllDoneWithin U places rs until trace → DoneWithin U place rs until trace
+  pub done : (rs : List Release) (until : ℕ) (trace : Trace) → AllDoneWithin U places rs until trace
+      → DoneWithin U place rs until trace
 
 -- each task of an order does
-pub placed_in : (U : List Task) → IsTaskSet U → (places : List PlaceData) (i : ℕ) → i < length U → All (λ (p : PlaceData). p.task < length U) places
+pub placed_in : (U : List Task) → IsTaskSet U → (places : List PlaceData) (i : ℕ) → i < length U
+    → All (λ (p : PlaceData). p.task < length U) places
     → among (tasks_of_places places) i ≡ true → (level : ℕ) × IsPlaced U places i level
 placed_in U set [] i is small has = absurd (cc)
 placed_in U set (p ∷ places) i is small has =
@@ -71,10 +80,12 @@ placed_in U set (p ∷ places) i is small has =
       | inr ne ↦
           let f : eqb p.task i ≡ false = ne_eqb p.task i ne in
           let rest : among (tasks_of_places places) i ≡ true = rw f at has in
-          let small_rest : All (λ (q : PlaceData). q.task < length U) places = λ k d lt. small (suc k) d (omega (arith, lt)) in
+          let small_rest : All (λ (q : PlaceData). q.task < length U) places =
+          λ k d lt. small (suc k) d (omega (arith, lt)) in
           let found = placed_in U set places i is small_rest rest in
           let in_rest : IsPlaced U places i found.0 = found.1 in
-          let own : same_bytes (task_at U p.task).name (task_at U i).name ≡ false = elim (cases_Bool (same_bytes (task_at U p.task).name (task_at U i).name)) [
+          let own : same_bytes (task_at U p.task).name (task_at U i).name ≡ false =
+          elim (cases_Bool (same_bytes (task_at U p.task).name (task_at U i).name)) [
             | inl same ↦ absurd (ne (one_name U set p.task i (small 0 p (omega arith)) is same))
             | inr differ ↦ differ
           ] in (
@@ -93,15 +104,24 @@ placed_in U set (p ∷ places) i is small has =
           )
     ]
   where
-    others_next : (U : List Task) (p : PlaceData) (places : List PlaceData) (i level : ℕ) → same_bytes (task_at U p.task).name (task_at U i).name ≡ false
-        → ((k : ℕ) → k < level → same_bytes (slice_index_or (promises_of U places) k no_promise).name (task_at U i).name ≡ false)
-        → (k : ℕ) → k < suc level → same_bytes (slice_index_or (promises_of U (p ∷ places)) k no_promise).name (task_at U i).name ≡ false
+    others_next : (U : List Task) (p : PlaceData) (places : List PlaceData) (i level : ℕ)
+        → same_bytes (task_at U p.task).name (task_at U i).name ≡ false
+        → ((k : ℕ) → k < level → same_bytes
+        (slice_index_or (promises_of U places) k no_promise).name (task_at U i).name ≡ false)
+        → (k : ℕ) → k < suc level
+        → same_bytes (slice_index_or (promises_of U (p ∷ places)) k no_promise).name
+        (task_at U i).name ≡ false
     others_next U p places i level own rest zero lt = own
     others_next U p places i level own rest (suc k) lt = rest k (omega arith)
 
 -- that is the level at which its name is found
-pub placed_level : (U : List Task) (places : List PlaceData) (i level : ℕ) → IsPlaced U places i level → level_of (promises_of U places) (task_at U i).name ≡ Some level
+pub placed_level : (U : List Task) (places : List PlaceData) (i level : ℕ)
+    → IsPlaced U places i level → level_of (promises_of U places) (task_at U i).name ≡ Some level
 placed_level U places i level is =
-    let own : same_bytes (slice_index_or (promises_of U places) level no_promise).name (task_at U i).name ≡ true =
-    ap (λ (q : _). same_bytes q.name (task_at U i).name) is.promise ∙ ap (λ k. same_bytes (task_at U k).name (task_at U i).name) is.task ∙ same_own (task_at U i).name in
-    position_is (λ p. same_bytes p.name (task_at U i).name) (promises_of U places) level no_promise is.within is.others own
+    let own : same_bytes (slice_index_or (promises_of U places) level no_promise).name
+    (task_at U i).name ≡ true =
+    ap (λ (q : _). same_bytes q.name (task_at U i).name) is.promise
+    ∙ ap (λ k. same_bytes (task_at U k).name (task_at U i).name) is.task
+    ∙ same_own (task_at U i).name in
+    position_is (λ p. same_bytes p.name (task_at U i).name) (promises_of U places) level no_promise
+    is.within is.others own

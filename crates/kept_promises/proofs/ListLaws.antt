@@ -1,5 +1,7 @@
 -- What holds of each thing that is seen, and of the last job of a name.
-use Rattle.std.proofs.Common.{ℕ, suc, ◌+◌, ◌<◌, ◌≤◌, ◌≡◌, ◌⊎◌, inl, inr, refl, sym, ap, ◌∙◌, subst, arith, true, List, [], ◌∷◌, length, take, Option, None, Some, slice_index_or}
+use Rattle.std.proofs.Common.{ℕ, suc, ◌+◌, ◌<◌, ◌≤◌, ◌≡◌, ◌⊎◌, inl, inr, refl, sym, ap, ◌∙◌, subst}
+use Rattle.std.proofs.Common.{arith, true, List, [], ◌∷◌, length, take, Option, None, Some}
+use Rattle.std.proofs.Common.{slice_index_or}
 use Rattle.std.proofs.lemmas.Bool.{cases_Bool}
 use Rattle.std.proofs.lemmas.Option.{same_Some}
 use Rattle.std.specs.List.{AllByRecursion}
@@ -14,18 +16,23 @@ use Rattle.observed.specs.declared.promises.Promise.{Promise}
 use Rattle.observed.specs.declared.seen.Seen.{Seen}
 
 -- what is within a bound for each element, is for the greatest
-pub greatest_most : {X : Type 0} (f : X → ℕ) (b : ℕ) (xs : List X) (d : X) → ((k : ℕ) → k < length xs → f (slice_index_or xs k d) ≤ b) → greatest_of f xs ≤ b
+pub greatest_most : {X : Type 0} (f : X → ℕ) (b : ℕ) (xs : List X) (d : X)
+    → ((k : ℕ) → k < length xs → f (slice_index_or xs k d) ≤ b) → greatest_of f xs ≤ b
 greatest_most f b [] d each = omega arith
 greatest_most f b (x ∷ xs) d each =
     let here : f x ≤ b = each 0 (omega arith) in
-    let rest : greatest_of f xs ≤ b = greatest_most f b xs d (λ k lt. each (suc k) (omega (arith, lt))) in
+    let rest : greatest_of f xs ≤ b =
+    greatest_most f b xs d (λ k lt. each (suc k) (omega (arith, lt))) in
     omega (arith, here, rest)
 
 -- what holds of what is seen of each job that has a level
-pub each_seen : (P : Seen → Type 0) (promises : List Promise) (end : ℕ) (pieces : List Piece) (all : List TraceJob) (d : TraceJob)
+pub each_seen : (P : Seen → Type 0) (promises : List Promise) (end : ℕ) (pieces : List Piece)
+    (all : List TraceJob) (d : TraceJob)
     → ((j level : ℕ) → j < length all → level_of promises (slice_index_or all j d).name ≡ Some level
-    → P (seen_job (slice_index_or promises level no_promise) level end pieces (take j all) (slice_index_or all j d)))
-    → (place : ℕ) (rest : List TraceJob) → ((k : ℕ) → k < length rest → (place + k < length all) × (slice_index_or rest k d ≡ slice_index_or all (place + k) d))
+    → P (seen_job (slice_index_or promises level no_promise) level end pieces (take j all)
+    (slice_index_or all j d)))
+    → (place : ℕ) (rest : List TraceJob) → ((k : ℕ) → k < length rest → (place + k < length all)
+    × (slice_index_or rest k d ≡ slice_index_or all (place + k) d))
     → AllByRecursion P (seen_from promises end pieces all place rest)
 each_seen P promises end pieces all d each place [] are = tt
 each_seen P promises end pieces all d each place (job ∷ rest) are =
@@ -33,21 +40,29 @@ each_seen P promises end pieces all d each place (job ∷ rest) are =
     let z : place + 0 ≡ place = omega arith in
     let is : job ≡ slice_index_or all place d = here.1 ∙ ap (λ k. slice_index_or all k d) z in
     let within : place < length all = omega (arith, here.0) in
-    let more : AllByRecursion P (seen_from promises end pieces all (place + 1) rest) = each_seen P promises end pieces all d each (place + 1) rest (λ k lt.
+    let more : AllByRecursion P (seen_from promises end pieces all (place + 1) rest) =
+    each_seen P promises end pieces all d each (place + 1) rest (λ k lt.
     let next = are (suc k) (omega (arith, lt)) in
     let e : place + suc k ≡ place + 1 + k = omega arith in
     (omega (arith, next.0), next.1 ∙ ap (λ k. slice_index_or all k d) e)) in
-    elim (level_of promises job.name) as (λ o. level_of promises job.name ≡ o → AllByRecursion P (with_seen promises end pieces (take place all) job o (seen_from promises end pieces all (place + 1) rest))) [
+    elim (level_of promises job.name) as
+    (λ o. level_of promises job.name ≡ o → AllByRecursion P (with_seen promises end pieces
+    (take place all) job o (seen_from promises end pieces all (place + 1) rest))) [
       | None ↦ λ _. more
       | Some level ↦ λ at. (
-        subst (λ (x : TraceJob). P (seen_job (slice_index_or promises level no_promise) level end pieces (take place all) x)) (sym is) (each place level within (ap (λ (x : TraceJob). level_of promises x.name) (sym is) ∙ at)),
+        subst (λ (x : TraceJob). P (seen_job (slice_index_or promises level no_promise) level end
+            pieces (take place all) x)) (sym is) (each place level within
+            (ap (λ (x : TraceJob). level_of promises x.name) (sym is) ∙ at)),
         more,
       )
     ] refl
 
 -- the last arrival is what came before, or that of one of the jobs that has the name
-pub last_found : (name : List ℕ) (last : Option ℕ) (js : List TraceJob) (b : ℕ) (d : TraceJob) → last_from name last js ≡ Some b
-    → (last ≡ Some b) ⊎ ((i : ℕ) × (i < length js) × (same_bytes (slice_index_or js i d).name name ≡ true) × ((slice_index_or js i d).arrival ≡ b))
+pub last_found : (name : List ℕ) (last : Option ℕ) (js : List TraceJob) (b : ℕ) (d : TraceJob)
+    → last_from name last js ≡ Some b
+    → (last ≡ Some b)
+    ⊎ ((i : ℕ) × (i < length js) × (same_bytes (slice_index_or js i d).name name ≡ true)
+    × ((slice_index_or js i d).arrival ≡ b))
 last_found name last [] b d h = inl h
 last_found name last (j ∷ js) b d h =
     elim (cases_Bool (same_bytes j.name name)) [

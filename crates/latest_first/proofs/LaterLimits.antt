@@ -1,13 +1,17 @@
 -- Of some tasks, what is executed below all others of them is one blocking, the jobs of all of them and the interrupts: a
 -- task of a longer limit passes there where one of a shorter limit does.
-use Rattle.std.proofs.Common.{◌≡◌, ℕ, zero, suc, ◌+◌, ◌*◌, ◌<◌, ◌≤◌, true, cond, ◌||◌, inl, inr, List, length, refl, sym, ◌∙◌, ap, arith}
+use Rattle.std.proofs.Common.{◌≡◌, ℕ, zero, suc, ◌+◌, ◌*◌, ◌<◌, ◌≤◌, true, cond, ◌||◌, inl, inr}
+use Rattle.std.proofs.Common.{List, length, refl, sym, ◌∙◌, ap, arith}
 use Rattle.std.proofs.Math.Path.{fun_ext}
 use Rattle.std.specs.Int.{div_ceil}
 use Rattle.std.proofs.lemmas.Bool.{cases_eq, eq-eqb, ne_eqb, ltb-true}
 use Rattle.std.proofs.lemmas.Grind.{common_steps}
 use Rattle.task_sheet.specs.Sheet.{Task, no_task, task_at}
-use Rattle.task_sheet.specs.Indexes.{Indexes, IsPart, with_index, without_index, sum_below, greatest_below}
-use Rattle.task_sheet.specs.Demand.{limit_of, longest_reached, blocking_of, demand_of, interference_of, interference_within, interrupts_within, releases_within, Passes}
+use Rattle.task_sheet.specs.Indexes.{Indexes, IsPart, with_index, without_index, sum_below}
+use Rattle.task_sheet.specs.Indexes.{greatest_below}
+use Rattle.task_sheet.specs.Demand.{limit_of, longest_reached, blocking_of, demand_of}
+use Rattle.task_sheet.specs.Demand.{interference_of, interference_within, interrupts_within}
+use Rattle.task_sheet.specs.Demand.{releases_within, Passes}
 use Rattle.task_sheet.specs.Orders.{all_of}
 use Rattle.task_sheet.proofs.IndexLaws.{without-gone, without-kept}
 use Rattle.latest_first.specs.LatestFirst.{IsPrompt, AllPrompt}
@@ -17,17 +21,20 @@ abbrev term : (ℕ → ℕ) → Indexes → ℕ → ℕ
 term f X h = cond (X h) (f h) 0
 
 -- past the member nothing changes
-sum-past : (n : ℕ) (f : ℕ → ℕ) (L : Indexes) (i : ℕ) → n ≤ i → sum_below n (term f (without_index L i)) ≡ sum_below n (term f L)
+sum-past : (n : ℕ) (f : ℕ → ℕ) (L : Indexes) (i : ℕ) → n ≤ i
+    → sum_below n (term f (without_index L i)) ≡ sum_below n (term f L)
 sum-past zero f L i le = refl
 sum-past (suc n) f L i le =
     let kept : without_index L i n ≡ L n = without-kept L i n (λ e. omega (arith, e)) in
     omega (arith, sum-past n f L i (omega arith), ap (λ b. cond b (f n) 0) kept)
 
-sum-without : (n : ℕ) (f : ℕ → ℕ) (L : Indexes) (i : ℕ) → i < n → L i ≡ true → sum_below n (term f (without_index L i)) + f i ≡ sum_below n (term f L)
+sum-without : (n : ℕ) (f : ℕ → ℕ) (L : Indexes) (i : ℕ) → i < n → L i ≡ true
+    → sum_below n (term f (without_index L i)) + f i ≡ sum_below n (term f L)
 sum-without zero f L i lt member = absurd (omega arith)
 sum-without (suc n) f L i lt member = elim (cases_eq i n) [
   | inl e ↦
-      let gone : cond (without_index L i n) (f n) 0 ≡ 0 = ap (λ b. cond b (f n) 0) (without-gone L i n (sym e)) in
+      let gone : cond (without_index L i n) (f n) 0 ≡ 0 =
+      ap (λ b. cond b (f n) 0) (without-gone L i n (sym e)) in
       let here : cond (L n) (f n) 0 ≡ f n = ap (λ b. cond b (f n) 0) (ap L (sym e) ∙ member) in
       omega (arith, sum-past n f L i (omega (arith, e)), gone, here, ap f e)
   | inr ne ↦
@@ -44,15 +51,19 @@ with-without L i member = fun_ext (λ k. elim (cases_eq k i) [
 
 -- the longest section of a task outside X that the tasks X reach
 abbrev pub longest_outside : List Task → Indexes → ℕ
-longest_outside U X = greatest_below (length U) (λ k. cond (X k) 0 (longest_reached U X (task_at U k)))
+longest_outside U X =
+    greatest_below (length U) (λ k. cond (X k) 0 (longest_reached U X (task_at U k)))
 
-blocking-longest : (U : List Task) (i : ℕ) (H : Indexes) → blocking_of U i H ≡ longest_outside U (with_index H i)
+blocking-longest : (U : List Task) (i : ℕ) (H : Indexes)
+    → blocking_of U i H ≡ longest_outside U (with_index H i)
 unfolding blocking_of
 blocking-longest U i H = refl
 
 -- below all others of some, each of these is blocked for the same time
-pub blocking-lowest : (U : List Task) (L : Indexes) (i : ℕ) → L i ≡ true → blocking_of U i (without_index L i) ≡ longest_outside U L
-blocking-lowest U L i member = blocking-longest U i (without_index L i) ∙ ap (λ X. longest_outside U X) (with-without L i member)
+pub blocking-lowest : (U : List Task) (L : Indexes) (i : ℕ) → L i ≡ true
+    → blocking_of U i (without_index L i) ≡ longest_outside U L
+blocking-lowest U L i member = blocking-longest U i (without_index L i)
+    ∙ ap (λ X. longest_outside U X) (with-without L i member)
 
 -- ---- jobs within a window
 div_ceil-once : (t p : ℕ) → 0 < p → t ≤ p → div_ceil t p ≤ 1
@@ -62,9 +73,11 @@ div_ceil-some : (t p : ℕ) → 0 < p → 1 ≤ t → 1 ≤ div_ceil t p
 div_ceil-some t p pos le = grind (arith, common_steps)
 
 -- within its limit a task has one job
-pub once-within : (x : Task) (t : ℕ) → IsPrompt x → 1 ≤ t → t ≤ limit_of x → interference_of x t ≤ x.cost
+pub once-within : (x : Task) (t : ℕ) → IsPrompt x → 1 ≤ t → t ≤ limit_of x
+    → interference_of x t ≤ x.cost
 once-within x t prompt pos le =
-    let once = div_ceil-once (t + x.jitter) x.period prompt.period (omega (arith, le, prompt.deadline)) in
+    let once =
+    div_ceil-once (t + x.jitter) x.period prompt.period (omega (arith, le, prompt.deadline)) in
     let jobs : releases_within x t * x.cost ≤ 1 * x.cost = grind arith in
     omega arith
 
@@ -82,16 +95,24 @@ module _ (U : List Task) (prompt : AllPrompt U) (L : Indexes) (part : IsPart L (
   pub inside : (i : ℕ) → L i ≡ true → i < length U
   inside i member = ltb-true i (length U) (part i member)
 
-  pub demand-split : (i t : ℕ) → L i ≡ true → demand_of U i (without_index L i) t + interference_of (task_at U i) t ≡ (task_at U i).cost + all_within t
+  pub demand-split : (i t : ℕ) → L i ≡ true → demand_of U i (without_index L i) t + interference_of
+      (task_at U i) t ≡ (task_at U i).cost + all_within t
   unfolding demand_of
   demand-split i t member =
-      omega (arith, blocking-lowest U L i member, sum-without (length U) (λ h. interference_of (task_at U h) t) L i (inside i member) member)
+      omega (
+        arith,
+        blocking-lowest U L i member,
+        sum-without (length U)
+            (λ h. interference_of (task_at U h) t) L i (inside i member) member,
+      )
 
-  pub Passes-later : (i j : ℕ) → L i ≡ true → L j ≡ true → limit_of (task_at U j) ≤ limit_of (task_at U i) → Passes U j (without_index L j) → Passes U i (without_index L i)
+  pub Passes-later : (i j : ℕ) → L i ≡ true → L j ≡ true → limit_of (task_at U j)
+      ≤ limit_of (task_at U i) → Passes U j (without_index L j) → Passes U i (without_index L i)
   Passes-later i j member member' later passes =
       let t = passes.0 in
       let above = cost-within (task_at U i) t (prompt i no_task (inside i member)) passes.1 in
-      let below = once-within (task_at U j) t (prompt j no_task (inside j member')) passes.1 passes.2 in (
+      let below =
+      once-within (task_at U j) t (prompt j no_task (inside j member')) passes.1 passes.2 in (
         t,
         passes.1,
         omega (arith, passes.2, later),

@@ -1,5 +1,6 @@
 -- To ask less takes no order away.
-use Rattle.std.proofs.Common.{ℕ, ◌+◌, ◌*◌, ◌<◌, ◌≤◌, inl, inr, cond, List, [], ◌∷◌, length, sum_by, refl, sym, ◌∙◌, ap, arith}
+use Rattle.std.proofs.Common.{ℕ, ◌+◌, ◌*◌, ◌<◌, ◌≤◌, inl, inr, cond, List, [], ◌∷◌, length, sum_by}
+use Rattle.std.proofs.Common.{refl, sym, ◌∙◌, ap, arith}
 use Rattle.std.proofs.Math.Nat.{mul-le-mul, mul-le-mul_left}
 use Rattle.std.specs.Int.{div_ceil}
 use Rattle.std.proofs.lemmas.Bool.{cases_Bool}
@@ -8,7 +9,8 @@ use Rattle.std.proofs.lemmas.List.Sums.{sum_by-cons}
 use Rattle.task_sheet.specs.declared.node.Interrupt.{Interrupt}
 use Rattle.task_sheet.specs.Sheet.{Task, AllTasks, no_task, task_at}
 use Rattle.task_sheet.specs.Indexes.{Indexes, sum_below, below, among}
-use Rattle.task_sheet.specs.Demand.{limit_of, blocking_of, interrupt_within, interrupts_within, demand_of, releases_within, interference_of, Passes}
+use Rattle.task_sheet.specs.Demand.{limit_of, blocking_of, interrupt_within, interrupts_within}
+use Rattle.task_sheet.specs.Demand.{demand_of, releases_within, interference_of, Passes}
 use Rattle.task_sheet.specs.Orders.{AllStand, IsPassingOrder, IsFeasible}
 use Rattle.task_sheet.proofs.Below.{sum_below-le}
 use Rattle.task_sheet.proofs.Releases.{div_ceil-mono}
@@ -31,19 +33,35 @@ pub AreCheaper-refl : (xs : List Interrupt) → AreCheaper xs xs
 AreCheaper-refl [] = tt
 AreCheaper-refl (x ∷ xs) = (refl, omega arith, AreCheaper-refl xs)
 
-cheaper-within : (t : ℕ) (xs ys : List Interrupt) → AreCheaper xs ys → sum_by (interrupt_within t) xs ≤ sum_by (interrupt_within t) ys
+cheaper-within : (t : ℕ) (xs ys : List Interrupt) → AreCheaper xs ys
+    → sum_by (interrupt_within t) xs ≤ sum_by (interrupt_within t) ys
 cheaper-within t [] [] cheap = omega arith
 cheaper-within t [] (y ∷ ys) cheap = absurd cheap
 cheaper-within t (x ∷ xs) [] cheap = absurd cheap
 cheaper-within t (x ∷ xs) (y ∷ ys) cheap =
-    let here : interrupt_within t x ≤ interrupt_within t y = rw (cheap.0) (mul-le-mul_left (div_ceil (t + 0) y.period) cheap.1) in
-    omega (arith, here, cheaper-within t xs ys cheap.2, sum_by-cons (interrupt_within t) x xs, sum_by-cons (interrupt_within t) y ys)
+    let here : interrupt_within t x ≤ interrupt_within t y =
+    rw (cheap.0) (mul-le-mul_left (div_ceil (t + 0) y.period) cheap.1) in
+    omega (
+      arith,
+      here,
+      cheaper-within t xs ys cheap.2,
+      sum_by-cons (interrupt_within t) x xs,
+      sum_by-cons (interrupt_within t) y ys,
+    )
 
 module _ (V U : List Task) (easy : AreEasier V U) where
   near : AreNear V U
   near = record {
     count = easy.count;
-    each = λ k. record { name = (easy.each k).name; outranks = (easy.each k).outranks; jitter = (easy.each k).jitter; deadline = (easy.each k).deadline; sections = (easy.each k).sections };
+    each = λ k. record {
+      name = (easy.each k).name;
+      outranks = (easy.each k).outranks;
+      jitter =
+          (easy.each k).jitter;
+      deadline = (easy.each k).deadline;
+      sections =
+          (easy.each k).sections;
+    };
   }
 
   pub blocking-easier : (i : ℕ) (H : Indexes) → blocking_of V i H ≤ blocking_of U i H
@@ -53,39 +71,63 @@ module _ (V U : List Task) (easy : AreEasier V U) where
   limit-easier i = limit-near V U near i
 
   module _ (valid : AllTasks U) where
-    releases-easier : (k t : ℕ) → k < length U → releases_within (task_at V k) t ≤ releases_within (task_at U k) t
+    releases-easier : (k t : ℕ) → k < length U
+        → releases_within (task_at V k) t ≤ releases_within (task_at U k) t
     releases-easier k t lt =
         let e = easy.each k in
-        let fewer : div_ceil (t + (task_at V k).jitter) (task_at V k).period ≤ div_ceil (t + (task_at V k).jitter) (task_at U k).period = div_ceil-longer (t + (task_at V k).jitter) (task_at U k).period (task_at V k).period (valid k no_task lt).period e.period in
-        omega (arith, fewer, div_ceil-mono (t + (task_at V k).jitter) (t + (task_at U k).jitter) (task_at U k).period (omega (arith, e.jitter)))
+        let fewer : div_ceil (t + (task_at V k).jitter) (task_at V k).period
+        ≤ div_ceil (t + (task_at V k).jitter) (task_at U k).period =
+        div_ceil-longer (t + (task_at V k).jitter) (task_at U k).period (task_at V k).period
+        (valid k no_task lt).period e.period in
+        omega (
+          arith,
+          fewer,
+          div_ceil-mono (t + (task_at V k).jitter) (t + (task_at U k).jitter)
+              (task_at U k).period (omega (arith, e.jitter)),
+        )
 
-    interference-easier : (k t : ℕ) → k < length U → interference_of (task_at V k) t ≤ interference_of (task_at U k) t
+    interference-easier : (k t : ℕ) → k < length U
+        → interference_of (task_at V k) t ≤ interference_of (task_at U k) t
     interference-easier k t lt = mul-le-mul (releases-easier k t lt) (easy.each k).cost
 
     interrupts-easier : (t : ℕ) → interrupts_within V t ≤ interrupts_within U t
     interrupts-easier t =
         interrupts-less V U t easy.count (λ k lt.
         let e = easy.each k in
-        omega (arith, mul-le-mul (releases-easier k t lt) e.release, cheaper-within t (task_at V k).interrupts (task_at U k).interrupts e.interrupts))
+        omega (
+          arith,
+          mul-le-mul (releases-easier k t lt) e.release,
+          cheaper-within t
+              (task_at V k).interrupts (task_at U k).interrupts e.interrupts,
+        ))
 
     pub demand-easier : (i : ℕ) (H : Indexes) (t : ℕ) → demand_of V i H t ≤ demand_of U i H t
     unfolding demand_of
     demand-easier i H t =
         let f : ℕ → ℕ = λ k. cond (H k) (interference_of (task_at V k) t) 0 in
         let g : ℕ → ℕ = λ k. cond (H k) (interference_of (task_at U k) t) 0 in
-        let terms : sum_below (length U) f ≤ sum_below (length U) g = sum_below-le (length U) f g (λ k lt. elim (cases_Bool (H k)) [
+        let terms : sum_below (length U) f ≤ sum_below (length U) g =
+        sum_below-le (length U) f g (λ k lt. elim (cases_Bool (H k)) [
           | inl so ↦ rw so (interference-easier k t lt)
           | inr so ↦ rw so (omega arith)
         ]) in
-        rw easy.count (omega (arith, terms, blocking-easier i H, (easy.each i).cost, interrupts-easier t))
+        rw easy.count
+        (omega (arith, terms, blocking-easier i H, (easy.each i).cost, interrupts-easier t))
 
     pub Passes-easier : (i : ℕ) (H : Indexes) → Passes U i H → Passes V i H
-    Passes-easier i H passes =
-        (passes.0, passes.1, omega (arith, limit-easier i, passes.2), omega (arith, demand-easier i H passes.0, passes.3))
+    Passes-easier i H passes = (
+      passes.0,
+      passes.1,
+      omega (arith, limit-easier i, passes.2),
+      omega (arith, demand-easier i H passes.0, passes.3),
+    )
 
     AllStand-easier : (order : List ℕ) → AllStand U order → AllStand V order
     AllStand-easier [] all = tt
-    AllStand-easier (i ∷ above) all = ((Passes-easier i (among above) all.0.0, is_bound-near V U near i (among above) ∙ all.0.1), AllStand-easier above all.1)
+    AllStand-easier (i ∷ above) all = (
+      (Passes-easier i (among above) all.0.0, is_bound-near V U near i (among above) ∙ all.0.1),
+      AllStand-easier above all.1,
+    )
 
     pub IsPassingOrder-easier : (order : List ℕ) → IsPassingOrder U order → IsPassingOrder V order
     IsPassingOrder-easier order passing = record {

@@ -1,6 +1,7 @@
 -- Sets of tasks of the same names: no section longer, no later ready, no deadline earlier. No blocking is greater, no limit
 -- less, and the same tasks are bound.
-use Rattle.std.proofs.Common.{◌≡◌, ℕ, ◌≤◌, Bool, inl, inr, cond, ◌&&◌, ◌||◌, List, [], ◌∷◌, length, refl, ◌∙◌, ap, arith}
+use Rattle.std.proofs.Common.{◌≡◌, ℕ, ◌≤◌, Bool, inl, inr, cond, ◌&&◌, ◌||◌, List, [], ◌∷◌, length}
+use Rattle.std.proofs.Common.{refl, ◌∙◌, ap, arith}
 use Rattle.std.proofs.Math.Path.{fun_ext}
 use Rattle.std.specs.List.{list_any}
 use Rattle.std.proofs.lemmas.Bool.{cases_Bool}
@@ -31,16 +32,20 @@ pub AreShorter-refl : (xs : List CriticalSection) → AreShorter xs xs
 AreShorter-refl [] = tt
 AreShorter-refl (x ∷ xs) = (refl, omega arith, AreShorter-refl xs)
 
-uses-shorter : (xs ys : List CriticalSection) (lock : List ℕ) → AreShorter xs ys → list_any (λ (s : CriticalSection). names_lock s lock) xs ≡ list_any (λ (s : CriticalSection). names_lock s lock) ys
+uses-shorter : (xs ys : List CriticalSection) (lock : List ℕ) → AreShorter xs ys
+    → list_any (λ (s : CriticalSection). names_lock s lock) xs
+    ≡ list_any (λ (s : CriticalSection). names_lock s lock) ys
 uses-shorter [] [] lock short = refl
 uses-shorter [] (y ∷ ys) lock short = absurd short
 uses-shorter (x ∷ xs) [] lock short = absurd short
 uses-shorter (x ∷ xs) (y ∷ ys) lock short =
     ap (λ b. list_any (λ name. same_bytes name lock) x.locks || b) (uses-shorter xs ys lock short.2)
-    ∙ ap (λ (locks : List (List ℕ)). list_any (λ name. same_bytes name lock) locks || list_any (λ (s : CriticalSection). names_lock s lock) ys) short.0
+    ∙ ap (λ (locks : List (List ℕ)). list_any (λ name. same_bytes name lock) locks
+    || list_any (λ (s : CriticalSection). names_lock s lock) ys) short.0
 
 longest-shorter : (p : List (List ℕ) → Bool) (xs ys : List CriticalSection) → AreShorter xs ys
-    → greatest_of (λ (s : CriticalSection). cond (p s.locks) s.len 0) xs ≤ greatest_of (λ (s : CriticalSection). cond (p s.locks) s.len 0) ys
+    → greatest_of (λ (s : CriticalSection). cond (p s.locks) s.len 0) xs
+    ≤ greatest_of (λ (s : CriticalSection). cond (p s.locks) s.len 0) ys
 longest-shorter p [] [] short = omega arith
 longest-shorter p [] (y ∷ ys) short = absurd short
 longest-shorter p (x ∷ xs) [] short = absurd short
@@ -52,23 +57,34 @@ longest-shorter p (x ∷ xs) (y ∷ ys) short =
     omega (arith, here, longest-shorter p xs ys short.2)
 
 module _ (V U : List Task) (near : AreNear V U) where
-  shares-near : (k : ℕ) (s : CriticalSection) → shares_lock (task_at V k) s ≡ shares_lock (task_at U k) s
-  shares-near k s = ap (λ (p : List ℕ → Bool). list_any p s.locks) (fun_ext (λ lock. uses-shorter (task_at V k).sections (task_at U k).sections lock (near.each k).sections))
+  shares-near : (k : ℕ) (s : CriticalSection)
+      → shares_lock (task_at V k) s ≡ shares_lock (task_at U k) s
+  shares-near k s = ap (λ (p : List ℕ → Bool). list_any p s.locks) (fun_ext (λ lock. uses-shorter
+      (task_at V k).sections (task_at U k).sections lock (near.each k).sections))
 
   reaches-near : (X : Indexes) (s : CriticalSection) → reaches V X s ≡ reaches U X s
   reaches-near X s =
       ap (λ n. some_below n (λ k. X k && shares_lock (task_at V k) s)) near.count
-      ∙ ap (λ (p : ℕ → Bool). some_below (length U) p) (fun_ext (λ k. ap (λ b. X k && b) (shares-near k s)))
+      ∙ ap (λ (p : ℕ → Bool). some_below (length U) p)
+      (fun_ext (λ k. ap (λ b. X k && b) (shares-near k s)))
 
   -- a section is reached for its locks
   abbrev by_locks : Indexes → List (List ℕ) → Bool
-  by_locks X locks = some_below (length U) (λ k. X k && list_any (λ lock. uses (task_at U k) lock) locks)
+  by_locks X locks =
+      some_below (length U) (λ k. X k && list_any (λ lock. uses (task_at U k) lock) locks)
 
-  longest-near : (X : Indexes) (k : ℕ) → longest_reached V X (task_at V k) ≤ longest_reached U X (task_at U k)
+  longest-near : (X : Indexes) (k : ℕ)
+      → longest_reached V X (task_at V k) ≤ longest_reached U X (task_at U k)
   longest-near X k =
       let same : longest_reached V X (task_at V k) ≡ longest_reached U X (task_at V k) =
-      ap (λ (r : CriticalSection → Bool). greatest_of (λ (s : CriticalSection). cond (r s) s.len 0) (task_at V k).sections) (fun_ext (reaches-near X)) in
-      omega (arith, same, longest-shorter (by_locks X) (task_at V k).sections (task_at U k).sections (near.each k).sections)
+      ap (λ (r : CriticalSection → Bool). greatest_of (λ (s : CriticalSection). cond (r s) s.len 0)
+      (task_at V k).sections) (fun_ext (reaches-near X)) in
+      omega (
+        arith,
+        same,
+        longest-shorter (by_locks X) (task_at V k).sections (task_at U k).sections
+            (near.each k).sections,
+      )
 
   pub blocking-near : (i : ℕ) (H : Indexes) → blocking_of V i H ≤ blocking_of U i H
   unfolding blocking_of
@@ -77,7 +93,10 @@ module _ (V U : List Task) (near : AreNear V U) where
       let f : ℕ → ℕ = λ k. cond (X k) 0 (longest_reached V X (task_at V k)) in
       let g : ℕ → ℕ = λ k. cond (X k) 0 (longest_reached U X (task_at U k)) in
       greatest_below-le (length V) f (greatest_below (length U) g) (λ k lt.
-      let here : f k ≤ g k = elim (cases_Bool (X k)) [ inl so ↦ rw so (omega arith) | inr so ↦ rw so (longest-near X k) ] in
+      let here : f k ≤ g k = elim (cases_Bool (X k)) [
+        | inl so ↦ rw so (omega arith)
+        | inr so ↦ rw so (longest-near X k)
+      ] in
       omega (arith, here, le-greatest_below (length U) g k (omega (arith, lt, near.count))))
 
   pub limit-near : (i : ℕ) → limit_of (task_at U i) ≤ limit_of (task_at V i)

@@ -63,7 +63,7 @@ fn order_passes_with(
 }
 
 /// The furthest value that a number of a task may have with which an order of the set that passes still passes as it
-/// stands, all else equal. The table is that of the set. The error is want of memory.
+/// stands, all else equal. The table is that of the set. The error is out of memory.
 pub fn furthest_in_order(
     alloc: Global,
     set: &TaskSet,

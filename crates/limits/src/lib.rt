@@ -90,7 +90,7 @@ fn furthest_beyond(
 /// The furthest value that a number of a task may have with which some order of the set passes, all else equal; none where
 /// none helps. Further is a greater cost, jitter or length of a section, a shorter period, an earlier deadline. A period
 /// that is shorter than the deadline takes it along, a deadline that is later than the period takes that along. The table
-/// is that of the set. The error is want of memory.
+/// is that of the set. The error is out of memory.
 pub fn furthest(
     alloc: Global,
     set: &TaskSet,

@@ -57,7 +57,7 @@ fn with_number(
     Ok(remade(sheet, times, sections, outranks, interrupts))
 }
 
-/// The set with another value of a number of one task. The error is want of memory.
+/// The set with another value of a number of one task. The error is out of memory.
 pub(crate) fn numbered(
     alloc: Global,
     set: &TaskSet,

@@ -1,12 +1,15 @@
 -- The streams of a task's worst case.
-use Rattle.std.proofs.Common.{◌≡◌, ◌≢◌, ℕ, zero, suc, ◌+◌, ◌-◌, ◌<◌, ◌≤◌, ◌⊎◌, inl, inr, false, ◌==◌, Some, None, Option, List, [], ◌∷◌, ◌++◌, length, map, get_or, refl, sym, ◌∙◌, ap, subst, arith}
+use Rattle.std.proofs.Common.{◌≡◌, ◌≢◌, ℕ, zero, suc, ◌+◌, ◌-◌, ◌<◌, ◌≤◌, ◌⊎◌, inl, inr, false}
+use Rattle.std.proofs.Common.{◌==◌, Some, None, Option, List, [], ◌∷◌, ◌++◌, length, map, get_or}
+use Rattle.std.proofs.Common.{refl, sym, ◌∙◌, ap, subst, arith}
 use Rattle.std.specs.Prelude.{slice_get}
 use Rattle.std.proofs.Math.ListN.{get_or-append}
 use Rattle.std.proofs.Math.Seq.{get_or-append_right}
 use Rattle.std.proofs.lemmas.List.{length-append, length-map}
 use Rattle.std.proofs.lemmas.Option.{get_or_from_slice_get, none-some}
 use Rattle.std.proofs.lemmas.Bool.{cases_lt, cases_eq, eq-eqb, true≢false, or_parts}
-use Rattle.task_sheet.specs.Sheet.{Task, CriticalSection, IsValidSheet, IsSection, AreSections, no_task, task_at}
+use Rattle.task_sheet.specs.Sheet.{Task, CriticalSection, IsValidSheet, IsSection, AreSections}
+use Rattle.task_sheet.specs.Sheet.{no_task, task_at}
 use Rattle.task_sheet.specs.TaskSet.{IsTaskSet}
 use Rattle.task_sheet.specs.Indexes.{with_index, among}
 use Rattle.task_sheet.specs.Demand.{greatest_of, blocking_of}
@@ -15,19 +18,22 @@ use Rattle.ceiling_kernel.specs.Waits.{IsNode, lateness_of}
 use Rattle.ceiling_kernel.specs.Bounds.{above_of, after_of}
 use Rattle.ceiling_kernel.proofs.AcceptLaws.{not_lt}
 use Rattle.ceiling_kernel.proofs.NodeLaws.{IsSound, sound, after_is_above}
-use Rattle.explain.specs.Parts.{BlockerData, BlocksAt, IsFirstBlocker, IsBlockerOf}
+use Rattle.explain.specs.Blocking.{BlockerData, BlocksAt, IsFirstBlocker, IsBlockerOf}
 use Rattle.release_list.specs.declared.stream.Stream.{Stream}
 use Rattle.release_list.specs.Streams.{no_stream, stream_at}
-use Rattle.miss.specs.Misses.{section_of, lead_of, instant_of, member_stream, blocker_streams, worst_streams, no_section}
+use Rattle.miss.specs.Misses.{section_of, lead_of, instant_of, member_stream, blocker_streams}
+use Rattle.miss.specs.Misses.{worst_streams, no_section}
 use Rattle.release_list.proofs.FitLaws.{IsFit, AreFit}
 use Rattle.miss.proofs.MemberLaws.{member_in, members_differ}
 
-map_at : (f : ℕ → Stream) (xs : List ℕ) (q : ℕ) → q < length xs → get_or (map f xs) q no_stream ≡ f (get_or xs q 0)
+map_at : (f : ℕ → Stream) (xs : List ℕ) (q : ℕ) → q < length xs
+    → get_or (map f xs) q no_stream ≡ f (get_or xs q 0)
 map_at f [] q lt = absurd (omega arith)
 map_at f (x ∷ xs) zero lt = refl
 map_at f (x ∷ xs) (suc q) lt = map_at f xs q (omega arith)
 
-pub greatest_at : (f : ℕ → ℕ) (xs : List ℕ) (q : ℕ) → q < length xs → f (get_or xs q 0) ≤ greatest_of f xs
+pub greatest_at : (f : ℕ → ℕ) (xs : List ℕ) (q : ℕ) → q < length xs
+    → f (get_or xs q 0) ≤ greatest_of f xs
 greatest_at f [] q lt = absurd (omega arith)
 greatest_at f (x ∷ xs) zero lt = omega arith
 greatest_at f (x ∷ xs) (suc q) lt = omega (arith, greatest_at f xs q (omega arith))
@@ -36,7 +42,8 @@ greatest_most : (f : ℕ → ℕ) (xs : List ℕ) (m : ℕ) → ((k : ℕ) → f
 greatest_most f [] m h = omega arith
 greatest_most f (x ∷ xs) m h = omega (arith, h x, greatest_most f xs m h)
 
-section_in : (from cost : ℕ) (ss : List CriticalSection) (p : ℕ) (s : CriticalSection) → AreSections from cost ss → slice_get ss p ≡ Some s → (s.at + s.len ≤ cost) × (0 < s.len)
+section_in : (from cost : ℕ) (ss : List CriticalSection) (p : ℕ) (s : CriticalSection)
+    → AreSections from cost ss → slice_get ss p ≡ Some s → (s.at + s.len ≤ cost) × (0 < s.len)
 section_in from cost [] p s h e = absurd (none-some s e)
 section_in from cost (x ∷ ss) zero s h e =
     let is : x ≡ s = cc (e) in
@@ -63,7 +70,12 @@ module _ (U : List Task) (members : List ℕ) (instant until : ℕ) where
     pub index : index_of b q ≡ get_or members q 0
 
   abbrev pub the_blocker : BlockerData → Stream
-  the_blocker b = record { name = (task_at U b.task).name; first = instant - lead_of U (Some b); late = 0; period = until + (task_at U b.task).period }
+  the_blocker b = record {
+    name = (task_at U b.task).name;
+    first = instant - lead_of U (Some b);
+    late = 0;
+    period = until + (task_at U b.task).period;
+  }
 
   pub record IsBlocker (b : Option BlockerData) (q : ℕ) : Type 0 where
     pub blocker : BlockerData
@@ -78,43 +90,55 @@ module _ (U : List Task) (members : List ℕ) (instant until : ℕ) where
   pub member_at : (b : Option BlockerData) (q : ℕ) → q < length members → IsMember b q
   member_at b q lt = record {
     place = lt;
-    stream = get_or-append (map (member_stream U instant) members) (blocker_streams U instant until b) no_stream q (omega (arith, long)) ∙ map_at (member_stream U instant) members q lt;
+    stream = get_or-append (map (member_stream U instant) members)
+        (blocker_streams U instant until b) no_stream q (omega (arith, long))
+        ∙ map_at (member_stream U instant) members q lt;
     index = get_or-append members (tasks_of b) 0 q lt;
   }
 
   pub blocker_at : (b : BlockerData) → IsBlocker (Some b) (length members)
   blocker_at b =
       let n : ℕ = length members in
-      let z : length members - length (map (member_stream U instant) members) ≡ 0 = omega (arith, long) in
+      let z : length members - length (map (member_stream U instant) members) ≡ 0 =
+      omega (arith, long) in
       let w : n - length members ≡ 0 = omega arith in
       record {
         blocker = b;
         is = refl;
         place = refl;
-        stream = get_or-append_right (map (member_stream U instant) members) (blocker_streams U instant until (Some b)) n no_stream (omega (arith, long))
+        stream = get_or-append_right (map (member_stream U instant) members)
+            (blocker_streams U instant until (Some b)) n no_stream (omega (arith, long))
             ∙ ap (λ k. stream_at (blocker_streams U instant until (Some b)) k) z;
-        index = get_or-append_right members (tasks_of (Some b)) n 0 (omega arith) ∙ ap (λ k. get_or (tasks_of (Some b)) k 0) w;
+        index = get_or-append_right members (tasks_of (Some b)) n 0 (omega arith)
+            ∙ ap (λ k. get_or (tasks_of (Some b)) k 0) w;
       }
 
-  pub streams_length : (b : Option BlockerData) → length (streams_of b) ≡ length members + length (tasks_of b)
-  streams_length None = length-append (map (member_stream U instant) members) [] ∙ ap (λ n. n + 0) long
-  streams_length (Some b) = length-append (map (member_stream U instant) members) (blocker_streams U instant until (Some b)) ∙ ap (λ n. n + 1) long
+  pub streams_length : (b : Option BlockerData)
+      → length (streams_of b) ≡ length members + length (tasks_of b)
+  streams_length None = length-append (map (member_stream U instant) members) []
+      ∙ ap (λ n. n + 0) long
+  streams_length (Some b) = length-append (map (member_stream U instant) members)
+      (blocker_streams U instant until (Some b)) ∙ ap (λ n. n + 1) long
 
-  pub which : (b : Option BlockerData) (q : ℕ) → q < length (streams_of b) → IsMember b q ⊎ IsBlocker b q
+  pub which : (b : Option BlockerData) (q : ℕ) → q < length (streams_of b) → IsMember b q
+      ⊎ IsBlocker b q
   which b q lt =
       elim (cases_lt q (length members)) [
         | inl front ↦ inl (member_at b q front)
         | inr back ↦ inr (last b q back lt)
       ]
     where
-      last : (b : Option BlockerData) (q : ℕ) → length members ≤ q → q < length (streams_of b) → IsBlocker b q
+      last : (b : Option BlockerData) (q : ℕ) → length members ≤ q → q < length (streams_of b)
+          → IsBlocker b q
       last None q back lt = absurd (omega (arith, streams_length None))
       last (Some b) q back lt =
           let e : length members ≡ q = omega (arith, streams_length (Some b)) in
           subst (λ k. IsBlocker (Some b) k) e (blocker_at b)
 
 -- ---- the worst case of a task in an order
-module _ (node : Node) (ok : IsNode node) (i : ℕ) (lt : i < length node.tasks) (b : Option BlockerData) (is_b : IsBlockerOf node.tasks i (among (after_of node.order i)) b) (until : ℕ) where
+module _ (node : Node) (ok : IsNode node) (i : ℕ) (lt : i < length node.tasks)
+    (b : Option BlockerData) (is_b : IsBlockerOf node.tasks i (among (after_of node.order i)) b)
+    (until : ℕ) where
   abbrev U : List Task
   U = node.tasks
 
@@ -142,7 +166,8 @@ module _ (node : Node) (ok : IsNode node) (i : ℕ) (lt : i < length node.tasks)
   late_small : (k : ℕ) → lateness_of (task_at U k) ≤ 10000000
   late_small k =
       elim (cases_lt k (length U)) [
-        | inl small ↦ (let v : IsValidSheet (task_at U k) = valid k small in omega (arith, v.jitter, v.deadline_to, v.period_to))
+        | inl small ↦ (let v : IsValidSheet (task_at U k) = valid k small in
+            omega (arith, v.jitter, v.deadline_to, v.period_to))
         | inr past ↦
             let none : task_at U k ≡ no_task = past_end U k past in
             subst (λ t. lateness_of t ≤ 10000000) (sym none) (omega arith)
@@ -165,19 +190,27 @@ module _ (node : Node) (ok : IsNode node) (i : ℕ) (lt : i < length node.tasks)
 
   pub placed : (bb : BlockerData) → b ≡ Some bb → IsPlacedBlocker bb
   placed bb e =
-      let f : IsFirstBlocker U i (among above) bb = subst (λ x. IsBlockerOf U i (among above) x) e is_b in
+      let f : IsFirstBlocker U i (among above) bb =
+      subst (λ x. IsBlockerOf U i (among above) x) e is_b in
       let at : BlocksAt U i (among above) bb.task bb.place f.section = f.blocks in
       let v : IsValidSheet (task_at U bb.task) = valid bb.task at.in_set in
-      let room : (f.section.at + f.section.len ≤ (task_at U bb.task).cost) × (0 < f.section.len) = section_in 0 (task_at U bb.task).cost (task_at U bb.task).sections bb.place f.section v.sections at.section in
+      let room : (f.section.at + f.section.len ≤ (task_at U bb.task).cost) × (0 < f.section.len) =
+      section_in 0 (task_at U bb.task).cost (task_at U bb.task).sections bb.place f.section
+      v.sections at.section in
       let same : among above ≡ above_of node i = λ x h. after_is_above node ok i h lt x in
-      let outside : with_index (above_of node i) i bb.task ≡ false = subst (λ H. with_index H i bb.task ≡ false) same at.outside in
-      let not_i : bb.task ≢ i = λ s. absurd (true≢false (sym (eq-eqb bb.task i s) ∙ (or_parts (bb.task == i) (above_of node i bb.task) outside).0)) in
-      let le : level_in_order node bb.task ≤ level_in_order node i = not_lt (level_in_order node i) (level_in_order node bb.task) (or_parts (bb.task == i) (above_of node i bb.task) outside).1 in
+      let outside : with_index (above_of node i) i bb.task ≡ false =
+      subst (λ H. with_index H i bb.task ≡ false) same at.outside in
+      let not_i : bb.task ≢ i = λ s. absurd (true≢false (sym (eq-eqb bb.task i s)
+      ∙ (or_parts (bb.task == i) (above_of node i bb.task) outside).0)) in
+      let le : level_in_order node bb.task ≤ level_in_order node i =
+      not_lt (level_in_order node i) (level_in_order node bb.task)
+      (or_parts (bb.task == i) (above_of node i bb.task) outside).1 in
       let s : IsSound node = sound node ok in
       record {
         section = f.section;
         blocks = at;
-        is = get_or_from_slice_get (task_at U bb.task).sections bb.place f.section no_section at.section;
+        is = get_or_from_slice_get (task_at U bb.task).sections bb.place f.section no_section
+            at.section;
         long = sym f.len ∙ (f.longest ∙ ap (blocking_of U i) same);
         within = room.0;
         runs = room.1;
@@ -197,13 +230,17 @@ module _ (node : Node) (ok : IsNode node) (i : ℕ) (lt : i < length node.tasks)
 
   pub instant_small : instant ≤ 10000000
   instant_small =
-      let g : greatest_of (λ k. lateness_of (task_at U k)) members ≤ 10000000 = greatest_most (λ k. lateness_of (task_at U k)) members 10000000 late_small in
+      let g : greatest_of (λ k. lateness_of (task_at U k)) members ≤ 10000000 =
+      greatest_most (λ k. lateness_of (task_at U k)) members 10000000 late_small in
       let l : lead_of U b ≤ 10000000 = lead_small b refl in
       omega arith
 
-  pub member_late : (q : ℕ) → q < length members → lateness_of (task_at U (get_or members q 0)) ≤ instant
+  pub member_late : (q : ℕ) → q < length members
+      → lateness_of (task_at U (get_or members q 0)) ≤ instant
   member_late q small =
-      let g : lateness_of (task_at U (get_or members q 0)) ≤ greatest_of (λ k. lateness_of (task_at U k)) members = greatest_at (λ k. lateness_of (task_at U k)) members q small in
+      let g : lateness_of (task_at U (get_or members q 0))
+      ≤ greatest_of (λ k. lateness_of (task_at U k)) members =
+      greatest_at (λ k. lateness_of (task_at U k)) members q small in
       omega arith
 
   pub fit : AreFit U ss index
@@ -211,12 +248,28 @@ module _ (node : Node) (ok : IsNode node) (i : ℕ) (lt : i < length node.tasks)
     each = λ q small. elim (which U members instant until b q small) [
       | inl m ↦
           let k : ℕ = get_or members q 0 in
-          let f : IsFit U (member_stream U instant k) k = record { in_set = (member_in node ok i lt q m.place).0; named = refl; apart = omega arith; prompt = omega arith } in
-          subst (λ x. IsFit U x (index q)) (sym m.stream) (subst (λ x. IsFit U (member_stream U instant k) x) (sym m.index) f)
+          let f : IsFit U (member_stream U instant k) k =
+          record {
+            in_set = (member_in node ok i lt q m.place).0;
+            named = refl;
+            apart =
+                omega arith;
+            prompt = omega arith;
+          } in
+          subst (λ x. IsFit U x (index q)) (sym m.stream)
+          (subst (λ x. IsFit U (member_stream U instant k) x) (sym m.index) f)
       | inr m ↦
           let p : IsPlacedBlocker m.blocker = placed m.blocker m.is in
-          let f : IsFit U (the_blocker U members instant until m.blocker) m.blocker.task = record { in_set = p.blocks.in_set; named = refl; apart = omega arith; prompt = omega arith } in
-          subst (λ x. IsFit U x (index q)) (sym m.stream) (subst (λ x. IsFit U (the_blocker U members instant until m.blocker) x) (sym m.index) f)
+          let f : IsFit U (the_blocker U members instant until m.blocker) m.blocker.task =
+          record {
+            in_set = p.blocks.in_set;
+            named = refl;
+            apart = omega arith;
+            prompt =
+                omega arith;
+          } in
+          subst (λ x. IsFit U x (index q)) (sym m.stream) (subst (λ x. IsFit U
+          (the_blocker U members instant until m.blocker) x) (sym m.index) f)
     ];
     distinct = λ q r sq sr e. elim (which U members instant until b q sq) [
       | inl m ↦ elim (which U members instant until b r sr) [
@@ -230,9 +283,12 @@ module _ (node : Node) (ok : IsNode node) (i : ℕ) (lt : i < length node.tasks)
     ];
   }
     where
-      apart_from : (q : ℕ) (m : IsMember U members instant until b q) (bb : BlockerData) → b ≡ Some bb → get_or members q 0 ≡ bb.task → ⊥
+      apart_from : (q : ℕ) (m : IsMember U members instant until b q) (bb : BlockerData)
+          → b ≡ Some bb → get_or members q 0 ≡ bb.task → ⊥
       apart_from q m bb is e =
           let p : IsPlacedBlocker bb = placed bb is in
-          let up : level_in_order node i ≤ level_in_order node (get_or members q 0) = (member_in node ok i lt q m.place).1 in
-          let same : level_in_order node (get_or members q 0) ≡ level_in_order node bb.task = ap (λ k. level_in_order node k) e in
+          let up : level_in_order node i ≤ level_in_order node (get_or members q 0) =
+          (member_in node ok i lt q m.place).1 in
+          let same : level_in_order node (get_or members q 0) ≡ level_in_order node bb.task =
+          ap (λ k. level_in_order node k) e in
           omega (arith, p.lower)

@@ -1,5 +1,7 @@
 -- A task that must miss its deadline misses it in its worst case.
-use Rattle.std.proofs.Common.{◌≡◌, ◌≢◌, ℕ, ◌+◌, ◌-◌, ◌<◌, ◌≤◌, ◌⊎◌, inl, inr, true, ◌==◌, Some, None, Option, List, ◌∷◌, length, get_or, refl, sym, ◌∙◌, ap, subst, arith}
+use Rattle.std.proofs.Common.{◌≡◌, ◌≢◌, ℕ, ◌+◌, ◌-◌, ◌<◌, ◌≤◌, ◌⊎◌, inl, inr, true, ◌==◌, Some}
+use Rattle.std.proofs.Common.{None, Option, List, ◌∷◌, length, get_or, refl, sym, ◌∙◌, ap, subst}
+use Rattle.std.proofs.Common.{arith}
 use Rattle.std.specs.Prelude.{unwrap_or, Contains}
 use Rattle.std.proofs.lemmas.Option.{get_or_from_slice_get, slice_get_within}
 use Rattle.std.proofs.lemmas.Bool.{cases_lt, cases_eq, eq-eqb, lt-ltb, ltb-true}
@@ -9,12 +11,15 @@ use Rattle.task_sheet.specs.Indexes.{with_index, among}
 use Rattle.task_sheet.specs.Locks.{reaches}
 use Rattle.task_sheet.specs.Demand.{limit_of, blocking_of, releases_within, Passes}
 use Rattle.ceiling_kernel.specs.declared.trace.Release.{Release}
-use Rattle.ceiling_kernel.specs.Tick.{Node, Job, job_at, job_task, level_in_order, level_of_job, is_inside, executed_before}
+use Rattle.ceiling_kernel.specs.Tick.{Node, Job, job_at, job_task, level_in_order, level_of_job}
+use Rattle.ceiling_kernel.specs.Tick.{is_inside, executed_before}
 use Rattle.ceiling_kernel.specs.Behaviours.{cut_at}
 use Rattle.ceiling_kernel.specs.Waits.{IsNode, AreLegalJobs, lateness_of, Overruns, NoOverrun}
-use Rattle.ceiling_kernel.specs.Bounds.{above_of, after_of, ready_within, work_of, PassesBy, CoversBy, response_by}
+use Rattle.ceiling_kernel.specs.Bounds.{above_of, after_of, ready_within, work_of, PassesBy}
+use Rattle.ceiling_kernel.specs.Bounds.{CoversBy, response_by}
 use Rattle.ceiling_kernel.specs.Readings.{IsFinishAt}
-use Rattle.ceiling_kernel.specs.Releases.{task_named, task_number, runs_of, job_of, jobs_of, release_at, ready_of, refusal_of}
+use Rattle.ceiling_kernel.specs.Releases.{task_named, task_number, runs_of, job_of, jobs_of}
+use Rattle.ceiling_kernel.specs.Releases.{release_at, ready_of, refusal_of}
 use Rattle.ceiling_kernel.proofs.NodeLaws.{IsSound, sound, after_is_above}
 use Rattle.ceiling_kernel.proofs.SectionLaws.{inside_from}
 use Rattle.ceiling_kernel.proofs.ReleaseLaws.{job_is, jobs_length}
@@ -22,16 +27,18 @@ use Rattle.ceiling_kernel.proofs.EndLaws.{legal_from}
 use Rattle.ceiling_kernel.proofs.FinishLaws.{grows_by}
 use Rattle.ceiling_kernel.proofs.BoundLaws.{bound_law}
 use Rattle.ceiling_kernel.proofs.CutLaws.{whole_law}
-use Rattle.explain.specs.Parts.{BlockerData, IsBlockerOf}
+use Rattle.explain.specs.Blocking.{BlockerData, IsBlockerOf}
 use Rattle.release_list.proofs.TaskNumbers.{found}
 use Rattle.release_list.specs.declared.stream.Stream.{Stream}
 use Rattle.release_list.specs.Streams.{stream_at, late_at, list_of, arrival_of, job_release}
 use Rattle.miss.specs.Exact.{IsWhole, IsHeldUp, IsWorst, EndsLow, NoneCovers}
-use Rattle.miss.specs.Misses.{section_of, lead_of, instant_of, worst_streams, IsWorstCase, IsRunOf, HasMiss, MustMiss, WorstCaseMisses}
+use Rattle.miss.specs.Misses.{section_of, lead_of, instant_of, worst_streams, IsWorstCase, IsRunOf}
+use Rattle.miss.specs.Misses.{HasMiss, MustMiss, WorstCaseMisses}
 use Rattle.miss.specs.Shown.{AboveAllPass}
 use Rattle.miss.specs.Reached.{IsLeastCover, WorstCaseReaches}
 use Rattle.release_list.proofs.ArrivalLaws.{IsArrival, arrivals_apart, numbered}
-use Rattle.release_list.proofs.JobLaws.{IsIn, IsOf, before_from, before_order, arrived, before_end, job_in}
+use Rattle.release_list.proofs.JobLaws.{IsIn, IsOf, before_from, before_order, arrived, before_end}
+use Rattle.release_list.proofs.JobLaws.{job_in}
 use Rattle.release_list.proofs.FitLaws.{IsFit, AreFit, some_period, number_is, none_refused}
 use Rattle.miss.proofs.DenseLaws.{dense}
 use Rattle.miss.proofs.MemberLaws.{member_in, above_place}
@@ -39,7 +46,9 @@ use Rattle.miss.proofs.LeadLaws.{leads}
 use Rattle.miss.proofs.ReachLaws.{ceiling_reaches}
 use Rattle.miss.proofs.WorstLaws.{misses_law}
 use Rattle.miss.proofs.ExactLaws.{exact_law}
-use Rattle.miss.proofs.CaseLaws.{tasks_of, IsMember, IsBlocker, member_at, blocker_at, streams_length, which, index_of, IsPlacedBlocker, placed, instant_small, member_late, fit}
+use Rattle.miss.proofs.CaseLaws.{tasks_of, IsMember, IsBlocker, member_at, blocker_at}
+use Rattle.miss.proofs.CaseLaws.{streams_length, which, index_of, IsPlacedBlocker, placed}
+use Rattle.miss.proofs.CaseLaws.{instant_small, member_late, fit}
 
 -- a job of the worst case of task i, which a kernel takes: its deadline is the end
 pub record IsCaseJob (node : Node) (i : ℕ) (rs : List Release) (until j : ℕ) : Type 0 where
@@ -48,9 +57,12 @@ pub record IsCaseJob (node : Node) (i : ℕ) (rs : List Release) (until j : ℕ)
   pub of_task : task_number node.tasks (release_at rs j) ≡ i
   pub due : (release_at rs j).time + (task_at node.tasks i).deadline ≡ until
 
-module _ (node : Node) (ok : IsNode node) (i : ℕ) (lt : i < length node.tasks) (b : Option BlockerData) (is_b : IsBlockerOf node.tasks i (among (after_of node.order i)) b) (until : ℕ)
-    (ends : until ≡ instant_of node.tasks (i ∷ after_of node.order i) b + limit_of (task_at node.tasks i))
-    (few : length (list_of (worst_streams node.tasks (i ∷ after_of node.order i) b until) until) ≤ 10000) where
+module _ (node : Node) (ok : IsNode node) (i : ℕ) (lt : i < length node.tasks) (b : Option
+    BlockerData) (is_b : IsBlockerOf node.tasks i (among (after_of node.order i)) b) (until : ℕ)
+    (ends : until ≡ instant_of node.tasks (i ∷ after_of node.order i) b + limit_of
+    (task_at node.tasks i))
+    (few : length (list_of (worst_streams node.tasks (i ∷ after_of node.order i) b until) until)
+    ≤ 10000) where
   abbrev U : List Task
   U = node.tasks
 
@@ -81,11 +93,14 @@ module _ (node : Node) (ok : IsNode node) (i : ℕ) (lt : i < length node.tasks)
   valid : (k : ℕ) → k < length U → IsValidSheet (task_at U k)
   valid k small = set.valid k no_task small
 
-  limits : (0 < limit) × (limit + lateness_of (task_at U i) ≡ (task_at U i).deadline) × (limit ≤ 10000000)
-  limits = (let v : IsValidSheet (task_at U i) = valid i lt in (omega (arith, v.jitter), omega (arith, v.jitter), omega (arith, v.deadline_to, v.period_to)))
+  limits : (0 < limit) × (limit + lateness_of (task_at U i) ≡ (task_at U i).deadline)
+      × (limit ≤ 10000000)
+  limits = (let v : IsValidSheet (task_at U i) = valid i lt in
+      (omega (arith, v.jitter), omega (arith, v.jitter), omega (arith, v.deadline_to, v.period_to)))
 
   horizon : until ≤ 60000000
-  horizon = (let s : start ≤ 10000000 = instant_small node ok i lt b is_b until in omega (arith, limits.2))
+  horizon = (let s : start ≤ 10000000 = instant_small node ok i lt b is_b until in
+      omega (arith, limits.2))
 
   fits : AreFit U ss index
   fits = fit node ok i lt b is_b until
@@ -103,13 +118,16 @@ module _ (node : Node) (ok : IsNode node) (i : ℕ) (lt : i < length node.tasks)
   long = jobs_length U rs
 
   -- ---- jobs and streams
-  job_is_of : (p : ℕ) (r : Release) → p < length rs → release_at rs p ≡ r → job_at jobs p ≡ job_of U r
+  job_is_of : (p : ℕ) (r : Release) → p < length rs → release_at rs p ≡ r
+      → job_at jobs p ≡ job_of U r
   job_is_of p r small is = job_is U rs p small ∙ ap (job_of U) is
 
-  number_of_stream : (q k : ℕ) → q < length ss → task_number U (job_release (stream_at ss q) k) ≡ index q
+  number_of_stream : (q k : ℕ) → q < length ss
+      → task_number U (job_release (stream_at ss q) k) ≡ index q
   number_of_stream q k small =
       let f : IsFit U (stream_at ss q) (index q) = fits.each q small in
-      ap (λ x. unwrap_or x (length U)) (ap (task_named U) f.named ∙ found U set.distinct (index q) f.in_set)
+      ap (λ x. unwrap_or x (length U))
+      (ap (task_named U) f.named ∙ found U set.distinct (index q) f.in_set)
 
   -- a job is of a stream
   pub record OfStream (p q : ℕ) : Type 0 where
@@ -117,16 +135,24 @@ module _ (node : Node) (ok : IsNode node) (i : ℕ) (lt : i < length node.tasks)
     pub is_of : IsOf ss until (release_at rs p) q
 
   of_stream : (p : ℕ) → p < length rs → (q : ℕ) × OfStream p q
-  of_stream p small = (let f = before_from ss until until p small in (f.0, record { in_list = small; is_of = f.1 }))
+  of_stream p small =
+      (let f = before_from ss until until p small in (f.0, record { in_list = small; is_of = f.1 }))
 
   task_is : (p q : ℕ) → OfStream p q → (job_at jobs p).task ≡ index q
-  task_is p q o = ap (λ (x : Job). x.task) (job_is U rs p o.in_list) ∙ number_is U set ss index fits until (release_at rs p) q o.is_of
+  task_is p q o = ap (λ (x : Job). x.task) (job_is U rs p o.in_list)
+      ∙ number_is U set ss index fits until (release_at rs p) q o.is_of
 
-  arrival_is : (p : ℕ) → p < length rs → ((job_at jobs p).arrival ≡ (release_at rs p).time) × ((job_at jobs p).ready ≡ ready_of (release_at rs p))
-  arrival_is p small = (ap (λ (x : Job). x.arrival) (job_is U rs p small), ap (λ (x : Job). x.ready) (job_is U rs p small))
+  arrival_is : (p : ℕ) → p < length rs → ((job_at jobs p).arrival ≡ (release_at rs p).time)
+      × ((job_at jobs p).ready ≡ ready_of (release_at rs p))
+  arrival_is p small = (
+    ap (λ (x : Job). x.arrival) (job_is U rs p small),
+    ap (λ (x : Job). x.ready)
+        (job_is U rs p small),
+  )
 
   ends_before : (p : ℕ) → p < length rs → ready_of (release_at rs p) < until
-  ends_before p small = (let o = of_stream p small in before_end ss until periods (release_at rs p) o.0 o.1.is_of)
+  ends_before p small =
+      (let o = of_stream p small in before_end ss until periods (release_at rs p) o.0 o.1.is_of)
 
   -- it executes its cost
   whole_job : (p : ℕ) → p < length rs → IsWhole (job_task node jobs p) (job_at jobs p)
@@ -135,17 +161,26 @@ module _ (node : Node) (ok : IsNode node) (i : ℕ) (lt : i < length node.tasks)
       let r : Release = release_at rs p in
       let n : ℕ = task_number U (release_at rs p) in
       let job : job_at jobs p ≡ job_of U (release_at rs p) = job_is U rs p small in
-      let task : (job_at jobs p).task ≡ task_number U (release_at rs p) = ap (λ (x : Job). x.task) job in
-      let known : task_number U (release_at rs p) < length U = subst (λ k. k < length U) task (legal.known p (omega (arith, small, long))) in
-      let runs : runs_of U (release_at rs p) ≡ (task_at U (task_number U (release_at rs p))).cost = ap (λ (x : Release). unwrap_or x.runs (task_at U (task_number U (release_at rs p))).cost) o.1.is_of.is in
+      let task : (job_at jobs p).task ≡ task_number U (release_at rs p) =
+      ap (λ (x : Job). x.task) job in
+      let known : task_number U (release_at rs p) < length U =
+      subst (λ k. k < length U) task (legal.known p (omega (arith, small, long))) in
+      let runs : runs_of U (release_at rs p) ≡ (task_at U (task_number U (release_at rs p))).cost =
+      ap (λ (x : Release). unwrap_or x.runs (task_at U (task_number U (release_at rs p))).cost)
+      o.1.is_of.is in
       record {
-        executes = ap (λ (x : Job). x.executes) job ∙ (runs ∙ ap (λ k. (task_at U k).cost) (sym task));
-        sections = ap (λ (x : Job). x.sections) job ∙ (ap (λ e. cut_at e (task_at U (task_number U (release_at rs p))).sections) runs
-            ∙ (whole_law node ok (task_number U (release_at rs p)) known ∙ ap (λ k. (task_at U k).sections) (sym task)));
+        executes = ap (λ (x : Job). x.executes) job
+            ∙ (runs ∙ ap (λ k. (task_at U k).cost) (sym task));
+        sections = ap (λ (x : Job). x.sections) job
+            ∙ (ap (λ e. cut_at e (task_at U (task_number U (release_at rs p))).sections) runs
+            ∙ (whole_law node ok (task_number U (release_at rs p)) known
+            ∙ ap (λ k. (task_at U k).sections) (sym task)));
       }
 
   -- it arrives at the first arrival of the stream, as late as the stream says, or a period later at least
-  times_of : (p q : ℕ) → OfStream p q → ((release_at rs p).time ≡ (stream_at ss q).first) × ((release_at rs p).late ≡ (stream_at ss q).late) ⊎ ((stream_at ss q).first + (stream_at ss q).period ≤ (release_at rs p).time)
+  times_of : (p q : ℕ) → OfStream p q → ((release_at rs p).time ≡ (stream_at ss q).first)
+      × ((release_at rs p).late ≡ (stream_at ss q).late)
+      ⊎ ((stream_at ss q).first + (stream_at ss q).period ≤ (release_at rs p).time)
   times_of p q o =
       let r : Release = release_at rs p in
       let s : Stream = stream_at ss q in
@@ -161,7 +196,8 @@ module _ (node : Node) (ok : IsNode node) (i : ℕ) (lt : i < length node.tasks)
             let z : arrival_of s 0 ≡ s.first = omega arith in
             let zero_first : IsArrival s.first s = subst (λ x. IsArrival x s) z n.0 in
             let from : s.first ≤ r.time = a.from in
-            inr (arrivals_apart s.first r.time s (periods q o.is_of.in_set) (omega arith) zero_first a)
+            inr (arrivals_apart s.first r.time s (periods q o.is_of.in_set) (omega arith)
+            zero_first a)
       ]
 
   -- of two jobs of one task the second comes a period of their stream after the first
@@ -171,20 +207,25 @@ module _ (node : Node) (ok : IsNode node) (i : ℕ) (lt : i < length node.tasks)
     pub second : OfStream k stream
     pub apart : (release_at rs j).time + (stream_at ss stream).period ≤ (release_at rs k).time
 
-  apart_of : (j k : ℕ) → j < k → k < length rs → (job_at jobs j).task ≡ (job_at jobs k).task → Apart j k
+  apart_of : (j k : ℕ) → j < k → k < length rs → (job_at jobs j).task ≡ (job_at jobs k).task
+      → Apart j k
   apart_of j k less small same =
       let o = before_order ss until until j k less small in
       let x : OfStream j o.0 = record { in_list = omega arith; is_of = o.2 } in
       let y : OfStream k o.1 = record { in_list = small; is_of = o.3 } in
-      let one : o.0 ≡ o.1 = fits.distinct o.0 o.1 o.2.in_set o.3.in_set (sym (task_is j o.0 x) ∙ (same ∙ task_is k o.1 y)) in
-      let early : (release_at rs j).time < (release_at rs k).time = elim o.4 [ inl e ↦ e | inr tie ↦ absurd (omega (arith, one, tie.1)) ] in
+      let one : o.0 ≡ o.1 = fits.distinct o.0 o.1 o.2.in_set o.3.in_set
+      (sym (task_is j o.0 x) ∙ (same ∙ task_is k o.1 y)) in
+      let early : (release_at rs j).time < (release_at rs k).time =
+      elim o.4 [ inl e ↦ e | inr tie ↦ absurd (omega (arith, one, tie.1)) ] in
       let x' : OfStream j o.1 = subst (λ q. OfStream j q) one x in
       record {
         stream = o.1;
         first = x';
         second = y;
-        apart = arrivals_apart (release_at rs j).time (release_at rs k).time (stream_at ss o.1) (periods o.1 o.3.in_set) early
-            (arrived ss until periods (release_at rs j) o.1 x'.is_of) (arrived ss until periods (release_at rs k) o.1 y.is_of);
+        apart = arrivals_apart (release_at rs j).time (release_at rs k).time (stream_at ss o.1)
+            (periods o.1 o.3.in_set) early
+            (arrived ss until periods (release_at rs j) o.1 x'.is_of)
+            (arrived ss until periods (release_at rs k) o.1 y.is_of);
       }
 
   -- what a member's stream is
@@ -200,10 +241,13 @@ module _ (node : Node) (ok : IsNode node) (i : ℕ) (lt : i < length node.tasks)
   member_facts : (q : ℕ) → IsMember U members start until b q → MemberFacts q (get_or members q 0)
   member_facts q m =
       let k : ℕ = get_or members q 0 in
-      let known : (k < length U) × (level_in_order node i ≤ level_in_order node k) = member_in node ok i lt q m.place in
+      let known : (k < length U) × (level_in_order node i ≤ level_in_order node k) =
+      member_in node ok i lt q m.place in
       let v : IsValidSheet (task_at U k) = valid k known.0 in
-      let most : lateness_of (task_at U k) ≤ start = member_late node ok i lt b is_b until q m.place in
-      let f : (stream_at ss q).first ≡ start - lateness_of (task_at U k) = ap (λ (s : Stream). s.first) m.stream in
+      let most : lateness_of (task_at U k) ≤ start =
+      member_late node ok i lt b is_b until q m.place in
+      let f : (stream_at ss q).first ≡ start - lateness_of (task_at U k) =
+      ap (λ (s : Stream). s.first) m.stream in
       record {
         in_set = known.0;
         up = known.1;
@@ -233,7 +277,8 @@ module _ (node : Node) (ok : IsNode node) (i : ℕ) (lt : i < length node.tasks)
   facts_0 = member_facts 0 member_0
 
   the_job : IsIn rs (job_release (stream_at ss 0) 0)
-  the_job = job_in ss until periods 0 0 small_0 (omega (arith, facts_0.first_is, facts_0.late_is, limits.0))
+  the_job = job_in ss until periods 0 0 small_0
+      (omega (arith, facts_0.first_is, facts_0.late_is, limits.0))
 
   abbrev j0 : ℕ
   j0 = the_job.0
@@ -245,22 +290,28 @@ module _ (node : Node) (ok : IsNode node) (i : ℕ) (lt : i < length node.tasks)
   task_0 = ap (λ (x : Job). x.task) job_0 ∙ (number_of_stream 0 0 small_0 ∙ facts_0.index_is)
 
   arrival_0 : (job_at jobs j0).arrival + lateness_of (task_at U i) ≡ start
-  arrival_0 = (let a : (job_at jobs j0).arrival ≡ arrival_of (stream_at ss 0) 0 = ap (λ (x : Job). x.arrival) job_0 in omega (arith, a, facts_0.first_is))
+  arrival_0 = (let a : (job_at jobs j0).arrival ≡ arrival_of (stream_at ss 0) 0 =
+      ap (λ (x : Job). x.arrival) job_0 in omega (arith, a, facts_0.first_is))
 
   ready_0 : (job_at jobs j0).ready ≡ start
-  ready_0 = (let a : (job_at jobs j0).ready ≡ ready_of (job_release (stream_at ss 0) 0) = ap (λ (x : Job). x.ready) job_0 in omega (arith, a, facts_0.first_is, facts_0.late_is))
+  ready_0 = (let a : (job_at jobs j0).ready ≡ ready_of (job_release (stream_at ss 0) 0) =
+      ap (λ (x : Job). x.ready) job_0 in omega (arith, a, facts_0.first_is, facts_0.late_is))
 
   -- ---- as many jobs as the analysis counts
-  dense_at : (h t : ℕ) → above_of node i h ≡ true → 0 < t → t ≤ limit → releases_within (task_at U h) t ≤ ready_within jobs h start t
+  dense_at : (h t : ℕ) → above_of node i h ≡ true → 0 < t → t ≤ limit
+      → releases_within (task_at U h) t ≤ ready_within jobs h start t
   dense_at h t on some within =
-      let place : (q : ℕ) × (q < length members) × (get_or members q 0 ≡ h) = above_place node ok i lt h on in
+      let place : (q : ℕ) × (q < length members) × (get_or members q 0 ≡ h) =
+      above_place node ok i lt h on in
       let q : ℕ = place.0 in
       let m : IsMember U members start until b q = member_at U members start until b q place.1 in
       let f : MemberFacts q (get_or members q 0) = member_facts q m in
       let index_h : index q ≡ h = f.index_is ∙ place.2 in
       let f' : MemberFacts q (index q) = subst (λ k. MemberFacts q k) (sym f.index_is) f in
       let d : releases_within (task_at U (index q)) t ≤ ready_within jobs (index q) start t =
-      dense U set ss index fits until q start (omega (arith, streams_length U members start until b, place.1)) f'.period_is f'.late_is f'.first_is t some (omega (arith, ends, within)) in
+      dense U set ss index fits until q start
+      (omega (arith, streams_length U members start until b, place.1)) f'.period_is f'.late_is
+      f'.first_is t some (omega (arith, ends, within)) in
       subst (λ k. releases_within (task_at U k) t ≤ ready_within jobs k start t) index_h d
 
   -- ---- the blocker
@@ -270,85 +321,137 @@ module _ (node : Node) (ok : IsNode node) (i : ℕ) (lt : i < length node.tasks)
   same_above : among (after_of node.order i) ≡ above_of node i
   same_above x h = after_is_above node ok i h lt x
 
-  held_up : (o : Option BlockerData) → b ≡ o → (left ≡ 0) ⊎ IsHeldUp node jobs start (level_in_order node i) left
+  held_up : (o : Option BlockerData) → b ≡ o → (left ≡ 0)
+      ⊎ IsHeldUp node jobs start (level_in_order node i) left
   held_up None e =
-      let none : blocking_of U i (among (after_of node.order i)) ≡ 0 = subst (λ x. IsBlockerOf U i (among (after_of node.order i)) x) e is_b in
-      let none' : blocking_of U i (above_of node i) ≡ 0 = subst (λ H. blocking_of U i H ≡ 0) same_above none in
+      let none : blocking_of U i (among (after_of node.order i)) ≡ 0 =
+      subst (λ x. IsBlockerOf U i (among (after_of node.order i)) x) e is_b in
+      let none' : blocking_of U i (above_of node i) ≡ 0 =
+      subst (λ H. blocking_of U i H ≡ 0) same_above none in
       inl (omega arith)
   held_up (Some bb) e =
       elim (cases_eq left 0) [
         | inl none ↦ inl none
         | inr some ↦
             let q : ℕ = length members in
-            let m : IsBlocker U members start until b q = subst (λ x. IsBlocker U members start until x (length members)) (sym e) (blocker_at U members start until bb) in
-            let p : IsPlacedBlocker node ok i lt b is_b until m.blocker = placed node ok i lt b is_b until m.blocker m.is in
+            let m : IsBlocker U members start until b q =
+            subst (λ x. IsBlocker U members start until x (length members)) (sym e)
+            (blocker_at U members start until bb) in
+            let p : IsPlacedBlocker node ok i lt b is_b until m.blocker =
+            placed node ok i lt b is_b until m.blocker m.is in
             let one : length (tasks_of b) ≡ 1 = ap (λ x. length (tasks_of x)) e in
-            let small : q < length ss = omega (arith, streams_length U members start until b, one) in
+            let small : q < length ss =
+            omega (arith, streams_length U members start until b, one) in
             let lead : ℕ = lead_of U (Some m.blocker) in
             let lead_is : lead_of U b ≡ lead = ap (lead_of U) m.is in
-            let at_is : (section_of U m.blocker).at ≡ p.section.at = ap (λ (x : CriticalSection). x.at) p.is in
+            let at_is : (section_of U m.blocker).at ≡ p.section.at =
+            ap (λ (x : CriticalSection). x.at) p.is in
             let lead_within : lead ≤ start = omega (arith, lead_is) in
-            let first_is : (stream_at ss q).first ≡ start - lead = ap (λ (s : Stream). s.first) m.stream in
+            let first_is : (stream_at ss q).first ≡ start - lead =
+            ap (λ (s : Stream). s.first) m.stream in
             let late_is : (stream_at ss q).late ≡ 0 = ap (λ (s : Stream). s.late) m.stream in
-            let period_is : (stream_at ss q).period ≡ until + (task_at U m.blocker.task).period = ap (λ (s : Stream). s.period) m.stream in
-            let found_at : IsIn rs (job_release (stream_at ss q) 0) = job_in ss until periods q 0 small (omega (arith, first_is, late_is, limits.0, ends)) in
+            let period_is : (stream_at ss q).period ≡ until + (task_at U m.blocker.task).period =
+            ap (λ (s : Stream). s.period) m.stream in
+            let found_at : IsIn rs (job_release (stream_at ss q) 0) = job_in ss until periods q 0
+            small (omega (arith, first_is, late_is, limits.0, ends)) in
             let kb : ℕ = found_at.0 in
-            let job : job_at jobs kb ≡ job_of U (job_release (stream_at ss q) 0) = job_is_of kb (job_release (stream_at ss q) 0) found_at.1 found_at.2 in
-            let task : (job_at jobs kb).task ≡ m.blocker.task = ap (λ (x : Job). x.task) job ∙ (number_of_stream q 0 small ∙ m.index) in
-            let ready : (job_at jobs kb).ready ≡ ready_of (job_release (stream_at ss q) 0) = ap (λ (x : Job). x.ready) job in
-            let ready' : (job_at jobs kb).ready + lead ≡ start = omega (arith, ready, first_is, late_is, lead_within) in
-            let time : (release_at rs kb).time ≡ (stream_at ss q).first = ap (λ (r : Release). r.time) found_at.2 ∙ omega arith in
-            let whole : IsWhole (job_task node jobs kb) (job_at jobs kb) = whole_job kb found_at.1 in
-            let cost_is : (job_task node jobs kb).cost ≡ (task_at U m.blocker.task).cost = ap (λ k. (task_at U k).cost) task in
-            let sections_are : (job_task node jobs kb).sections ≡ (task_at U m.blocker.task).sections = ap (λ k. (task_at U k).sections) task in
-            let others : (k : ℕ) → k < length jobs → k ≢ kb → (job_at jobs kb).ready + lead ≤ (job_at jobs k).ready = λ k below other.
+            let job : job_at jobs kb ≡ job_of U (job_release (stream_at ss q) 0) =
+            job_is_of kb (job_release (stream_at ss q) 0) found_at.1 found_at.2 in
+            let task : (job_at jobs kb).task ≡ m.blocker.task = ap (λ (x : Job). x.task) job
+            ∙ (number_of_stream q 0 small ∙ m.index) in
+            let ready : (job_at jobs kb).ready ≡ ready_of (job_release (stream_at ss q) 0) =
+            ap (λ (x : Job). x.ready) job in
+            let ready' : (job_at jobs kb).ready + lead ≡ start =
+            omega (arith, ready, first_is, late_is, lead_within) in
+            let time : (release_at rs kb).time ≡ (stream_at ss q).first =
+            ap (λ (r : Release). r.time) found_at.2 ∙ omega arith in
+            let whole : IsWhole (job_task node jobs kb) (job_at jobs kb) =
+            whole_job kb found_at.1 in
+            let cost_is : (job_task node jobs kb).cost ≡ (task_at U m.blocker.task).cost =
+            ap (λ k. (task_at U k).cost) task in
+            let sections_are : (job_task node jobs kb).sections
+            ≡ (task_at U m.blocker.task).sections = ap (λ k. (task_at U k).sections) task in
+            let others : (k : ℕ) → k < length jobs → k ≢ kb
+            → (job_at jobs kb).ready + lead ≤ (job_at jobs k).ready = λ k below other.
             let within : k < length rs = omega (arith, long) in
             let o : (r : ℕ) × OfStream k r = of_stream k within in
-            let r_is : (job_at jobs k).ready ≡ ready_of (release_at rs k) = (arrival_is k within).1 in
+            let r_is : (job_at jobs k).ready ≡ ready_of (release_at rs k) =
+            (arrival_is k within).1 in
             elim (which U members start until b o.0 o.1.is_of.in_set) [
-              | inl mm ↦ omega (arith, ready_late k o.0 (get_or members o.0 0) o.1 (member_facts o.0 mm), r_is)
+              | inl mm ↦ omega (
+                arith,
+                ready_late k o.0 (get_or members o.0 0) o.1
+                    (member_facts o.0 mm),
+                r_is,
+              )
               | inr bb' ↦
                   let same : o.0 ≡ q = bb'.place in
                   let o' : OfStream k q = subst (λ r. OfStream k r) same o.1 in
-                  let oq : OfStream kb q = record { in_list = found_at.1; is_of = own_stream kb q found_at.1 (ap (λ (x : Job). x.task) job ∙ number_of_stream q 0 small) small } in
-                  let tasks : (job_at jobs k).task ≡ (job_at jobs kb).task = task_is k q o' ∙ sym (task_is kb q oq) in
+                  let oq : OfStream kb q =
+                  record {
+                    in_list = found_at.1;
+                    is_of = own_stream kb q found_at.1
+                        (ap (λ (x : Job). x.task) job ∙ number_of_stream q 0 small) small;
+                  } in
+                  let tasks : (job_at jobs k).task ≡ (job_at jobs kb).task = task_is k q o'
+                  ∙ sym (task_is kb q oq) in
                   let before : ready_of (release_at rs k) < until = ends_before k within in
                   let before' : ready_of (release_at rs kb) < until = ends_before kb found_at.1 in
                   absurd (elim (cases_lt k kb) [
                     | inl less ↦
                         let a : Apart k kb = apart_of k kb less found_at.1 tasks in
-                        let s : a.stream ≡ q = fits.distinct a.stream q a.first.is_of.in_set small (sym (task_is k a.stream a.first) ∙ task_is k q o') in
-                        let ps : (stream_at ss a.stream).period ≡ (stream_at ss q).period = ap (λ x. (stream_at ss x).period) s in
+                        let s : a.stream ≡ q = fits.distinct a.stream q a.first.is_of.in_set small
+                        (sym (task_is k a.stream a.first) ∙ task_is k q o') in
+                        let ps : (stream_at ss a.stream).period ≡ (stream_at ss q).period =
+                        ap (λ x. (stream_at ss x).period) s in
                         omega (arith, a.apart, ps, period_is, before')
                     | inr more ↦
                         let a : Apart kb k = apart_of kb k (omega arith) within (sym tasks) in
-                        let s : a.stream ≡ q = fits.distinct a.stream q a.second.is_of.in_set small (sym (task_is k a.stream a.second) ∙ task_is k q o') in
-                        let ps : (stream_at ss a.stream).period ≡ (stream_at ss q).period = ap (λ x. (stream_at ss x).period) s in
+                        let s : a.stream ≡ q = fits.distinct a.stream q a.second.is_of.in_set small
+                        (sym (task_is k a.stream a.second) ∙ task_is k q o') in
+                        let ps : (stream_at ss a.stream).period ≡ (stream_at ss q).period =
+                        ap (λ x. (stream_at ss x).period) s in
                         omega (arith, a.apart, ps, period_is, before)
                   ])
             ] in
             let runs : executed_before node jobs ((job_at jobs kb).ready + lead) kb ≡ lead =
-            leads node jobs kb lead (omega (arith, found_at.1, long)) (omega (arith, whole.executes, cost_is, p.within, p.runs, at_is)) others lead (omega arith) in
-            let runs' : executed_before node jobs start kb ≡ lead = subst (λ t. executed_before node jobs t kb ≡ lead) ready' runs in
-            let inside : is_inside p.section lead ≡ true = inside_from p.section lead (omega (arith, at_is)) (omega (arith, at_is, p.long)) in
-            let reached : reaches U (with_index (above_of node i) i) p.section ≡ true = subst (λ H. reaches U (with_index H i) p.section ≡ true) same_above p.blocks.reached in
-            let in_sections : Contains (task_at U m.blocker.task).sections p.section = (m.blocker.place, slice_get_within (task_at U m.blocker.task).sections m.blocker.place p.section p.blocks.section, get_or_from_slice_get (task_at U m.blocker.task).sections m.blocker.place p.section p.section p.blocks.section) in
+            leads node jobs kb lead (omega (arith, found_at.1, long))
+            (omega (arith, whole.executes, cost_is, p.within, p.runs, at_is)) others lead
+            (omega arith) in
+            let runs' : executed_before node jobs start kb ≡ lead =
+            subst (λ t. executed_before node jobs t kb ≡ lead) ready' runs in
+            let inside : is_inside p.section lead ≡ true =
+            inside_from p.section lead (omega (arith, at_is)) (omega (arith, at_is, p.long)) in
+            let reached : reaches U (with_index (above_of node i) i) p.section ≡ true =
+            subst (λ H. reaches U (with_index H i) p.section ≡ true) same_above
+            p.blocks.reached in
+            let in_sections : Contains (task_at U m.blocker.task).sections p.section = (
+              m.blocker.place,
+              slice_get_within (task_at U m.blocker.task).sections
+                  m.blocker.place p.section p.blocks.section,
+              get_or_from_slice_get (task_at U
+                  m.blocker.task).sections m.blocker.place p.section p.section p.blocks.section,
+            ) in
             inr (record {
               job = kb;
               is_job = omega (arith, found_at.1, long);
-              lower = (let l : level_of_job node jobs kb ≡ level_in_order node m.blocker.task = ap (λ k. level_in_order node k) task in omega (arith, l, p.lower));
+              lower = (let l : level_of_job node jobs kb ≡ level_in_order node m.blocker.task =
+                  ap (λ k. level_in_order node k) task in omega (arith, l, p.lower));
               section = p.section;
-              of_job = subst (λ (xs : List CriticalSection). Contains xs p.section) (sym (whole.sections ∙ sections_are)) in_sections;
+              of_job = subst (λ (xs : List CriticalSection). Contains xs p.section)
+                  (sym (whole.sections ∙ sections_are)) in_sections;
               reaches = ceiling_reaches node ok i p.section reached;
               inside = subst (λ x. is_inside p.section x ≡ true) (sym runs') inside;
               to_go = omega (arith, runs', at_is, p.long);
             })
       ]
     where
-      own_stream : (p q : ℕ) → (small : p < length rs) → (job_at jobs p).task ≡ index q → q < length ss → IsOf ss until (release_at rs p) q
+      own_stream : (p q : ℕ) → (small : p < length rs) → (job_at jobs p).task ≡ index q
+          → q < length ss → IsOf ss until (release_at rs p) q
       own_stream p q small e sq =
           let o : (r : ℕ) × OfStream p r = of_stream p small in
-          let same : o.0 ≡ q = fits.distinct o.0 q o.1.is_of.in_set sq (sym (task_is p o.0 o.1) ∙ e) in
+          let same : o.0 ≡ q =
+          fits.distinct o.0 q o.1.is_of.in_set sq (sym (task_is p o.0 o.1) ∙ e) in
           subst (λ r. IsOf ss until (release_at rs p) r) same o.1.is_of
 
   -- ---- of which task there is a second job
@@ -356,16 +459,19 @@ module _ (node : Node) (ok : IsNode node) (i : ℕ) (lt : i < length node.tasks)
   pub record Second (j k : ℕ) : Type 0 where
     pub in_set : (job_at jobs j).task < length U
     pub above : above_of node i (job_at jobs j).task ≡ true
-    pub apart : (release_at rs j).time + (task_at U (job_at jobs j).task).period ≤ (release_at rs k).time
+    pub apart : (release_at rs j).time + (task_at U (job_at jobs j).task).period
+        ≤ (release_at rs k).time
 
-  second_of : (j k : ℕ) → j < k → k < length rs → (job_at jobs j).task ≡ (job_at jobs k).task → Second j k
+  second_of : (j k : ℕ) → j < k → k < length rs → (job_at jobs j).task ≡ (job_at jobs k).task
+      → Second j k
   second_of j k less kin same_task =
       let a : Apart j k = apart_of j k less kin same_task in
       let q : ℕ = a.stream in
       let before : ready_of (release_at rs k) < until = ends_before k kin in
       elim (which U members start until b q a.first.is_of.in_set) [
         | inr m ↦
-            let period_is : (stream_at ss q).period ≡ until + (task_at U m.blocker.task).period = ap (λ (s : Stream). s.period) m.stream in
+            let period_is : (stream_at ss q).period ≡ until + (task_at U m.blocker.task).period =
+            ap (λ (s : Stream). s.period) m.stream in
             absurd (omega (arith, a.apart, period_is, before))
         | inl m ↦
             let h : ℕ = get_or members q 0 in
@@ -374,17 +480,38 @@ module _ (node : Node) (ok : IsNode node) (i : ℕ) (lt : i < length node.tasks)
             let v : IsValidSheet (task_at U h) = valid h f.in_set in
             elim (cases_eq h i) [
               | inl same ↦
-                  let d : (task_at U h).deadline ≡ (task_at U i).deadline = ap (λ x. (task_at U x).deadline) same in
-                  let l : lateness_of (task_at U h) ≡ lateness_of (task_at U i) = ap (λ x. lateness_of (task_at U x)) same in
-                  let from : (stream_at ss q).first ≤ (release_at rs j).time = elim (times_of j q a.first) [ inl first ↦ omega (arith, first.0) | inr later ↦ omega (arith, later) ] in
-                  absurd (omega (arith, a.apart, f.period_is, f.first_is, from, before, ends, limits.1, d, l, v.deadline_to))
+                  let d : (task_at U h).deadline ≡ (task_at U i).deadline =
+                  ap (λ x. (task_at U x).deadline) same in
+                  let l : lateness_of (task_at U h) ≡ lateness_of (task_at U i) =
+                  ap (λ x. lateness_of (task_at U x)) same in
+                  let from : (stream_at ss q).first ≤ (release_at rs j).time =
+                  elim (times_of j q a.first) [
+                    | inl first ↦ omega (arith, first.0)
+                    | inr later ↦ omega (arith, later)
+                  ] in
+                  absurd (omega (
+                    arith,
+                    a.apart,
+                    f.period_is,
+                    f.first_is,
+                    from,
+                    before,
+                    ends,
+                    limits.1,
+                    d,
+                    l,
+                    v.deadline_to,
+                  ))
               | inr other ↦
                   let s : IsSound node = sound node ok in
-                  let on : above_of node i h ≡ true = lt-ltb (level_in_order node i) (level_in_order node h) (elim (cases_eq (level_in_order node i) (level_in_order node h)) [
+                  let on : above_of node i h ≡ true =
+                  lt-ltb (level_in_order node i) (level_in_order node h)
+                  (elim (cases_eq (level_in_order node i) (level_in_order node h)) [
                     | inl tied ↦ absurd (other (sym (s.levels_differ i h lt f.in_set tied)))
                     | inr differ ↦ omega (arith, f.up)
                   ]) in
-                  let period : (task_at U (job_at jobs j).task).period ≡ (task_at U h).period = ap (λ x. (task_at U x).period) task in
+                  let period : (task_at U (job_at jobs j).task).period ≡ (task_at U h).period =
+                  ap (λ x. (task_at U x).period) task in
                   record {
                     in_set = subst (λ x. x < length U) (sym task) f.in_set;
                     above = subst (λ x. above_of node i x ≡ true) (sym task) on;
@@ -394,22 +521,28 @@ module _ (node : Node) (ok : IsNode node) (i : ℕ) (lt : i < length node.tasks)
       ]
 
   -- a job that overruns the one before it is of a task above
-  pub overrun_above : (k : ℕ) → k < length jobs → Overruns node jobs k → above_of node i (job_at jobs k).task ≡ true
+  pub overrun_above : (k : ℕ) → k < length jobs → Overruns node jobs k
+      → above_of node i (job_at jobs k).task ≡ true
   overrun_above k below over =
       let s : Second over.0 k = second_of over.0 k over.1 (omega (arith, below, long)) over.2 in
       subst (λ x. above_of node i x ≡ true) over.2 s.above
 
   -- the task has one job
-  not_second : (j k : ℕ) → j < k → k < length rs → (job_at jobs j).task ≡ i → (job_at jobs k).task ≡ i → ⊥
+  not_second : (j k : ℕ) → j < k → k < length rs → (job_at jobs j).task ≡ i
+      → (job_at jobs k).task ≡ i → ⊥
   not_second j k less small first second =
       let s : Second j k = second_of j k less small (first ∙ sym second) in
-      let up : level_in_order node i < level_in_order node i = ltb-true (level_in_order node i) (level_in_order node i) (subst (λ x. above_of node i x ≡ true) first s.above) in
+      let up : level_in_order node i < level_in_order node i = ltb-true (level_in_order node i)
+      (level_in_order node i) (subst (λ x. above_of node i x ≡ true) first s.above) in
       omega arith
 
-  pub only_job : (j k : ℕ) → j < length rs → k < length rs → task_number U (release_at rs j) ≡ i → task_number U (release_at rs k) ≡ i → j ≡ k
+  pub only_job : (j k : ℕ) → j < length rs → k < length rs → task_number U (release_at rs j) ≡ i
+      → task_number U (release_at rs k) ≡ i → j ≡ k
   only_job j k jin kin first second =
-      let task_j : (job_at jobs j).task ≡ i = ap (λ (x : Job). x.task) (job_is U rs j jin) ∙ first in
-      let task_k : (job_at jobs k).task ≡ i = ap (λ (x : Job). x.task) (job_is U rs k kin) ∙ second in
+      let task_j : (job_at jobs j).task ≡ i = ap (λ (x : Job). x.task) (job_is U rs j jin)
+      ∙ first in
+      let task_k : (job_at jobs k).task ≡ i = ap (λ (x : Job). x.task) (job_is U rs k kin)
+      ∙ second in
       elim (cases_eq j k) [
         | inl same ↦ same
         | inr other ↦ absurd (elim (cases_lt j k) [
@@ -420,27 +553,35 @@ module _ (node : Node) (ok : IsNode node) (i : ℕ) (lt : i < length node.tasks)
 
   -- it is taken, and has its deadline at the end
   number_0 : task_number U (release_at rs j0) ≡ i
-  number_0 = (let number : (job_at jobs j0).task ≡ task_number U (release_at rs j0) = ap (λ (x : Job). x.task) (job_is U rs j0 the_job.1) in sym number ∙ task_0)
+  number_0 = (let number : (job_at jobs j0).task ≡ task_number U (release_at rs j0) =
+      ap (λ (x : Job). x.task) (job_is U rs j0 the_job.1) in sym number ∙ task_0)
 
   due_0 : (release_at rs j0).time + (task_at U i).deadline ≡ until
-  due_0 = (let arrives : (job_at jobs j0).arrival ≡ (release_at rs j0).time = (arrival_is j0 the_job.1).0 in omega (arith, arrival_0, arrives, limits.1, ends))
+  due_0 = (let arrives : (job_at jobs j0).arrival ≡ (release_at rs j0).time =
+      (arrival_is j0 the_job.1).0 in omega (arith, arrival_0, arrives, limits.1, ends))
 
   pub the_case_job : (j : ℕ) × IsCaseJob node i rs until j
-  the_case_job = (j0, record { accepted = accepted; is_job = the_job.1; of_task = number_0; due = due_0 })
+  the_case_job =
+      (j0, record { accepted = accepted; is_job = the_job.1; of_task = number_0; due = due_0 })
 
   -- ---- the worst case of the analysis
   worst : IsWorst node jobs j0 left
   worst = record {
     is_job = omega (arith, the_job.1, long);
     whole = whole_job j0 the_job.1;
-    costs = λ k small on from. (let w : IsWhole (job_task node jobs k) (job_at jobs k) = whole_job k (omega (arith, small, long)) in w.executes);
-    latest = (let l : lateness_of (job_task node jobs j0) ≡ lateness_of (task_at U i) = ap (λ x. lateness_of (task_at U x)) task_0 in omega (arith, ready_0, arrival_0, l));
+    costs = λ k small on from. (let w : IsWhole (job_task node jobs k) (job_at jobs k) =
+        whole_job k (omega (arith, small, long)) in w.executes);
+    latest = (let l : lateness_of (job_task node jobs j0) ≡ lateness_of (task_at U i) =
+        ap (λ x. lateness_of (task_at U x)) task_0 in omega (arith, ready_0, arrival_0, l));
     dense = λ h t small on some within.
         let on' : above_of node i h ≡ true = subst (λ x. above_of node x h ≡ true) task_0 on in
         let within' : t ≤ limit = subst (λ x. t ≤ limit_of (task_at U x)) task_0 within in
-        subst (λ s. releases_within (task_at U h) t ≤ ready_within jobs h s t) (sym ready_0) (dense_at h t on' some within');
-    held_up = subst (λ x. (left ≡ 0) ⊎ IsHeldUp node jobs (job_at jobs j0).ready (level_in_order node x) left) (sym task_0)
-        (subst (λ s. (left ≡ 0) ⊎ IsHeldUp node jobs s (level_in_order node i) left) (sym ready_0) (held_up b refl));
+        subst (λ s. releases_within (task_at U h) t ≤ ready_within jobs h s t) (sym ready_0)
+        (dense_at h t on' some within');
+    held_up = subst (λ x. (left ≡ 0)
+        ⊎ IsHeldUp node jobs (job_at jobs j0).ready (level_in_order node x) left) (sym task_0)
+        (subst (λ s. (left ≡ 0) ⊎ IsHeldUp node jobs s (level_in_order node i) left) (sym ready_0)
+        (held_up b refl));
   }
 
   -- ---- below tasks that pass
@@ -453,85 +594,167 @@ module _ (node : Node) (ok : IsNode node) (i : ℕ) (lt : i < length node.tasks)
         let s : Second j k = second_of j k over.1 kin over.2 in
         let h : ℕ = (job_at jobs j).task in
         let rk : (job_at jobs k).ready ≡ ready_of (release_at rs k) = (arrival_is k kin).1 in
-        let aj : (job_at jobs j).arrival ≡ (release_at rs j).time = (arrival_is j (omega (arith, over.1, kin))).0 in
+        let aj : (job_at jobs j).arrival ≡ (release_at rs j).time =
+        (arrival_is j (omega (arith, over.1, kin))).0 in
         let v : IsValidSheet (task_at U h) = valid h s.in_set in
         let pass : Passes U h (above_of node h) = pass_above h s.in_set s.above in
-        let by : PassesBy node h pass.0 = record { from_one = omega (arith, pass.1); in_time = pass.2; enough = pass.3 } in
+        let by : PassesBy node h pass.0 =
+        record { from_one = omega (arith, pass.1); in_time = pass.2; enough = pass.3 } in
         let end : ℕ = (job_at jobs j).arrival + response_by (job_task node jobs j) pass.0 in
-        let fin : (job_at jobs j).executes ≤ executed_before node jobs end j = bound_law node jobs ok legal j pass.0 (omega (arith, over.1, below)) by in
-        let soon : end ≤ (job_at jobs k).ready = omega (arith, pass.2, aj, rk, s.apart, v.jitter, v.deadline_to) in
-        let grown : executed_before node jobs end j ≤ executed_before node jobs (end + ((job_at jobs k).ready - end)) j = grows_by node jobs j end ((job_at jobs k).ready - end) in
+        let fin : (job_at jobs j).executes ≤ executed_before node jobs end j =
+        bound_law node jobs ok legal j pass.0 (omega (arith, over.1, below)) by in
+        let soon : end ≤ (job_at jobs k).ready =
+        omega (arith, pass.2, aj, rk, s.apart, v.jitter, v.deadline_to) in
+        let grown : executed_before node jobs end j
+        ≤ executed_before node jobs (end + ((job_at jobs k).ready - end)) j =
+        grows_by node jobs j end ((job_at jobs k).ready - end) in
         let at : end + ((job_at jobs k).ready - end) ≡ (job_at jobs k).ready = omega arith in
-        let grown' : executed_before node jobs end j ≤ executed_before node jobs (job_at jobs k).ready j = subst (λ x. executed_before node jobs end j ≤ executed_before node jobs x j) at grown in
+        let grown' : executed_before node jobs end j
+        ≤ executed_before node jobs (job_at jobs k).ready j =
+        subst (λ x. executed_before node jobs end j ≤ executed_before node jobs x j) at grown in
         omega (arith, over.3, fin, grown')
 
     pub misses : MustMiss node i → HasMiss node rs until i
     misses must =
-        let deadline_is : (job_task node jobs j0).deadline ≡ (task_at U i).deadline = ap (λ x. (task_at U x).deadline) task_0 in
-        let ends_low : EndsLow node (job_at jobs j0).task = subst (λ x. EndsLow node x) (sym task_0) must.ends_low in
-        let none : NoneCovers node (job_at jobs j0).task left (limit_of (job_task node jobs j0)) = subst (λ x. NoneCovers node x left (limit_of (task_at U x))) (sym task_0) must.none_covers in
-        let late : executed_before node jobs ((job_at jobs j0).arrival + (job_task node jobs j0).deadline) j0 < (job_at jobs j0).executes = misses_law node jobs ok legal j0 left worst ends_low none in
-        let due : (job_at jobs j0).arrival + (job_task node jobs j0).deadline ≡ until = omega (arith, arrival_0, deadline_is, limits.1, ends) in
-        let late' : executed_before node jobs until j0 < (job_at jobs j0).executes = subst (λ t. executed_before node jobs t j0 < (job_at jobs j0).executes) due late in
-        (j0, record { accepted = accepted; no_overrun = no_overrun; is_job = the_job.1; of_task = number_0; due = due_0; late = late' })
+        let deadline_is : (job_task node jobs j0).deadline ≡ (task_at U i).deadline =
+        ap (λ x. (task_at U x).deadline) task_0 in
+        let ends_low : EndsLow node (job_at jobs j0).task =
+        subst (λ x. EndsLow node x) (sym task_0) must.ends_low in
+        let none : NoneCovers node (job_at jobs j0).task left (limit_of (job_task node jobs j0)) =
+        subst (λ x. NoneCovers node x left (limit_of (task_at U x))) (sym task_0)
+        must.none_covers in
+        let late : executed_before node jobs
+        ((job_at jobs j0).arrival + (job_task node jobs j0).deadline) j0
+        < (job_at jobs j0).executes =
+        misses_law node jobs ok legal j0 left worst ends_low none in
+        let due : (job_at jobs j0).arrival + (job_task node jobs j0).deadline ≡ until =
+        omega (arith, arrival_0, deadline_is, limits.1, ends) in
+        let late' : executed_before node jobs until j0 < (job_at jobs j0).executes =
+        subst (λ t. executed_before node jobs t j0 < (job_at jobs j0).executes) due late in (
+          j0,
+          record {
+            accepted = accepted;
+            no_overrun = no_overrun;
+            is_job = the_job.1;
+            of_task =
+                number_0;
+            due = due_0;
+            late = late';
+          },
+        )
 
     -- the run
     pub runs_case : (j : ℕ) × IsRunOf node rs until i j
-    runs_case = (j0, record { accepted = accepted; no_overrun = no_overrun; is_job = the_job.1; of_task = number_0 })
+    runs_case = (
+      j0,
+      record {
+        accepted = accepted;
+        no_overrun = no_overrun;
+        is_job = the_job.1;
+        of_task = number_0;
+      },
+    )
 
     -- the finish
-    pub reaches_at : EndsLow node i → (r : ℕ) → IsLeastCover node i r → (j : ℕ) × IsRunOf node rs until i j × IsFinishAt node jobs j (ready_of (release_at rs j) + r)
+    pub reaches_at : EndsLow node i → (r : ℕ) → IsLeastCover node i r → (j : ℕ)
+        × IsRunOf node rs until i j × IsFinishAt node jobs j (ready_of (release_at rs j) + r)
     reaches_at low r least =
-        let ends_low : EndsLow node (job_at jobs j0).task = subst (λ x. EndsLow node x) (sym task_0) low in
-        let covers : CoversBy node (job_at jobs j0).task r = subst (λ x. CoversBy node x r) (sym task_0) least.covers in
-        let none : (u : ℕ) → 0 < u → u < r → u < work_of node (job_at jobs j0).task (blocking_of U (job_at jobs j0).task (above_of node (job_at jobs j0).task) - 1) u =
-        subst (λ x. (u : ℕ) → 0 < u → u < r → u < work_of node x (blocking_of U x (above_of node x) - 1) u) (sym task_0) least.least in
-        let worst' : IsWorst node jobs j0 (blocking_of U (job_at jobs j0).task (above_of node (job_at jobs j0).task) - 1) = subst (λ x. IsWorst node jobs j0 (blocking_of U x (above_of node x) - 1)) (sym task_0) worst in
-        let done : IsFinishAt node jobs j0 ((job_at jobs j0).ready + r) = exact_law node jobs ok legal j0 r worst' ends_low covers none in
-        let ready : (job_at jobs j0).ready ≡ ready_of (release_at rs j0) = (arrival_is j0 the_job.1).1 in (
+        let ends_low : EndsLow node (job_at jobs j0).task =
+        subst (λ x. EndsLow node x) (sym task_0) low in
+        let covers : CoversBy node (job_at jobs j0).task r =
+        subst (λ x. CoversBy node x r) (sym task_0) least.covers in
+        let none : (u : ℕ) → 0 < u → u < r → u < work_of node (job_at jobs j0).task
+        (blocking_of U (job_at jobs j0).task (above_of node (job_at jobs j0).task) - 1) u =
+        subst (λ x. (u : ℕ) → 0 < u → u < r → u
+        < work_of node x (blocking_of U x (above_of node x) - 1) u) (sym task_0) least.least in
+        let worst' : IsWorst node jobs j0
+        (blocking_of U (job_at jobs j0).task (above_of node (job_at jobs j0).task) - 1) =
+        subst (λ x. IsWorst node jobs j0 (blocking_of U x (above_of node x) - 1)) (sym task_0)
+        worst in
+        let done : IsFinishAt node jobs j0 ((job_at jobs j0).ready + r) =
+        exact_law node jobs ok legal j0 r worst' ends_low covers none in
+        let ready : (job_at jobs j0).ready ≡ ready_of (release_at rs j0) =
+        (arrival_is j0 the_job.1).1 in (
           j0,
-          record { accepted = accepted; no_overrun = no_overrun; is_job = the_job.1; of_task = number_0 },
+          record {
+            accepted = accepted;
+            no_overrun = no_overrun;
+            is_job = the_job.1;
+            of_task =
+                number_0;
+          },
           subst (λ t. IsFinishAt node jobs j0 (t + r)) ready done,
         )
 
 pub complete_law : (node : Node) → IsNode node → WorstCaseMisses node
 complete_law node ok i list until lt case few must =
-    let few' : length (list_of (worst_streams node.tasks (i ∷ after_of node.order i) case.blocker until) until) ≤ 10000 = subst (λ (x : List Release). length x ≤ 10000) case.listed few in
-    let m : HasMiss node (list_of (worst_streams node.tasks (i ∷ after_of node.order i) case.blocker until) until) until i = misses node ok i lt case.blocker case.blocks until case.ends few' must.above_pass must in
+    let few' : length (list_of
+    (worst_streams node.tasks (i ∷ after_of node.order i) case.blocker until) until) ≤ 10000 =
+    subst (λ (x : List Release). length x ≤ 10000) case.listed few in
+    let m : HasMiss node (list_of
+    (worst_streams node.tasks (i ∷ after_of node.order i) case.blocker until) until) until i =
+    misses node ok i lt case.blocker case.blocks until case.ends few' must.above_pass must in
     subst (λ (x : List Release). HasMiss node x until i) (sym case.listed) m
 
 pub reaches_law : (node : Node) → IsNode node → WorstCaseReaches node
 reaches_law node ok i list until r lt case few pass low least =
-    let few' : length (list_of (worst_streams node.tasks (i ∷ after_of node.order i) case.blocker until) until) ≤ 10000 = subst (λ (x : List Release). length x ≤ 10000) case.listed few in
-    subst (λ (x : List Release). (j : ℕ) × IsRunOf node x until i j × IsFinishAt node (jobs_of node.tasks x) j (ready_of (release_at x j) + r)) (sym case.listed)
+    let few' : length (list_of
+    (worst_streams node.tasks (i ∷ after_of node.order i) case.blocker until) until) ≤ 10000 =
+    subst (λ (x : List Release). length x ≤ 10000) case.listed few in
+    subst (λ (x : List Release). (j : ℕ) × IsRunOf node x until i j × IsFinishAt node
+    (jobs_of node.tasks x) j (ready_of (release_at x j) + r)) (sym case.listed)
     (reaches_at node ok i lt case.blocker case.blocks until case.ends few' pass low r least)
 
 -- below tasks that pass the worst case is run to its end
-pub runs_law : (node : Node) → IsNode node → (i : ℕ) (list : List Release) (until : ℕ) → i < length node.tasks → IsWorstCase node.tasks i (after_of node.order i) list until → length list ≤ 10000 → AboveAllPass node i
+pub runs_law : (node : Node) → IsNode node → (i : ℕ) (list : List Release) (until : ℕ)
+    → i < length node.tasks → IsWorstCase node.tasks i (after_of node.order i) list until
+    → length list ≤ 10000 → AboveAllPass node i
     → (j : ℕ) × IsRunOf node list until i j
 runs_law node ok i list until lt case few pass =
-    let few' : length (list_of (worst_streams node.tasks (i ∷ after_of node.order i) case.blocker until) until) ≤ 10000 = subst (λ (x : List Release). length x ≤ 10000) case.listed few in
-    subst (λ (x : List Release). (j : ℕ) × IsRunOf node x until i j) (sym case.listed) (runs_case node ok i lt case.blocker case.blocks until case.ends few' pass)
+    let few' : length (list_of
+    (worst_streams node.tasks (i ∷ after_of node.order i) case.blocker until) until) ≤ 10000 =
+    subst (λ (x : List Release). length x ≤ 10000) case.listed few in
+    subst (λ (x : List Release). (j : ℕ) × IsRunOf node x until i j) (sym case.listed)
+    (runs_case node ok i lt case.blocker case.blocks until case.ends few' pass)
 
 -- the job of the worst case
-pub job_law : (node : Node) → IsNode node → (i : ℕ) (list : List Release) (until : ℕ) → i < length node.tasks → IsWorstCase node.tasks i (after_of node.order i) list until → length list ≤ 10000
+pub job_law : (node : Node) → IsNode node → (i : ℕ) (list : List Release) (until : ℕ)
+    → i < length node.tasks → IsWorstCase node.tasks i (after_of node.order i) list until
+    → length list ≤ 10000
     → (j : ℕ) × IsCaseJob node i list until j
 job_law node ok i list until lt case few =
-    let few' : length (list_of (worst_streams node.tasks (i ∷ after_of node.order i) case.blocker until) until) ≤ 10000 = subst (λ (x : List Release). length x ≤ 10000) case.listed few in
-    subst (λ (x : List Release). (j : ℕ) × IsCaseJob node i x until j) (sym case.listed) (the_case_job node ok i lt case.blocker case.blocks until case.ends few')
+    let few' : length (list_of
+    (worst_streams node.tasks (i ∷ after_of node.order i) case.blocker until) until) ≤ 10000 =
+    subst (λ (x : List Release). length x ≤ 10000) case.listed few in
+    subst (λ (x : List Release). (j : ℕ) × IsCaseJob node i x until j) (sym case.listed)
+    (the_case_job node ok i lt case.blocker case.blocks until case.ends few')
 
 -- is the only one of the task
-pub only_law : (node : Node) → IsNode node → (i : ℕ) (list : List Release) (until : ℕ) → i < length node.tasks → IsWorstCase node.tasks i (after_of node.order i) list until → length list ≤ 10000
-    → (j k : ℕ) → j < length list → k < length list → task_number node.tasks (release_at list j) ≡ i → task_number node.tasks (release_at list k) ≡ i → j ≡ k
+pub only_law : (node : Node) → IsNode node → (i : ℕ) (list : List Release) (until : ℕ)
+    → i < length node.tasks → IsWorstCase node.tasks i (after_of node.order i) list until
+    → length list ≤ 10000
+    → (j k : ℕ) → j < length list → k < length list → task_number node.tasks (release_at list j) ≡ i
+    → task_number node.tasks (release_at list k) ≡ i → j ≡ k
 only_law node ok i list until lt case few =
-    let few' : length (list_of (worst_streams node.tasks (i ∷ after_of node.order i) case.blocker until) until) ≤ 10000 = subst (λ (x : List Release). length x ≤ 10000) case.listed few in
-    subst (λ (x : List Release). (j k : ℕ) → j < length x → k < length x → task_number node.tasks (release_at x j) ≡ i → task_number node.tasks (release_at x k) ≡ i → j ≡ k) (sym case.listed)
+    let few' : length (list_of
+    (worst_streams node.tasks (i ∷ after_of node.order i) case.blocker until) until) ≤ 10000 =
+    subst (λ (x : List Release). length x ≤ 10000) case.listed few in
+    subst (λ (x : List Release). (j k : ℕ) → j < length x → k < length x
+    → task_number node.tasks (release_at x j) ≡ i → task_number node.tasks (release_at x k) ≡ i
+    → j ≡ k) (sym case.listed)
     (only_job node ok i lt case.blocker case.blocks until case.ends few')
 
 -- a job that overruns is of a task above
-pub overrun_law : (node : Node) → IsNode node → (i : ℕ) (list : List Release) (until : ℕ) → i < length node.tasks → IsWorstCase node.tasks i (after_of node.order i) list until → length list ≤ 10000
-    → (k : ℕ) → k < length (jobs_of node.tasks list) → Overruns node (jobs_of node.tasks list) k → above_of node i (job_at (jobs_of node.tasks list) k).task ≡ true
+pub overrun_law : (node : Node) → IsNode node → (i : ℕ) (list : List Release) (until : ℕ)
+    → i < length node.tasks → IsWorstCase node.tasks i (after_of node.order i) list until
+    → length list ≤ 10000
+    → (k : ℕ) → k < length (jobs_of node.tasks list) → Overruns node (jobs_of node.tasks list) k
+    → above_of node i (job_at (jobs_of node.tasks list) k).task ≡ true
 overrun_law node ok i list until lt case few =
-    let few' : length (list_of (worst_streams node.tasks (i ∷ after_of node.order i) case.blocker until) until) ≤ 10000 = subst (λ (x : List Release). length x ≤ 10000) case.listed few in
-    subst (λ (x : List Release). (k : ℕ) → k < length (jobs_of node.tasks x) → Overruns node (jobs_of node.tasks x) k → above_of node i (job_at (jobs_of node.tasks x) k).task ≡ true) (sym case.listed)
+    let few' : length (list_of
+    (worst_streams node.tasks (i ∷ after_of node.order i) case.blocker until) until) ≤ 10000 =
+    subst (λ (x : List Release). length x ≤ 10000) case.listed few in
+    subst (λ (x : List Release). (k : ℕ) → k < length (jobs_of node.tasks x)
+    → Overruns node (jobs_of node.tasks x) k
+    → above_of node i (job_at (jobs_of node.tasks x) k).task ≡ true) (sym case.listed)
     (overrun_above node ok i lt case.blocker case.blocks until case.ends few')

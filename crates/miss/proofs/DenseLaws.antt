@@ -1,5 +1,7 @@
 -- In each window from the instant as many jobs of a stream become ready as the analysis counts.
-use Rattle.std.proofs.Common.{◌≡◌, ℕ, zero, suc, ◌+◌, ◌-◌, ◌*◌, ◌<◌, ◌≤◌, inl, inr, true, false, ◌&&◌, ◌==◌, nat_le, nat_lt, List, length, refl, ◌∙◌, ap, subst, if◌then◌else◌, arith}
+use Rattle.std.proofs.Common.{◌≡◌, ℕ, zero, suc, ◌+◌, ◌-◌, ◌*◌, ◌<◌, ◌≤◌, inl, inr, true, false}
+use Rattle.std.proofs.Common.{◌&&◌, ◌==◌, nat_le, nat_lt, List, length, refl, ◌∙◌, ap, subst}
+use Rattle.std.proofs.Common.{if◌then◌else◌, arith}
 use Rattle.std.specs.Prelude.{unwrap_or}
 use Rattle.std.proofs.Math.Nat.{mul-le-mul_right}
 use Rattle.std.proofs.lemmas.Grind.{div_ceil_times}
@@ -11,7 +13,8 @@ use Rattle.ceiling_kernel.specs.declared.trace.Release.{Release}
 use Rattle.ceiling_kernel.specs.Tick.{Job, job_at}
 use Rattle.ceiling_kernel.specs.Waits.{lateness_of}
 use Rattle.ceiling_kernel.specs.Bounds.{is_ready_in, ready_within}
-use Rattle.ceiling_kernel.specs.Releases.{task_named, task_number, job_of, jobs_of, release_at, ready_of}
+use Rattle.ceiling_kernel.specs.Releases.{task_named, task_number, job_of, jobs_of, release_at}
+use Rattle.ceiling_kernel.specs.Releases.{ready_of}
 use Rattle.ceiling_kernel.proofs.ReleaseLaws.{job_is, jobs_length}
 use Rattle.ceiling_kernel.proofs.SumLaws.{total, total-sum}
 use Rattle.release_list.proofs.TaskNumbers.{found}
@@ -22,7 +25,8 @@ use Rattle.release_list.proofs.FitLaws.{IsFit, AreFit, some_period}
 
 total-more : (g : ℕ → ℕ) (m d : ℕ) → total g m ≤ total g (m + d)
 unfolding total
-total-more g m zero = (let z : m ≡ m + 0 = omega arith in subst (λ x. total g m ≤ total g x) z (omega arith))
+total-more g m zero =
+    (let z : m ≡ m + 0 = omega arith in subst (λ x. total g m ≤ total g x) z (omega arith))
 total-more g m (suc d) =
     let ih : total g m ≤ total g (m + d) = total-more g m d in
     let z : suc (m + d) ≡ m + suc d = omega arith in
@@ -52,13 +56,15 @@ many g (suc m) n at rises =
     let all : total g (suc last.0) ≤ total g n = total-grows g (suc last.0) n last.1 in
     omega (arith, last.2)
 
-module _ (U : List Task) (set : IsTaskSet U) (ss : List Stream) (index : ℕ → ℕ) (fit : AreFit U ss index) (until : ℕ) where
+module _ (U : List Task) (set : IsTaskSet U) (ss : List Stream) (index : ℕ → ℕ)
+    (fit : AreFit U ss index) (until : ℕ) where
   abbrev rs : List Release
   rs = list_of ss until
 
   -- where a stream is that of a task whose jobs come as early as they may, the first at the instant
   module _ (q instant : ℕ) (lt : q < length ss)
-      (period_is : (stream_at ss q).period ≡ (task_at U (index q)).period) (late_is : (stream_at ss q).late ≡ lateness_of (task_at U (index q)))
+      (period_is : (stream_at ss q).period ≡ (task_at U (index q)).period)
+      (late_is : (stream_at ss q).late ≡ lateness_of (task_at U (index q)))
       (first_is : (stream_at ss q).first + lateness_of (task_at U (index q)) ≡ instant) where
     abbrev h : ℕ
     h = index q
@@ -87,26 +93,38 @@ module _ (U : List Task) (set : IsTaskSet U) (ss : List Stream) (index : ℕ →
         elim (cases_eq k 0) [
           | inl first ↦
               let e : (k == 0) ≡ true = eq-eqb k 0 first in
-              let n : k * (task_at U h).period ≡ 0 * (task_at U h).period = ap (λ x. x * (task_at U h).period) first in
+              let n : k * (task_at U h).period ≡ 0 * (task_at U h).period =
+              ap (λ x. x * (task_at U h).period) first in
               rw e (omega (arith, p, late_is, first_is), omega (arith, p, late_is, first_is))
           | inr later ↦
               let e : (k == 0) ≡ false = ne_eqb k 0 later in
-              let one : 1 * (task_at U h).period ≤ k * (task_at U h).period = mul-le-mul_right (task_at U h).period (omega arith) in
-              rw e (omega (arith, p, one, first_is, v.jitter, v.deadline_to), omega (arith, p, first_is))
+              let one : 1 * (task_at U h).period ≤ k * (task_at U h).period =
+              mul-le-mul_right (task_at U h).period (omega arith) in
+              rw e (
+                omega (arith, p, one, first_is, v.jitter, v.deadline_to),
+                omega (arith, p, first_is),
+              )
         ]
 
     ready_before : (k t : ℕ) → 0 < t → k < releases_within (task_at U h) t → ready k < instant + t
     ready_before k t some less =
         let v : IsValidSheet (task_at U h) = sheet in
         let n : ℕ = releases_within (task_at U h) t in
-        let b : (t + lateness_of (task_at U h) ≤ n * (task_at U h).period) × (n * (task_at U h).period < t + lateness_of (task_at U h) + (task_at U h).period) = div_ceil_times (t + lateness_of (task_at U h)) (task_at U h).period (omega (arith, v.period_from)) in
-        let up : (k + 1) * (task_at U h).period ≤ n * (task_at U h).period = mul-le-mul_right (task_at U h).period (omega arith) in
-        let step : (k + 1) * (task_at U h).period ≡ k * (task_at U h).period + (task_at U h).period = omega arith in
+        let b : (t + lateness_of (task_at U h) ≤ n * (task_at U h).period)
+        × (n * (task_at U h).period < t + lateness_of (task_at U h) + (task_at U h).period) =
+        div_ceil_times (t + lateness_of (task_at U h)) (task_at U h).period
+        (omega (arith, v.period_from)) in
+        let up : (k + 1) * (task_at U h).period ≤ n * (task_at U h).period =
+        mul-le-mul_right (task_at U h).period (omega arith) in
+        let step : (k + 1) * (task_at U h).period
+        ≡ k * (task_at U h).period + (task_at U h).period = omega arith in
         let p : k * s.period ≡ k * (task_at U h).period = ap (λ x. k * x) period_is in
         elim (cases_eq k 0) [
           | inl first ↦
-              let z : k * (task_at U h).period ≡ 0 * (task_at U h).period = ap (λ x. x * (task_at U h).period) first in
-              let c : (instant ≤ ready k) × (ready k ≤ instant + k * (task_at U h).period) = ready_cases k in
+              let z : k * (task_at U h).period ≡ 0 * (task_at U h).period =
+              ap (λ x. x * (task_at U h).period) first in
+              let c : (instant ≤ ready k) × (ready k ≤ instant + k * (task_at U h).period) =
+              ready_cases k in
               omega (arith, c.1, z)
           | inr later ↦
               let z : (k == 0) ≡ false = ne_eqb k 0 later in
@@ -115,24 +133,38 @@ module _ (U : List Task) (set : IsTaskSet U) (ss : List Stream) (index : ℕ →
         ]
 
     abbrev counts : ℕ → ℕ → ℕ
-    counts t j = if is_ready_in (jobs_of U rs) instant t j && ((job_at (jobs_of U rs) j).task == h) then 1 else 0
+    counts t j = if is_ready_in (jobs_of U rs) instant t j
+        && ((job_at (jobs_of U rs) j).task == h) then 1 else 0
 
     abbrev Counted : ℕ → ℕ → Type 0
-    Counted t k = (p : ℕ) × (p < length (jobs_of U rs)) × (counts t p ≡ 1) × (release_at rs p ≡ job_release s k)
+    Counted t k = (p : ℕ) × (p < length (jobs_of U rs)) × (counts t p ≡ 1)
+        × (release_at rs p ≡ job_release s k)
 
-    counted : (t k : ℕ) → 0 < t → instant + t ≤ until → k < releases_within (task_at U h) t → Counted t k
+    counted : (t k : ℕ) → 0 < t → instant + t ≤ until → k < releases_within (task_at U h) t
+        → Counted t k
     counted t k some within less =
         let early : ready k < instant + t = ready_before k t some less in
-        let c : (instant ≤ ready k) × (ready k ≤ instant + k * (task_at U h).period) = ready_cases k in
-        let found_at : IsIn rs (job_release s k) = job_in ss until (some_period U set ss index fit until) q k lt (omega (arith, early, within)) in
+        let c : (instant ≤ ready k) × (ready k ≤ instant + k * (task_at U h).period) =
+        ready_cases k in
+        let found_at : IsIn rs (job_release s k) = job_in ss until
+        (some_period U set ss index fit until) q k lt (omega (arith, early, within)) in
         let p : ℕ = found_at.0 in
-        let job : job_at (jobs_of U rs) p ≡ job_of U (job_release s k) = job_is U rs p found_at.1 ∙ ap (job_of U) found_at.2 in
+        let job : job_at (jobs_of U rs) p ≡ job_of U (job_release s k) = job_is U rs p found_at.1
+        ∙ ap (job_of U) found_at.2 in
         let a : nat_le instant (ready k) ≡ true = le-leb instant (ready k) c.0 in
         let b : nat_lt (ready k) (instant + t) ≡ true = lt-ltb (ready k) (instant + t) early in
-        let e : (task_number U (job_release s k) == h) ≡ true = eq-eqb (task_number U (job_release s k)) h (job_number k) in
-        let one : ◌≡◌ {A = ℕ} (if (nat_le instant (ready k) && nat_lt (ready k) (instant + t)) && (task_number U (job_release s k) == h) then 1 else 0) 1 = rw (a, b, e) refl in
-        let long : length (jobs_of U rs) ≡ length rs = jobs_length U rs in
-        (p, omega (arith, found_at.1, long), ap (λ (x : Job). let n : ℕ = (if (nat_le instant x.ready && nat_lt x.ready (instant + t)) && (x.task == h) then 1 else 0) in n) job ∙ one, found_at.2)
+        let e : (task_number U (job_release s k) == h) ≡ true =
+        eq-eqb (task_number U (job_release s k)) h (job_number k) in
+        let one : ◌≡◌ {A = ℕ} (if (nat_le instant (ready k) && nat_lt (ready k) (instant + t))
+        && (task_number U (job_release s k) == h) then 1 else 0) 1 = rw (a, b, e) refl in
+        let long : length (jobs_of U rs) ≡ length rs = jobs_length U rs in (
+          p,
+          omega (arith, found_at.1, long),
+          ap (λ (x : Job). let n : ℕ =
+              (if (nat_le instant x.ready && nat_lt x.ready (instant + t))
+              && (x.task == h) then 1 else 0) in n) job ∙ one,
+          found_at.2,
+        )
 
     rises : (t j k : ℕ) (x : Counted t j) (y : Counted t k) → j < k → x.0 < y.0
     rises t j k x y less =
@@ -146,20 +178,29 @@ module _ (U : List Task) (set : IsTaskSet U) (ss : List Stream) (index : ℕ →
         elim (cases_lt x.0 y.0) [
           | inl before ↦ before
           | inr not ↦ elim (cases_eq x.0 y.0) [
-            | inl same ↦ (let e : (release_at rs x.0).time ≡ (release_at rs y.0).time = ap (λ p. (release_at rs p).time) same in absurd (omega arith))
+            | inl same ↦ (let e : (release_at rs x.0).time ≡ (release_at rs y.0).time =
+                ap (λ p. (release_at rs p).time) same in absurd (omega arith))
             | inr differ ↦
                 let long : length (jobs_of U rs) ≡ length rs = jobs_length U rs in
-                let o = before_order ss until until y.0 x.0 (omega arith) (omega (arith, x.1, long)) in
-                let le : (release_at rs y.0).time ≤ (release_at rs x.0).time = elim o.4 [ inl early ↦ omega (arith, early) | inr tie ↦ omega (arith, tie.0) ] in
+                let o =
+                before_order ss until until y.0 x.0 (omega arith) (omega (arith, x.1, long)) in
+                let le : (release_at rs y.0).time ≤ (release_at rs x.0).time =
+                elim o.4 [
+                  | inl early ↦ omega (arith, early)
+                  | inr tie ↦ omega (arith, tie.0)
+                ] in
                 absurd (omega arith)
           ]
         ]
 
-    pub dense : (t : ℕ) → 0 < t → instant + t ≤ until → releases_within (task_at U h) t ≤ ready_within (jobs_of U rs) h instant t
+    pub dense : (t : ℕ) → 0 < t → instant + t ≤ until
+        → releases_within (task_at U h) t ≤ ready_within (jobs_of U rs) h instant t
     dense t some within =
         let m : releases_within (task_at U h) t ≤ total (counts t) (length (jobs_of U rs)) =
         many (counts t) (releases_within (task_at U h) t) (length (jobs_of U rs))
         (λ k less. (let c : Counted t k = counted t k some within less in (c.0, c.1, c.2)))
-        (λ j k lj lk less. rises t j k (counted t j some within lj) (counted t k some within lk) less) in
-        let sum : total (counts t) (length (jobs_of U rs)) ≡ ready_within (jobs_of U rs) h instant t = total-sum (counts t) (length (jobs_of U rs)) in
+        (λ j k lj lk less. rises t j k (counted t j some within lj) (counted t k some within lk)
+        less) in
+        let sum : total (counts t) (length (jobs_of U rs)) ≡ ready_within (jobs_of U rs) h instant
+        t = total-sum (counts t) (length (jobs_of U rs)) in
         omega arith

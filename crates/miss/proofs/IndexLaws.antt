@@ -1,19 +1,22 @@
 -- Members by their indexes, and how late tasks may be.
-use Rattle.std.proofs.Common.{◌≡◌, ◌∙◌, ℕ, zero, suc, ◌+◌, ◌<◌, ◌≤◌, inl, inr, Option, Some, None, Bool, true, false, ◌||◌, ◌==◌, List, [], ◌∷◌, ◌++◌, length, map, get_or, take, drop, refl, sym, ap, subst, max, arith}
+use Rattle.std.proofs.Common.{◌≡◌, ◌∙◌, ℕ, zero, suc, ◌+◌, ◌<◌, ◌≤◌, inl, inr, Option, Some, None}
+use Rattle.std.proofs.Common.{Bool, true, false, ◌||◌, ◌==◌, List, [], ◌∷◌, ◌++◌, length, map}
+use Rattle.std.proofs.Common.{get_or, take, drop, refl, sym, ap, subst, max, arith}
 use Rattle.std.proofs.Math.Path.{fun_ext}
 use Rattle.std.proofs.lemmas.List.Folds.{list_any-append}
 use Rattle.std.specs.FinSet as set
 use Rattle.std.specs.Ordering.{nat_cmp}
 use Rattle.std.proofs.lemmas.Bool.{cases_eq, eq-eqb, ne_eqb}
 use Rattle.std.proofs.lemmas.List.{take_more, drop_more, get_or_default, map-append}
-use Rattle.task_sheet.specs.Sheet.{Task, CriticalSection, IsSection, AreSections, IsValidSheet, no_task, task_at}
+use Rattle.task_sheet.specs.Sheet.{Task, CriticalSection, IsSection, AreSections, IsValidSheet}
+use Rattle.task_sheet.specs.Sheet.{no_task, task_at}
 use Rattle.task_sheet.specs.TaskSet.{IsTaskSet}
 use Rattle.task_sheet.specs.Demand.{greatest_of, limit_of}
 use Rattle.task_sheet.specs.Indexes.{Indexes, indexes_of, with_index, among}
 use Rattle.task_sheet.proofs.MembersIndexes.{indexes_of-insert}
 use Rattle.ceiling_kernel.specs.Waits.{lateness_of}
 use Rattle.std.proofs.lemmas.Option.{slice_get_within}
-use Rattle.explain.specs.Parts.{BlockerData, BlocksAt, IsFirstBlocker, IsBlockerOf}
+use Rattle.explain.specs.Blocking.{BlockerData, BlocksAt, IsFirstBlocker, IsBlockerOf}
 use Rattle.release_list.specs.Densest.{stream_of}
 use Rattle.release_list.specs.declared.stream.Stream.{Stream}
 use Rattle.miss.specs.Misses.{IsInSet, member_stream}
@@ -31,41 +34,61 @@ turned i k = elim (cases_eq i k) [
 ]
 
 among-push : (xs : List ℕ) (i : ℕ) → among (xs ++ i ∷ []) ≡ with_index (among xs) i
-among-push xs i = fun_ext (λ k. list_any-append (λ x. x == k) xs (i ∷ []) ∙ or_turned (among xs k) (i == k) ∙ ap (λ b. b || among xs k) (turned i k))
+among-push xs i = fun_ext (λ k. list_any-append (λ x. x == k) xs (i ∷ [])
+    ∙ or_turned (among xs k) (i == k) ∙ ap (λ b. b || among xs k) (turned i k))
 
 -- one more member
 
-pub members_step : (m n : set.FinSet nat_cmp) (xs : List ℕ) (k : ℕ) → k < length xs → indexes_of m ≡ among (take k xs) → n ≡ set.insert m (get_or xs k 0) → indexes_of n ≡ among (take (k + 1) xs)
+pub members_step : (m n : set.FinSet nat_cmp) (xs : List ℕ) (k : ℕ) → k < length xs → indexes_of m
+    ≡ among (take k xs) → n ≡ set.insert m (get_or xs k 0) → indexes_of n ≡ among (take (k + 1) xs)
 members_step m n xs k lt so is =
-    ap indexes_of is ∙ indexes_of-insert m (get_or xs k 0) ∙ ap (λ H. with_index H (get_or xs k 0)) so
+    ap indexes_of is ∙ indexes_of-insert m (get_or xs k 0)
+    ∙ ap (λ H. with_index H (get_or xs k 0)) so
     ∙ sym (among-push (take k xs) (get_or xs k 0)) ∙ ap among (sym (take_more xs k 0 lt))
 
-pub late_most : (U : List Task) → IsTaskSet U → (k : ℕ) → k < length U → lateness_of (task_at U k) ≤ 10000000
-late_most U tasks k lt = (let v : IsValidSheet (task_at U k) = tasks.valid k no_task lt in omega (arith, v.jitter, v.deadline_to, v.period_to))
+pub late_most : (U : List Task) → IsTaskSet U → (k : ℕ) → k < length U
+    → lateness_of (task_at U k) ≤ 10000000
+late_most U tasks k lt = (let v : IsValidSheet (task_at U k) = tasks.valid k no_task lt in
+    omega (arith, v.jitter, v.deadline_to, v.period_to))
 
 -- one element more
-pub greatest_more : (f : ℕ → ℕ) (xs : List ℕ) (k : ℕ) → k < length xs → greatest_of f (drop k xs) ≡ max (f (get_or xs k 0)) (greatest_of f (drop (k + 1) xs))
+pub greatest_more : (f : ℕ → ℕ) (xs : List ℕ) (k : ℕ) → k < length xs
+    → greatest_of f (drop k xs) ≡ max (f (get_or xs k 0)) (greatest_of f (drop (k + 1) xs))
 greatest_more f xs k lt = ap (greatest_of f) (drop_more xs k 0 lt)
 
 -- what is read of a sheet at an index
-read_sheet : (U sheets : List Task) (k : ℕ) (sheet : Task) → sheets ≡ U → k < length U → sheet ≡ get_or sheets k sheet → sheet ≡ task_at U k
-read_sheet U sheets k sheet same lt is = is ∙ ap (λ xs. get_or xs k sheet) same ∙ get_or_default U k sheet no_task lt
+read_sheet : (U sheets : List Task) (k : ℕ) (sheet : Task) → sheets ≡ U → k < length U
+    → sheet ≡ get_or sheets k sheet → sheet ≡ task_at U k
+read_sheet U sheets k sheet same lt is = is ∙ ap (λ xs. get_or xs k sheet) same
+    ∙ get_or_default U k sheet no_task lt
 
 -- the instant after one member more
-pub instant_step : (U : List Task) → IsTaskSet U → (sheets : List Task) (xs : List ℕ) (k instant instant' jitter all : ℕ) (sheet : Task) → sheets ≡ U → k < length xs → get_or xs k 0 < length U
-    → sheet ≡ get_or sheets (get_or xs k 0) sheet → jitter ≡ sheet.jitter → instant' ≡ max instant jitter
-    → (max instant (greatest_of (λ i. lateness_of (task_at U i)) (drop k xs)) ≡ all) × (instant ≤ 10000000)
-    → (max instant' (greatest_of (λ i. lateness_of (task_at U i)) (drop (k + 1) xs)) ≡ all) × (instant' ≤ 10000000)
+pub instant_step : (U : List Task) → IsTaskSet U
+    → (sheets : List Task) (xs : List ℕ) (k instant instant' jitter all : ℕ) (sheet : Task)
+    → sheets ≡ U → k < length xs → get_or xs k 0 < length U
+    → sheet ≡ get_or sheets (get_or xs k 0) sheet → jitter ≡ sheet.jitter
+    → instant' ≡ max instant jitter
+    → (max instant (greatest_of (λ i. lateness_of (task_at U i)) (drop k xs)) ≡ all)
+    × (instant ≤ 10000000)
+    → (max instant' (greatest_of (λ i. lateness_of (task_at U i)) (drop (k + 1) xs)) ≡ all)
+    × (instant' ≤ 10000000)
 instant_step U tasks sheets xs k instant instant' jitter all sheet same lt known is j i so =
-    let own : jitter ≡ lateness_of (task_at U (get_or xs k 0)) = j ∙ ap (λ (t : Task). t.jitter) (read_sheet U sheets (get_or xs k 0) sheet same known is) in
-    let most : lateness_of (task_at U (get_or xs k 0)) ≤ 10000000 = late_most U tasks (get_or xs k 0) known in
-    let more : greatest_of (λ i. lateness_of (task_at U i)) (drop k xs) ≡ max (lateness_of (task_at U (get_or xs k 0))) (greatest_of (λ i. lateness_of (task_at U i)) (drop (k + 1) xs)) = greatest_more (λ i. lateness_of (task_at U i)) xs k lt in
+    let own : jitter ≡ lateness_of (task_at U (get_or xs k 0)) = j
+    ∙ ap (λ (t : Task). t.jitter) (read_sheet U sheets (get_or xs k 0) sheet same known is) in
+    let most : lateness_of (task_at U (get_or xs k 0)) ≤ 10000000 =
+    late_most U tasks (get_or xs k 0) known in
+    let more : greatest_of (λ i. lateness_of (task_at U i)) (drop k xs)
+    ≡ max (lateness_of (task_at U (get_or xs k 0)))
+    (greatest_of (λ i. lateness_of (task_at U i)) (drop (k + 1) xs)) =
+    greatest_more (λ i. lateness_of (task_at U i)) xs k lt in
     (omega (arith, so.0), omega (arith, so.1))
 
 -- the streams after one member more
-pub streams_step : (U sheets : List Task) (task : ℕ) (xs : List ℕ) (k instant : ℕ) (streams more : List Stream)
+pub streams_step : (U sheets : List Task) (task : ℕ) (xs : List ℕ) (k instant : ℕ)
+    (streams more : List Stream)
     (sheet : Task) (stream : Stream)
-    → sheets ≡ U → k < length xs → get_or xs k 0 < length U → sheet ≡ get_or sheets (get_or xs k 0) sheet
+    → sheets ≡ U → k < length xs → get_or xs k 0 < length U
+    → sheet ≡ get_or sheets (get_or xs k 0) sheet
     → stream ≡ stream_of instant sheet → more ≡ streams ++ stream ∷ []
     → streams ≡ map (member_stream U instant) (task ∷ take k xs)
     → more ≡ map (member_stream U instant) (task ∷ take (k + 1) xs)
@@ -74,38 +97,56 @@ streams_step U sheets task xs k instant streams more sheet stream same lt known 
     own ∙ ap (stream_of instant) (read_sheet U sheets (get_or xs k 0) sheet same known is) in
     let cut : take (k + 1) xs ≡ take k xs ++ get_or xs k 0 ∷ [] = take_more xs k 0 lt in
     let apart : map (member_stream U instant) (task ∷ take (k + 1) xs)
-    ≡ map (member_stream U instant) (task ∷ take k xs) ++ member_stream U instant (get_or xs k 0) ∷ [] =
+    ≡ map (member_stream U instant) (task ∷ take k xs)
+    ++ member_stream U instant (get_or xs k 0) ∷ [] =
     ap (λ ks. map (member_stream U instant) (task ∷ ks)) cut
     ∙ map-append (member_stream U instant) (task ∷ take k xs) (get_or xs k 0 ∷ []) in
     grown ∙ ap (λ s. s ++ stream ∷ []) so
     ∙ ap (λ s. map (member_stream U instant) (task ∷ take k xs) ++ s ∷ []) next ∙ sym apart
 
-section_within : (from cost : ℕ) (ss : List CriticalSection) (p : ℕ) (s d : CriticalSection) → AreSections from cost ss → p < length ss → s ≡ get_or ss p d → s.at + 1 ≤ cost
+section_within : (from cost : ℕ) (ss : List CriticalSection) (p : ℕ) (s d : CriticalSection)
+    → AreSections from cost ss → p < length ss → s ≡ get_or ss p d → s.at + 1 ≤ cost
 section_within from cost [] p s d h lt e = absurd (omega arith)
 section_within from cost (x ∷ ss) zero s d h lt e =
     let here : IsSection from cost x = h.0 in
     let at : s.at ≡ x.at = ap (λ (y : CriticalSection). y.at) e in
     omega (arith, here.within, here.runs)
-section_within from cost (x ∷ ss) (suc p) s d h lt e = section_within (x.at + x.len) cost ss p s d h.1 (omega arith) e
+section_within from cost (x ∷ ss) (suc p) s d h lt e =
+    section_within (x.at + x.len) cost ss p s d h.1 (omega arith) e
 
 -- a section begins a tick before ten million at the latest
-pub section_small : (U : List Task) → IsTaskSet U → (sheets : List Task) (t p t' p' : ℕ) (sheet : Task) (ss : List CriticalSection) (s : CriticalSection) → sheets ≡ U → t ≡ t' → p ≡ p' → (t' < length U) × (p' < length (task_at U t').sections)
+pub section_small : (U : List Task) → IsTaskSet U → (sheets : List Task) (t p t' p' : ℕ)
+    (sheet : Task) (ss : List CriticalSection) (s : CriticalSection) → sheets ≡ U → t ≡ t' → p ≡ p'
+    → (t' < length U) × (p' < length (task_at U t').sections)
     → sheet ≡ get_or sheets t sheet → ss ≡ sheet.sections → s ≡ get_or ss p s
     → s.at + 1 ≤ 10000000
 section_small U tasks sheets t p t' p' sheet ss s same et ep placed is sections at =
     let v : IsValidSheet (task_at U t') = tasks.valid t' no_task placed.0 in
     let is' : sheet ≡ get_or sheets t' sheet = is ∙ ap (λ k. get_or sheets k sheet) et in
-    let own : ss ≡ (task_at U t').sections = sections ∙ ap (λ (x : Task). x.sections) (read_sheet U sheets t' sheet same placed.0 is') in
-    let at' : s ≡ get_or (task_at U t').sections p' s = at ∙ ap (λ (xs : List CriticalSection). get_or xs p s) own ∙ ap (λ k. get_or (task_at U t').sections k s) ep in
-    omega (arith, section_within 0 (task_at U t').cost (task_at U t').sections p' s s v.sections placed.1 at', v.cost_to, v.period_to)
+    let own : ss ≡ (task_at U t').sections = sections
+    ∙ ap (λ (x : Task). x.sections) (read_sheet U sheets t' sheet same placed.0 is') in
+    let at' : s ≡ get_or (task_at U t').sections p' s = at
+    ∙ ap (λ (xs : List CriticalSection). get_or xs p s) own
+    ∙ ap (λ k. get_or (task_at U t').sections k s) ep in
+    omega (
+      arith,
+      section_within 0 (task_at U t').cost (task_at U t').sections p' s s v.sections
+          placed.1 at',
+      v.cost_to,
+      v.period_to,
+    )
 
 -- a blocker is in the set
-pub blocker_in : (U : List Task) (i : ℕ) (H : Indexes) (b : Option BlockerData) → IsBlockerOf U i H b → IsInSet U b
+pub blocker_in : (U : List Task) (i : ℕ) (H : Indexes) (b : Option BlockerData)
+    → IsBlockerOf U i H b → IsInSet U b
 blocker_in U i H None h = tt
-blocker_in U i H (Some b) h = (let f : IsFirstBlocker U i H b = h in let at : BlocksAt U i H b.task b.place f.section = f.blocks in (at.in_set, slice_get_within (task_at U b.task).sections b.place f.section at.section))
+blocker_in U i H (Some b) h = (let f : IsFirstBlocker U i H b = h in
+    let at : BlocksAt U i H b.task b.place f.section = f.blocks in
+    (at.in_set, slice_get_within (task_at U b.task).sections b.place f.section at.section))
 
 -- no limit is longer than a period
-pub limit_small : (U : List Task) → IsTaskSet U → (sheets : List Task) (k : ℕ) (sheet : Task) → sheets ≡ U → k < length U → sheet ≡ get_or sheets k sheet → limit_of sheet ≤ 10000000
+pub limit_small : (U : List Task) → IsTaskSet U → (sheets : List Task) (k : ℕ) (sheet : Task)
+    → sheets ≡ U → k < length U → sheet ≡ get_or sheets k sheet → limit_of sheet ≤ 10000000
 limit_small U tasks sheets k sheet same known is =
     let v : IsValidSheet (task_at U k) = tasks.valid k no_task known in
     let e : sheet ≡ task_at U k = read_sheet U sheets k sheet same known is in

@@ -1,30 +1,38 @@
 -- A job that is ready before all others executes alone.
-use Rattle.std.proofs.Common.{◌≡◌, ◌≢◌, ℕ, zero, suc, ◌+◌, ◌<◌, ◌≤◌, inl, inr, List, length, Some, subst, arith}
+use Rattle.std.proofs.Common.{◌≡◌, ◌≢◌, ℕ, zero, suc, ◌+◌, ◌<◌, ◌≤◌, inl, inr, List, length, Some}
+use Rattle.std.proofs.Common.{subst, arith}
 use Rattle.std.proofs.lemmas.Bool.{cases_eq}
 use Rattle.ceiling_kernel.specs.Tick.{Node, Job, job_at, executed_before, picked}
 use Rattle.ceiling_kernel.specs.Readings.{IsPicked}
 use Rattle.ceiling_kernel.proofs.LockLaws.{began_strictly}
 use Rattle.ceiling_kernel.proofs.MachineLaws.{works_of, own_of, picked_is_first, pending_parts}
 
-module _ (node : Node) (jobs : List Job) (b lead : ℕ) (lt : b < length jobs) (fits : lead ≤ (job_at jobs b).executes)
-    (others : (k : ℕ) → k < length jobs → k ≢ b → (job_at jobs b).ready + lead ≤ (job_at jobs k).ready) where
+module _ (node : Node) (jobs : List Job) (b lead : ℕ) (lt : b < length jobs)
+    (fits : lead ≤ (job_at jobs b).executes)
+    (others : (k : ℕ) → k < length jobs → k ≢ b
+    → (job_at jobs b).ready + lead ≤ (job_at jobs k).ready) where
   pub leads : (m : ℕ) → m ≤ lead → executed_before node jobs ((job_at jobs b).ready + m) b ≡ m
   leads zero le =
       elim (cases_eq (executed_before node jobs ((job_at jobs b).ready + 0) b) 0) [
         | inl none ↦ none
-        | inr some ↦ let early : (job_at jobs b).ready < (job_at jobs b).ready + 0 = began_strictly node jobs ((job_at jobs b).ready + 0) b (omega arith) in absurd (omega arith)
+        | inr some ↦ let early : (job_at jobs b).ready < (job_at jobs b).ready + 0 = began_strictly
+            node jobs ((job_at jobs b).ready + 0) b (omega arith) in absurd (omega arith)
       ]
   leads (suc m) le =
       let t : ℕ = (job_at jobs b).ready + m in
       let ih : executed_before node jobs t b ≡ m = leads m (omega arith) in
-      let w : (p : ℕ) × (picked node jobs t ≡ Some p) = works_of node jobs t b lt (omega arith) (omega arith) in
+      let w : (p : ℕ) × (picked node jobs t ≡ Some p) =
+      works_of node jobs t b lt (omega arith) (omega arith) in
       let is : IsPicked node jobs t w.0 = picked_is_first node jobs t w.0 w.1 in
-      let pp : ((job_at jobs w.0).ready ≤ t) × (executed_before node jobs t w.0 < (job_at jobs w.0).executes) = pending_parts node jobs t w.0 is.pending in
+      let pp : ((job_at jobs w.0).ready ≤ t)
+      × (executed_before node jobs t w.0 < (job_at jobs w.0).executes) =
+      pending_parts node jobs t w.0 is.pending in
       let mine : w.0 ≡ b = elim (cases_eq w.0 b) [
         | inl same ↦ same
         | inr other ↦ absurd (omega (arith, others w.0 is.is_job other, pp.0))
       ] in
       let pick : picked node jobs t ≡ Some b = subst (λ p. picked node jobs t ≡ Some p) mine w.1 in
-      let one : executed_before node jobs (suc t) b ≡ suc (executed_before node jobs t b) = own_of node jobs t b pick in
+      let one : executed_before node jobs (suc t) b ≡ suc (executed_before node jobs t b) =
+      own_of node jobs t b pick in
       let at : suc t ≡ (job_at jobs b).ready + suc m = omega arith in
       subst (λ x. executed_before node jobs x b ≡ suc m) at (omega arith)

@@ -1,41 +1,52 @@
 -- A task and those above it in an order.
-use Rattle.std.proofs.Common.{◌≡◌, ℕ, zero, suc, ◌+◌, ◌<◌, ◌≤◌, inl, inr, true, ◌==◌, nat_lt, cond, List, [], ◌∷◌, length, get_or, refl, sym, ◌∙◌, ap, arith}
-use Rattle.std.proofs.lemmas.Bool.{cases_Bool, eq-eqb, eqb-true, ltb-true, true≢false, or_cases, or_left, or_right}
+use Rattle.std.proofs.Common.{◌≡◌, ℕ, zero, suc, ◌+◌, ◌<◌, ◌≤◌, inl, inr, true, ◌==◌, nat_lt, cond}
+use Rattle.std.proofs.Common.{List, [], ◌∷◌, length, get_or, refl, sym, ◌∙◌, ap, arith}
+use Rattle.std.proofs.lemmas.Bool.{cases_Bool, eq-eqb, eqb-true, ltb-true, true≢false, or_cases}
+use Rattle.std.proofs.lemmas.Bool.{or_left, or_right}
 use Rattle.task_sheet.specs.Indexes.{among}
 use Rattle.ceiling_kernel.specs.Tick.{Node, level_in_order}
 use Rattle.ceiling_kernel.specs.Waits.{IsNode}
 use Rattle.ceiling_kernel.specs.Bounds.{above_of, after_of}
-use Rattle.ceiling_kernel.proofs.NodeLaws.{times, times-here, times-grow, level_past, after_is_above}
+use Rattle.ceiling_kernel.proofs.NodeLaws.{times, times-here, times-grow, level_past}
+use Rattle.ceiling_kernel.proofs.NodeLaws.{after_is_above}
 
 pub among_at : (xs : List ℕ) (q : ℕ) → q < length xs → among xs (get_or xs q 0) ≡ true
 among_at [] q lt = absurd (omega arith)
 among_at (x ∷ xs) zero lt = or_left (x == x) (among xs x) (eq-eqb x x refl)
-among_at (x ∷ xs) (suc q) lt = or_right (x == get_or xs q 0) (among xs (get_or xs q 0)) (among_at xs q (omega arith))
+among_at (x ∷ xs) (suc q) lt =
+    or_right (x == get_or xs q 0) (among xs (get_or xs q 0)) (among_at xs q (omega arith))
 
-pub among_place : (xs : List ℕ) (k : ℕ) → among xs k ≡ true → (q : ℕ) × (q < length xs) × (get_or xs q 0 ≡ k)
+pub among_place : (xs : List ℕ) (k : ℕ) → among xs k ≡ true → (q : ℕ) × (q < length xs)
+    × (get_or xs q 0 ≡ k)
 among_place [] k h = absurd (true≢false (sym h))
 among_place (x ∷ xs) k h =
     elim (or_cases (x == k) (among xs k) h) [
       | inl here ↦ (0, omega arith, eqb-true x k here)
-      | inr later ↦ let f : (q : ℕ) × (q < length xs) × (get_or xs q 0 ≡ k) = among_place xs k later in (suc f.0, omega (arith, f.1), f.2)
+      | inr later ↦ let f : (q : ℕ) × (q < length xs) × (get_or xs q 0 ≡ k) =
+          among_place xs k later in (suc f.0, omega (arith, f.1), f.2)
     ]
 
 times_at : (xs : List ℕ) (q : ℕ) → q < length xs → 0 < times (get_or xs q 0) xs
 times_at [] q lt = absurd (omega arith)
 times_at (x ∷ xs) zero lt = omega (arith, times-here x x xs (eq-eqb x x refl))
-times_at (x ∷ xs) (suc q) lt = omega (arith, times_at xs q (omega arith), times-grow (get_or xs q 0) x xs)
+times_at (x ∷ xs) (suc q) lt =
+    omega (arith, times_at xs q (omega arith), times-grow (get_or xs q 0) x xs)
 
-once-distinct : (xs : List ℕ) → ((k : ℕ) → times k xs ≤ 1) → (q r : ℕ) → q < length xs → r < length xs → get_or xs q 0 ≡ get_or xs r 0 → q ≡ r
+once-distinct : (xs : List ℕ) → ((k : ℕ) → times k xs ≤ 1) → (q r : ℕ) → q < length xs
+    → r < length xs → get_or xs q 0 ≡ get_or xs r 0 → q ≡ r
 once-distinct [] once q r lq lr e = absurd (omega arith)
 once-distinct (x ∷ xs) once zero zero lq lr e = refl
 once-distinct (x ∷ xs) once zero (suc r) lq lr e =
-    let here : times (get_or xs r 0) (x ∷ xs) ≡ 1 + times (get_or xs r 0) xs = times-here (get_or xs r 0) x xs (eq-eqb x (get_or xs r 0) e) in
+    let here : times (get_or xs r 0) (x ∷ xs) ≡ 1 + times (get_or xs r 0) xs =
+    times-here (get_or xs r 0) x xs (eq-eqb x (get_or xs r 0) e) in
     absurd (omega (arith, here, times_at xs r (omega arith), once (get_or xs r 0)))
 once-distinct (x ∷ xs) once (suc q) zero lq lr e =
-    let here : times (get_or xs q 0) (x ∷ xs) ≡ 1 + times (get_or xs q 0) xs = times-here (get_or xs q 0) x xs (eq-eqb x (get_or xs q 0) (sym e)) in
+    let here : times (get_or xs q 0) (x ∷ xs) ≡ 1 + times (get_or xs q 0) xs =
+    times-here (get_or xs q 0) x xs (eq-eqb x (get_or xs q 0) (sym e)) in
     absurd (omega (arith, here, times_at xs q (omega arith), once (get_or xs q 0)))
 once-distinct (x ∷ xs) once (suc q) (suc r) lq lr e =
-    ap suc (once-distinct xs (λ k. omega (arith, once k, times-grow k x xs)) q r (omega arith) (omega arith) e)
+    ap suc (once-distinct xs (λ k. omega (arith, once k, times-grow k x xs)) q r (omega arith)
+    (omega arith) e)
 
 times-after : (order : List ℕ) (i k : ℕ) → times k (after_of order i) ≤ times k order
 times-after [] i k = omega arith
@@ -64,7 +75,8 @@ module _ (node : Node) (ok : IsNode node) where
       elim (cases_Bool (nat_lt k (length node.tasks))) [
         | inl t ↦ ltb-true k (length node.tasks) t
         | inr f ↦
-            let once : times k node.order ≡ cond (nat_lt k (length node.tasks)) 1 0 = times-order k in
+            let once : times k node.order ≡ cond (nat_lt k (length node.tasks)) 1 0 =
+            times-order k in
             let none : times k node.order ≡ 0 = rw f at once in
             absurd (omega (arith, level_past 1 node.order k none))
       ]
@@ -77,32 +89,44 @@ module _ (node : Node) (ok : IsNode node) where
     members = i ∷ above
 
     -- who stands above has a higher level
-    pub higher : (q : ℕ) → q < length above → level_in_order node i < level_in_order node (get_or above q 0)
+    pub higher : (q : ℕ) → q < length above
+        → level_in_order node i < level_in_order node (get_or above q 0)
     higher q small =
-        let on : above_of node i (get_or above q 0) ≡ true = sym (after_is_above node ok i (get_or above q 0) lt) ∙ among_at above q small in
+        let on : above_of node i (get_or above q 0) ≡ true =
+        sym (after_is_above node ok i (get_or above q 0) lt) ∙ among_at above q small in
         ltb-true (level_in_order node i) (level_in_order node (get_or above q 0)) on
 
-    pub member_in : (q : ℕ) → q < length members → (get_or members q 0 < length node.tasks) × (level_in_order node i ≤ level_in_order node (get_or members q 0))
+    pub member_in : (q : ℕ) → q < length members → (get_or members q 0 < length node.tasks)
+        × (level_in_order node i ≤ level_in_order node (get_or members q 0))
     member_in zero small = (lt, omega arith)
     member_in (suc q) small =
-        let up : level_in_order node i < level_in_order node (get_or above q 0) = higher q (omega arith) in
+        let up : level_in_order node i < level_in_order node (get_or above q 0) =
+        higher q (omega arith) in
         (has_level (get_or above q 0) (omega arith), omega arith)
 
-    pub members_differ : (q r : ℕ) → q < length members → r < length members → get_or members q 0 ≡ get_or members r 0 → q ≡ r
+    pub members_differ : (q r : ℕ) → q < length members → r < length members
+        → get_or members q 0 ≡ get_or members r 0 → q ≡ r
     members_differ zero zero lq lr e = refl
     members_differ zero (suc r) lq lr e =
-        let up : level_in_order node i < level_in_order node (get_or above r 0) = higher r (omega arith) in
-        let same : level_in_order node i ≡ level_in_order node (get_or above r 0) = ap (λ k. level_in_order node k) e in
+        let up : level_in_order node i < level_in_order node (get_or above r 0) =
+        higher r (omega arith) in
+        let same : level_in_order node i ≡ level_in_order node (get_or above r 0) =
+        ap (λ k. level_in_order node k) e in
         absurd (omega arith)
     members_differ (suc q) zero lq lr e =
-        let up : level_in_order node i < level_in_order node (get_or above q 0) = higher q (omega arith) in
-        let same : level_in_order node (get_or above q 0) ≡ level_in_order node i = ap (λ k. level_in_order node k) e in
+        let up : level_in_order node i < level_in_order node (get_or above q 0) =
+        higher q (omega arith) in
+        let same : level_in_order node (get_or above q 0) ≡ level_in_order node i =
+        ap (λ k. level_in_order node k) e in
         absurd (omega arith)
     members_differ (suc q) (suc r) lq lr e =
-        ap suc (once-distinct above (λ k. omega (arith, times-after node.order i k, at_most_once k)) q r (omega arith) (omega arith) e)
+        ap suc (once-distinct above (λ k. omega (arith, times-after node.order i k, at_most_once k))
+        q r (omega arith) (omega arith) e)
 
     -- each task above has a place
-    pub above_place : (h : ℕ) → above_of node i h ≡ true → (q : ℕ) × (q < length members) × (get_or members q 0 ≡ h)
+    pub above_place : (h : ℕ) → above_of node i h ≡ true → (q : ℕ) × (q < length members)
+        × (get_or members q 0 ≡ h)
     above_place h on =
-        let f : (q : ℕ) × (q < length above) × (get_or above q 0 ≡ h) = among_place above h (after_is_above node ok i h lt ∙ on) in
+        let f : (q : ℕ) × (q < length above) × (get_or above q 0 ≡ h) =
+        among_place above h (after_is_above node ok i h lt ∙ on) in
         (suc f.0, omega (arith, f.1), f.2)

@@ -11,7 +11,8 @@ use Rattle.task_sheet.proofs.TaskLaws.{task_read}
 use Rattle.response_time.specs.Workload.{work_of}
 
 -- it does not fall with time
-pub work-mono : (U : List Task) → AllTasks U → (i : ℕ) (H : Indexes) (t s : ℕ) → t ≤ s → work_of U i H t ≤ work_of U i H s
+pub work-mono : (U : List Task) → AllTasks U → (i : ℕ) (H : Indexes) (t s : ℕ) → t ≤ s
+    → work_of U i H t ≤ work_of U i H s
 work-mono U valid i H t s le =
     let terms = sum_below-le (length U) (term U t H) (term U s H) (λ h lt. elim (cases_Bool (H h)) [
       | inl above ↦ rw above (interference-mono (task_at U h) t s (valid h no_task lt) le)
@@ -20,7 +21,9 @@ work-mono U valid i H t s le =
     omega arith
 
 -- from its parts
-pub work-is : (U V : List Task) (i : ℕ) (H : Indexes) (t cost blocking interference : ℕ) (x : Task) → V ≡ U → i < length U → x ≡ get_or V i x → cost ≡ x.cost
-    → blocking ≡ blocking_of U i H → interference ≡ interference_within U H t → cost + blocking + interference ≡ work_of U i H t
+pub work-is : (U V : List Task) (i : ℕ) (H : Indexes) (t cost blocking interference : ℕ) (x : Task)
+    → V ≡ U → i < length U → x ≡ get_or V i x → cost ≡ x.cost
+    → blocking ≡ blocking_of U i H → interference ≡ interference_within U H t
+    → cost + blocking + interference ≡ work_of U i H t
 work-is U V i H t cost blocking interference x same lt read is blocks within =
     omega (arith, is, ap (λ y. y.cost) (task_read U V i x same lt read), blocks, within)

@@ -1,47 +1,63 @@
 -- In the worst case no job is done before a time covers the work.
-use Rattle.std.proofs.Common.{ℕ, zero, suc, ◌+◌, ◌-◌, ◌*◌, ◌<◌, ◌≤◌, ◌≡◌, ◌≢◌, inl, inr, refl, sym, ap, ◌∙◌, subst, arith, if◌then◌else◌, Bool, true, false, ◌==◌, ◌&&◌, cond, List, [], ◌∷◌, length, get_or, Some, max, nat_le, nat_lt, eqb}
+use Rattle.std.proofs.Common.{ℕ, zero, suc, ◌+◌, ◌-◌, ◌*◌, ◌<◌, ◌≤◌, ◌≡◌, ◌≢◌, inl, inr, refl, sym}
+use Rattle.std.proofs.Common.{ap, ◌∙◌, subst, arith, if◌then◌else◌, Bool, true, false, ◌==◌, ◌&&◌}
+use Rattle.std.proofs.Common.{cond, List, [], ◌∷◌, length, get_or, Some, max, nat_le, nat_lt, eqb}
 use Rattle.std.specs.Prelude.{Contains}
-use Rattle.std.proofs.lemmas.Bool.{cases_eq, cases_lt, cases_Bool, true≢false, lt-ltb, le-leb, lt-leb, le-ltb, leb-true, ltb-true, and_parts, eq-eqb, ne_eqb}
+use Rattle.std.proofs.lemmas.Bool.{cases_eq, cases_lt, cases_Bool, true≢false, lt-ltb, le-leb}
+use Rattle.std.proofs.lemmas.Bool.{lt-leb, le-ltb, leb-true, ltb-true, and_parts, eq-eqb, ne_eqb}
 use Rattle.std.proofs.Math.Nat.{mul-le-mul_right}
 use Rattle.task_sheet.specs.Sheet.{CriticalSection, task_at}
 use Rattle.task_sheet.specs.Demand.{releases_within, interference_of, interference_within, limit_of}
-use Rattle.ceiling_kernel.specs.Tick.{Node, Job, job_at, job_task, level_in_order, level_of_job, is_inside, top_ceiling, held_ceiling, active_of, executed_before, picked}
+use Rattle.ceiling_kernel.specs.Tick.{Node, Job, job_at, job_task, level_in_order, level_of_job}
+use Rattle.ceiling_kernel.specs.Tick.{is_inside, top_ceiling, held_ceiling, active_of}
+use Rattle.ceiling_kernel.specs.Tick.{executed_before, picked}
 use Rattle.ceiling_kernel.specs.States.{active_at}
 use Rattle.ceiling_kernel.specs.Readings.{IsPicked}
 use Rattle.ceiling_kernel.specs.Waits.{IsNode, AreLegalJobs, lateness_of}
 use Rattle.ceiling_kernel.specs.Bounds.{above_of, is_ready_in, ready_within, work_of}
 use Rattle.ceiling_kernel.proofs.NodeLaws.{IsSoundTask, IsSound, sound}
-use Rattle.ceiling_kernel.proofs.SumLaws.{total, total-sum, total-le, total-add, total-same, total-single, term-le}
+use Rattle.ceiling_kernel.proofs.SumLaws.{total, total-sum, total-le, total-add, total-same}
+use Rattle.ceiling_kernel.proofs.SumLaws.{total-single, term-le}
 use Rattle.ceiling_kernel.proofs.WindowLaws.{of_task, by_tasks}
 use Rattle.ceiling_kernel.proofs.BehaviourLaws.{HasSpans, spans_of}
 use Rattle.ceiling_kernel.proofs.SectionLaws.{inside_true, inside_from, stretch, stretch_held}
 use Rattle.ceiling_kernel.proofs.LockLaws.{began_strictly}
-use Rattle.ceiling_kernel.proofs.MachineLaws.{machine, is_high, rest_at, before_end, picked_is_first, pending_from, other_of}
+use Rattle.ceiling_kernel.proofs.MachineLaws.{machine, is_high, rest_at, before_end}
+use Rattle.ceiling_kernel.proofs.MachineLaws.{picked_is_first, pending_from, other_of}
 use Rattle.ceiling_kernel.proofs.Busy.{to_do, done_later, done_grows, tick_cases}
 use Rattle.miss.specs.Exact.{IsWhole, IsWorst, EndsLow, NoneCovers, WorstComes, WorstMisses}
 use Rattle.miss.proofs.Falls.{total-some, ticks}
 
 -- a job inside one of its sections holds its locks
-held-place : (node : Node) (ss : List CriticalSection) (s : CriticalSection) (e k : ℕ) → k < length ss → get_or ss k s ≡ s → is_inside s e ≡ true → top_ceiling node s.locks ≤ held_ceiling node ss e
+held-place : (node : Node) (ss : List CriticalSection) (s : CriticalSection) (e k : ℕ)
+    → k < length ss → get_or ss k s ≡ s → is_inside s e ≡ true
+    → top_ceiling node s.locks ≤ held_ceiling node ss e
 held-place node [] s e k lt is inside = absurd (omega arith)
 held-place node (x ∷ ss) s e zero lt is inside =
     let inside' : is_inside x e ≡ true = subst (λ y. is_inside y e ≡ true) (sym is) inside in
-    let same : top_ceiling node x.locks ≡ top_ceiling node s.locks = ap (λ (y : CriticalSection). top_ceiling node y.locks) is in
+    let same : top_ceiling node x.locks ≡ top_ceiling node s.locks =
+    ap (λ (y : CriticalSection). top_ceiling node y.locks) is in
     rw inside' (omega arith)
 held-place node (x ∷ ss) s e (suc k) lt is inside =
-    let ih : top_ceiling node s.locks ≤ held_ceiling node ss e = held-place node ss s e k (omega arith) is inside in
+    let ih : top_ceiling node s.locks ≤ held_ceiling node ss e =
+    held-place node ss s e k (omega arith) is inside in
     omega arith
 
 -- where the ceiling that is held reaches the level for m ticks, as many are left
-stretch-ge : (node : Node) (level : ℕ) (ss : List CriticalSection) (m n e : ℕ) → m ≤ n → ((d : ℕ) → d < m → level ≤ held_ceiling node ss (e + d)) → m ≤ stretch node level ss n e
+stretch-ge : (node : Node) (level : ℕ) (ss : List CriticalSection) (m n e : ℕ) → m ≤ n
+    → ((d : ℕ) → d < m → level ≤ held_ceiling node ss (e + d)) → m ≤ stretch node level ss n e
 stretch-ge node level ss zero n e le h = omega arith
 stretch-ge node level ss (suc m) zero e le h = absurd (omega arith)
 stretch-ge node level ss (suc m) (suc n) e le h =
     let z : e + 0 ≡ e = omega arith in
-    let here : level ≤ held_ceiling node ss e = subst (λ x. level ≤ held_ceiling node ss x) z (h 0 (omega arith)) in
-    let t : nat_le level (held_ceiling node ss e) ≡ true = le-leb level (held_ceiling node ss e) here in
-    let ih : m ≤ stretch node level ss n (suc e) = stretch-ge node level ss m n (suc e) (omega arith)
-    (λ d lt. let s : e + suc d ≡ suc e + d = omega arith in subst (λ x. level ≤ held_ceiling node ss x) s (h (suc d) (omega arith))) in
+    let here : level ≤ held_ceiling node ss e =
+    subst (λ x. level ≤ held_ceiling node ss x) z (h 0 (omega arith)) in
+    let t : nat_le level (held_ceiling node ss e) ≡ true =
+    le-leb level (held_ceiling node ss e) here in
+    let ih : m ≤ stretch node level ss n (suc e) =
+    stretch-ge node level ss m n (suc e) (omega arith)
+    (λ d lt. let s : e + suc d ≡ suc e + d = omega arith in
+    subst (λ x. level ≤ held_ceiling node ss x) s (h (suc d) (omega arith))) in
     rw t (omega arith)
 
 -- what isn't of a task counts nowhere
@@ -51,14 +67,16 @@ off_is true false d e = rw e refl
 off_is false true d e = rw e refl
 off_is false false d e = refl
 
-module _ (node : Node) (jobs : List Job) (is_node : IsNode node) (legal : AreLegalJobs node jobs) where
+module _ (node : Node) (jobs : List Job) (is_node : IsNode node)
+    (legal : AreLegalJobs node jobs) where
   valid : IsSound node
   valid = sound node is_node
 
   spanned : (j : ℕ) → HasSpans node jobs j
   spanned = spans_of node jobs legal.within
 
-  module _ (j0 left : ℕ) (worst : IsWorst node jobs j0 left) (ends : EndsLow node (job_at jobs j0).task) where
+  module _ (j0 left : ℕ) (worst : IsWorst node jobs j0 left)
+      (ends : EndsLow node (job_at jobs j0).task) where
     abbrev i : ℕ
     i = (job_at jobs j0).task
 
@@ -96,19 +114,23 @@ module _ (node : Node) (jobs : List Job) (is_node : IsNode node) (legal : AreLeg
     rest j e = rest_at node jobs level level_some spanned j e
 
     abbrev todo : ℕ → ℕ → ℕ → ℕ
-    todo t u j = to_do (length jobs) ready_of executes_of (is_high node jobs level level_some spanned) (rest_at node jobs level level_some spanned) (executed_before node jobs) (picked node jobs) (machine node jobs level level_some spanned) s (s + t) u j
+    todo t u j = to_do (length jobs) ready_of executes_of (is_high node jobs level level_some
+        spanned) (rest_at node jobs level level_some spanned) (executed_before node jobs)
+        (picked node jobs) (machine node jobs level level_some spanned) s (s + t) u j
 
     -- ---- at the instant
     none_done : (j u : ℕ) → u ≤ ready_of j → done u j ≡ 0
     none_done j u le =
         elim (cases_eq (done u j) 0) [
           | inl none ↦ none
-          | inr some ↦ let early : ready_of j < u = began_strictly node jobs u j (omega arith) in absurd (omega arith)
+          | inr some ↦ let early : ready_of j < u = began_strictly node jobs u j (omega arith) in
+              absurd (omega arith)
         ]
 
     -- job j is high, and becomes ready in the window
     abbrev counts : ℕ → ℕ → Bool
-    counts t j = nat_le level (level_of_job node jobs j) && (nat_le s (ready_of j) && nat_lt (ready_of j) (s + t))
+    counts t j = nat_le level (level_of_job node jobs j)
+        && (nat_le s (ready_of j) && nat_lt (ready_of j) (s + t))
 
     abbrev held : ℕ → ℕ → ℕ
     held k j = if k == j then left else 0
@@ -118,20 +140,27 @@ module _ (node : Node) (jobs : List Job) (is_node : IsNode node) (legal : AreLeg
 
     -- how many of task h
     abbrev number : ℕ → ℕ → ℕ
-    number t h = total (of_task (λ j. (job_at jobs j).task) (λ j. (job_at jobs j).arrival) (counts t) h) (length jobs)
+    number t h = total (of_task (λ j. (job_at jobs j).task) (λ j. (job_at jobs j).arrival)
+        (counts t) h) (length jobs)
 
     -- for a task of the level or above, those that become ready
     number-is : (t h : ℕ) → level ≤ level_in_order node h → number t h ≡ ready_within jobs h s t
     number-is t h le =
-        total-same (of_task (λ j. (job_at jobs j).task) (λ j. (job_at jobs j).arrival) (counts t) h) (λ j. if is_ready_in jobs s t j && ((job_at jobs j).task == h) then 1 else 0) (length jobs)
+        total-same (of_task (λ j. (job_at jobs j).task) (λ j. (job_at jobs j).arrival) (counts t) h)
+        (λ j. if is_ready_in jobs s t j && ((job_at jobs j).task == h) then 1 else 0)
+        (length jobs)
         (λ j lt. elim (cases_eq (job_at jobs j).task h) [
-          | inr ne ↦ off_is (counts t j) (is_ready_in jobs s t j) ((job_at jobs j).task == h) (ne_eqb (job_at jobs j).task h ne)
+          | inr ne ↦ off_is (counts t j) (is_ready_in jobs s t j) ((job_at jobs j).task == h)
+              (ne_eqb (job_at jobs j).task h ne)
           | inl e ↦ (
-              let same : level_of_job node jobs j ≡ level_in_order node h = ap (λ x. level_in_order node x) e in
-              let up : nat_le level (level_of_job node jobs j) ≡ true = le-leb level (level_of_job node jobs j) (omega arith) in
+              let same : level_of_job node jobs j ≡ level_in_order node h =
+              ap (λ x. level_in_order node x) e in
+              let up : nat_le level (level_of_job node jobs j) ≡ true =
+              le-leb level (level_of_job node jobs j) (omega arith) in
               rw up refl)
         ])
-        ∙ total-sum (λ j. if is_ready_in jobs s t j && ((job_at jobs j).task == h) then 1 else 0) (length jobs)
+        ∙ total-sum (λ j. if is_ready_in jobs s t j && ((job_at jobs j).task == h) then 1 else 0)
+        (length jobs)
 
     -- the job itself counts
     own_counts : (t : ℕ) → 0 < t → 1 ≤ number t i
@@ -140,8 +169,14 @@ module _ (node : Node) (jobs : List Job) (is_node : IsNode node) (legal : AreLeg
         let b : nat_le s s ≡ true = le-leb s s (omega arith) in
         let c : nat_lt s (s + t) ≡ true = lt-ltb s (s + t) (omega arith) in
         let e : eqb i i ≡ true = eq-eqb i i refl in
-        let one : of_task (λ j. (job_at jobs j).task) (λ j. (job_at jobs j).arrival) (counts t) i j0 ≡ 1 = rw (a, b, c, e) refl in
-        omega (arith, one, term-le (of_task (λ j. (job_at jobs j).task) (λ j. (job_at jobs j).arrival) (counts t) i) (length jobs) j0 worst.is_job)
+        let one : of_task (λ j. (job_at jobs j).task) (λ j. (job_at jobs j).arrival) (counts t) i j0
+        ≡ 1 = rw (a, b, c, e) refl in
+        omega (
+          arith,
+          one,
+          term-le (of_task (λ j. (job_at jobs j).task)
+              (λ j. (job_at jobs j).arrival) (counts t) i) (length jobs) j0 worst.is_job,
+        )
 
     abbrev own_term : ℕ → ℕ
     own_term h = if i == h then (task_at node.tasks h).cost else 0
@@ -149,89 +184,127 @@ module _ (node : Node) (jobs : List Job) (is_node : IsNode node) (legal : AreLeg
     abbrev higher_term : ℕ → ℕ → ℕ
     higher_term t h = if above_of node i h then interference_of (task_at node.tasks h) t else 0
 
-    term-ge : (t h : ℕ) → 0 < t → t ≤ limit → h < length node.tasks → own_term h + higher_term t h ≤ number t h * (task_at node.tasks h).cost
+    term-ge : (t h : ℕ) → 0 < t → t ≤ limit → h < length node.tasks
+        → own_term h + higher_term t h ≤ number t h * (task_at node.tasks h).cost
     term-ge t h some within lt =
         elim (cases_eq i h) [
           | inl e ↦
               let own : eqb i h ≡ true = eq-eqb i h e in
               let same : level_in_order node h ≡ level = ap (λ x. level_in_order node x) (sym e) in
-              let not_above : nat_lt level (level_in_order node h) ≡ false = le-ltb level (level_in_order node h) (omega arith) in
+              let not_above : nat_lt level (level_in_order node h) ≡ false =
+              le-ltb level (level_in_order node h) (omega arith) in
               let one : 1 ≤ number t h = subst (λ x. 1 ≤ number t x) e (own_counts t some) in
-              let product : 1 * (task_at node.tasks h).cost ≤ number t h * (task_at node.tasks h).cost = mul-le-mul_right (task_at node.tasks h).cost one in
+              let product : 1 * (task_at node.tasks h).cost
+              ≤ number t h * (task_at node.tasks h).cost =
+              mul-le-mul_right (task_at node.tasks h).cost one in
               rw (own, not_above) (omega arith)
           | inr ne ↦
               let differ : eqb i h ≡ false = ne_eqb i h ne in
               elim (cases_lt level (level_in_order node h)) [
-                | inr low ↦ (let not_above : nat_lt level (level_in_order node h) ≡ false = le-ltb level (level_in_order node h) low in rw (differ, not_above) (omega arith))
+                | inr low ↦ (let not_above : nat_lt level (level_in_order node h) ≡ false = le-ltb
+                    level (level_in_order node h) low in rw (differ, not_above) (omega arith))
                 | inl up ↦
-                    let above : nat_lt level (level_in_order node h) ≡ true = lt-ltb level (level_in_order node h) up in
-                    let most : releases_within (task_at node.tasks h) t ≤ ready_within jobs h s t = worst.dense h t lt above some within in
-                    let counted : number t h ≡ ready_within jobs h s t = number-is t h (omega arith) in
-                    let most' : releases_within (task_at node.tasks h) t ≤ number t h = omega arith in
-                    let product : releases_within (task_at node.tasks h) t * (task_at node.tasks h).cost ≤ number t h * (task_at node.tasks h).cost = mul-le-mul_right (task_at node.tasks h).cost most' in
+                    let above : nat_lt level (level_in_order node h) ≡ true =
+                    lt-ltb level (level_in_order node h) up in
+                    let most : releases_within (task_at node.tasks h) t ≤ ready_within jobs h s t =
+                    worst.dense h t lt above some within in
+                    let counted : number t h ≡ ready_within jobs h s t =
+                    number-is t h (omega arith) in
+                    let most' : releases_within (task_at node.tasks h) t ≤ number t h =
+                    omega arith in
+                    let product : releases_within (task_at node.tasks h)
+                    t * (task_at node.tasks h).cost ≤ number t h * (task_at node.tasks h).cost =
+                    mul-le-mul_right (task_at node.tasks h).cost most' in
                     rw (differ, above) (omega arith)
               ]
         ]
 
     -- the high jobs cost as much as the analysis counts
-    costs : (t : ℕ) → 0 < t → t ≤ limit → (task_at node.tasks i).cost + interference_within node.tasks (above_of node i) t ≤ total (held_cost t) (length jobs)
+    costs : (t : ℕ) → 0 < t → t ≤ limit → (task_at node.tasks i).cost + interference_within
+        node.tasks (above_of node i) t ≤ total (held_cost t) (length jobs)
     costs t some within =
-        let tasks_first : total (held_cost t) (length jobs) ≡ total (λ h. number t h * (task_at node.tasks h).cost) (length node.tasks) =
-        by_tasks (λ j. (job_at jobs j).task) (λ j. (job_at jobs j).arrival) (counts t) (λ h. (task_at node.tasks h).cost) (length node.tasks) (length jobs) (λ j lt c. legal.known j lt) in
-        let each : total (λ h. own_term h + higher_term t h) (length node.tasks) ≤ total (λ h. number t h * (task_at node.tasks h).cost) (length node.tasks) =
-        total-le (λ h. own_term h + higher_term t h) (λ h. number t h * (task_at node.tasks h).cost) (length node.tasks) (λ h lt. term-ge t h some within lt) in
-        let split : total (λ h. own_term h + higher_term t h) (length node.tasks) ≡ total own_term (length node.tasks) + total (higher_term t) (length node.tasks) =
+        let tasks_first : total (held_cost t) (length jobs)
+        ≡ total (λ h. number t h * (task_at node.tasks h).cost) (length node.tasks) =
+        by_tasks (λ j. (job_at jobs j).task) (λ j. (job_at jobs j).arrival) (counts t)
+        (λ h. (task_at node.tasks h).cost) (length node.tasks) (length jobs)
+        (λ j lt c. legal.known j lt) in
+        let each : total (λ h. own_term h + higher_term t h) (length node.tasks)
+        ≤ total (λ h. number t h * (task_at node.tasks h).cost) (length node.tasks) =
+        total-le (λ h. own_term h + higher_term t h) (λ h. number t h * (task_at node.tasks h).cost)
+        (length node.tasks) (λ h lt. term-ge t h some within lt) in
+        let split : total (λ h. own_term h + higher_term t h) (length node.tasks)
+        ≡ total own_term (length node.tasks) + total (higher_term t) (length node.tasks) =
         total-add own_term (higher_term t) (length node.tasks) in
-        let own : total own_term (length node.tasks) ≡ (task_at node.tasks i).cost = total-single (λ h. (task_at node.tasks h).cost) (length node.tasks) i is in
-        let sum : total (higher_term t) (length node.tasks) ≡ interference_within node.tasks (above_of node i) t = total-sum (higher_term t) (length node.tasks) in
+        let own : total own_term (length node.tasks) ≡ (task_at node.tasks i).cost =
+        total-single (λ h. (task_at node.tasks h).cost) (length node.tasks) i is in
+        let sum : total (higher_term t) (length node.tasks) ≡ interference_within node.tasks
+        (above_of node i) t = total-sum (higher_term t) (length node.tasks) in
         omega arith
 
     -- ---- no other job of the task is in the window
-    alone : (k t : ℕ) → k < length jobs → (job_at jobs k).task ≡ i → k ≢ j0 → s ≤ ready_of k → ready_of k < s + t → t ≤ limit → ⊥
+    alone : (k t : ℕ) → k < length jobs → (job_at jobs k).task ≡ i → k ≢ j0 → s ≤ ready_of k
+        → ready_of k < s + t → t ≤ limit → ⊥
     alone k t lt mine ne from before within =
         let v : IsSoundTask node i = valid.each i is in
-        let room : limit_of (task_at node.tasks i) + lateness_of (task_at node.tasks i) ≤ (task_at node.tasks i).deadline = v.late_within in
-        let in_period : (task_at node.tasks i).deadline ≤ (task_at node.tasks i).period = v.deadline_within in
-        let short : lateness_of (task_at node.tasks i) < (task_at node.tasks i).period = v.late_before in
-        let period_k : (job_task node jobs k).period ≡ (task_at node.tasks i).period = ap (λ x. (task_at node.tasks x).period) mine in
-        let late_k : lateness_of (job_task node jobs k) ≡ lateness_of (task_at node.tasks i) = ap (λ x. lateness_of (task_at node.tasks x)) mine in
-        let latest : s ≡ (job_at jobs j0).arrival + lateness_of (task_at node.tasks i) = worst.latest in
+        let room : limit_of (task_at node.tasks i) + lateness_of (task_at node.tasks i)
+        ≤ (task_at node.tasks i).deadline = v.late_within in
+        let in_period : (task_at node.tasks i).deadline ≤ (task_at node.tasks i).period =
+        v.deadline_within in
+        let short : lateness_of (task_at node.tasks i) < (task_at node.tasks i).period =
+        v.late_before in
+        let period_k : (job_task node jobs k).period ≡ (task_at node.tasks i).period =
+        ap (λ x. (task_at node.tasks x).period) mine in
+        let late_k : lateness_of (job_task node jobs k) ≡ lateness_of (task_at node.tasks i) =
+        ap (λ x. lateness_of (task_at node.tasks x)) mine in
+        let latest : s ≡ (job_at jobs j0).arrival + lateness_of (task_at node.tasks i) =
+        worst.latest in
         elim (cases_lt k j0) [
           | inl less ↦
-              let gap : (job_at jobs k).arrival + (job_task node jobs j0).period ≤ (job_at jobs j0).arrival = legal.spaced k j0 less worst.is_job mine in
-              let by : ready_of k ≤ (job_at jobs k).arrival + lateness_of (job_task node jobs k) = legal.not_late k lt in
+              let gap : (job_at jobs k).arrival + (job_task node jobs j0).period
+              ≤ (job_at jobs j0).arrival = legal.spaced k j0 less worst.is_job mine in
+              let by : ready_of k ≤ (job_at jobs k).arrival + lateness_of (job_task node jobs k) =
+              legal.not_late k lt in
               omega arith
           | inr more ↦
-              let gap : (job_at jobs j0).arrival + (job_task node jobs k).period ≤ (job_at jobs k).arrival = legal.spaced j0 k (omega arith) lt (sym mine) in
+              let gap : (job_at jobs j0).arrival + (job_task node jobs k).period
+              ≤ (job_at jobs k).arrival = legal.spaced j0 k (omega arith) lt (sym mine) in
               let early : (job_at jobs k).arrival ≤ ready_of k = legal.not_early k lt in
               omega arith
         ]
 
     -- so each job of the level or above that becomes ready in the window executes its cost
-    full : (t j : ℕ) → j < length jobs → t ≤ limit → level ≤ level_of_job node jobs j → s ≤ ready_of j → ready_of j < s + t → executes_of j ≡ cost_of j
+    full : (t j : ℕ) → j < length jobs → t ≤ limit → level ≤ level_of_job node jobs j
+        → s ≤ ready_of j → ready_of j < s + t → executes_of j ≡ cost_of j
     full t j lt within up from before =
         elim (cases_eq j j0) [
-          | inl same ↦ (let w : IsWhole (job_task node jobs j0) (job_at jobs j0) = worst.whole in subst (λ x. executes_of x ≡ cost_of x) (sym same) w.executes)
+          | inl same ↦ (let w : IsWhole (job_task node jobs j0) (job_at jobs j0) = worst.whole in
+              subst (λ x. executes_of x ≡ cost_of x) (sym same) w.executes)
           | inr other ↦ elim (cases_eq (job_at jobs j).task i) [
             | inl mine ↦ absurd (alone j t lt mine other from before within)
             | inr differ ↦
-                let above : above_of node i (job_at jobs j).task ≡ true = lt-ltb level (level_of_job node jobs j) (elim (cases_eq (level_of_job node jobs j) level) [
-                  | inl tied ↦ absurd (differ (valid.levels_differ (job_at jobs j).task i (legal.known j lt) is tied))
+                let above : above_of node i (job_at jobs j).task ≡ true = lt-ltb level
+                (level_of_job node jobs j) (elim (cases_eq (level_of_job node jobs j) level) [
+                  | inl tied ↦ absurd (differ
+                      (valid.levels_differ (job_at jobs j).task i (legal.known j lt) is tied))
                   | inr ne ↦ omega arith
                 ]) in
                 worst.costs j lt above from
           ]
         ]
 
-    high-todo : (t j : ℕ) → j < length jobs → t ≤ limit → nat_le level (level_of_job node jobs j) ≡ true → todo t s j ≡ held_cost t j
+    high-todo : (t j : ℕ) → j < length jobs → t ≤ limit
+        → nat_le level (level_of_job node jobs j) ≡ true → todo t s j ≡ held_cost t j
     high-todo t j lt within up =
         elim (cases_Bool (nat_le s (ready_of j) && nat_lt (ready_of j) (s + t))) [
           | inr outside ↦ rw (up, outside) refl
           | inl in_window ↦
-              let p : (nat_le s (ready_of j) ≡ true) × (nat_lt (ready_of j) (s + t) ≡ true) = and_parts (nat_le s (ready_of j)) (nat_lt (ready_of j) (s + t)) in_window in
+              let p : (nat_le s (ready_of j) ≡ true) × (nat_lt (ready_of j) (s + t) ≡ true) =
+              and_parts (nat_le s (ready_of j)) (nat_lt (ready_of j) (s + t)) in_window in
               let from : s ≤ ready_of j = leb-true s (ready_of j) p.0 in
               let none : done s j ≡ 0 = none_done j s from in
-              let all : executes_of j ≡ cost_of j = full t j lt within (leb-true level (level_of_job node jobs j) up) from (ltb-true (ready_of j) (s + t) p.1) in
+              let all : executes_of j ≡ cost_of j =
+              full t j lt within (leb-true level (level_of_job node jobs j) up) from
+              (ltb-true (ready_of j) (s + t) p.1) in
               rw (up, in_window, none) (omega arith)
         ]
 
@@ -241,111 +314,172 @@ module _ (node : Node) (jobs : List Job) (is_node : IsNode node) (legal : AreLeg
     -- what is to do at the instant
     start : (t : ℕ) → 0 < t → t ≤ limit → work_of node i left t ≤ total (todo t s) (length jobs)
     start t some within =
-        let c : (task_at node.tasks i).cost + interference_within node.tasks (above_of node i) t ≤ total (held_cost t) (length jobs) = costs t some within in
+        let c : (task_at node.tasks i).cost + interference_within node.tasks (above_of node i) t
+        ≤ total (held_cost t) (length jobs) = costs t some within in
         elim worst.held_up [
           | inl none ↦
               let le : total (held_cost t) (length jobs) ≤ total (todo t s) (length jobs) =
-              total-le (held_cost t) (todo t s) (length jobs) (λ j lt. elim (cases_Bool (nat_le level (level_of_job node jobs j))) [
+              total-le (held_cost t) (todo t s) (length jobs)
+              (λ j lt. elim (cases_Bool (nat_le level (level_of_job node jobs j))) [
                 | inl up ↦ omega (arith, high-todo t j lt within up)
                 | inr low ↦ omega (arith, low-cost t j low)
               ]) in
               omega arith
           | inr held_up ↦
               let k : ℕ = held_up.job in
-              let low_k : nat_le level (level_of_job node jobs k) ≡ false = lt-leb level (level_of_job node jobs k) held_up.lower in
-              let b : (held_up.section.at < done s k) × (done s k < held_up.section.at + held_up.section.len) = inside_true held_up.section (done s k) held_up.inside in
-              let to_go : held_up.section.at + held_up.section.len ≡ done s k + left = held_up.to_go in
-              let holds : (d : ℕ) → d < left → level ≤ held_ceiling node (job_at jobs k).sections (done s k + d) = λ d less.
-              let in_ : is_inside held_up.section (done s k + d) ≡ true = inside_from held_up.section (done s k + d) (omega (arith, b.0)) (omega (arith, less)) in
+              let low_k : nat_le level (level_of_job node jobs k) ≡ false =
+              lt-leb level (level_of_job node jobs k) held_up.lower in
+              let b : (held_up.section.at < done s k)
+              × (done s k < held_up.section.at + held_up.section.len) =
+              inside_true held_up.section (done s k) held_up.inside in
+              let to_go : held_up.section.at + held_up.section.len ≡ done s k + left =
+              held_up.to_go in
+              let holds : (d : ℕ) → d < left
+              → level ≤ held_ceiling node (job_at jobs k).sections (done s k + d) = λ d less.
+              let in_ : is_inside held_up.section (done s k + d) ≡ true = inside_from
+              held_up.section (done s k + d) (omega (arith, b.0)) (omega (arith, less)) in
               let c : Contains (job_at jobs k).sections held_up.section = held_up.of_job in
-              let top : top_ceiling node held_up.section.locks ≤ held_ceiling node (job_at jobs k).sections (done s k + d) = held-place node (job_at jobs k).sections held_up.section (done s k + d) c.0 c.1 c.2 in_ in
+              let top : top_ceiling node held_up.section.locks
+              ≤ held_ceiling node (job_at jobs k).sections (done s k + d) = held-place node
+              (job_at jobs k).sections held_up.section (done s k + d) c.0 c.1 c.2 in_ in
               omega (arith, top, held_up.reaches) in
               let ends_in : done s k + left ≤ executes_of k =
-              (let last : done s k + (left - 1) < executes_of k = before_end node jobs level level_some spanned k (done s k + (left - 1)) (holds (left - 1) (omega (arith, b.1))) in omega (arith, b.1)) in
-              let r : left ≤ stretch node level (job_at jobs k).sections (executes_of k - done s k) (done s k) =
-              stretch-ge node level (job_at jobs k).sections left (executes_of k - done s k) (done s k) (omega arith) holds in
-              let le : total (λ j. held_cost t j + held k j) (length jobs) ≤ total (todo t s) (length jobs) =
-              total-le (λ j. held_cost t j + held k j) (todo t s) (length jobs) (λ j lt. elim (cases_eq k j) [
+              (let last : done s k + (left - 1) < executes_of k =
+              before_end node jobs level level_some spanned k (done s k + (left - 1))
+              (holds (left - 1) (omega (arith, b.1))) in omega (arith, b.1)) in
+              let r : left ≤ stretch node level (job_at jobs k).sections (executes_of k - done s k)
+              (done s k) =
+              stretch-ge node level (job_at jobs k).sections left (executes_of k - done s k)
+              (done s k) (omega arith) holds in
+              let le : total (λ j. held_cost t j + held k j) (length jobs)
+              ≤ total (todo t s) (length jobs) =
+              total-le (λ j. held_cost t j + held k j) (todo t s) (length jobs)
+              (λ j lt. elim (cases_eq k j) [
                 | inl e ↦
                     let same : eqb k j ≡ true = eq-eqb k j e in
-                    let low : nat_le level (level_of_job node jobs j) ≡ false = subst (λ x. nat_le level (level_of_job node jobs x) ≡ false) e low_k in
-                    let r' : left ≤ stretch node level (job_at jobs j).sections (executes_of j - done s j) (done s j) = subst (λ x. left ≤ stretch node level (job_at jobs x).sections (executes_of x - done s x) (done s x)) e r in
+                    let low : nat_le level (level_of_job node jobs j) ≡ false =
+                    subst (λ x. nat_le level (level_of_job node jobs x) ≡ false) e low_k in
+                    let r' : left ≤ stretch node level (job_at jobs j).sections
+                    (executes_of j - done s j) (done s j) = subst (λ x. left ≤ stretch node
+                    level (job_at jobs x).sections (executes_of x - done s x) (done s x)) e r in
                     rw (low, same) (omega arith)
                 | inr ne ↦
                     let differ : eqb k j ≡ false = ne_eqb k j ne in
                     elim (cases_Bool (nat_le level (level_of_job node jobs j))) [
-                      | inl up ↦ (let h : todo t s j ≡ held_cost t j = high-todo t j lt within up in rw differ (omega arith))
+                      | inl up ↦ (let h : todo t s j ≡ held_cost t j = high-todo t j lt within up in
+                          rw differ (omega arith))
                       | inr low ↦ rw (low, differ) (omega arith)
                     ]
               ]) in
-              let split : total (λ j. held_cost t j + held k j) (length jobs) ≡ total (held_cost t) (length jobs) + total (held k) (length jobs) =
+              let split : total (λ j. held_cost t j + held k j) (length jobs)
+              ≡ total (held_cost t) (length jobs) + total (held k) (length jobs) =
               total-add (held_cost t) (held k) (length jobs) in
-              let single : total (held k) (length jobs) ≡ left = total-single (λ j. left) (length jobs) k held_up.is_job in
+              let single : total (held k) (length jobs) ≡ left =
+              total-single (λ j. left) (length jobs) k held_up.is_job in
               omega arith
         ]
 
     -- ---- the tick in which it would finish
     -- another job that is pending with a priority of the level or above keeps it from its last tick, unless it is of the same task
-    no_last : (u k : ℕ) → picked node jobs u ≡ Some j0 → suc (done u j0) ≡ executes_of j0 → k < length jobs → ready_of k ≤ u → done u k < executes_of k
-        → level ≤ active_of node jobs (executed_before node jobs u) k → (level_of_job node jobs k ≢ level) → ⊥
+    no_last : (u k : ℕ) → picked node jobs u ≡ Some j0 → suc (done u j0) ≡ executes_of j0
+        → k < length jobs → ready_of k ≤ u → done u k < executes_of k
+        → level ≤ active_of node jobs (executed_before node jobs u) k
+        → (level_of_job node jobs k ≢ level) → ⊥
     no_last u k mine last lt r c hot ne =
         let p : IsPicked node jobs u j0 = picked_is_first node jobs u j0 mine in
         let w : IsWhole (job_task node jobs j0) (job_at jobs j0) = worst.whole in
         let at_end : done u j0 ≡ cost_of j0 - 1 = omega (arith, w.executes) in
-        let own : active_of node jobs (executed_before node jobs u) j0 ≡ level = ap (λ (ss : List CriticalSection). max level (held_ceiling node ss (done u j0))) w.sections ∙ (ap (λ e. active_at node i e) at_end ∙ ends) in
+        let own : active_of node jobs (executed_before node jobs u) j0 ≡ level =
+        ap (λ (ss : List CriticalSection). max level (held_ceiling node ss (done u j0)))
+        w.sections ∙ (ap (λ e. active_at node i e) at_end ∙ ends) in
         elim (p.first k lt (pending_from node jobs u k r c)) [
           | inl less ↦ omega arith
           | inr tied ↦ elim (cases_lt (level_of_job node jobs k) level) [
             | inl low ↦ omega (arith, tied.1)
             | inr up ↦
-                let self : level_of_job node jobs k ≤ active_of node jobs (executed_before node jobs u) k = omega arith in
+                let self : level_of_job node jobs k
+                ≤ active_of node jobs (executed_before node jobs u) k = omega arith in
                 ne (omega (arith, tied.0))
           ]
         ]
 
-    no_finish : (m : ℕ) → suc m ≤ limit → NoneCovers node i left (suc m) → picked node jobs (s + m) ≡ Some j0 → suc (done (s + m) j0) ≡ executes_of j0 → done (suc (s + m)) j0 ≡ executes_of j0 → ⊥
+    no_finish : (m : ℕ) → suc m ≤ limit → NoneCovers node i left (suc m)
+        → picked node jobs (s + m) ≡ Some j0 → suc (done (s + m) j0) ≡ executes_of j0
+        → done (suc (s + m)) j0 ≡ executes_of j0 → ⊥
     no_finish m within none mine last fin =
         let t : ℕ = suc m in
         let more : t < work_of node i left t = none t (omega arith) (omega arith) in
-        let begin : work_of node i left t ≤ total (todo t s) (length jobs) = start t (omega arith) within in
+        let begin : work_of node i left t ≤ total (todo t s) (length jobs) =
+        start t (omega arith) within in
         let fall : total (todo t s) (length jobs) ≤ t + total (todo t (s + t)) (length jobs) =
-        ticks (length jobs) ready_of executes_of (is_high node jobs level level_some spanned) (rest_at node jobs level level_some spanned) (executed_before node jobs) (picked node jobs) (machine node jobs level level_some spanned) s (s + t) s t in
-        let found : (k : ℕ) × (k < length jobs) × (0 < todo t (s + t) k) = total-some (todo t (s + t)) (length jobs) (omega arith) in
+        ticks (length jobs) ready_of executes_of (is_high node jobs level level_some spanned)
+        (rest_at node jobs level level_some spanned) (executed_before node jobs)
+        (picked node jobs) (machine node jobs level level_some spanned) s (s + t) s t in
+        let found : (k : ℕ) × (k < length jobs) × (0 < todo t (s + t) k) =
+        total-some (todo t (s + t)) (length jobs) (omega arith) in
         let k : ℕ = found.0 in
         let at_end : s + t ≡ suc (s + m) = omega arith in
         elim (cases_Bool (nat_le level (level_of_job node jobs k))) [
           | inl up ↦
-              let up' : level ≤ level_of_job node jobs k = leb-true level (level_of_job node jobs k) up in
+              let up' : level ≤ level_of_job node jobs k =
+              leb-true level (level_of_job node jobs k) up in
               elim (cases_Bool (nat_le s (ready_of k) && nat_lt (ready_of k) (s + t))) [
-                | inr outside ↦ (let nothing : todo t (s + t) k ≡ 0 = rw (up, outside) refl in omega (arith, found.2, nothing))
+                | inr outside ↦ (let nothing : todo t (s + t) k ≡ 0 = rw (up, outside) refl in
+                    omega (arith, found.2, nothing))
                 | inl in_window ↦
-                    let p : (nat_le s (ready_of k) ≡ true) × (nat_lt (ready_of k) (s + t) ≡ true) = and_parts (nat_le s (ready_of k)) (nat_lt (ready_of k) (s + t)) in_window in
+                    let p : (nat_le s (ready_of k) ≡ true) × (nat_lt (ready_of k) (s + t) ≡ true) =
+                    and_parts (nat_le s (ready_of k)) (nat_lt (ready_of k) (s + t)) in_window in
                     let lo : s ≤ ready_of k = leb-true s (ready_of k) p.0 in
                     let hi : ready_of k < s + t = ltb-true (ready_of k) (s + t) p.1 in
-                    let lacks : todo t (s + t) k ≡ executes_of k - done (s + t) k = rw (up, in_window) refl in
-                    let open_ : done (suc (s + m)) k < executes_of k = subst (λ x. done x k < executes_of k) at_end (omega (arith, found.2, lacks)) in
+                    let lacks : todo t (s + t) k ≡ executes_of k - done (s + t) k =
+                    rw (up, in_window) refl in
+                    let open_ : done (suc (s + m)) k < executes_of k = subst (λ x. done x k
+                    < executes_of k) at_end (omega (arith, found.2, lacks)) in
                     let grown : done (s + m) k ≤ done (suc (s + m)) k =
-                    done_grows (length jobs) ready_of executes_of (is_high node jobs level level_some spanned) (rest_at node jobs level level_some spanned) (executed_before node jobs) (picked node jobs) (machine node jobs level level_some spanned) (s + m) k in
-                    let other : k ≢ j0 = λ e. (let c : done (suc (s + m)) k ≡ done (suc (s + m)) j0 = ap (λ x. done (suc (s + m)) x) e in let d : executes_of k ≡ executes_of j0 = ap (λ x. executes_of x) e in absurd (omega arith)) in
+                    done_grows (length jobs) ready_of executes_of
+                    (is_high node jobs level level_some spanned)
+                    (rest_at node jobs level level_some spanned) (executed_before node jobs)
+                    (picked node jobs) (machine node jobs level level_some spanned) (s + m) k in
+                    let other : k ≢ j0 =
+                    λ e. (let c : done (suc (s + m)) k ≡ done (suc (s + m)) j0 =
+                    ap (λ x. done (suc (s + m)) x) e in let d : executes_of k ≡ executes_of j0 =
+                    ap (λ x. executes_of x) e in absurd (omega arith)) in
                     no_last (s + m) k mine last found.1 (omega arith) (omega arith) (omega arith)
-                    (λ same. alone k t found.1 (valid.levels_differ (job_at jobs k).task i (legal.known k found.1) is same) other lo hi within)
+                    (λ same. alone k t found.1 (valid.levels_differ (job_at jobs k).task i
+                    (legal.known k found.1) is same) other lo hi within)
               ]
           | inr low ↦
-              let low' : level_of_job node jobs k < level = elim (cases_lt (level_of_job node jobs k) level) [ inl l ↦ l | inr ge ↦ absurd (true≢false (sym (le-leb level (level_of_job node jobs k) ge) ∙ low)) ] in
-              let other : k ≢ j0 = λ e. (let c : level_of_job node jobs k ≡ level_of_job node jobs j0 = ap (λ x. level_of_job node jobs x) e in absurd (omega arith)) in
-              let inside : 0 < stretch node level (job_at jobs k).sections (executes_of k - done (s + t) k) (done (s + t) k) = rw low at found.2 in
-              let same : done (s + t) k ≡ done (s + m) k = ap (λ x. done x k) at_end ∙ other_of node jobs (s + m) j0 k mine other in
-              let inside' : 0 < stretch node level (job_at jobs k).sections (executes_of k - done (s + m) k) (done (s + m) k) = subst (λ x. 0 < stretch node level (job_at jobs k).sections (executes_of k - x) x) same inside in
+              let low' : level_of_job node jobs k < level =
+              elim (cases_lt (level_of_job node jobs k) level) [
+                | inl l ↦ l
+                | inr ge ↦
+                    absurd (true≢false (sym (le-leb level (level_of_job node jobs k) ge) ∙ low))
+              ] in
+              let other : k ≢ j0 = λ e. (let c : level_of_job node jobs k ≡ level_of_job node jobs
+              j0 = ap (λ x. level_of_job node jobs x) e in absurd (omega arith)) in
+              let inside : 0 < stretch node level (job_at jobs k).sections
+              (executes_of k - done (s + t) k) (done (s + t) k) = rw low at found.2 in
+              let same : done (s + t) k ≡ done (s + m) k = ap (λ x. done x k) at_end
+              ∙ other_of node jobs (s + m) j0 k mine other in
+              let inside' : 0 < stretch node level (job_at jobs k).sections
+              (executes_of k - done (s + m) k) (done (s + m) k) =
+              subst (λ x. 0 < stretch node level (job_at jobs k).sections (executes_of k - x) x)
+              same inside in
               let inside'' : 0 < rest k (done (s + m) k) = rw low inside' in
-              let held : level ≤ held_ceiling node (job_at jobs k).sections (done (s + m) k) = stretch_held node level (job_at jobs k).sections (executes_of k - done (s + m) k) (done (s + m) k) inside' in
+              let held : level ≤ held_ceiling node (job_at jobs k).sections (done (s + m) k) =
+              stretch_held node level (job_at jobs k).sections (executes_of k - done (s + m) k)
+              (done (s + m) k) inside' in
               let m' = machine node jobs level level_some spanned in
-              let lacks : done (s + m) k < executes_of k = m'.rest_inside k (done (s + m) k) inside'' in
+              let lacks : done (s + m) k < executes_of k =
+              m'.rest_inside k (done (s + m) k) inside'' in
               let some : 0 < done (s + m) k = elim (cases_eq (done (s + m) k) 0) [
-                | inl z ↦ (let first : rest k 0 ≡ 0 = m'.rest_first k in let same0 : rest k (done (s + m) k) ≡ rest k 0 = ap (λ e. rest k e) z in absurd (omega arith))
+                | inl z ↦ (let first : rest k 0 ≡ 0 = m'.rest_first k in let same0 : rest k
+                    (done (s + m) k) ≡ rest k 0 = ap (λ e. rest k e) z in absurd (omega arith))
                 | inr nz ↦ omega arith
               ] in
               let early : ready_of k < s + m = began_strictly node jobs (s + m) k some in
-              no_last (s + m) k mine last found.1 (omega arith) lacks (omega arith) (λ e. absurd (omega arith))
+              no_last (s + m) k mine last found.1 (omega arith) lacks (omega arith)
+              (λ e. absurd (omega arith))
         ]
 
     pub not_done : (t : ℕ) → t ≤ limit → NoneCovers node i left t → done (s + t) j0 < executes_of j0
@@ -356,28 +490,43 @@ module _ (node : Node) (jobs : List Job) (is_node : IsNode node) (legal : AreLeg
         let z : done (s + 0) j0 ≡ 0 = none_done j0 (s + 0) (omega arith) in
         omega (arith, w.executes)
     not_done (suc m) within none =
-        let ih : done (s + m) j0 < executes_of j0 = not_done m (omega arith) (λ u some le. none u some (omega arith)) in
+        let ih : done (s + m) j0 < executes_of j0 =
+        not_done m (omega arith) (λ u some le. none u some (omega arith)) in
         let at_end : s + suc m ≡ suc (s + m) = omega arith in
         let to_show : done (suc (s + m)) j0 < executes_of j0 =
-        elim (tick_cases (length jobs) ready_of executes_of (is_high node jobs level level_some spanned) (rest_at node jobs level level_some spanned) (executed_before node jobs) (picked node jobs) (machine node jobs level level_some spanned) (s + m) j0) [
+        elim (tick_cases (length jobs) ready_of executes_of (is_high node jobs level level_some
+        spanned) (rest_at node jobs level level_some spanned) (executed_before node jobs)
+        (picked node jobs) (machine node jobs level level_some spanned) (s + m) j0) [
           | inl e ↦ omega arith
           | inr mine ↦ elim (cases_lt (done (suc (s + m)) j0) (executes_of j0)) [
             | inl open_ ↦ open_
-            | inr fin ↦ absurd (no_finish m within none mine.0 (omega (arith, mine.1)) (omega (arith, mine.1)))
+            | inr fin ↦ absurd (no_finish m within none mine.0 (omega (arith, mine.1))
+                (omega (arith, mine.1)))
           ]
         ] in
         subst (λ x. done x j0 < executes_of j0) (sym at_end) to_show
 
-    pub by_deadline : NoneCovers node i left limit → done ((job_at jobs j0).arrival + (task_at node.tasks i).deadline) j0 < executes_of j0
+    pub by_deadline : NoneCovers node i left limit
+        → done ((job_at jobs j0).arrival + (task_at node.tasks i).deadline) j0 < executes_of j0
     by_deadline none =
         let open_ : done (s + limit) j0 < executes_of j0 = not_done limit (omega arith) none in
-        let latest : s ≡ (job_at jobs j0).arrival + lateness_of (task_at node.tasks i) = worst.latest in
-        let later : done ((job_at jobs j0).arrival + (task_at node.tasks i).deadline) j0 ≤ done (s + limit) j0 =
-        done_later (length jobs) ready_of executes_of (is_high node jobs level level_some spanned) (rest_at node jobs level level_some spanned) (executed_before node jobs) (picked node jobs) (machine node jobs level level_some spanned) ((job_at jobs j0).arrival + (task_at node.tasks i).deadline) (s + limit) j0 (omega arith) in
+        let latest : s ≡ (job_at jobs j0).arrival + lateness_of (task_at node.tasks i) =
+        worst.latest in
+        let later : done ((job_at jobs j0).arrival + (task_at node.tasks i).deadline) j0
+        ≤ done (s + limit) j0 =
+        done_later (length jobs) ready_of executes_of (is_high node jobs level level_some spanned)
+        (rest_at node jobs level level_some spanned) (executed_before node jobs)
+        (picked node jobs) (machine node jobs level level_some spanned)
+        ((job_at jobs j0).arrival + (task_at node.tasks i).deadline) (s + limit) j0
+        (omega arith) in
         omega arith
 
-pub comes_law : (node : Node) (jobs : List Job) → IsNode node → AreLegalJobs node jobs → WorstComes node jobs
-comes_law node jobs is_node legal j left t worst ends within none = not_done node jobs is_node legal j left worst ends t within none
+pub comes_law : (node : Node) (jobs : List Job) → IsNode node → AreLegalJobs node jobs
+    → WorstComes node jobs
+comes_law node jobs is_node legal j left t worst ends within none =
+    not_done node jobs is_node legal j left worst ends t within none
 
-pub misses_law : (node : Node) (jobs : List Job) → IsNode node → AreLegalJobs node jobs → WorstMisses node jobs
-misses_law node jobs is_node legal j left worst ends none = by_deadline node jobs is_node legal j left worst ends none
+pub misses_law : (node : Node) (jobs : List Job) → IsNode node → AreLegalJobs node jobs
+    → WorstMisses node jobs
+misses_law node jobs is_node legal j left worst ends none =
+    by_deadline node jobs is_node legal j left worst ends none

@@ -10,7 +10,7 @@ use Rattle.ceiling_kernel.specs.Waits.{NoOverrun, lateness_of}
 use Rattle.ceiling_kernel.specs.Bounds.{above_of, after_of}
 use Rattle.ceiling_kernel.specs.Releases.{task_number, jobs_of, release_at, refusal_of}
 use Rattle.task_sheet.specs.Orders.{IsOrder}
-use Rattle.explain.specs.Parts.{BlockerData, IsBlockerOf}
+use Rattle.explain.specs.Blocking.{BlockerData, IsBlockerOf}
 use Rattle.explain.specs.Conflict.{IsLeastConflict}
 use Rattle.release_list.specs.declared.stream.Stream.{Stream}
 use Rattle.release_list.specs.Streams.{list_of}

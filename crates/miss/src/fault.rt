@@ -11,7 +11,7 @@ pub enum MissFault {
     WrongOrder,
     /// Some task's worst case has more than 10,000 releases, and no task above it misses its deadline.
     TooMany,
-    /// Want of memory.
+    /// Out of memory.
     OutOfMemory,
 }
 

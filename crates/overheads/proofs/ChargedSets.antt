@@ -18,25 +18,30 @@ count-charged U [] = refl
 count-charged [] (x ∷ xs) = refl
 count-charged (t ∷ ts) (x ∷ xs) = refl
 
-ranked-charged : (U : List Task) (xs : List Interrupt) → IsStrictlySortedBy rank_cmp U → IsStrictlySortedBy rank_cmp (charged xs U)
+ranked-charged : (U : List Task) (xs : List Interrupt) → IsStrictlySortedBy rank_cmp U
+    → IsStrictlySortedBy rank_cmp (charged xs U)
 unfolding IsStrictlySortedBy
 ranked-charged U [] h = h
 ranked-charged [] (x ∷ xs) h = h
 ranked-charged (t ∷ ts) (x ∷ xs) h = h
 
-distinct-charged : (U : List Task) (xs : List Interrupt) → AreDistinct same_name U → AreDistinct same_name (charged xs U)
+distinct-charged : (U : List Task) (xs : List Interrupt) → AreDistinct same_name U
+    → AreDistinct same_name (charged xs U)
 distinct-charged U [] h = h
 distinct-charged [] (x ∷ xs) h = h
 distinct-charged (t ∷ ts) (x ∷ xs) h = h
 
-valid-charged : (U : List Task) (xs : List Interrupt) → AreInterrupts xs → All IsValidSheet U → All IsValidSheet (charged xs U)
+valid-charged : (U : List Task) (xs : List Interrupt) → AreInterrupts xs → All IsValidSheet U
+    → All IsValidSheet (charged xs U)
 valid-charged U [] limits valid = valid
 valid-charged [] (x ∷ xs) limits valid = valid
 valid-charged (t ∷ ts) (x ∷ xs) limits valid =
     let each = recursion_from_All IsValidSheet (t ∷ ts) valid in
-    All-from_recursion IsValidSheet (charged (x ∷ xs) (t ∷ ts)) (valid-other t t.node (x ∷ xs) each.0 each.0.overheads limits, each.1)
+    All-from_recursion IsValidSheet (charged (x ∷ xs) (t ∷ ts))
+    (valid-other t t.node (x ∷ xs) each.0 each.0.overheads limits, each.1)
 
-pub set-charged : (U : List Task) (xs : List Interrupt) → IsTaskSet U → AreInterrupts xs → IsTaskSet (charged xs U)
+pub set-charged : (U : List Task) (xs : List Interrupt) → IsTaskSet U → AreInterrupts xs
+    → IsTaskSet (charged xs U)
 set-charged U xs set limits = record {
   valid = valid-charged U xs limits set.valid;
   ranked = ranked-charged U xs set.ranked;
@@ -44,18 +49,26 @@ set-charged U xs set limits = record {
   few = omega (arith, set.few, count-charged U xs);
 }
 
-pub IsByRank-charged : (U V : List Task) (xs : List Interrupt) → IsTaskSet U → IsByRank (charged xs U) V → V ≡ charged xs U
+pub IsByRank-charged : (U V : List Task) (xs : List Interrupt) → IsTaskSet U
+    → IsByRank (charged xs U) V → V ≡ charged xs U
 IsByRank-charged U V xs set by_rank =
     let sheets = charged xs U in
-    let own : IsByRank sheets sheets = record { permutation = IsPermutation-refl sheets; ranked = ranked-charged U xs set.ranked } in
+    let own : IsByRank sheets sheets = record {
+      permutation = IsPermutation-refl sheets;
+      ranked =
+          ranked-charged U xs set.ranked;
+    } in
     by_rank_one sheets sheets V sheets (IsPermutation-refl sheets) by_rank own
 
 -- the sheets are no fault
-pub no_fault-charged : (U : List Task) (xs : List Interrupt) → IsTaskSet U → sheets_fault (charged xs U) ≡ None
-no_fault-charged U xs set = no_fault (charged xs U) (distinct-charged U xs set.distinct) (omega (arith, set.few, count-charged U xs))
+pub no_fault-charged : (U : List Task) (xs : List Interrupt) → IsTaskSet U
+    → sheets_fault (charged xs U) ≡ None
+no_fault-charged U xs set = no_fault (charged xs U) (distinct-charged U xs set.distinct)
+    (omega (arith, set.few, count-charged U xs))
 
 -- the first task, taken out and put back with them
-pub charged-first : (U V : List Task) (xs ys : List Interrupt) (t y : Task) → 0 < length xs → 0 < length U → ys ≡ xs → t ≡ get_or U 0 t → y ≡ interrupted t ys → V ≡ insert (remove U 0) 0 y
+pub charged-first : (U V : List Task) (xs ys : List Interrupt) (t y : Task) → 0 < length xs
+    → 0 < length U → ys ≡ xs → t ≡ get_or U 0 t → y ≡ interrupted t ys → V ≡ insert (remove U 0) 0 y
     → V ≡ charged xs U
 charged-first U V [] ys t y some any same is holds put = absurd (omega (arith, some))
 charged-first [] V (x ∷ xs) ys t y some any same is holds put = absurd (omega (arith, any))

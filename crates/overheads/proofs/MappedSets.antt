@@ -1,5 +1,6 @@
 -- A set with another task in the place of each, of the same name and weight, is a set by the same ranks.
-use Rattle.std.proofs.Common.{◌≡◌, ℕ, ◌+◌, ◌<◌, ◌≤◌, false, None, List, [], ◌∷◌, ◌++◌, length, get_or, take, Less, sym, ◌∙◌, arith, map}
+use Rattle.std.proofs.Common.{◌≡◌, ℕ, ◌+◌, ◌<◌, ◌≤◌, false, None, List, [], ◌∷◌, ◌++◌, length}
+use Rattle.std.proofs.Common.{get_or, take, Less, sym, ◌∙◌, arith, map}
 use Rattle.std.proofs.Math.ListN.{get_or-eq_default}
 use Rattle.std.specs.List.{AllByRecursion, All}
 use Rattle.std.specs.List.Sorted.{IsStrictlySortedBy}
@@ -28,38 +29,52 @@ module _ (g : Task → Task) where
   mapped-past U k past = get_or-eq_default (map g U) no_task (omega (arith, count-mapped U))
 
   -- one sheet more
-  pub mapped-more : (U xs ys : List Task) (i : ℕ) (x y : Task) → i < length U → x ≡ get_or U i x → y ≡ g x → xs ≡ map g (take i U) → ys ≡ xs ++ y ∷ []
+  pub mapped-more : (U xs ys : List Task) (i : ℕ) (x y : Task) → i < length U → x ≡ get_or U i x
+      → y ≡ g x → xs ≡ map g (take i U) → ys ≡ xs ++ y ∷ []
       → ys ≡ map g (take (i + 1) U)
   mapped-more U xs ys i x y lt is maps before pushed =
       pushed ∙ rw (before, maps, is) (sym (map_more g U i x lt))
 
-  all-mapped : (P Q : Task → Type 0) → ((y : Task) → P y → Q (g y)) → (U : List Task) → AllByRecursion P U → AllByRecursion Q (map g U)
+  all-mapped : (P Q : Task → Type 0) → ((y : Task) → P y → Q (g y)) → (U : List Task)
+      → AllByRecursion P U → AllByRecursion Q (map g U)
   all-mapped P Q kept [] h = tt
   all-mapped P Q kept (y ∷ ys) h = (kept y h.0, all-mapped P Q kept ys h.1)
 
   module _ (keeps : KeepsRanks g) where
-    ranked-mapped : (U : List Task) → IsStrictlySortedBy rank_cmp U → IsStrictlySortedBy rank_cmp (map g U)
+    ranked-mapped : (U : List Task) → IsStrictlySortedBy rank_cmp U
+        → IsStrictlySortedBy rank_cmp (map g U)
     unfolding IsStrictlySortedBy
     ranked-mapped [] h = tt
-    ranked-mapped (y ∷ ys) h =
-        (all-mapped (λ z. rank_cmp y z ≡ Less) (λ z. rank_cmp (g y) z ≡ Less) (λ z before. keeps.ranks y z ∙ before) ys h.0, ranked-mapped ys h.1)
+    ranked-mapped (y ∷ ys) h = (
+      all-mapped (λ z. rank_cmp y z ≡ Less) (λ z. rank_cmp (g y) z ≡ Less)
+          (λ z before. keeps.ranks y z ∙ before) ys h.0,
+      ranked-mapped ys h.1,
+    )
 
     pub IsByRank-mapped : (U V : List Task) → IsTaskSet U → IsByRank (map g U) V → V ≡ map g U
     IsByRank-mapped U V set by_rank =
         let sheets = map g U in
-        let own : IsByRank sheets sheets = record { permutation = IsPermutation-refl sheets; ranked = ranked-mapped U set.ranked } in
+        let own : IsByRank sheets sheets = record {
+          permutation = IsPermutation-refl sheets;
+          ranked = ranked-mapped U set.ranked;
+        } in
         by_rank_one sheets sheets V sheets (IsPermutation-refl sheets) by_rank own
 
     distinct-mapped : (U : List Task) → AreDistinct same_name U → AreDistinct same_name (map g U)
     distinct-mapped [] h = tt
-    distinct-mapped (y ∷ ys) h =
-        (all-mapped (λ z. same_name y z ≡ false) (λ z. same_name (g y) z ≡ false) (λ z apart. keeps.names y z ∙ apart) ys h.0, distinct-mapped ys h.1)
+    distinct-mapped (y ∷ ys) h = (
+      all-mapped (λ z. same_name y z ≡ false) (λ z. same_name (g y) z ≡ false)
+          (λ z apart. keeps.names y z ∙ apart) ys h.0,
+      distinct-mapped ys h.1,
+    )
 
     -- the sheets are no fault
     pub no_fault-mapped : (U : List Task) → IsTaskSet U → sheets_fault (map g U) ≡ None
-    no_fault-mapped U set = no_fault (map g U) (distinct-mapped U set.distinct) (omega (arith, set.few, count-mapped U))
+    no_fault-mapped U set =
+        no_fault (map g U) (distinct-mapped U set.distinct) (omega (arith, set.few, count-mapped U))
 
-    pub set-mapped : (U : List Task) → IsTaskSet U → All IsValidSheet (map g U) → IsTaskSet (map g U)
+    pub set-mapped : (U : List Task) → IsTaskSet U → All IsValidSheet (map g U)
+        → IsTaskSet (map g U)
     set-mapped U set valid = record {
       valid = valid;
       ranked = ranked-mapped U set.ranked;

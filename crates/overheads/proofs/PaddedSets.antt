@@ -1,5 +1,6 @@
 -- A set with what the node takes has the same ranks, and is a set where there is room for it.
-use Rattle.std.proofs.Common.{◌≡◌, ℕ, ◌+◌, ◌<◌, ◌≤◌, Option, Some, None, IfSome, List, [], ◌∷◌, ◌++◌, length, get_or, take, drop, refl, sym, ◌∙◌, ap, arith, map}
+use Rattle.std.proofs.Common.{◌≡◌, ℕ, ◌+◌, ◌<◌, ◌≤◌, Option, Some, None, IfSome, List, [], ◌∷◌}
+use Rattle.std.proofs.Common.{◌++◌, length, get_or, take, drop, refl, sym, ◌∙◌, ap, arith, map}
 use Rattle.std.specs.List.{AllByRecursion}
 use Rattle.std.specs.Option.{option_or}
 use Rattle.std.proofs.lemmas.List.{drop_more}
@@ -9,9 +10,11 @@ use Rattle.task_sheet.specs.Rank.{IsByRank}
 use Rattle.task_sheet.specs.TaskSet.{IsTaskSet}
 use Rattle.task_sheet.specs.SheetsFault.{sheets_fault}
 use Rattle.task_sheet.specs.declared.node.Node.{Node}
-use Rattle.overheads.specs.Padding.{padded_task, padded, task_fault, padding_fault, padded_by, fault_by, IsUnpadded, IsLighter}
+use Rattle.overheads.specs.Padding.{padded_task, padded, task_fault, padding_fault, padded_by}
+use Rattle.overheads.specs.Padding.{fault_by, IsUnpadded, IsLighter}
 use Rattle.overheads.specs.declared.padding.PadFault.{PadFault}
-use Rattle.overheads.proofs.MappedSets.{KeepsRanks, count-mapped, mapped-at, mapped-past, mapped-more, IsByRank-mapped, no_fault-mapped, set-mapped}
+use Rattle.overheads.proofs.MappedSets.{KeepsRanks, count-mapped, mapped-at, mapped-past}
+use Rattle.overheads.proofs.MappedSets.{mapped-more, IsByRank-mapped, no_fault-mapped, set-mapped}
 use Rattle.overheads.proofs.PaddedTasks.{room_of, valid-padded, room-lighter, task-none, room-none}
 
 -- ---- ranks
@@ -22,7 +25,8 @@ module _ (node : Node) where
   pub count-padded : (U : List Task) → length (padded node U) ≡ length U
   count-padded U = count-mapped (padded_task node) U
 
-  pub IsByRank-padded : (U V : List Task) → IsTaskSet U → IsByRank (padded node U) V → V ≡ padded node U
+  pub IsByRank-padded : (U V : List Task) → IsTaskSet U → IsByRank (padded node U) V
+      → V ≡ padded node U
   IsByRank-padded U V set by_rank = IsByRank-mapped (padded_task node) keeps-padded U V set by_rank
 
   -- the sheets are no fault
@@ -30,7 +34,8 @@ module _ (node : Node) where
   no_fault-padded U set = no_fault-mapped (padded_task node) keeps-padded U set
 
   -- the task at an index
-  pub padded-at : (U : List Task) (k : ℕ) → k < length U → task_at (padded node U) k ≡ padded_task node (task_at U k)
+  pub padded-at : (U : List Task) (k : ℕ) → k < length U
+      → task_at (padded node U) k ≡ padded_task node (task_at U k)
   padded-at U k lt = mapped-at (padded_task node) U k lt
 
   pub padded-past : (U : List Task) (k : ℕ) → length U ≤ k → task_at (padded node U) k ≡ no_task
@@ -41,33 +46,43 @@ pub first_none : (o p : Option PadFault) → option_or o p ≡ None → (o ≡ N
 first_none None p e = (refl, e)
 first_none (Some f) p e = absurd (cc)
 
-valid-each : (node : Node) (U : List Task) → AreOverheads node → AllByRecursion IsValidSheet U → padding_fault node U ≡ None → AllByRecursion IsValidSheet (padded node U)
+valid-each : (node : Node) (U : List Task) → AreOverheads node → AllByRecursion IsValidSheet U
+    → padding_fault node U ≡ None → AllByRecursion IsValidSheet (padded node U)
 valid-each node [] limits valid room = tt
 valid-each node (t ∷ ts) limits valid room =
     let both = first_none (task_fault node t) (padding_fault node ts) room in
-    let own = room_of node t both.0 in
-    (valid-padded node t limits valid.0 own.cost own.jitter, valid-each node ts limits valid.1 both.1)
+    let own = room_of node t both.0 in (
+      valid-padded node t limits valid.0 own.cost own.jitter,
+      valid-each node ts limits
+          valid.1 both.1,
+    )
 
-pub set-padded : (U : List Task) (node : Node) → IsTaskSet U → AreOverheads node → padding_fault node U ≡ None → IsTaskSet (padded node U)
+pub set-padded : (U : List Task) (node : Node) → IsTaskSet U → AreOverheads node
+    → padding_fault node U ≡ None → IsTaskSet (padded node U)
 set-padded U node set limits room =
-    let valid = All-from_recursion IsValidSheet (padded node U) (valid-each node U limits (recursion_from_All IsValidSheet U set.valid) room) in
+    let valid = All-from_recursion IsValidSheet (padded node U)
+    (valid-each node U limits (recursion_from_All IsValidSheet U set.valid) room) in
     set-mapped (padded_task node) (keeps-padded node) U set valid
 
 -- the same where there may be no node
-pub set-padded_by : (U : List Task) (said : Option Node) → IsTaskSet U → IfSome said AreOverheads → fault_by said U ≡ None → IsTaskSet (padded_by said U)
+pub set-padded_by : (U : List Task) (said : Option Node) → IsTaskSet U → IfSome said AreOverheads
+    → fault_by said U ≡ None → IsTaskSet (padded_by said U)
 set-padded_by U None set limits room = set
 set-padded_by U (Some node) set limits room = set-padded U node set limits room
 
-pub fault-lighter : (U : List Task) (light heavy : Node) → IsLighter light heavy → padding_fault heavy U ≡ None → padding_fault light U ≡ None
+pub fault-lighter : (U : List Task) (light heavy : Node) → IsLighter light heavy
+    → padding_fault heavy U ≡ None → padding_fault light U ≡ None
 fault-lighter [] light heavy is none = refl
 fault-lighter (t ∷ ts) light heavy is none =
     let both = first_none (task_fault heavy t) (padding_fault heavy ts) none in
     rw (room-lighter light heavy t is both.0) (fault-lighter ts light heavy is both.1)
 
 -- ---- nothing
-none-each : (U : List Task) → AllByRecursion (λ t. t.node ≡ no_overhead) U → padded no_overhead U ≡ U
+none-each : (U : List Task) → AllByRecursion (λ t. t.node ≡ no_overhead) U
+    → padded no_overhead U ≡ U
 none-each [] none = refl
-none-each (t ∷ ts) none = ap (λ (y : Task). y ∷ padded no_overhead ts) (task-none t none.0) ∙ ap (λ (ys : List Task). t ∷ ys) (none-each ts none.1)
+none-each (t ∷ ts) none = ap (λ (y : Task). y ∷ padded no_overhead ts) (task-none t none.0)
+    ∙ ap (λ (ys : List Task). t ∷ ys) (none-each ts none.1)
 
 pub padded-none : (U : List Task) → IsUnpadded U → padded no_overhead U ≡ U
 padded-none U none = none-each U (recursion_from_All (λ t. t.node ≡ no_overhead) U none)
@@ -80,19 +95,26 @@ pub fault-none : (U : List Task) → IsTaskSet U → padding_fault no_overhead U
 fault-none U set = room-each U (recursion_from_All IsValidSheet U set.valid)
 
 pub lightest : (node : Node) → IsLighter no_overhead node
-lightest node = record { job = omega arith; lock = omega arith; release = omega arith; late = omega arith }
+lightest node =
+    record { job = omega arith; lock = omega arith; release = omega arith; late = omega arith }
 
 -- ---- one sheet more
-pub padded-more : (node : Node) (U xs ys : List Task) (i : ℕ) (x y : Task) → i < length U → x ≡ get_or U i x → y ≡ padded_task node x → xs ≡ map (padded_task node) (take i U)
+pub padded-more : (node : Node) (U xs ys : List Task) (i : ℕ) (x y : Task) → i < length U
+    → x ≡ get_or U i x → y ≡ padded_task node x → xs ≡ map (padded_task node) (take i U)
     → ys ≡ xs ++ y ∷ [] → ys ≡ map (padded_task node) (take (i + 1) U)
-padded-more node U xs ys i x y lt is pads before pushed = mapped-more (padded_task node) U xs ys i x y lt is pads before pushed
+padded-more node U xs ys i x y lt is pads before pushed =
+    mapped-more (padded_task node) U xs ys i x y lt is pads before pushed
 
-pub fault-step : (node : Node) (U : List Task) (i : ℕ) (x : Task) → i < length U → x ≡ get_or U i x → task_fault node x ≡ None → padding_fault node (drop i U) ≡ padding_fault node (drop (i + 1) U)
+pub fault-step : (node : Node) (U : List Task) (i : ℕ) (x : Task) → i < length U → x ≡ get_or U i x
+    → task_fault node x ≡ None → padding_fault node (drop i U) ≡ padding_fault node (drop (i + 1) U)
 fault-step node U i x lt is none =
     ap (padding_fault node) (drop_more U i x lt)
-    ∙ ap (λ (o : Option PadFault). option_or o (padding_fault node (drop (i + 1) U))) (ap (task_fault node) (sym is) ∙ none)
+    ∙ ap (λ (o : Option PadFault). option_or o (padding_fault node (drop (i + 1) U)))
+    (ap (task_fault node) (sym is) ∙ none)
 
-pub fault-here : (node : Node) (U : List Task) (i : ℕ) (x : Task) (e : PadFault) → i < length U → x ≡ get_or U i x → task_fault node x ≡ Some e → padding_fault node (drop i U) ≡ Some e
+pub fault-here : (node : Node) (U : List Task) (i : ℕ) (x : Task) (e : PadFault) → i < length U
+    → x ≡ get_or U i x → task_fault node x ≡ Some e → padding_fault node (drop i U) ≡ Some e
 fault-here node U i x e lt is fails =
     ap (padding_fault node) (drop_more U i x lt)
-    ∙ ap (λ (o : Option PadFault). option_or o (padding_fault node (drop (i + 1) U))) (ap (task_fault node) (sym is) ∙ fails)
+    ∙ ap (λ (o : Option PadFault). option_or o (padding_fault node (drop (i + 1) U)))
+    (ap (task_fault node) (sym is) ∙ fails)

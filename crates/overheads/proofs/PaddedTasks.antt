@@ -1,13 +1,18 @@
 -- Tasks with what the node takes: valid where there is room for it, and as they were where it takes nothing.
-use Rattle.std.proofs.Common.{◌≡◌, ℕ, zero, suc, ◌+◌, ◌-◌, ◌*◌, ◌<◌, ◌≤◌, min, inl, inr, nat_lt, List, Some, None, refl, sym, ◌∙◌, ap, arith}
+use Rattle.std.proofs.Common.{◌≡◌, ℕ, zero, suc, ◌+◌, ◌-◌, ◌*◌, ◌<◌, ◌≤◌, min, inl, inr, nat_lt}
+use Rattle.std.proofs.Common.{List, Some, None, refl, sym, ◌∙◌, ap, arith}
 use Rattle.std.proofs.Math.Nat.{mul-le-mul_left}
 use Rattle.std.proofs.lemmas.Bool.{cases_Bool, ltb-false, ltb-true, le-ltb, lt-ltb}
-use Rattle.task_sheet.specs.Sheet.{CriticalSection, Task, AreInterrupts, AreOverheads, IsValidSheet, no_overhead}
+use Rattle.task_sheet.specs.Sheet.{CriticalSection, Task, AreInterrupts, AreOverheads, IsValidSheet}
+use Rattle.task_sheet.specs.Sheet.{no_overhead}
 use Rattle.task_sheet.specs.declared.node.Node.{Node}
 use Rattle.task_sheet.specs.declared.node.Interrupt.{Interrupt}
-use Rattle.overheads.specs.Padding.{padded_sections, padded_cost, whole_cost, padded_task, task_fault, IsLighter}
-use Rattle.overheads.specs.declared.padding.PadFault.TheVariants.{CostPastPeriod, JitterPastDeadline}
-use Rattle.overheads.proofs.PaddedSections.{calls_in-mono, calls_in-none, sections-are, count-sections, sections-none}
+use Rattle.overheads.specs.Padding.{padded_sections, padded_cost, whole_cost, padded_task}
+use Rattle.overheads.specs.Padding.{task_fault, IsLighter}
+use Rattle.overheads.specs.declared.padding.PadFault.TheVariants.{CostPastPeriod}
+use Rattle.overheads.specs.declared.padding.PadFault.TheVariants.{JitterPastDeadline}
+use Rattle.overheads.proofs.PaddedSections.{calls_in-mono, calls_in-none, sections-are}
+use Rattle.overheads.proofs.PaddedSections.{count-sections, sections-none}
 
 -- there is room for what the node takes of a task
 pub record HasRoom (node : Node) (t : Task) : Type 0 where
@@ -18,28 +23,46 @@ pub room_of : (node : Node) (t : Task) → task_fault node t ≡ None → HasRoo
 room_of node t e = elim (cases_Bool (nat_lt t.period (whole_cost node t))) [
   | inl past ↦ let never : Some (CostPastPeriod t.name) ≡ None = (rw past at e) in absurd (cc)
   | inr not ↦ elim (cases_Bool (nat_lt (t.jitter + node.late) t.deadline)) [
-    | inl below ↦ record { cost = ltb-false t.period (whole_cost node t) not; jitter = ltb-true (t.jitter + node.late) t.deadline below }
-    | inr late ↦ let never : Some (JitterPastDeadline t.name) ≡ None = (rw (not, late) at e) in absurd (cc)
+    | inl below ↦ record {
+      cost = ltb-false t.period (whole_cost node t) not;
+      jitter =
+          ltb-true (t.jitter + node.late) t.deadline below;
+    }
+    | inr late ↦ let never : Some (JitterPastDeadline t.name) ≡ None = (rw (not, late) at e) in
+        absurd (cc)
   ]
 ]
 
-pub faultless : (node : Node) (t : Task) → whole_cost node t ≤ t.period → t.jitter + node.late < t.deadline → task_fault node t ≡ None
-faultless node t cost jitter = rw (le-ltb t.period (whole_cost node t) cost, lt-ltb (t.jitter + node.late) t.deadline jitter) refl
+pub faultless : (node : Node) (t : Task) → whole_cost node t ≤ t.period
+    → t.jitter + node.late < t.deadline → task_fault node t ≡ None
+faultless node t cost jitter = rw (
+  le-ltb t.period (whole_cost node t) cost,
+  lt-ltb
+      (t.jitter + node.late) t.deadline jitter,
+) refl
 
-pub past_period : (node : Node) (t : Task) → t.period < whole_cost node t → task_fault node t ≡ Some (CostPastPeriod t.name)
+pub past_period : (node : Node) (t : Task) → t.period < whole_cost node t
+    → task_fault node t ≡ Some (CostPastPeriod t.name)
 past_period node t past = rw (lt-ltb t.period (whole_cost node t) past) refl
 
-pub past_deadline : (node : Node) (t : Task) → whole_cost node t ≤ t.period → t.deadline ≤ t.jitter + node.late → task_fault node t ≡ Some (JitterPastDeadline t.name)
-past_deadline node t cost late = rw (le-ltb t.period (whole_cost node t) cost, le-ltb (t.jitter + node.late) t.deadline late) refl
+pub past_deadline : (node : Node) (t : Task) → whole_cost node t ≤ t.period
+    → t.deadline ≤ t.jitter + node.late → task_fault node t ≡ Some (JitterPastDeadline t.name)
+past_deadline node t cost late = rw (
+  le-ltb t.period (whole_cost node t) cost,
+  le-ltb
+      (t.jitter + node.late) t.deadline late,
+) refl
 
 -- the timer comes to what the padded cost is short of
-pub cost-whole : (node : Node) (t : Task) → padded_cost node t + min node.release node.job ≡ whole_cost node t
+pub cost-whole : (node : Node) (t : Task)
+    → padded_cost node t + min node.release node.job ≡ whole_cost node t
 cost-whole node t = omega arith
 
 pub cost-within : (node : Node) (t : Task) → padded_cost node t ≤ whole_cost node t
 cost-within node t = omega arith
 
-pub valid-padded : (node : Node) (t : Task) → AreOverheads node → IsValidSheet t → whole_cost node t ≤ t.period → t.jitter + node.late < t.deadline → IsValidSheet (padded_task node t)
+pub valid-padded : (node : Node) (t : Task) → AreOverheads node → IsValidSheet t → whole_cost node t
+    ≤ t.period → t.jitter + node.late < t.deadline → IsValidSheet (padded_task node t)
 valid-padded node t limits valid cost jitter = record {
   named = valid.named;
   weight = valid.weight;
@@ -50,7 +73,8 @@ valid-padded node t limits valid cost jitter = record {
   cost_from = omega (arith, valid.cost_from);
   cost_to = omega (arith, cost, cost-within node t);
   few = omega (arith, valid.few, count-sections node (node.job - node.release) t.sections);
-  sections = sections-are node (node.job - node.release) 0 0 t.cost (padded_cost node t) t.sections valid.sections (omega arith) (omega arith);
+  sections = sections-are node (node.job - node.release) 0 0 t.cost (padded_cost node t) t.sections
+      valid.sections (omega arith) (omega arith);
   jitter = jitter;
   outranked = valid.outranked;
   overheads = limits;
@@ -58,7 +82,8 @@ valid-padded node t limits valid cost jitter = record {
 }
 
 -- of another node, and with other interrupts on its account
-pub valid-other : (t : Task) (node : Node) (xs : List Interrupt) → IsValidSheet t → AreOverheads node → AreInterrupts xs → IsValidSheet (record t { node = node; interrupts = xs })
+pub valid-other : (t : Task) (node : Node) (xs : List Interrupt) → IsValidSheet t → AreOverheads
+    node → AreInterrupts xs → IsValidSheet (record t { node = node; interrupts = xs })
 valid-other t node xs valid limits few = record {
   named = valid.named;
   weight = valid.weight;
@@ -77,27 +102,41 @@ valid-other t node xs valid limits few = record {
 }
 
 -- a sheet made with these numbers
-pub valid-made : (node : Node) (t : Task) (cost jitter : ℕ) (sections : List CriticalSection) → AreOverheads node → IsValidSheet t → cost ≡ padded_cost node t → whole_cost node t ≤ t.period
-    → jitter ≡ t.jitter + node.late → jitter < t.deadline → sections ≡ padded_sections node (node.job - node.release) t.sections
+pub valid-made : (node : Node) (t : Task) (cost jitter : ℕ) (sections : List CriticalSection)
+    → AreOverheads node → IsValidSheet t → cost ≡ padded_cost node t → whole_cost node t ≤ t.period
+    → jitter ≡ t.jitter + node.late → jitter < t.deadline
+    → sections ≡ padded_sections node (node.job - node.release) t.sections
     → IsValidSheet (record t { cost = cost; sections = sections; jitter = jitter })
 valid-made node t cost jitter sections limits valid is within late below are =
     let padded = valid-padded node t limits valid within (omega (arith, late, below)) in
-    rw (is, late, are) (valid-other (padded_task node t) t.node t.interrupts padded valid.overheads valid.interrupts)
+    rw (is, late, are) (valid-other (padded_task node t) t.node t.interrupts padded valid.overheads
+    valid.interrupts)
 
 -- ---- less of it
-pub whole-mono : (light heavy : Node) (t : Task) → IsLighter light heavy → whole_cost light t ≤ whole_cost heavy t
+pub whole-mono : (light heavy : Node) (t : Task) → IsLighter light heavy
+    → whole_cost light t ≤ whole_cost heavy t
 whole-mono light heavy t is = omega (arith, is.job, calls_in-mono light heavy t.sections is.lock)
 
 -- a cost together with some timers, of which one is its own
-pub cost-mono : (light heavy : Node) (t : Task) (count : ℕ) → IsLighter light heavy → 0 < count → padded_cost light t + count * light.release ≤ padded_cost heavy t + count * heavy.release
+pub cost-mono : (light heavy : Node) (t : Task) (count : ℕ) → IsLighter light heavy → 0 < count
+    → padded_cost light t + count * light.release ≤ padded_cost heavy t + count * heavy.release
 cost-mono light heavy t zero is some = absurd (omega (arith, some))
 cost-mono light heavy t (suc others) is some =
-    omega (arith, is.job, is.release, calls_in-mono light heavy t.sections is.lock, mul-le-mul_left others is.release)
+    omega (
+      arith,
+      is.job,
+      is.release,
+      calls_in-mono light heavy t.sections is.lock,
+      mul-le-mul_left
+          others is.release,
+    )
 
-pub room-lighter : (light heavy : Node) (t : Task) → IsLighter light heavy → task_fault heavy t ≡ None → task_fault light t ≡ None
+pub room-lighter : (light heavy : Node) (t : Task) → IsLighter light heavy
+    → task_fault heavy t ≡ None → task_fault light t ≡ None
 room-lighter light heavy t is none =
     let room = room_of heavy t none in
-    faultless light t (omega (arith, whole-mono light heavy t is, room.cost)) (omega (arith, is.late, room.jitter))
+    faultless light t (omega (arith, whole-mono light heavy t is, room.cost))
+    (omega (arith, is.late, room.jitter))
 
 -- ---- nothing
 cost-none : (t : Task) → padded_cost no_overhead t ≡ t.cost
@@ -106,10 +145,22 @@ cost-none t = omega (arith, calls_in-none t.sections)
 pub task-none : (t : Task) → t.node ≡ no_overhead → padded_task no_overhead t ≡ t
 task-none t none =
     let jitter : t.jitter + 0 ≡ t.jitter = omega arith in
-    ap (λ n. record t { cost = n; sections = padded_sections no_overhead 0 t.sections; jitter = t.jitter + 0; node = no_overhead }) (cost-none t)
-    ∙ ap (λ (ss : List CriticalSection). record t { sections = ss; jitter = t.jitter + 0; node = no_overhead }) (sections-none 0 t.sections refl)
+    ap (λ n. record t {
+      cost = n;
+      sections = padded_sections no_overhead 0 t.sections;
+      jitter =
+          t.jitter + 0;
+      node = no_overhead;
+    }) (cost-none t)
+    ∙ ap (λ (ss : List CriticalSection). record t {
+      sections = ss;
+      jitter = t.jitter + 0;
+      node =
+          no_overhead;
+    }) (sections-none 0 t.sections refl)
     ∙ ap (λ n. record t { jitter = n; node = no_overhead }) jitter
     ∙ ap (λ (n : Node). record t { node = n }) (sym none)
 
 pub room-none : (t : Task) → IsValidSheet t → task_fault no_overhead t ≡ None
-room-none t valid = faultless no_overhead t (omega (arith, calls_in-none t.sections, valid.cost_to)) (omega (arith, valid.jitter))
+room-none t valid = faultless no_overhead t (omega (arith, calls_in-none t.sections, valid.cost_to))
+    (omega (arith, valid.jitter))

@@ -1,5 +1,6 @@
 -- The demand of a padded set is that of the rule.
-use Rattle.std.proofs.Common.{◌≡◌, ℕ, zero, suc, ◌+◌, ◌-◌, ◌*◌, ◌<◌, ◌≤◌, cond, inl, inr, List, [], ◌∷◌, length, sum_by, refl, ◌∙◌, ap, arith}
+use Rattle.std.proofs.Common.{◌≡◌, ℕ, zero, suc, ◌+◌, ◌-◌, ◌*◌, ◌<◌, ◌≤◌, cond, inl, inr, List, []}
+use Rattle.std.proofs.Common.{◌∷◌, length, sum_by, refl, ◌∙◌, ap, arith}
 use Rattle.std.specs.Int.{div_ceil}
 use Rattle.std.proofs.lemmas.Grind.{common_steps}
 use Rattle.std.proofs.lemmas.Bool.{cases_Bool, cases_eq, eq-eqb, ne_eqb}
@@ -8,7 +9,8 @@ use Rattle.task_sheet.specs.declared.node.Node.{Node}
 use Rattle.task_sheet.specs.declared.node.Interrupt.{Interrupt}
 use Rattle.task_sheet.specs.Sheet.{Task, no_task, task_at}
 use Rattle.task_sheet.specs.Indexes.{Indexes, sum_below}
-use Rattle.task_sheet.specs.Demand.{releases_within, interrupt_within, interference_of, interrupts_of, interrupts_within, demand_of}
+use Rattle.task_sheet.specs.Demand.{releases_within, interrupt_within, interference_of}
+use Rattle.task_sheet.specs.Demand.{interrupts_of, interrupts_within, demand_of}
 use Rattle.task_sheet.proofs.TaskLaws.{valid_at}
 use Rattle.overheads.specs.Padding.{padded_cost, whole_cost, padded_task, padded, charged}
 use Rattle.overheads.specs.Rule.{taken_of, demand_by_rule, IsRuled}
@@ -17,17 +19,30 @@ use Rattle.overheads.proofs.PaddedSets.{count-padded, padded-at}
 use Rattle.overheads.proofs.ChargedSets.{count-charged}
 
 -- a sum with one term that is greater
-sum_below-same : (n : ℕ) (f g : ℕ → ℕ) → ((k : ℕ) → k < n → f k ≡ g k) → sum_below n f ≡ sum_below n g
+sum_below-same : (n : ℕ) (f g : ℕ → ℕ) → ((k : ℕ) → k < n → f k ≡ g k)
+    → sum_below n f ≡ sum_below n g
 sum_below-same zero f g same = refl
-sum_below-same (suc n) f g same = omega (arith, sum_below-same n f g (λ k lt. same k (omega arith)), same n (omega arith))
+sum_below-same (suc n) f g same =
+    omega (arith, sum_below-same n f g (λ k lt. same k (omega arith)), same n (omega arith))
 
-sum_below-one : (n : ℕ) (f g : ℕ → ℕ) (i c : ℕ) → i < n → f i ≡ g i + c → ((k : ℕ) → k < n → (k ≡ i → ⊥) → f k ≡ g k) → sum_below n f ≡ sum_below n g + c
+sum_below-one : (n : ℕ) (f g : ℕ → ℕ) (i c : ℕ) → i < n → f i ≡ g i + c
+    → ((k : ℕ) → k < n → (k ≡ i → ⊥) → f k ≡ g k) → sum_below n f ≡ sum_below n g + c
 sum_below-one zero f g i c lt here others = absurd (omega (arith, lt))
 sum_below-one (suc n) f g i c lt here others = elim (cases_eq n i) [
   | inl e ↦
       let last : f n ≡ g n + c = rw e here in
-      omega (arith, last, sum_below-same n f g (λ k below. others k (omega arith) (λ same. omega (arith, same, e, below))))
-  | inr ne ↦ omega (arith, others n (omega arith) ne, sum_below-one n f g i c (omega (arith, lt, ne)) here (λ k below. others k (omega arith)))
+      omega (
+        arith,
+        last,
+        sum_below-same n f g
+            (λ k below. others k (omega arith) (λ same. omega (arith, same, e, below))),
+      )
+  | inr ne ↦ omega (
+    arith,
+    others n (omega arith) ne,
+    sum_below-one n f g i c
+        (omega (arith, lt, ne)) here (λ k below. others k (omega arith)),
+  )
 ]
 
 sum_below-two : (n : ℕ) (f g : ℕ → ℕ) → sum_below n (λ k. f k + g k) ≡ sum_below n f + sum_below n g
@@ -46,7 +61,8 @@ account xs (suc k) = []
 bare-task : (t : Task) → t.interrupts ≡ [] → t ≡ record t { interrupts = [] }
 bare-task t bare = ap (λ (xs : List Interrupt). record t { interrupts = xs }) bare
 
-charged-at : (W : List Task) (xs : List Interrupt) (k : ℕ) → k < length W → ((j : ℕ) → j < length W → (task_at W j).interrupts ≡ [])
+charged-at : (W : List Task) (xs : List Interrupt) (k : ℕ) → k < length W
+    → ((j : ℕ) → j < length W → (task_at W j).interrupts ≡ [])
     → task_at (charged xs W) k ≡ record (task_at W k) { interrupts = account xs k }
 charged-at W [] zero lt bare = bare-task (task_at W zero) (bare zero lt)
 charged-at W [] (suc k) lt bare = bare-task (task_at W (suc k)) (bare (suc k) lt)
@@ -54,14 +70,16 @@ charged-at [] (x ∷ xs) k lt bare = absurd (omega (arith, lt))
 charged-at (w ∷ ws) (x ∷ xs) zero lt bare = refl
 charged-at (w ∷ ws) (x ∷ xs) (suc k) lt bare = bare-task (task_at ws k) (bare (suc k) lt)
 
-once : (time jitter deadline period : ℕ) → 1 ≤ time → time ≤ deadline - jitter → deadline ≤ period → div_ceil (time + jitter) period ≡ 1
+once : (time jitter deadline period : ℕ) → 1 ≤ time → time ≤ deadline - jitter → deadline ≤ period
+    → div_ceil (time + jitter) period ≡ 1
 once time jitter deadline period some within short =
     let positive : 0 < period = omega (arith, some, within, short) in
     let fits : time + jitter ≤ period = omega (arith, some, within, short) in
     let least : 1 ≤ time + jitter = omega (arith, some) in
     grind (arith, common_steps)
 
-module _ (node : Node) (xs : List Interrupt) (U : List Task) (i : ℕ) (H : Indexes) (t : ℕ) (ruled : IsRuled node U i H t) where
+module _ (node : Node) (xs : List Interrupt) (U : List Task) (i : ℕ) (H : Indexes) (t : ℕ)
+    (ruled : IsRuled node U i H t) where
   abbrev V : List Task
   V = charged xs (padded node U)
 
@@ -100,34 +118,41 @@ module _ (node : Node) (xs : List Interrupt) (U : List Task) (i : ℕ) (H : Inde
   spread jobs cost = grind arith
 
   read : (k : ℕ) → k < length U
-      → takes k ≡ cond (H k) (releases_within (pads k) t * padded_cost node (task_at U k)) 0 + (releases_within (pads k) t * node.release + own k)
-  read k lt = ap (λ (y : Task). cond (H k) (interference_of y t) 0 + interrupts_of t y) (task-at k lt)
+      → takes k ≡ cond (H k) (releases_within (pads k) t * padded_cost node (task_at U k))
+      0 + (releases_within (pads k) t * node.release + own k)
+  read k lt =
+      ap (λ (y : Task). cond (H k) (interference_of y t) 0 + interrupts_of t y) (task-at k lt)
 
   other : (k : ℕ) → k < length U → (k ≡ i → ⊥) → takes k ≡ rules k + own k
   other k lt ne = elim (cases_Bool (H k)) [
     | inl above ↦
         let jobs = releases_within (pads k) t in
-        let all : jobs * (padded_cost node (task_at U k) + node.release) ≡ jobs * whole_cost node (task_at U k) = ap (λ n. jobs * n) (whole k) in
+        let all : jobs * (padded_cost node (task_at U k) + node.release)
+        ≡ jobs * whole_cost node (task_at U k) = ap (λ n. jobs * n) (whole k) in
         let taken : rules k ≡ jobs * whole_cost node (task_at U k) = rw above refl in
         let here : takes k ≡ jobs * padded_cost node (task_at U k) + (jobs * node.release + own k) =
-        read k lt ∙ ap (λ b. cond b (jobs * padded_cost node (task_at U k)) 0 + (jobs * node.release + own k)) above in
+        read k lt ∙ ap (λ b. cond b (jobs * padded_cost node (task_at U k))
+        0 + (jobs * node.release + own k)) above in
         omega (arith, here, taken, all, spread jobs (padded_cost node (task_at U k)))
     | inr below ↦
         let jobs = releases_within (pads k) t in
         let taken : rules k ≡ jobs * node.release = rw (below, ne_eqb k i ne) refl in
         let here : takes k ≡ 0 + (jobs * node.release + own k) =
-        read k lt ∙ ap (λ b. cond b (jobs * padded_cost node (task_at U k)) 0 + (jobs * node.release + own k)) below in
+        read k lt ∙ ap (λ b. cond b (jobs * padded_cost node (task_at U k))
+        0 + (jobs * node.release + own k)) below in
         omega (arith, here, taken)
   ]
 
   itself : takes i ≡ rules i + own i + node.release
   itself =
       let jobs = releases_within (pads i) t in
-      let one : jobs ≡ 1 = once t (pads i).jitter (pads i).deadline (pads i).period ruled.some ruled.within (valid_at U i ruled.set ruled.inside).deadline_to in
+      let one : jobs ≡ 1 = once t (pads i).jitter (pads i).deadline (pads i).period ruled.some
+      ruled.within (valid_at U i ruled.set ruled.inside).deadline_to in
       let timer : jobs * node.release ≡ 1 * node.release = ap (λ n. n * node.release) one in
       let taken : rules i ≡ jobs * 0 = rw (ruled.below, eq-eqb i i refl) refl in
       let here : takes i ≡ 0 + (jobs * node.release + own i) =
-      read i ruled.inside ∙ ap (λ b. cond b (jobs * padded_cost node (task_at U i)) 0 + (jobs * node.release + own i)) ruled.below in
+      read i ruled.inside ∙ ap (λ b. cond b (jobs * padded_cost node (task_at U i))
+      0 + (jobs * node.release + own i)) ruled.below in
       omega (arith, here, timer, taken, mul-zero jobs)
 
   -- the interrupts are on one account
@@ -135,7 +160,12 @@ module _ (node : Node) (xs : List Interrupt) (U : List Task) (i : ℕ) (H : Inde
   charges =
       let none = sum_below-none (length U) in
       let first : 0 < length U = omega (arith, ruled.inside) in
-      omega (arith, none, sum_below-one (length U) own (λ k. 0) 0 (sum_by (interrupt_within t) xs) first (omega arith) (λ k lt ne. elsewhere k ne))
+      omega (
+        arith,
+        none,
+        sum_below-one (length U) own (λ k. 0) 0 (sum_by (interrupt_within t) xs)
+            first (omega arith) (λ k lt ne. elsewhere k ne),
+      )
     where
       elsewhere : (k : ℕ) → (k ≡ 0 → ⊥) → own k ≡ 0
       elsewhere zero ne = absurd (ne refl)
@@ -144,9 +174,23 @@ module _ (node : Node) (xs : List Interrupt) (U : List Task) (i : ℕ) (H : Inde
   pub ruled-demand : demand_of V i H t ≡ demand_by_rule node xs U i H t
   unfolding demand_of interrupts_within
   ruled-demand =
-      let cost : (task_at V i).cost ≡ padded_cost node (task_at U i) = ap (λ (y : Task). y.cost) (task-at i ruled.inside) in
-      let jobs = ap (λ n. sum_below n (λ k. cond (H k) (interference_of (task_at V k) t) 0)) count in
+      let cost : (task_at V i).cost ≡ padded_cost node (task_at U i) =
+      ap (λ (y : Task). y.cost) (task-at i ruled.inside) in
+      let jobs =
+      ap (λ n. sum_below n (λ k. cond (H k) (interference_of (task_at V k) t) 0)) count in
       let taken = ap (λ n. sum_below n (λ k. interrupts_of t (task_at V k))) count in
-      let both = sum_below-two (length U) (λ k. cond (H k) (interference_of (task_at V k) t) 0) (λ k. interrupts_of t (task_at V k)) in
-      let all = sum_below-one (length U) takes (λ k. rules k + own k) i node.release ruled.inside itself other in
-      omega (arith, cost, jobs, taken, both, all, sum_below-two (length U) rules own, charges, whole i)
+      let both = sum_below-two (length U) (λ k. cond (H k) (interference_of (task_at V k) t) 0)
+      (λ k. interrupts_of t (task_at V k)) in
+      let all = sum_below-one (length U) takes (λ k. rules k + own k) i node.release ruled.inside
+      itself other in
+      omega (
+        arith,
+        cost,
+        jobs,
+        taken,
+        both,
+        all,
+        sum_below-two (length U) rules own,
+        charges,
+        whole i,
+      )

@@ -21,7 +21,7 @@ pub enum PadFault {
     /// Its jitter, with how late the node may be, isn't below its deadline.
     #[error("{task}: the padded jitter is not below the deadline")]
     JitterPastDeadline { task: Name },
-    /// A growth was refused.
+    /// An allocation was refused.
     #[error("out of memory")]
     OutOfMemory,
 }

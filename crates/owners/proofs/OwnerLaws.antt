@@ -1,5 +1,6 @@
 -- The owners of the documents that were read so far.
-use Rattle.std.proofs.Common.{◌≡◌, ◌∙◌, ◌++◌, ℕ, List, [], ◌∷◌, inl, inr, Err, refl, sym, ap, append_assoc, append-nil}
+use Rattle.std.proofs.Common.{◌≡◌, ◌∙◌, ◌++◌, ℕ, List, [], ◌∷◌, inl, inr, Err, refl, sym, ap}
+use Rattle.std.proofs.Common.{append_assoc, append-nil}
 use Rattle.task_sheet.specs.ReadsSet.{ReadsSet}
 use Rattle.task_sheet.specs.declared.read.Document.{Document}
 use Rattle.task_sheet.specs.declared.read.SetFault.{SetFault}
@@ -20,29 +21,44 @@ pub record Gathers (text rest : List ℕ) (owners : List Owner) : Type 0 where
 pub none_yet : (text : List ℕ) → Gathers text text []
 none_yet text = record { sets = []; gathered = ([], refl, tt); are = refl }
 
-owners_more : (sets : List TeamSetData) (s : TeamSetData) → owners_of (sets ++ s ∷ []) ≡ owners_of sets ++ owned_by s.team s.set
+owners_more : (sets : List TeamSetData) (s : TeamSetData)
+    → owners_of (sets ++ s ∷ []) ≡ owners_of sets ++ owned_by s.team s.set
 owners_more [] s = append-nil (owned_by s.team s.set)
-owners_more (r ∷ sets) s = ap (λ (l : List Owner). owned_by r.team r.set ++ l) (owners_more sets s) ∙ sym (append_assoc (owned_by r.team r.set) (owners_of sets) (owned_by s.team s.set))
+owners_more (r ∷ sets) s = ap (λ (l : List Owner). owned_by r.team r.set ++ l) (owners_more sets s)
+    ∙ sym (append_assoc (owned_by r.team r.set) (owners_of sets) (owned_by s.team s.set))
 
 -- one document more
-pub gathers_more : (text rest after : List ℕ) (owners more : List Owner) (p : Part) (d : Document) → Gathers text rest owners → IsFirstPart rest p.team p.text.now after → IsDocumentOf p d → more ≡ owners ++ owned_by p.team d.set
+pub gathers_more : (text rest after : List ℕ) (owners more : List Owner) (p : Part) (d : Document)
+    → Gathers text rest owners → IsFirstPart rest p.team p.text.now after → IsDocumentOf p d
+    → more ≡ owners ++ owned_by p.team d.set
     → Gathers text after more
 gathers_more text rest after owners more p d all first says is =
-    let s : TeamSetData = record { team = p.team; set = d.set; prefers = d.prefers; node = d.node; interrupts = d.interrupts.items } in
+    let s : TeamSetData = record {
+      team = p.team;
+      set = d.set;
+      prefers = d.prefers;
+      node = d.node;
+      interrupts = d.interrupts.items;
+    } in
     record {
       sets = all.sets ++ s ∷ [];
       gathered = gathered_more text rest after all.sets p s all.gathered first (refl, says);
-      are = is ∙ ap (λ (l : List Owner). l ++ owned_by p.team d.set) all.are ∙ sym (owners_more all.sets s);
+      are = is ∙ ap (λ (l : List Owner). l ++ owned_by p.team d.set) all.are
+          ∙ sym (owners_more all.sets s);
     }
 
 -- nothing stands behind them that is a set
-pub ends : (text rest : List ℕ) (owners : List Owner) → Gathers text rest owners → HasNoHead rest → AreOwnersIn text owners
+pub ends : (text rest : List ℕ) (owners : List Owner) → Gathers text rest owners → HasNoHead rest
+    → AreOwnersIn text owners
 ends text rest owners all none = (all.sets, rest, all.gathered, inl none, all.are)
 
-pub ends_at : (text rest after : List ℕ) (owners : List Owner) (p : Part) → Gathers text rest owners → IsFirstPart rest p.team p.text.now after → IsNoDocument p → AreOwnersIn text owners
-ends_at text rest after owners p all first none = (all.sets, rest, all.gathered, inr (p, after, first, none), all.are)
+pub ends_at : (text rest after : List ℕ) (owners : List Owner) (p : Part) → Gathers text rest owners
+    → IsFirstPart rest p.team p.text.now after → IsNoDocument p → AreOwnersIn text owners
+ends_at text rest after owners p all first none =
+    (all.sets, rest, all.gathered, inr (p, after, first, none), all.are)
 
--- a document that is refused, and not for want of memory, is no set
-pub refused : (p : Part) (e : SetFault) → (e ≡ fault.OutOfMemory → ⊥) → ReadsSet p.text.now (Err e) → IsNoDocument p
+-- a document that is refused, and not out of memory, is no set
+pub refused : (p : Part) (e : SetFault) → (e ≡ fault.OutOfMemory → ⊥) → ReadsSet p.text.now (Err e)
+    → IsNoDocument p
 refused p fault.OutOfMemory never why = absurd (never refl)
 refused p e never why = (e, (refl, why))

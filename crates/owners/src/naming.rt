@@ -71,7 +71,7 @@ fn push_lines(
 }
 
 /// The lines of a text, each with two words more, `team` and its name, where the line names a task and a team has it.
-/// With no owners the text is as it was. The error is want of memory.
+/// With no owners the text is as it was. The error is out of memory.
 pub fn named_text(
     alloc: Global,
     naming: Naming,

@@ -26,7 +26,7 @@ pub(crate) fn team_of(owners: &[Owner], name: &[u8]) -> Option<Name>
     None
 }
 
-// What a team's document says; none where it is no set. The error is want of memory.
+// What a team's document says; none where it is no set. The error is out of memory.
 fn document_of(alloc: Global, part: &Part<'_>) -> Result<Option<Document>, AllocError>
     ensures { IfOk result (λ d. MatchOption d (IsNoDocument part.now) (IsDocumentOf part.now)) }
 {
@@ -66,7 +66,7 @@ fn owners_in(alloc: Global, text: &[u8]) -> Result<Vec<Owner>, AllocError>
 }
 
 /// Whose the tasks are that a set's text says, in the order of the teams' documents. A text of one document says of no
-/// task whose it is. The error is want of memory.
+/// task whose it is. The error is out of memory.
 pub fn read_owners(alloc: Global, text: &[u8]) -> Result<Vec<Owner>, AllocError>
     ensures { IfOk result (λ owners. AreOwners text.now owners.items) }
 {

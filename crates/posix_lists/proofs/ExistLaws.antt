@@ -1,21 +1,33 @@
 -- There is a run of the lists.
-use Rattle.std.proofs.Common.{ℕ, zero, suc, ◌<◌, ◌≤◌, ◌≡◌, ◌≢◌, ◌⊎◌, inl, inr, refl, sym, ap, ◌∙◌, subst, arith, true, false, List, [], ◌∷◌, length, Some, None, eqb, if◌then◌else◌, ◌==◌}
+use Rattle.std.proofs.Common.{ℕ, zero, suc, ◌<◌, ◌≤◌, ◌≡◌, ◌≢◌, ◌⊎◌, inl, inr, refl, sym, ap, ◌∙◌}
+use Rattle.std.proofs.Common.{subst, arith, true, false, List, [], ◌∷◌, length, Some, None, eqb}
+use Rattle.std.proofs.Common.{if◌then◌else◌, ◌==◌}
 use Rattle.std.proofs.lemmas.Bool.{cases_eq, cases_lt, cases_Bool, true≢false, eq-eqb, ne_eqb}
 use Rattle.std.proofs.lemmas.Option.{none-some}
-use Rattle.ceiling_kernel.specs.Tick.{Node, Job, job_at, level_of_job, active_of, executed_before, picked}
+use Rattle.ceiling_kernel.specs.Tick.{Node, Job, job_at, level_of_job, active_of, executed_before}
+use Rattle.ceiling_kernel.specs.Tick.{picked}
 use Rattle.ceiling_kernel.specs.Waits.{IsNode, AreLegalJobs, NoOverrun, NoOverrunBy}
-use Rattle.ceiling_kernel.proofs.MachineLaws.{IsPick, picked_is, pending_from, pending_parts, none_pending}
-use Rattle.posix_lists.specs.ThreadLists.{Threads, at_first, with_head, with_tail, with_list, BecomesRunnable, IsMove, AreMoves, IsPreempted, IsSelected, IsAtRest, Settles, AnyWay, WhereRaised, ticked, IsTick, CanRun}
-use Rattle.posix_lists.proofs.QueueLaws.{In, none_in, empty_from, from_head, to_head, own_head, head_here, Rising}
+use Rattle.ceiling_kernel.proofs.MachineLaws.{IsPick, picked_is, pending_from, pending_parts}
+use Rattle.ceiling_kernel.proofs.MachineLaws.{none_pending}
+use Rattle.posix_lists.specs.ThreadLists.{Threads, at_first, with_head, with_tail, with_list}
+use Rattle.posix_lists.specs.ThreadLists.{BecomesRunnable, IsMove, AreMoves, IsPreempted}
+use Rattle.posix_lists.specs.ThreadLists.{IsSelected, IsAtRest, Settles, AnyWay, WhereRaised}
+use Rattle.posix_lists.specs.ThreadLists.{ticked, IsTick, CanRun}
+use Rattle.posix_lists.proofs.QueueLaws.{In, none_in, empty_from, from_head, to_head, own_head}
+use Rattle.posix_lists.proofs.QueueLaws.{head_here, Rising}
 use Rattle.posix_lists.proofs.TickLaws.{Queued, AllCame, active_same}
-use Rattle.posix_lists.proofs.ListLaws.{shown_of, Agrees, none_runs, one_runs, move_keeps, tick_keeps, begins, empty_raised}
+use Rattle.posix_lists.proofs.ListLaws.{shown_of, Agrees, none_runs, one_runs, move_keeps}
+use Rattle.posix_lists.proofs.ListLaws.{tick_keeps, begins, empty_raised}
 
 -- one move more
-more_moves : (node : Node) (jobs : List Job) (t n : ℕ) (s u v : Threads) → AreMoves node jobs t n s u → IsMove node jobs t u v → AreMoves node jobs t (suc n) s v
-more_moves node jobs t zero s u v h move = (v, subst (λ x. IsMove node jobs t x v) (sym h) move, refl)
+more_moves : (node : Node) (jobs : List Job) (t n : ℕ) (s u v : Threads)
+    → AreMoves node jobs t n s u → IsMove node jobs t u v → AreMoves node jobs t (suc n) s v
+more_moves node jobs t zero s u v h move =
+    (v, subst (λ x. IsMove node jobs t x v) (sym h) move, refl)
 more_moves node jobs t (suc n) s u v h move = (h.0, h.1, more_moves node jobs t n h.0 u v h.2 move)
 
-module _ (node : Node) (jobs : List Job) (ok : IsNode node) (legal : AreLegalJobs node jobs) (none : NoOverrun node jobs) where
+module _ (node : Node) (jobs : List Job) (ok : IsNode node) (legal : AreLegalJobs node jobs)
+    (none : NoOverrun node jobs) where
   by : (t : ℕ) → NoOverrunBy node jobs t
   by t k lt ready = none k lt
 
@@ -34,19 +46,29 @@ module _ (node : Node) (jobs : List Job) (ok : IsNode node) (legal : AreLegalJob
 
   -- ---- the first n threads that are due come
   wake : (t : ℕ) (s : Threads) → Agrees node jobs t s → (n : ℕ) → n ≤ length jobs
-      → (u : Threads) × Reached t s u × ((j : ℕ) → j < n → (job_at jobs j).ready ≤ t → 0 < (job_at jobs j).executes → u.has_come j ≡ true)
-  wake t s h zero le = (s, record { moves = 0; are = refl; agrees = h }, λ j lt. absurd (omega arith))
+      → (u : Threads) × Reached t s u × ((j : ℕ) → j < n → (job_at jobs j).ready ≤ t
+      → 0 < (job_at jobs j).executes → u.has_come j ≡ true)
+  wake t s h zero le =
+      (s, record { moves = 0; are = refl; agrees = h }, λ j lt. absurd (omega arith))
   wake t s h (suc n) le =
       let w = wake t s h n (omega arith) in
       let u : Threads = w.0 in
       elim (cases_Bool (u.has_come n)) [
-        | inl come ↦ (u, w.1, λ j lt due some. elim (cases_eq j n) [ inl e ↦ ap u.has_come e ∙ come | inr ne ↦ w.2 j (omega arith) due some ])
+        | inl come ↦ (
+          u,
+          w.1,
+          λ j lt due some. elim (cases_eq j n) [
+            | inl e ↦ ap u.has_come e ∙ come
+            | inr ne ↦ w.2 j (omega arith) due some
+          ],
+        )
         | inr blocked ↦ elim (cases_lt t (job_at jobs n).ready) [
           | inl later ↦ (
             u,
             w.1,
             λ j lt due some. elim (cases_eq j n) [
-              | inl e ↦ absurd (let r : (job_at jobs j).ready ≡ (job_at jobs n).ready = ap (λ x. (job_at jobs x).ready) e in omega arith)
+              | inl e ↦ absurd (let r : (job_at jobs j).ready ≡ (job_at jobs n).ready =
+                  ap (λ x. (job_at jobs x).ready) e in omega arith)
               | inr ne ↦ w.2 j (omega arith) due some
             ],
           )
@@ -55,7 +77,8 @@ module _ (node : Node) (jobs : List Job) (ok : IsNode node) (legal : AreLegalJob
               u,
               w.1,
               λ j lt due some. elim (cases_eq j n) [
-                | inl e ↦ absurd (let r : (job_at jobs j).executes ≡ (job_at jobs n).executes = ap (λ x. (job_at jobs x).executes) e in omega arith)
+                | inl e ↦ absurd (let r : (job_at jobs j).executes ≡ (job_at jobs n).executes =
+                    ap (λ x. (job_at jobs x).executes) e in omega arith)
                 | inr ne ↦ w.2 j (omega arith) due some
               ],
             )
@@ -66,12 +89,22 @@ module _ (node : Node) (jobs : List Job) (ok : IsNode node) (legal : AreLegalJob
                   running = u.running;
                   list = with_tail u.list (active_of node jobs u.executed n) n;
                 } in
-                let move : BecomesRunnable node jobs t u v = record { thread = n; is_job = omega arith; due = due_now; executes = omega arith; was_blocked = blocked; moved = refl } in (
+                let move : BecomesRunnable node jobs t u v =
+                record {
+                  thread = n;
+                  is_job = omega arith;
+                  due = due_now;
+                  executes =
+                      omega arith;
+                  was_blocked = blocked;
+                  moved = refl;
+                } in (
                   v,
                   further t s u v w.1 (inl move),
                   λ j lt due some. elim (cases_eq n j) [
                     | inl e ↦ (let b : eqb n j ≡ true = eq-eqb n j e in rw b)
-                    | inr ne ↦ (let b : eqb n j ≡ false = ne_eqb n j ne in rw b (w.2 j (let differ : j ≢ n = λ e. ne (sym e) in omega arith) due some))
+                    | inr ne ↦ (let b : eqb n j ≡ false = ne_eqb n j ne in
+                        rw b (w.2 j (let differ : j ≢ n = λ e. ne (sym e) in omega arith) due some))
                   ],
                 )
           ]
@@ -81,34 +114,46 @@ module _ (node : Node) (jobs : List Job) (ok : IsNode node) (legal : AreLegalJob
   -- ---- the thread that the tick rule picks is selected
   module _ (t p : ℕ) (is : IsPick node jobs t p) where
     -- a thread in line has a pending job, and doesn't go before p
-    behind : (u : Threads) → Agrees node jobs t u → (q k : ℕ) → In k (shown_of node jobs u.running u.executed u.list q)
-        → (q < active_of node jobs u.executed p) ⊎ ((q ≡ active_of node jobs u.executed p) × (level_of_job node jobs p ≤ level_of_job node jobs k))
+    behind : (u : Threads) → Agrees node jobs t u → (q k : ℕ)
+        → In k (shown_of node jobs u.running u.executed u.list q)
+        → (q < active_of node jobs u.executed p) ⊎ ((q ≡ active_of node jobs u.executed p)
+        × (level_of_job node jobs p ≤ level_of_job node jobs k))
     behind u h q k at =
         let l = h.listed q k at in
         let c : (k < length jobs) × ((job_at jobs k).ready ≤ t) = h.came k l.0 in
         let ek : u.executed k ≡ executed_before node jobs t k = h.executed k in
-        let ak : active_of node jobs u.executed k ≡ active_of node jobs (executed_before node jobs t) k = active_same node jobs u.executed (executed_before node jobs t) k ek in
-        let a : active_of node jobs u.executed p ≡ active_of node jobs (executed_before node jobs t) p = active_same node jobs u.executed (executed_before node jobs t) p (h.executed p) in
+        let ak : active_of node jobs u.executed k
+        ≡ active_of node jobs (executed_before node jobs t) k =
+        active_same node jobs u.executed (executed_before node jobs t) k ek in
+        let a : active_of node jobs u.executed p ≡ active_of node jobs (executed_before node jobs t)
+        p = active_same node jobs u.executed (executed_before node jobs t) p (h.executed p) in
         let top : active_of node jobs u.executed k ≡ q = l.2 in
         elim (is.first k c.0 (pending_from node jobs t k c.1 (omega (arith, l.1)))) [
           | inl less ↦ inl (omega arith)
           | inr tied ↦ inr (omega (arith, tied.0), tied.1)
         ]
 
-    in_line : (u : Threads) → Agrees node jobs t u → AllCame jobs t u.has_come → In p (shown_of node jobs u.running u.executed u.list (active_of node jobs u.executed p))
+    in_line : (u : Threads) → Agrees node jobs t u → AllCame jobs t u.has_come
+        → In p (shown_of node jobs u.running u.executed u.list (active_of node jobs u.executed p))
     in_line u h all =
-        let pp : ((job_at jobs p).ready ≤ t) × (executed_before node jobs t p < (job_at jobs p).executes) = pending_parts node jobs t p is.is_pending in
+        let pp : ((job_at jobs p).ready ≤ t)
+        × (executed_before node jobs t p < (job_at jobs p).executes) =
+        pending_parts node jobs t p is.is_pending in
         let e : u.executed p ≡ executed_before node jobs t p = h.executed p in
         h.complete p (all p is.below pp.0 (omega (arith, pp.1))) (omega (arith, pp.1))
 
     -- it runs: the lists are at rest
-    rests : (u : Threads) → Agrees node jobs t u → AllCame jobs t u.has_come → u.running ≡ Some p → IsAtRest node jobs t u
+    rests : (u : Threads) → Agrees node jobs t u → AllCame jobs t u.has_come → u.running ≡ Some p
+        → IsAtRest node jobs t u
     rests u h all runs = record {
       all_came = all;
       none_higher = λ j higher r above.
           let same : j ≡ p = cc (r, runs) in
-          let a : active_of node jobs u.executed j ≡ active_of node jobs u.executed p = ap (active_of node jobs u.executed) same in
-          empty_from (u.list higher) (λ k at. elim (behind u h higher k (subst (λ r. In k (shown_of node jobs r u.executed u.list higher)) (sym runs) (to_head u.list (active_of node jobs u.executed p) p higher k at))) [
+          let a : active_of node jobs u.executed j ≡ active_of node jobs u.executed p =
+          ap (active_of node jobs u.executed) same in
+          empty_from (u.list higher) (λ k at. elim (behind u h higher k
+          (subst (λ r. In k (shown_of node jobs r u.executed u.list higher)) (sym runs)
+          (to_head u.list (active_of node jobs u.executed p) p higher k at))) [
             | inl less ↦ omega arith
             | inr tied ↦ omega (arith, tied.0)
           ]);
@@ -116,67 +161,113 @@ module _ (node : Node) (jobs : List Job) (ok : IsNode node) (legal : AreLegalJob
     }
 
     -- nobody runs: it is at the head of the highest list
-    select : (s u : Threads) → Reached t s u → AllCame jobs t u.has_come → u.running ≡ None → (v : Threads) × Settles node jobs t s v × Agrees node jobs t v
+    select : (s u : Threads) → Reached t s u → AllCame jobs t u.has_come → u.running ≡ None
+        → (v : Threads) × Settles node jobs t s v × Agrees node jobs t v
     select s u r all nobody =
         let h : Agrees node jobs t u = r.agrees in
-        let qd : Queued node jobs t u.executed u.has_come u.list = none_runs node jobs ok legal t u nobody h in
+        let qd : Queued node jobs t u.executed u.has_come u.list =
+        none_runs node jobs ok legal t u nobody h in
         let a : ℕ = active_of node jobs u.executed p in
-        let at : In p (u.list a) = subst (λ o. In p (shown_of node jobs o u.executed u.list a)) nobody (in_line u h all) in
-        let after : (q k : ℕ) → In k (u.list q) → (q < a) ⊎ ((q ≡ a) × (level_of_job node jobs p ≤ level_of_job node jobs k)) =
-        λ q k in_q. behind u h q k (subst (λ o. In k (shown_of node jobs o u.executed u.list q)) (sym nobody) in_q) in
-        let head : (rest : List ℕ) × (u.list a ≡ p ∷ rest) = first_of (u.list a) at (qd.rising a) (λ k in_a. elim (after a k in_a) [ inl less ↦ absurd (omega arith) | inr tied ↦ tied.1 ]) in
-        let v : Threads = record { executed = u.executed; has_come = u.has_come; running = Some p; list = with_list u.list a head.0 } in
+        let at : In p (u.list a) =
+        subst (λ o. In p (shown_of node jobs o u.executed u.list a)) nobody (in_line u h all) in
+        let after : (q k : ℕ) → In k (u.list q) → (q < a)
+        ⊎ ((q ≡ a) × (level_of_job node jobs p ≤ level_of_job node jobs k)) =
+        λ q k in_q. behind u h q k
+        (subst (λ o. In k (shown_of node jobs o u.executed u.list q)) (sym nobody) in_q) in
+        let head : (rest : List ℕ) × (u.list a ≡ p ∷ rest) =
+        first_of (u.list a) at (qd.rising a) (λ k in_a.
+        elim (after a k in_a) [ inl less ↦ absurd (omega arith) | inr tied ↦ tied.1 ]) in
+        let v : Threads = record {
+          executed = u.executed;
+          has_come = u.has_come;
+          running = Some p;
+          list = with_list u.list a head.0;
+        } in
         let move : IsSelected u v = record {
           nobody = nobody;
           priority = a;
           thread = p;
           rest = head.0;
           head = head.1;
-          highest = λ higher above. empty_from (u.list higher) (λ k in_q. elim (after higher k in_q) [ inl less ↦ omega arith | inr tied ↦ omega (arith, tied.0) ]);
+          highest = λ higher above. empty_from (u.list higher) (λ k in_q. elim (after higher k
+              in_q) [ inl less ↦ omega arith | inr tied ↦ omega (arith, tied.0) ]);
           moved = refl;
         } in
         let there : Reached t s v = further t s u v r (inr (inr move)) in
         (v, (there.moves, there.are, rests v there.agrees all refl), there.agrees)
       where
-        first_of : (xs : List ℕ) → In p xs → Rising (level_of_job node jobs) xs → ((k : ℕ) → In k xs → level_of_job node jobs p ≤ level_of_job node jobs k) → (rest : List ℕ) × (xs ≡ p ∷ rest)
+        first_of : (xs : List ℕ) → In p xs → Rising (level_of_job node jobs) xs
+            → ((k : ℕ) → In k xs → level_of_job node jobs p ≤ level_of_job node jobs k)
+            → (rest : List ℕ) × (xs ≡ p ∷ rest)
         first_of [] at rising least = absurd at
         first_of (x ∷ xs) at rising least = elim at [
           | inl e ↦ (xs, ap (λ y. y ∷ xs) e)
-          | inr later ↦ absurd (let lt : level_of_job node jobs x < level_of_job node jobs p = rising.0 p later in let le : level_of_job node jobs p ≤ level_of_job node jobs x = least x (inl refl) in omega arith)
+          | inr later ↦ absurd (let lt : level_of_job node jobs x < level_of_job node jobs p =
+              rising.0 p later in let le : level_of_job node jobs p ≤ level_of_job node jobs x =
+              least x (inl refl) in omega arith)
         ]
 
-    settle_busy : (s u : Threads) → Reached t s u → AllCame jobs t u.has_come → (v : Threads) × Settles node jobs t s v × Agrees node jobs t v
+    settle_busy : (s u : Threads) → Reached t s u → AllCame jobs t u.has_come → (v : Threads)
+        × Settles node jobs t s v × Agrees node jobs t v
     settle_busy s u r all =
         let h : Agrees node jobs t u = r.agrees in
-        elim u.running as (λ o. u.running ≡ o → (v : Threads) × Settles node jobs t s v × Agrees node jobs t v) [
+        elim u.running as (λ o. u.running ≡ o → (v : Threads) × Settles node jobs t s v
+        × Agrees node jobs t v) [
           | None ↦ λ nobody. select s u r all nobody
           | Some x ↦ λ runs. elim (cases_eq x p) [
             | inl same ↦ (u, (r.moves, r.are, rests u h all (runs ∙ ap Some same)), h)
             | inr other ↦
                 let a : ℕ = active_of node jobs u.executed p in
                 let b : ℕ = active_of node jobs u.executed x in
-                let line : In p (with_head u.list b x a) = subst (λ o. In p (shown_of node jobs o u.executed u.list a)) runs (in_line u h all) in
-                let at : In p (u.list a) = elim (from_head u.list b x a p line) [ inl was ↦ was | inr mine ↦ absurd (other mine.1) ] in
-                let qd : Queued node jobs t u.executed u.has_come (with_head u.list b x) = one_runs node jobs ok legal t u x runs h in
-                let lower : b < a = elim (behind u h b x (subst (λ o. In x (shown_of node jobs o u.executed u.list b)) (sym runs) (own_head u.list b x))) [
+                let line : In p (with_head u.list b x a) =
+                subst (λ o. In p (shown_of node jobs o u.executed u.list a)) runs
+                (in_line u h all) in
+                let at : In p (u.list a) = elim (from_head u.list b x a p line) [
+                  | inl was ↦ was
+                  | inr mine ↦ absurd (other mine.1)
+                ] in
+                let qd : Queued node jobs t u.executed u.has_come (with_head u.list b x) =
+                one_runs node jobs ok legal t u x runs h in
+                let lower : b < a = elim (behind u h b x (subst (λ o. In x
+                (shown_of node jobs o u.executed u.list b)) (sym runs) (own_head u.list b x))) [
                   | inl less ↦ less
                   | inr tied ↦
-                      let up = subst (Rising (level_of_job node jobs)) (head_here u.list b x b refl) (qd.rising b) in
-                      let lt : level_of_job node jobs x < level_of_job node jobs p = up.0 p (subst (λ q. In p (u.list q)) (sym tied.0) at) in
+                      let up = subst (Rising (level_of_job node jobs)) (head_here u.list b x b refl)
+                      (qd.rising b) in
+                      let lt : level_of_job node jobs x < level_of_job node jobs p =
+                      up.0 p (subst (λ q. In p (u.list q)) (sym tied.0) at) in
                       absurd (omega (arith, tied.1))
                 ] in
-                let v : Threads = record { executed = u.executed; has_come = u.has_come; running = None; list = with_head u.list b x } in
-                let move : IsPreempted node jobs u v = record { thread = x; was_running = runs; higher = a; is_higher = lower; runnable = λ none. none_in (u.list a) p none at; moved = refl } in
+                let v : Threads = record {
+                  executed = u.executed;
+                  has_come = u.has_come;
+                  running =
+                      None;
+                  list = with_head u.list b x;
+                } in
+                let move : IsPreempted node jobs u v =
+                record {
+                  thread = x;
+                  was_running = runs;
+                  higher = a;
+                  is_higher = lower;
+                  runnable = λ none. none_in (u.list a) p none at;
+                  moved = refl;
+                } in
                 select s v (further t s u v r (inr (inl move))) all refl
           ]
         ] refl
 
   -- ---- nobody is picked: the lists are at rest
-  settle_idle : (t : ℕ) (u : Threads) → Agrees node jobs t u → AllCame jobs t u.has_come → picked node jobs t ≡ None → IsAtRest node jobs t u
+  settle_idle : (t : ℕ) (u : Threads) → Agrees node jobs t u → AllCame jobs t u.has_come
+      → picked node jobs t ≡ None → IsAtRest node jobs t u
   settle_idle t u h all idle = record {
     all_came = all;
-    none_higher = λ j higher r above. absurd (nobody (active_of node jobs u.executed j) j (subst (λ o. In j (shown_of node jobs o u.executed u.list (active_of node jobs u.executed j))) (sym r) (own_head u.list (active_of node jobs u.executed j) j)));
-    none_runnable = λ q r. empty_from (u.list q) (λ k at. nobody q k (subst (λ o. In k (shown_of node jobs o u.executed u.list q)) (sym r) at));
+    none_higher = λ j higher r above. absurd (nobody (active_of node jobs u.executed j) j
+        (subst (λ o. In j (shown_of node jobs o u.executed u.list (active_of node jobs u.executed
+        j))) (sym r) (own_head u.list (active_of node jobs u.executed j) j)));
+    none_runnable = λ q r. empty_from (u.list q) (λ k at. nobody q k
+        (subst (λ o. In k (shown_of node jobs o u.executed u.list q)) (sym r) at));
   }
     where
       nobody : (q k : ℕ) → In k (shown_of node jobs u.running u.executed u.list q) → ⊥
@@ -184,33 +275,63 @@ module _ (node : Node) (jobs : List Job) (ok : IsNode node) (legal : AreLegalJob
           let l = h.listed q k at in
           let c : (k < length jobs) × ((job_at jobs k).ready ≤ t) = h.came k l.0 in
           let e : u.executed k ≡ executed_before node jobs t k = h.executed k in
-          true≢false (sym (pending_from node jobs t k c.1 (omega (arith, l.1))) ∙ none_pending node jobs t k idle c.0)
+          true≢false (sym (pending_from node jobs t k c.1 (omega (arith, l.1)))
+          ∙ none_pending node jobs t k idle c.0)
 
-  settle : (t : ℕ) (s : Threads) → Agrees node jobs t s → (v : Threads) × Settles node jobs t s v × Agrees node jobs t v
+  settle : (t : ℕ) (s : Threads) → Agrees node jobs t s → (v : Threads) × Settles node jobs t s v
+      × Agrees node jobs t v
   settle t s h =
       let w = wake t s h (length jobs) (omega arith) in
-      elim (picked node jobs t) as (λ o. picked node jobs t ≡ o → (v : Threads) × Settles node jobs t s v × Agrees node jobs t v) [
-        | None ↦ λ idle. (w.0, (w.1.moves, w.1.are, settle_idle t w.0 w.1.agrees w.2 idle), w.1.agrees)
+      elim (picked node jobs t) as (λ o. picked node jobs t ≡ o → (v : Threads)
+      × Settles node jobs t s v × Agrees node jobs t v) [
+        | None ↦
+            λ idle. (w.0, (w.1.moves, w.1.are, settle_idle t w.0 w.1.agrees w.2 idle), w.1.agrees)
         | Some p ↦ λ pick. settle_busy t p (picked_is node jobs t p pick) s w.0 w.1 w.2
       ] refl
 
   -- a thread that isn't finished goes on
-  tick : (s : Threads) → (m : Threads) × IsTick WhereRaised node jobs s m × IsTick AnyWay node jobs s m
-  tick s = elim s.running as (λ o. s.running ≡ o → (m : Threads) × IsTick WhereRaised node jobs s m × IsTick AnyWay node jobs s m) [
-    | None ↦ λ nobody. (s, inl (nobody, refl), inl (nobody, refl))
-    | Some p ↦ λ runs. elim (cases_lt ((ticked s p).executed p) (job_at jobs p).executes) [
-      | inl left ↦ (
-        ticked s p,
-        inr (record { thread = p; was_running = runs; ends = λ done. absurd (omega arith); goes_on = λ more. inl refl }),
-        inr (record { thread = p; was_running = runs; ends = λ done. absurd (omega arith); goes_on = λ more. inl refl }),
-      )
-      | inr done ↦ (
-        record (ticked s p) { running = None },
-        inr (record { thread = p; was_running = runs; ends = λ over. refl; goes_on = λ more. absurd (omega arith) }),
-        inr (record { thread = p; was_running = runs; ends = λ over. refl; goes_on = λ more. absurd (omega arith) }),
-      )
-    ]
-  ] refl
+  tick : (s : Threads) → (m : Threads) × IsTick WhereRaised node jobs s m
+      × IsTick AnyWay node jobs s m
+  tick s = elim s.running as (λ o. s.running ≡ o → (m : Threads) × IsTick WhereRaised node jobs s m
+      × IsTick AnyWay node jobs s m) [
+        | None ↦ λ nobody. (s, inl (nobody, refl), inl (nobody, refl))
+        | Some p ↦ λ runs. elim (cases_lt ((ticked s p).executed p) (job_at jobs p).executes) [
+          | inl left ↦ (
+            ticked s p,
+            inr (record {
+              thread = p;
+              was_running = runs;
+              ends = λ done. absurd (omega arith);
+              goes_on =
+                  λ more. inl refl;
+            }),
+            inr (record {
+              thread = p;
+              was_running = runs;
+              ends = λ done. absurd (omega arith);
+              goes_on =
+                  λ more. inl refl;
+            }),
+          )
+          | inr done ↦ (
+            record (ticked s p) { running = None },
+            inr (record {
+              thread = p;
+              was_running = runs;
+              ends = λ over. refl;
+              goes_on =
+                  λ more. absurd (omega arith);
+            }),
+            inr (record {
+              thread = p;
+              was_running = runs;
+              ends = λ over. refl;
+              goes_on =
+                  λ more. absurd (omega arith);
+            }),
+          )
+        ]
+      ] refl
 
   -- ---- the run
   record State (t : ℕ) : Type 0 where
@@ -219,10 +340,12 @@ module _ (node : Node) (jobs : List Job) (ok : IsNode node) (legal : AreLegalJob
     pub rests : IsAtRest node jobs t threads
 
   settled : (t : ℕ) (s : Threads) → Agrees node jobs t s → State t
-  settled t s h = record { threads = (settle t s h).0; agrees = (settle t s h).2; rests = (settle t s h).1.2 }
+  settled t s h =
+      record { threads = (settle t s h).0; agrees = (settle t s h).2; rests = (settle t s h).1.2 }
 
   on : (t : ℕ) (x : State t) → Agrees node jobs (suc t) (tick x.threads).0
-  on t x = tick_keeps node jobs ok legal WhereRaised (empty_raised node jobs ok legal) t x.threads (tick x.threads).0 (by t) x.agrees x.rests (tick x.threads).1
+  on t x = tick_keeps node jobs ok legal WhereRaised (empty_raised node jobs ok legal) t x.threads
+      (tick x.threads).0 (by t) x.agrees x.rests (tick x.threads).1
 
   state : (t : ℕ) → State t
   state zero = settled 0 at_first (begins node jobs ok legal)
@@ -234,10 +357,18 @@ module _ (node : Node) (jobs : List Job) (ok : IsNode node) (legal : AreLegalJob
     λ t. (state t).threads,
     record {
       start = (settle 0 at_first (begins node jobs ok legal)).1;
-      next = λ t. ((tick (state t).threads).0, (tick (state t).threads).1, (settle (suc t) (tick (state t).threads).0 (on t (state t))).1);
+      next = λ t. (
+        (tick (state t).threads).0,
+        (tick (state t).threads).1,
+        (settle (suc t) (tick (state t).threads).0 (on t (state t))).1,
+      );
     },
     record {
       start = (settle 0 at_first (begins node jobs ok legal)).1;
-      next = λ t. ((tick (state t).threads).0, (tick (state t).threads).2, (settle (suc t) (tick (state t).threads).0 (on t (state t))).1);
+      next = λ t. (
+        (tick (state t).threads).0,
+        (tick (state t).threads).2,
+        (settle (suc t) (tick (state t).threads).0 (on t (state t))).1,
+      );
     },
   )

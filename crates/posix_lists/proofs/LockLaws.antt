@@ -1,5 +1,6 @@
 -- What a job holds after a tick in which it locks or unlocks.
-use Rattle.std.proofs.Common.{ℕ, suc, ◌+◌, ◌<◌, ◌≡◌, inl, inr, refl, sym, arith, true, false, ◌==◌, ◌||◌, max, List, [], ◌∷◌}
+use Rattle.std.proofs.Common.{ℕ, suc, ◌+◌, ◌<◌, ◌≡◌, inl, inr, refl, sym, arith, true, false, ◌==◌}
+use Rattle.std.proofs.Common.{◌||◌, max, List, [], ◌∷◌}
 use Rattle.std.proofs.lemmas.Bool.{cases_lt, cases_Bool, true≢false, or_cases, eqb-true}
 use Rattle.task_sheet.specs.Sheet.{CriticalSection}
 use Rattle.ceiling_kernel.specs.Tick.{Node, is_inside, held_ceiling}
@@ -17,7 +18,8 @@ held_start node (s ∷ ss) =
     rw out (omega arith)
 
 -- sections that begin later neither begin nor end in this tick
-later_changes : (begin x : ℕ) (ss : List CriticalSection) (e : ℕ) → AreApart begin ss x → e < begin → changes_locks ss e ≡ true → ⊥
+later_changes : (begin x : ℕ) (ss : List CriticalSection) (e : ℕ) → AreApart begin ss x → e < begin
+    → changes_locks ss e ≡ true → ⊥
 later_changes begin x [] e apart lt h = true≢false (sym h)
 later_changes begin x (s ∷ ss) e apart lt h =
     elim (or_cases ((s.at == e) || (s.at + s.len == e + 1)) (changes_locks ss e) h) [
@@ -29,7 +31,8 @@ later_changes begin x (s ∷ ss) e apart lt h =
     ]
 
 -- one that is inside of a section, and takes its sections one after the other, leaves it then
-pub left_after : (node : Node) (begin x : ℕ) (ss : List CriticalSection) (e : ℕ) → AreApart begin ss x → changes_locks ss e ≡ true → 0 < held_ceiling node ss e → held_ceiling node ss (suc e) ≡ 0
+pub left_after : (node : Node) (begin x : ℕ) (ss : List CriticalSection) (e : ℕ) → AreApart begin ss
+    x → changes_locks ss e ≡ true → 0 < held_ceiling node ss e → held_ceiling node ss (suc e) ≡ 0
 left_after node begin x [] e apart h some = absurd (omega arith)
 left_after node begin x (s ∷ ss) e apart h some =
     elim (cases_Bool (is_inside s e)) [
@@ -42,7 +45,8 @@ left_after node begin x (s ∷ ss) e apart h some =
               | inr ends ↦
                   let last : s.at + s.len ≡ e + 1 = eqb-true (s.at + s.len) (e + 1) ends in
                   let out : is_inside s (suc e) ≡ false = outside_after s (suc e) (omega arith) in
-                  let none : held_ceiling node ss (suc e) ≡ 0 = held_before node (s.at + s.len) x ss (suc e) apart.2 (omega arith) in
+                  let none : held_ceiling node ss (suc e) ≡ 0 =
+                  held_before node (s.at + s.len) x ss (suc e) apart.2 (omega arith) in
                   rw out (omega arith)
             ]
           ]
@@ -50,7 +54,8 @@ left_after node begin x (s ∷ ss) e apart h some =
           let some' : 0 < max 0 (held_ceiling node ss e) = rw outside at some in
           elim (cases_lt (s.at + s.len) e) [
             | inr before ↦
-                let none : held_ceiling node ss e ≡ 0 = held_before node (s.at + s.len) x ss e apart.2 before in
+                let none : held_ceiling node ss e ≡ 0 =
+                held_before node (s.at + s.len) x ss e apart.2 before in
                 absurd (omega arith)
             | inl past ↦
                 elim (or_cases ((s.at == e) || (s.at + s.len == e + 1)) (changes_locks ss e) h) [
@@ -59,8 +64,10 @@ left_after node begin x (s ∷ ss) e apart h some =
                     | inr ends ↦ absurd (omega (arith, eqb-true (s.at + s.len) (e + 1) ends))
                   ]
                   | inr later ↦
-                      let out : is_inside s (suc e) ≡ false = outside_after s (suc e) (omega arith) in
-                      let ih : held_ceiling node ss (suc e) ≡ 0 = left_after node (s.at + s.len) x ss e apart.2 later (omega arith) in
+                      let out : is_inside s (suc e) ≡ false =
+                      outside_after s (suc e) (omega arith) in
+                      let ih : held_ceiling node ss (suc e) ≡ 0 =
+                      left_after node (s.at + s.len) x ss e apart.2 later (omega arith) in
                       rw out (omega arith)
                 ]
           ]

@@ -1,5 +1,6 @@
 -- Lists of threads whose own levels rise from head to tail.
-use Rattle.std.proofs.Common.{ℕ, ◌<◌, ◌≡◌, ◌≢◌, ◌⊎◌, inl, inr, refl, sym, ap, ◌∙◌, subst, true, false, ◌==◌, List, [], ◌∷◌, ◌++◌, eqb}
+use Rattle.std.proofs.Common.{ℕ, ◌<◌, ◌≡◌, ◌≢◌, ◌⊎◌, inl, inr, refl, sym, ap, ◌∙◌, subst, true}
+use Rattle.std.proofs.Common.{false, ◌==◌, List, [], ◌∷◌, ◌++◌, eqb}
 use Rattle.std.proofs.lemmas.Bool.{cases_eq, cases_Bool, eq-eqb, ne_eqb}
 use Rattle.posix_lists.specs.ThreadLists.{with_head, with_tail, with_list}
 
@@ -41,12 +42,14 @@ module _ (level : ℕ → ℕ) where
   Rising [] = Unit {0}
   Rising (x ∷ xs) = IsBelow x xs × Rising xs
 
-  pub rising_longer : (xs : List ℕ) (j : ℕ) → Rising xs → ((k : ℕ) → In k xs → level k < level j) → Rising (xs ++ j ∷ [])
+  pub rising_longer : (xs : List ℕ) (j : ℕ) → Rising xs → ((k : ℕ) → In k xs → level k < level j)
+      → Rising (xs ++ j ∷ [])
   rising_longer [] j h below = (λ k never. absurd never, tt)
   rising_longer (x ∷ xs) j h below = (
     λ k at. elim (from_longer xs j k at) [
       | inl was ↦ h.0 k was
-      | inr e ↦ (let lt : level x < level j = below x (inl refl) in subst (λ y. level x < level y) e lt)
+      | inr e ↦
+          (let lt : level x < level j = below x (inl refl) in subst (λ y. level x < level y) e lt)
     ],
     rising_longer xs j h.1 (λ k at. below k (inr at)),
   )
@@ -82,7 +85,10 @@ module _ (list : ℕ → List ℕ) (a j : ℕ) where
 
   pub from_tail : (q k : ℕ) → In k (with_tail list a j q) → In k (list q) ⊎ ((a ≡ q) × (j ≡ k))
   from_tail q k h = elim (cases_eq a q) [
-    | inl e ↦ elim (from_longer (list q) j k (subst (In k) (tail_here q e) h)) [ inl was ↦ inl was | inr own ↦ inr (e, own) ]
+    | inl e ↦ elim (from_longer (list q) j k (subst (In k) (tail_here q e) h)) [
+      | inl was ↦ inl was
+      | inr own ↦ inr (e, own)
+    ]
     | inr ne ↦ inl (subst (In k) (tail_else q ne) h)
   ]
 
@@ -100,19 +106,22 @@ module _ (list : ℕ → List ℕ) (a j : ℕ) where
   head_is_tail none q = elim (cases_eq a q) [
     | inl e ↦
         let here : list q ≡ [] = sym (ap list e) ∙ none in
-        head_here q e ∙ (ap (λ xs. j ∷ xs) here ∙ (sym (ap (λ xs. xs ++ j ∷ []) here) ∙ sym (tail_here q e)))
+        head_here q e
+        ∙ (ap (λ xs. j ∷ xs) here ∙ (sym (ap (λ xs. xs ++ j ∷ []) here) ∙ sym (tail_here q e)))
     | inr ne ↦ head_else q ne ∙ sym (tail_else q ne)
   ]
 
   -- the head of a list, put back there
-  pub head_back : (rest : List ℕ) → list a ≡ j ∷ rest → (q : ℕ) → list q ≡ with_head (with_list list a rest) a j q
+  pub head_back : (rest : List ℕ) → list a ≡ j ∷ rest → (q : ℕ)
+      → list q ≡ with_head (with_list list a rest) a j q
   head_back rest head q = elim (cases_eq a q) [
     | inl e ↦ (let t : eqb a q ≡ true = eq-eqb a q e in rw t (sym (ap list e) ∙ head))
     | inr ne ↦ (let f : eqb a q ≡ false = ne_eqb a q ne in rw f)
   ]
 
 -- one that comes to a tail, and one that stands before a head
-pub tail_behind_head : (list : ℕ → List ℕ) (a j b p q : ℕ) → with_tail (with_head list b p) a j q ≡ with_head (with_tail list a j) b p q
+pub tail_behind_head : (list : ℕ → List ℕ) (a j b p q : ℕ)
+    → with_tail (with_head list b p) a j q ≡ with_head (with_tail list a j) b p q
 tail_behind_head list a j b p q = elim (cases_Bool (a == q)) [
   | inl ta ↦ elim (cases_Bool (b == q)) [ inl tb ↦ rw (ta, tb) | inr fb ↦ rw (ta, fb) ]
   | inr fa ↦ elim (cases_Bool (b == q)) [ inl tb ↦ rw (fa, tb) | inr fb ↦ rw (fa, fb) ]

@@ -1,25 +1,35 @@
 -- Lists with the running thread at the head of its own: what they keep from tick to tick, and whom the tick rule picks.
-use Rattle.std.proofs.Common.{ℕ, suc, ◌+◌, ◌<◌, ◌≤◌, ◌≡◌, ◌≢◌, inl, inr, refl, sym, ap, ◌∙◌, subst, arith, Bool, true, false, ◌==◌, if◌then◌else◌, max, List, [], length, Some, None, eqb}
-use Rattle.std.proofs.lemmas.Bool.{cases_eq, cases_lt, cases_Bool, cases_order, true≢false, eq-eqb, ne_eqb}
-use Rattle.ceiling_kernel.specs.Tick.{Node, Job, job_at, level_of_job, is_pending, active_of, held_ceiling, ceiling, executed_before, picked}
+use Rattle.std.proofs.Common.{ℕ, suc, ◌+◌, ◌<◌, ◌≤◌, ◌≡◌, ◌≢◌, inl, inr, refl, sym, ap, ◌∙◌, subst}
+use Rattle.std.proofs.Common.{arith, Bool, true, false, ◌==◌, if◌then◌else◌, max, List, [], length}
+use Rattle.std.proofs.Common.{Some, None, eqb}
+use Rattle.std.proofs.lemmas.Bool.{cases_eq, cases_lt, cases_Bool, cases_order, true≢false, eq-eqb}
+use Rattle.std.proofs.lemmas.Bool.{ne_eqb}
+use Rattle.ceiling_kernel.specs.Tick.{Node, Job, job_at, level_of_job, is_pending, active_of}
+use Rattle.ceiling_kernel.specs.Tick.{held_ceiling, ceiling, executed_before, picked}
 use Rattle.ceiling_kernel.specs.Waits.{IsNode, AreLegalJobs, NoOverrunBy}
 use Rattle.ceiling_kernel.proofs.NodeLaws.{IsSound, sound}
 use Rattle.ceiling_kernel.proofs.BehaviourLaws.{spans_of, uses_of}
 use Rattle.ceiling_kernel.proofs.PickLaws.{best_is, best_none_is}
-use Rattle.ceiling_kernel.proofs.MachineLaws.{idle_of, own_of, other_of, pending_from, pending_parts}
+use Rattle.ceiling_kernel.proofs.MachineLaws.{idle_of, own_of, other_of, pending_from}
+use Rattle.ceiling_kernel.proofs.MachineLaws.{pending_parts}
 use Rattle.ceiling_kernel.proofs.LockLaws.{some_names}
 use Rattle.ceiling_kernel.proofs.NestLaws.{none_below, two_pending}
 use Rattle.posix_lists.specs.ThreadLists.{with_head, with_tail}
 use Rattle.posix_lists.proofs.LockLaws.{held_start}
-use Rattle.posix_lists.proofs.QueueLaws.{In, none_in, IsBelow, Rising, rising_longer, head_here, head_else, tail_here, tail_else, from_head, to_head, own_head, from_tail, to_tail, own_tail}
+use Rattle.posix_lists.proofs.QueueLaws.{In, none_in, IsBelow, Rising, rising_longer, head_here}
+use Rattle.posix_lists.proofs.QueueLaws.{head_else, tail_here, tail_else, from_head, to_head}
+use Rattle.posix_lists.proofs.QueueLaws.{own_head, from_tail, to_tail, own_tail}
 
 -- at tick t each list has the pending threads of its priority, by rising own level
-pub record Queued (node : Node) (jobs : List Job) (t : ℕ) (ex : ℕ → ℕ) (come : ℕ → Bool) (list : ℕ → List ℕ) : Type 0 where
+pub record Queued (node : Node) (jobs : List Job) (t : ℕ) (ex : ℕ → ℕ) (come : ℕ → Bool)
+    (list : ℕ → List ℕ) : Type 0 where
   pub executed : (j : ℕ) → ex j ≡ executed_before node jobs t j
   pub came : (j : ℕ) → come j ≡ true → (j < length jobs) × ((job_at jobs j).ready ≤ t)
   pub fresh : (j : ℕ) → come j ≡ false → ex j ≡ 0
-  pub listed : (q j : ℕ) → In j (list q) → (come j ≡ true) × (ex j < (job_at jobs j).executes) × (active_of node jobs ex j ≡ q)
-  pub complete : (j : ℕ) → come j ≡ true → ex j < (job_at jobs j).executes → In j (list (active_of node jobs ex j))
+  pub listed : (q j : ℕ) → In j (list q) → (come j ≡ true) × (ex j < (job_at jobs j).executes)
+      × (active_of node jobs ex j ≡ q)
+  pub complete : (j : ℕ) → come j ≡ true → ex j < (job_at jobs j).executes
+      → In j (list (active_of node jobs ex j))
   pub rising : (q : ℕ) → Rising (level_of_job node jobs) (list q)
 
 -- one tick more of thread p
@@ -28,11 +38,13 @@ one_on ex p j = if p == j then ex j + 1 else ex j
 
 -- each thread that is due has come
 abbrev pub AllCame : List Job → ℕ → (ℕ → Bool) → Type 0
-AllCame jobs t come = (j : ℕ) → j < length jobs → (job_at jobs j).ready ≤ t → 0 < (job_at jobs j).executes → come j ≡ true
+AllCame jobs t come = (j : ℕ) → j < length jobs → (job_at jobs j).ready ≤ t
+    → 0 < (job_at jobs j).executes → come j ≡ true
 
 module _ (node : Node) (jobs : List Job) where
   -- the same lists, said otherwise
-  pub queued_same : (t : ℕ) (ex : ℕ → ℕ) (come : ℕ → Bool) (v w : ℕ → List ℕ) → ((q : ℕ) → v q ≡ w q) → Queued node jobs t ex come v → Queued node jobs t ex come w
+  pub queued_same : (t : ℕ) (ex : ℕ → ℕ) (come : ℕ → Bool) (v w : ℕ → List ℕ)
+      → ((q : ℕ) → v q ≡ w q) → Queued node jobs t ex come v → Queued node jobs t ex come w
   queued_same t ex come v w same qd = record {
     executed = qd.executed;
     came = qd.came;
@@ -43,37 +55,48 @@ module _ (node : Node) (jobs : List Job) where
   }
 
   -- the priority of a thread depends on what it has executed
-  pub active_same : (ex ex' : ℕ → ℕ) (j : ℕ) → ex j ≡ ex' j → active_of node jobs ex j ≡ active_of node jobs ex' j
-  active_same ex ex' j e = ap (λ n. max (level_of_job node jobs j) (held_ceiling node (job_at jobs j).sections n)) e
+  pub active_same : (ex ex' : ℕ → ℕ) (j : ℕ) → ex j ≡ ex' j
+      → active_of node jobs ex j ≡ active_of node jobs ex' j
+  active_same ex ex' j e =
+      ap (λ n. max (level_of_job node jobs j) (held_ceiling node (job_at jobs j).sections n)) e
 
 module _ (node : Node) (jobs : List Job) (ok : IsNode node) (legal : AreLegalJobs node jobs) where
   valid : IsSound node
   valid = sound node ok
 
-  uses_own : (j : ℕ) (r : List ℕ) → some_names (job_at jobs j).sections r ≡ true → level_of_job node jobs j ≤ ceiling node r
-  uses_own j r names = valid.users_below (job_at jobs j).task r (uses_of node jobs legal.within j r names)
+  uses_own : (j : ℕ) (r : List ℕ) → some_names (job_at jobs j).sections r ≡ true
+      → level_of_job node jobs j ≤ ceiling node r
+  uses_own j r names =
+      valid.users_below (job_at jobs j).task r (uses_of node jobs legal.within j r names)
 
   -- two pending jobs have different levels
-  apart : (t : ℕ) (ex : ℕ → ℕ) → ((j : ℕ) → ex j ≡ executed_before node jobs t j) → NoOverrunBy node jobs t → (j k : ℕ) → j ≢ k
+  apart : (t : ℕ) (ex : ℕ → ℕ) → ((j : ℕ) → ex j ≡ executed_before node jobs t j)
+      → NoOverrunBy node jobs t → (j k : ℕ) → j ≢ k
       → j < length jobs → (job_at jobs j).ready ≤ t → ex j < (job_at jobs j).executes
       → k < length jobs → (job_at jobs k).ready ≤ t → ex k < (job_at jobs k).executes
       → level_of_job node jobs j ≢ level_of_job node jobs k
   apart t ex executed none j k ne jl jr ju kl kr ku same =
-      let task : (job_at jobs j).task ≡ (job_at jobs k).task = valid.levels_differ (job_at jobs j).task (job_at jobs k).task (legal.known j jl) (legal.known k kl) same in
+      let task : (job_at jobs j).task ≡ (job_at jobs k).task = valid.levels_differ
+      (job_at jobs j).task (job_at jobs k).task (legal.known j jl) (legal.known k kl) same in
       let ej : ex j ≡ executed_before node jobs t j = executed j in
       let ek : ex k ≡ executed_before node jobs t k = executed k in
       elim (cases_order j k) [
         | inl e ↦ ne e
         | inr differ ↦ elim differ [
-          | inl before ↦ two_pending node jobs valid legal.known (spans_of node jobs legal.within) uses_own t j k before kl none task kr (omega arith)
-          | inr after ↦ two_pending node jobs valid legal.known (spans_of node jobs legal.within) uses_own t k j after jl none (sym task) jr (omega arith)
+          | inl before ↦ two_pending node jobs valid legal.known (spans_of node jobs legal.within)
+              uses_own t j k before kl none task kr (omega arith)
+          | inr after ↦ two_pending node jobs valid legal.known (spans_of node jobs legal.within)
+              uses_own t k j after jl none (sym task) jr (omega arith)
         ]
       ]
 
   -- a thread becomes runnable
-  pub wakes : (t : ℕ) (ex : ℕ → ℕ) (come : ℕ → Bool) (list : ℕ → List ℕ) → Queued node jobs t ex come list → NoOverrunBy node jobs t
-      → (j : ℕ) → j < length jobs → (job_at jobs j).ready ≤ t → 0 < (job_at jobs j).executes → come j ≡ false
-      → Queued node jobs t ex (λ k. if j == k then true else come k) (with_tail list (active_of node jobs ex j) j)
+  pub wakes : (t : ℕ) (ex : ℕ → ℕ) (come : ℕ → Bool) (list : ℕ → List ℕ)
+      → Queued node jobs t ex come list → NoOverrunBy node jobs t
+      → (j : ℕ) → j < length jobs → (job_at jobs j).ready ≤ t → 0 < (job_at jobs j).executes
+      → come j ≡ false
+      → Queued node jobs t ex (λ k. if j == k then true else come k)
+      (with_tail list (active_of node jobs ex j) j)
   wakes t ex come list qd none j lt due some blocked = record {
     executed = qd.executed;
     came = λ k c. elim (cases_eq j k) [
@@ -81,20 +104,30 @@ module _ (node : Node) (jobs : List Job) (ok : IsNode node) (legal : AreLegalJob
       | inr ne ↦ (let f : eqb j k ≡ false = ne_eqb j k ne in qd.came k (rw f at c))
     ];
     fresh = λ k c. elim (cases_eq j k) [
-      | inl e ↦ (let b : eqb j k ≡ true = eq-eqb j k e in let wrong : true ≡ false = rw b at c in absurd (true≢false wrong))
+      | inl e ↦ (let b : eqb j k ≡ true = eq-eqb j k e in let wrong : true ≡ false = rw b at c in
+          absurd (true≢false wrong))
       | inr ne ↦ (let f : eqb j k ≡ false = ne_eqb j k ne in qd.fresh k (rw f at c))
     ];
     listed = λ q k at. elim (from_tail list (active_of node jobs ex j) j q k at) [
-      | inl was ↦ (let s : (come k ≡ true) × (ex k < (job_at jobs k).executes) × (active_of node jobs ex k ≡ q) = qd.listed q k was in (still k s.0, s.1, s.2))
-      | inr own ↦ subst (λ x. ((if j == x then true else come x) ≡ true) × (ex x < (job_at jobs x).executes) × (active_of node jobs ex x ≡ q)) own.1 (has_come, pending, own.0)
+      | inl was ↦ (let s : (come k ≡ true) × (ex k < (job_at jobs k).executes)
+          × (active_of node jobs ex k ≡ q) = qd.listed q k was in (still k s.0, s.1, s.2))
+      | inr own ↦ subst (λ x. ((if j == x then true else come x) ≡ true)
+          × (ex x < (job_at jobs x).executes) × (active_of node jobs ex x ≡ q)) own.1
+          (has_come, pending, own.0)
     ];
     complete = λ k c u. elim (cases_eq j k) [
-      | inl e ↦ subst (λ x. In x (with_tail list (active_of node jobs ex j) j (active_of node jobs ex x))) e (own_tail list (active_of node jobs ex j) j)
-      | inr ne ↦ (let f : eqb j k ≡ false = ne_eqb j k ne in to_tail list (active_of node jobs ex j) j (active_of node jobs ex k) k (qd.complete k (rw f at c) u))
+      | inl e ↦
+          subst (λ x. In x (with_tail list (active_of node jobs ex j) j (active_of node jobs ex x)))
+          e (own_tail list (active_of node jobs ex j) j)
+      | inr ne ↦ (let f : eqb j k ≡ false = ne_eqb j k ne in to_tail list (active_of node jobs ex j)
+          j (active_of node jobs ex k) k (qd.complete k (rw f at c) u))
     ];
     rising = λ q. elim (cases_eq (active_of node jobs ex j) q) [
-      | inl e ↦ subst (Rising (level_of_job node jobs)) (sym (tail_here list (active_of node jobs ex j) j q e)) (rising_longer (level_of_job node jobs) (list q) j (qd.rising q) (λ k at. below q k e at))
-      | inr ne ↦ subst (Rising (level_of_job node jobs)) (sym (tail_else list (active_of node jobs ex j) j q ne)) (qd.rising q)
+      | inl e ↦ subst (Rising (level_of_job node jobs))
+          (sym (tail_here list (active_of node jobs ex j) j q e))
+          (rising_longer (level_of_job node jobs) (list q) j (qd.rising q) (λ k at. below q k e at))
+      | inr ne ↦ subst (Rising (level_of_job node jobs))
+          (sym (tail_else list (active_of node jobs ex j) j q ne)) (qd.rising q)
     ];
   }
     where
@@ -110,42 +143,59 @@ module _ (node : Node) (jobs : List Job) (ok : IsNode node) (legal : AreLegalJob
       -- it holds nothing
       own_level : active_of node jobs ex j ≡ level_of_job node jobs j
       own_level =
-          let e : held_ceiling node (job_at jobs j).sections (ex j) ≡ held_ceiling node (job_at jobs j).sections 0 = ap (held_ceiling node (job_at jobs j).sections) (qd.fresh j blocked) in
-          let h : held_ceiling node (job_at jobs j).sections 0 ≡ 0 = held_start node (job_at jobs j).sections in
+          let e : held_ceiling node (job_at jobs j).sections (ex j)
+          ≡ held_ceiling node (job_at jobs j).sections 0 =
+          ap (held_ceiling node (job_at jobs j).sections) (qd.fresh j blocked) in
+          let h : held_ceiling node (job_at jobs j).sections 0 ≡ 0 =
+          held_start node (job_at jobs j).sections in
           omega arith
 
-      below : (q k : ℕ) → active_of node jobs ex j ≡ q → In k (list q) → level_of_job node jobs k < level_of_job node jobs j
+      below : (q k : ℕ) → active_of node jobs ex j ≡ q → In k (list q)
+          → level_of_job node jobs k < level_of_job node jobs j
       below q k e at =
-          let s : (come k ≡ true) × (ex k < (job_at jobs k).executes) × (active_of node jobs ex k ≡ q) = qd.listed q k at in
+          let s : (come k ≡ true) × (ex k < (job_at jobs k).executes)
+          × (active_of node jobs ex k ≡ q) = qd.listed q k at in
           let c : (k < length jobs) × ((job_at jobs k).ready ≤ t) = qd.came k s.0 in
           let other : k ≢ j = λ same. true≢false (sym s.0 ∙ (ap come same ∙ blocked)) in
-          let ne : level_of_job node jobs k ≢ level_of_job node jobs j = apart t ex qd.executed none k j other c.0 c.1 s.1 lt due pending in
+          let ne : level_of_job node jobs k ≢ level_of_job node jobs j =
+          apart t ex qd.executed none k j other c.0 c.1 s.1 lt due pending in
           let own : active_of node jobs ex j ≡ level_of_job node jobs j = own_level in
           let top : active_of node jobs ex k ≡ q = s.2 in
-          elim (cases_eq (level_of_job node jobs k) (level_of_job node jobs j)) [ inl same ↦ absurd (ne same) | inr differ ↦ omega arith ]
+          elim (cases_eq (level_of_job node jobs k) (level_of_job node jobs j)) [
+            | inl same ↦
+                absurd (ne same)
+            | inr differ ↦ omega arith
+          ]
 
   -- ---- the pick
-  pub idle_pick : (t : ℕ) (ex : ℕ → ℕ) (come : ℕ → Bool) (list : ℕ → List ℕ) → Queued node jobs t ex come list → AllCame jobs t come → ((q : ℕ) → list q ≡ []) → picked node jobs t ≡ None
+  pub idle_pick : (t : ℕ) (ex : ℕ → ℕ) (come : ℕ → Bool) (list : ℕ → List ℕ) → Queued node jobs t ex
+      come list → AllCame jobs t come → ((q : ℕ) → list q ≡ []) → picked node jobs t ≡ None
   unfolding picked
   idle_pick t ex come list qd all empty =
-      best_none_is (is_pending jobs (executed_before node jobs t) t) (active_of node jobs (executed_before node jobs t)) (level_of_job node jobs) (length jobs)
+      best_none_is (is_pending jobs (executed_before node jobs t) t)
+      (active_of node jobs (executed_before node jobs t)) (level_of_job node jobs) (length jobs)
       (λ k lt. elim (cases_Bool (is_pending jobs (executed_before node jobs t) t k)) [
         | inr rests ↦ rests
         | inl waits ↦
-            let pp : ((job_at jobs k).ready ≤ t) × (executed_before node jobs t k < (job_at jobs k).executes) = pending_parts node jobs t k waits in
+            let pp : ((job_at jobs k).ready ≤ t)
+            × (executed_before node jobs t k < (job_at jobs k).executes) =
+            pending_parts node jobs t k waits in
             let e : ex k ≡ executed_before node jobs t k = qd.executed k in
             let c : come k ≡ true = all k lt pp.0 (omega (arith, pp.1)) in
-            absurd (none_in (list (active_of node jobs ex k)) k (empty (active_of node jobs ex k)) (qd.complete k c (omega (arith, pp.1))))
+            absurd (none_in (list (active_of node jobs ex k)) k (empty (active_of node jobs ex k))
+            (qd.complete k c (omega (arith, pp.1))))
       ])
 
   -- ---- thread p runs, and stands at the head of its list
-  module _ (t : ℕ) (ex : ℕ → ℕ) (come : ℕ → Bool) (list : ℕ → List ℕ) (p : ℕ) (qd : Queued node jobs t ex come (with_head list (active_of node jobs ex p) p))
+  module _ (t : ℕ) (ex : ℕ → ℕ) (come : ℕ → Bool) (list : ℕ → List ℕ) (p : ℕ)
+      (qd : Queued node jobs t ex come (with_head list (active_of node jobs ex p) p))
       (highest : (q : ℕ) → active_of node jobs ex p < q → list q ≡ []) where
     abbrev pub a : ℕ
     a = active_of node jobs ex p
 
     -- it is pending
-    own : (come p ≡ true) × (ex p < (job_at jobs p).executes) × (active_of node jobs ex p ≡ active_of node jobs ex p)
+    own : (come p ≡ true) × (ex p < (job_at jobs p).executes)
+        × (active_of node jobs ex p ≡ active_of node jobs ex p)
     own = qd.listed a p (own_head list a p)
 
     first : IsBelow (level_of_job node jobs) p (list a) × Rising (level_of_job node jobs) (list a)
@@ -154,7 +204,8 @@ module _ (node : Node) (jobs : List Job) (ok : IsNode node) (legal : AreLegalJob
     -- it stands nowhere else
     nowhere : (q : ℕ) → In p (list q) → ⊥
     nowhere q at =
-        let s : (come p ≡ true) × (ex p < (job_at jobs p).executes) × (active_of node jobs ex p ≡ q) = qd.listed q p (to_head list a p q p at) in
+        let s : (come p ≡ true) × (ex p < (job_at jobs p).executes)
+        × (active_of node jobs ex p ≡ q) = qd.listed q p (to_head list a p q p at) in
         let here : In p (list a) = subst (λ x. In p (list x)) (sym s.2) at in
         let lt : level_of_job node jobs p < level_of_job node jobs p = first.0 p here in
         omega arith
@@ -165,7 +216,8 @@ module _ (node : Node) (jobs : List Job) (ok : IsNode node) (legal : AreLegalJob
       | inr ne ↦ subst (Rising (level_of_job node jobs)) (head_else list a p q ne) (qd.rising q)
     ]
 
-    of_rest : (q k : ℕ) → In k (list q) → (come k ≡ true) × (ex k < (job_at jobs k).executes) × (active_of node jobs ex k ≡ q)
+    of_rest : (q k : ℕ) → In k (list q) → (come k ≡ true) × (ex k < (job_at jobs k).executes)
+        × (active_of node jobs ex k ≡ q)
     of_rest q k at = qd.listed q k (to_head list a p q k at)
 
     pub running_pick : AllCame jobs t come → picked node jobs t ≡ Some p
@@ -174,22 +226,31 @@ module _ (node : Node) (jobs : List Job) (ok : IsNode node) (legal : AreLegalJob
         let c : (p < length jobs) × ((job_at jobs p).ready ≤ t) = qd.came p own.0 in
         let ep : ex p ≡ executed_before node jobs t p = qd.executed p in
         let unfinished : ex p < (job_at jobs p).executes = own.1 in
-        best_is (is_pending jobs (executed_before node jobs t) t) (active_of node jobs (executed_before node jobs t)) (level_of_job node jobs) (length jobs) p c.0 (pending_from node jobs t p c.1 (omega arith))
+        best_is (is_pending jobs (executed_before node jobs t) t)
+        (active_of node jobs (executed_before node jobs t)) (level_of_job node jobs)
+        (length jobs) p c.0 (pending_from node jobs t p c.1 (omega arith))
         (λ k lt waits other.
-        let pp : ((job_at jobs k).ready ≤ t) × (executed_before node jobs t k < (job_at jobs k).executes) = pending_parts node jobs t k waits in
+        let pp : ((job_at jobs k).ready ≤ t)
+        × (executed_before node jobs t k < (job_at jobs k).executes) =
+        pending_parts node jobs t k waits in
         let ek : ex k ≡ executed_before node jobs t k = qd.executed k in
         let ck : come k ≡ true = all k lt pp.0 (omega (arith, pp.1)) in
-        let ap_ : active_of node jobs ex p ≡ active_of node jobs (executed_before node jobs t) p = active_same node jobs ex (executed_before node jobs t) p ep in
-        let ak : active_of node jobs ex k ≡ active_of node jobs (executed_before node jobs t) k = active_same node jobs ex (executed_before node jobs t) k ek in
-        elim (from_head list a p (active_of node jobs ex k) k (qd.complete k ck (omega (arith, pp.1)))) [
+        let ap_ : active_of node jobs ex p ≡ active_of node jobs (executed_before node jobs t) p =
+        active_same node jobs ex (executed_before node jobs t) p ep in
+        let ak : active_of node jobs ex k ≡ active_of node jobs (executed_before node jobs t) k =
+        active_same node jobs ex (executed_before node jobs t) k ek in
+        elim (from_head list a p (active_of node jobs ex k) k
+        (qd.complete k ck (omega (arith, pp.1)))) [
           | inr mine ↦ absurd (other (sym mine.1))
           | inl at ↦ elim (cases_order (active_of node jobs ex k) (active_of node jobs ex p)) [
             | inl tied ↦
-                let lower : level_of_job node jobs p < level_of_job node jobs k = first.0 k (subst (λ x. In k (list x)) tied at) in
+                let lower : level_of_job node jobs p < level_of_job node jobs k =
+                first.0 k (subst (λ x. In k (list x)) tied at) in
                 inr (sym ak ∙ (tied ∙ ap_), lower)
             | inr differ ↦ elim differ [
               | inl less ↦ inl (omega arith)
-              | inr more ↦ absurd (none_in (list (active_of node jobs ex k)) k (highest (active_of node jobs ex k) more) at)
+              | inr more ↦ absurd (none_in (list (active_of node jobs ex k)) k
+                  (highest (active_of node jobs ex k) more) at)
             ]
           ]
         ])
@@ -201,21 +262,26 @@ module _ (node : Node) (jobs : List Job) (ok : IsNode node) (legal : AreLegalJob
     other_tick : (j : ℕ) → p ≢ j → one_on ex p j ≡ ex j
     other_tick j ne = (let b : eqb p j ≡ false = ne_eqb p j ne in rw b)
 
-    executed_on : picked node jobs t ≡ Some p → (j : ℕ) → one_on ex p j ≡ executed_before node jobs (suc t) j
+    executed_on : picked node jobs t ≡ Some p → (j : ℕ)
+        → one_on ex p j ≡ executed_before node jobs (suc t) j
     executed_on pick j =
         let e : ex j ≡ executed_before node jobs t j = qd.executed j in
         elim (cases_eq p j) [
           | inl same ↦
               let b : eqb p j ≡ true = eq-eqb p j same in
-              let more : executed_before node jobs (suc t) j ≡ suc (executed_before node jobs t j) = subst (λ x. executed_before node jobs (suc t) x ≡ suc (executed_before node jobs t x)) same (own_of node jobs t p pick) in
+              let more : executed_before node jobs (suc t) j ≡ suc (executed_before node jobs t j) =
+              subst (λ x. executed_before node jobs (suc t) x
+              ≡ suc (executed_before node jobs t x)) same (own_of node jobs t p pick) in
               rw b (omega arith)
           | inr ne ↦
-              let rests : executed_before node jobs (suc t) j ≡ executed_before node jobs t j = other_of node jobs t p j pick (λ same. ne (sym same)) in
+              let rests : executed_before node jobs (suc t) j ≡ executed_before node jobs t j =
+              other_of node jobs t p j pick (λ same. ne (sym same)) in
               other_tick j ne ∙ (e ∙ sym rests)
         ]
 
     came_on : (j : ℕ) → come j ≡ true → (j < length jobs) × ((job_at jobs j).ready ≤ suc t)
-    came_on j c = (let b : (j < length jobs) × ((job_at jobs j).ready ≤ t) = qd.came j c in (b.0, omega (arith, b.1)))
+    came_on j c = (let b : (j < length jobs) × ((job_at jobs j).ready ≤ t) = qd.came j c in
+        (b.0, omega (arith, b.1)))
 
     fresh_on : (j : ℕ) → come j ≡ false → one_on ex p j ≡ 0
     fresh_on j c =
@@ -223,26 +289,37 @@ module _ (node : Node) (jobs : List Job) (ok : IsNode node) (legal : AreLegalJob
         other_tick j ne ∙ qd.fresh j c
 
     -- the others stand where they stood
-    rest_on : (q k : ℕ) → In k (list q) → (come k ≡ true) × (one_on ex p k < (job_at jobs k).executes) × (active_of node jobs (one_on ex p) k ≡ q)
+    rest_on : (q k : ℕ) → In k (list q) → (come k ≡ true)
+        × (one_on ex p k < (job_at jobs k).executes) × (active_of node jobs (one_on ex p) k ≡ q)
     rest_on q k at =
         let ne : p ≢ k = λ same. nowhere q (subst (λ x. In x (list q)) (sym same) at) in
-        let s : (come k ≡ true) × (ex k < (job_at jobs k).executes) × (active_of node jobs ex k ≡ q) = of_rest q k at in
-        let e : one_on ex p k ≡ ex k = other_tick k ne in
-        (s.0, subst (λ n. n < (job_at jobs k).executes) (sym e) s.1, active_same node jobs (one_on ex p) ex k e ∙ s.2)
+        let s : (come k ≡ true) × (ex k < (job_at jobs k).executes)
+        × (active_of node jobs ex k ≡ q) = of_rest q k at in
+        let e : one_on ex p k ≡ ex k = other_tick k ne in (
+          s.0,
+          subst (λ n. n < (job_at jobs k).executes) (sym e) s.1,
+          active_same node jobs
+              (one_on ex p) ex k e ∙ s.2,
+        )
 
-    other_in : (k : ℕ) → p ≢ k → come k ≡ true → one_on ex p k < (job_at jobs k).executes → In k (list (active_of node jobs (one_on ex p) k))
+    other_in : (k : ℕ) → p ≢ k → come k ≡ true → one_on ex p k < (job_at jobs k).executes
+        → In k (list (active_of node jobs (one_on ex p) k))
     other_in k ne c u =
         let e : one_on ex p k ≡ ex k = other_tick k ne in
-        let at : In k (with_head list a p (active_of node jobs ex k)) = qd.complete k c (subst (λ n. n < (job_at jobs k).executes) e u) in
+        let at : In k (with_head list a p (active_of node jobs ex k)) =
+        qd.complete k c (subst (λ n. n < (job_at jobs k).executes) e u) in
         elim (from_head list a p (active_of node jobs ex k) k at) [
-          | inl was ↦ subst (λ q. In k (list q)) (sym (active_same node jobs (one_on ex p) ex k e)) was
+          | inl was ↦ subst (λ q. In k (list q))
+              (sym (active_same node jobs (one_on ex p) ex k e)) was
           | inr mine ↦ absurd (ne mine.1)
         ]
 
     -- its own level is below that of all in its list
-    pub below_on : NoOverrunBy node jobs t → (q k : ℕ) → active_of node jobs (one_on ex p) p ≡ q → In k (list q) → level_of_job node jobs p < level_of_job node jobs k
+    pub below_on : NoOverrunBy node jobs t → (q k : ℕ) → active_of node jobs (one_on ex p) p ≡ q
+        → In k (list q) → level_of_job node jobs p < level_of_job node jobs k
     below_on none q k at_q at =
-        let s : (come k ≡ true) × (ex k < (job_at jobs k).executes) × (active_of node jobs ex k ≡ q) = of_rest q k at in
+        let s : (come k ≡ true) × (ex k < (job_at jobs k).executes)
+        × (active_of node jobs ex k ≡ q) = of_rest q k at in
         let ne : p ≢ k = λ same. nowhere q (subst (λ x. In x (list q)) (sym same) at) in
         elim (cases_order (active_of node jobs ex p) q) [
           | inl same ↦ first.0 k (subst (λ x. In k (list x)) (sym same) at)
@@ -253,56 +330,77 @@ module _ (node : Node) (jobs : List Job) (ok : IsNode node) (legal : AreLegalJob
               | inr ge ↦
                   let cp : (p < length jobs) × ((job_at jobs p).ready ≤ t) = qd.came p own.0 in
                   let ck : (k < length jobs) × ((job_at jobs k).ready ≤ t) = qd.came k s.0 in
-                  let levels : level_of_job node jobs p ≢ level_of_job node jobs k = apart t ex qd.executed none p k ne cp.0 cp.1 own.1 ck.0 ck.1 s.1 in
-                  let less : level_of_job node jobs k < level_of_job node jobs p = elim (cases_eq (level_of_job node jobs p) (level_of_job node jobs k)) [ inl e ↦ absurd (levels e) | inr other ↦ omega arith ] in
-                  let hp : held_ceiling node (job_at jobs p).sections (ex p) ≡ held_ceiling node (job_at jobs p).sections (executed_before node jobs t p) = ap (held_ceiling node (job_at jobs p).sections) (qd.executed p) in
-                  let hk : held_ceiling node (job_at jobs k).sections (ex k) ≡ held_ceiling node (job_at jobs k).sections (executed_before node jobs t k) = ap (held_ceiling node (job_at jobs k).sections) (qd.executed k) in
+                  let levels : level_of_job node jobs p ≢ level_of_job node jobs k =
+                  apart t ex qd.executed none p k ne cp.0 cp.1 own.1 ck.0 ck.1 s.1 in
+                  let less : level_of_job node jobs k < level_of_job node jobs p =
+                  elim (cases_eq (level_of_job node jobs p) (level_of_job node jobs
+                  k)) [ inl e ↦ absurd (levels e) | inr other ↦ omega arith ] in
+                  let hp : held_ceiling node (job_at jobs p).sections (ex p)
+                  ≡ held_ceiling node (job_at jobs p).sections (executed_before node jobs t p) =
+                  ap (held_ceiling node (job_at jobs p).sections) (qd.executed p) in
+                  let hk : held_ceiling node (job_at jobs k).sections (ex k)
+                  ≡ held_ceiling node (job_at jobs k).sections (executed_before node jobs t k) =
+                  ap (held_ceiling node (job_at jobs k).sections) (qd.executed k) in
                   let top : active_of node jobs ex k ≡ q = s.2 in
-                  absurd (none_below node jobs valid legal.known (spans_of node jobs legal.within) uses_own t p k less (omega arith) (omega arith))
+                  absurd (none_below node jobs valid legal.known (spans_of node jobs legal.within)
+                  uses_own t p k less (omega arith) (omega arith))
             ]
           ]
         ]
 
     -- it isn't finished, and is put back to the head of its list
-    pub goes_on : NoOverrunBy node jobs t → picked node jobs t ≡ Some p → one_on ex p p < (job_at jobs p).executes
-        → Queued node jobs (suc t) (one_on ex p) come (with_head list (active_of node jobs (one_on ex p) p) p)
+    pub goes_on : NoOverrunBy node jobs t → picked node jobs t ≡ Some p
+        → one_on ex p p < (job_at jobs p).executes
+        → Queued node jobs (suc t) (one_on ex p) come
+        (with_head list (active_of node jobs (one_on ex p) p) p)
     goes_on none pick more = record {
       executed = executed_on pick;
       came = came_on;
       fresh = fresh_on;
       listed = λ q k at. elim (from_head list (active_of node jobs (one_on ex p) p) p q k at) [
         | inl was ↦ rest_on q k was
-        | inr mine ↦ subst (λ x. (come x ≡ true) × (one_on ex p x < (job_at jobs x).executes) × (active_of node jobs (one_on ex p) x ≡ q)) mine.1 (own.0, more, mine.0)
+        | inr mine ↦ subst (λ x. (come x ≡ true) × (one_on ex p x < (job_at jobs x).executes)
+            × (active_of node jobs (one_on ex p) x ≡ q)) mine.1 (own.0, more, mine.0)
       ];
       complete = λ k c u. elim (cases_eq p k) [
-        | inl e ↦ subst (λ x. In x (with_head list (active_of node jobs (one_on ex p) p) p (active_of node jobs (one_on ex p) x))) e (own_head list (active_of node jobs (one_on ex p) p) p)
-        | inr ne ↦ to_head list (active_of node jobs (one_on ex p) p) p (active_of node jobs (one_on ex p) k) k (other_in k ne c u)
+        | inl e ↦ subst (λ x. In x (with_head list (active_of node jobs (one_on ex p) p) p
+            (active_of node jobs (one_on ex p) x))) e
+            (own_head list (active_of node jobs (one_on ex p) p) p)
+        | inr ne ↦ to_head list (active_of node jobs (one_on ex p) p) p
+            (active_of node jobs (one_on ex p) k) k (other_in k ne c u)
       ];
       rising = λ q. elim (cases_eq (active_of node jobs (one_on ex p) p) q) [
-        | inl e ↦ subst (Rising (level_of_job node jobs)) (sym (head_here list (active_of node jobs (one_on ex p) p) p q e)) (λ k at. below_on none q k e at, rest_rising q)
-        | inr ne ↦ subst (Rising (level_of_job node jobs)) (sym (head_else list (active_of node jobs (one_on ex p) p) p q ne)) (rest_rising q)
+        | inl e ↦ subst (Rising (level_of_job node jobs))
+            (sym (head_here list (active_of node jobs (one_on ex p) p) p q e))
+            (λ k at. below_on none q k e at, rest_rising q)
+        | inr ne ↦ subst (Rising (level_of_job node jobs))
+            (sym (head_else list (active_of node jobs (one_on ex p) p) p q ne)) (rest_rising q)
       ];
     }
 
     -- it is finished
-    pub ends : picked node jobs t ≡ Some p → (job_at jobs p).executes ≤ one_on ex p p → Queued node jobs (suc t) (one_on ex p) come list
+    pub ends : picked node jobs t ≡ Some p → (job_at jobs p).executes ≤ one_on ex p p
+        → Queued node jobs (suc t) (one_on ex p) come list
     ends pick done = record {
       executed = executed_on pick;
       came = came_on;
       fresh = fresh_on;
       listed = rest_on;
       complete = λ k c u. elim (cases_eq p k) [
-        | inl e ↦ (let u' : one_on ex p p < (job_at jobs p).executes = subst (λ x. one_on ex p x < (job_at jobs x).executes) (sym e) u in absurd (omega arith))
+        | inl e ↦ (let u' : one_on ex p p < (job_at jobs p).executes =
+            subst (λ x. one_on ex p x < (job_at jobs x).executes) (sym e) u in absurd (omega arith))
         | inr ne ↦ other_in k ne c u
       ];
       rising = rest_rising;
     }
 
   -- nobody runs
-  pub idles : (t : ℕ) (ex : ℕ → ℕ) (come : ℕ → Bool) (list : ℕ → List ℕ) → Queued node jobs t ex come list → picked node jobs t ≡ None → Queued node jobs (suc t) ex come list
+  pub idles : (t : ℕ) (ex : ℕ → ℕ) (come : ℕ → Bool) (list : ℕ → List ℕ) → Queued node jobs t ex
+      come list → picked node jobs t ≡ None → Queued node jobs (suc t) ex come list
   idles t ex come list qd none = record {
     executed = λ j. qd.executed j ∙ sym (idle_of node jobs t j none);
-    came = λ j c. (let b : (j < length jobs) × ((job_at jobs j).ready ≤ t) = qd.came j c in (b.0, omega (arith, b.1)));
+    came = λ j c. (let b : (j < length jobs) × ((job_at jobs j).ready ≤ t) = qd.came j c in
+        (b.0, omega (arith, b.1)));
     fresh = qd.fresh;
     listed = qd.listed;
     complete = qd.complete;

@@ -1,23 +1,31 @@
 -- Where a limit-monotonic order of a set by limits passes, the best order is limit-monotonic.
-use Rattle.std.proofs.Common.{◌≡◌, ℕ, ◌<◌, ◌≤◌, inl, inr, true, false, ◌==◌, List, [], ◌∷◌, length, refl, sym, ◌∙◌, ap, subst, arith}
+use Rattle.std.proofs.Common.{◌≡◌, ℕ, ◌<◌, ◌≤◌, inl, inr, true, false, ◌==◌, List, [], ◌∷◌, length}
+use Rattle.std.proofs.Common.{refl, sym, ◌∙◌, ap, subst, arith}
 use Rattle.std.specs.List.{AllByRecursion}
-use Rattle.std.proofs.lemmas.Bool.{cases_eq, cases_order, eq-eqb, ne_eqb, or_cases, or_left, or_right, ltb-true}
+use Rattle.std.proofs.lemmas.Bool.{cases_eq, cases_order, eq-eqb, ne_eqb, or_cases, or_left}
+use Rattle.std.proofs.lemmas.Bool.{or_right, ltb-true}
 use Rattle.task_sheet.specs.Sheet.{Task, AllTasks, task_at}
 use Rattle.task_sheet.specs.Rank.{IsByRank}
 use Rattle.task_sheet.specs.Indexes.{Indexes, IsPart, among, without_index}
 use Rattle.task_sheet.specs.Demand.{limit_of}
-use Rattle.task_sheet.specs.Orders.{all_of, Stands, IsOrderOf, AllStand, IsPassingOrder, IsBetter, IsBest}
-use Rattle.task_sheet.proofs.IndexLaws.{without-parts, without-part_of, IsOrderOf-among, IsOrderOf-head, IsOrderOf-rest, IsOrderOf-cons}
+use Rattle.task_sheet.specs.Orders.{all_of, Stands, IsOrderOf, AllStand, IsPassingOrder, IsBetter}
+use Rattle.task_sheet.specs.Orders.{IsBest}
+use Rattle.task_sheet.proofs.IndexLaws.{without-parts, without-part_of, IsOrderOf-among}
+use Rattle.task_sheet.proofs.IndexLaws.{IsOrderOf-head, IsOrderOf-rest, IsOrderOf-cons}
 use Rattle.latest_first.proofs.WithoutOne.{less, less-by, less-all, less-order, less-stand}
 use Rattle.preferences.specs.Preferences.{reweighed}
 use Rattle.preferences.specs.LimitOrders.{IsMonotonic}
 use Rattle.preferences.proofs.LimitLaws.{rank-lower}
 
-less-monotonic : (U : List Task) (b : ℕ) (xs : List ℕ) → IsMonotonic U xs → IsMonotonic U (less b xs)
+less-monotonic : (U : List Task) (b : ℕ) (xs : List ℕ) → IsMonotonic U xs
+    → IsMonotonic U (less b xs)
 less-monotonic U b [] falls = tt
 less-monotonic U b (x ∷ xs) falls =
     less-by (IsMonotonic U) b x xs (λ e. falls.1)
-    (λ ne. (less-all (λ k. limit_of (task_at U k) ≤ limit_of (task_at U x)) b xs falls.0, less-monotonic U b xs falls.1))
+    (λ ne. (
+      less-all (λ k. limit_of (task_at U k) ≤ limit_of (task_at U x)) b xs falls.0,
+      less-monotonic U b xs falls.1,
+    ))
 
 -- each index that a list names has what all of the list have
 all-among : (P : ℕ → Type 0) (xs : List ℕ) → AllByRecursion P xs → (k : ℕ) → among xs k ≡ true → P k
@@ -31,27 +39,38 @@ all-among P (x ∷ xs) all k h = elim (cases_eq x k) [
 ]
 
 -- and the other way
-all-from : (P : ℕ → Type 0) (xs : List ℕ) → ((k : ℕ) → among xs k ≡ true → P k) → AllByRecursion P xs
+all-from : (P : ℕ → Type 0) (xs : List ℕ) → ((k : ℕ) → among xs k ≡ true → P k)
+    → AllByRecursion P xs
 all-from P [] each = tt
-all-from P (x ∷ xs) each = (each x (or_left (x == x) (among xs x) (eq-eqb x x refl)), all-from P xs (λ k h. each k (or_right (x == k) (among xs k) h)))
+all-from P (x ∷ xs) each = (
+  each x (or_left (x == x) (among xs x) (eq-eqb x x refl)),
+  all-from P xs
+      (λ k h. each k (or_right (x == k) (among xs k) h)),
+)
 
 module _ (U V : List Task) (preferred : IsByRank (reweighed U) V) (valid : AllTasks V) where
   -- the task of lesser rank has no shorter limit
-  latest : (b s : ℕ) → b < length V → s < length V → (s < b → ⊥) → limit_of (task_at V s) ≤ limit_of (task_at V b)
+  latest : (b s : ℕ) → b < length V → s < length V → (s < b → ⊥)
+      → limit_of (task_at V s) ≤ limit_of (task_at V b)
   latest b s within within' not-before = elim (cases_order s b) [
     | inl e ↦ omega (arith, ap (λ k. limit_of (task_at V k)) e)
     | inr apart ↦ elim apart [
       | inl lt ↦ absurd (not-before lt)
-      | inr gt ↦ elim ((rank-lower U V preferred b s within within').0 gt) [ inl later ↦ omega arith | inr same ↦ omega (arith, same.0) ]
+      | inr gt ↦ elim ((rank-lower U V preferred b s within within').0 gt) [
+        | inl later ↦ omega arith
+        | inr same ↦ omega (arith, same.0)
+      ]
     ]
   ]
 
-  monotonic-from : (L : Indexes) (best other : List ℕ) → IsPart L (all_of V) → IsOrderOf L best → AllStand V best
+  monotonic-from : (L : Indexes) (best other : List ℕ) → IsPart L (all_of V) → IsOrderOf L best
+      → AllStand V best
       → ((xs : List ℕ) → IsOrderOf L xs → AllStand V xs → ¬ IsBetter xs best)
       → IsOrderOf L other → AllStand V other → IsMonotonic V other → IsMonotonic V best
   monotonic-from L [] other part each all unbeaten each' all' falls = tt
   monotonic-from L (b ∷ bs) [] part each all unbeaten each' all' falls =
-      let none : false ≡ true = ap (λ (X : Indexes). X b) (IsOrderOf-among L [] each') ∙ IsOrderOf-head L b bs each in
+      let none : false ≡ true = ap (λ (X : Indexes). X b) (IsOrderOf-among L [] each')
+      ∙ IsOrderOf-head L b bs each in
       absurd (cc)
   monotonic-from L (b ∷ bs) (s ∷ ss) part each all unbeaten each' all' falls =
       let member = IsOrderOf-head L b bs each in
@@ -63,17 +82,31 @@ module _ (U V : List Task) (preferred : IsByRank (reweighed U) V) (valid : AllTa
       let top = latest b s within within' (λ lt. unbeaten (s ∷ ss) each' all' (inl lt)) in
       let named : among (s ∷ ss) ≡ L = IsOrderOf-among L (s ∷ ss) each' in
       let highest : (k : ℕ) → L k ≡ true → limit_of (task_at V k) ≤ limit_of (task_at V s) =
-      λ k h. all-among (λ j. limit_of (task_at V j) ≤ limit_of (task_at V s)) (s ∷ ss) (omega arith, falls.0) k (ap (λ (X : Indexes). X k) named ∙ h) in (
+      λ k h. all-among (λ j. limit_of (task_at V j) ≤ limit_of (task_at V s)) (s ∷ ss)
+      (omega arith, falls.0) k (ap (λ (X : Indexes). X k) named ∙ h) in (
         all-from (λ k. limit_of (task_at V k) ≤ limit_of (task_at V b)) bs (λ k h.
-            omega (arith, top, highest k (without-parts L b k (ap (λ (X : Indexes). X k) (sym left) ∙ h)).0)),
-        monotonic-from (without_index L b) bs (less b (s ∷ ss)) (without-part_of (length V) L b part) rest all.1
-            (λ xs order stand better. unbeaten (b ∷ xs) (IsOrderOf-cons L b xs member order)
-            (subst (λ (X : Indexes). Stands V b X) (left ∙ sym (IsOrderOf-among (without_index L b) xs order)) all.0, stand) (inr (refl, better)))
-            (less-order L b (s ∷ ss) member each') (less-stand V valid b (s ∷ ss) all') (less-monotonic V b (s ∷ ss) falls),
+            omega (
+              arith,
+              top,
+              highest k
+                  (without-parts L b k (ap (λ (X : Indexes). X k) (sym left) ∙ h)).0,
+            )),
+        monotonic-from (without_index L b) bs (less b (s ∷ ss))
+            (without-part_of (length V) L b part) rest all.1
+            (λ xs order stand better. unbeaten (b ∷ xs) (IsOrderOf-cons L b xs member order) (
+              subst (λ (X : Indexes). Stands V b X)
+                  (left ∙ sym (IsOrderOf-among (without_index L b) xs order)) all.0,
+              stand,
+            )
+            (inr (refl, better)))
+            (less-order L b (s ∷ ss) member each') (less-stand V valid b (s ∷ ss) all')
+            (less-monotonic V b (s ∷ ss) falls),
       )
 
-  pub best-monotonic : (order other : List ℕ) → IsBest V order → IsPassingOrder V other → IsMonotonic V other → IsMonotonic V order
+  pub best-monotonic : (order other : List ℕ) → IsBest V order → IsPassingOrder V other
+      → IsMonotonic V other → IsMonotonic V order
   best-monotonic order other best passing falls =
-      monotonic-from (all_of V) order other (λ k h. h) best.passing.each_once best.passing.each_stands
+      monotonic-from (all_of V) order other (λ k h. h) best.passing.each_once
+      best.passing.each_stands
       (λ xs each all. best.unbeaten xs record { each_once = each; each_stands = all })
       passing.each_once passing.each_stands falls

@@ -1,16 +1,22 @@
 -- A set in another order and with other weights has the same passing orders, but for the numbers of its tasks.
-use Rattle.std.proofs.Common.{◌≡◌, ℕ, ◌+◌, ◌<◌, ◌≤◌, inl, inr, Bool, cond, ◌&&◌, ◌||◌, ◌==◌, List, [], ◌∷◌, length, map, refl, sym, ◌∙◌, ap, subst, arith}
+use Rattle.std.proofs.Common.{◌≡◌, ℕ, ◌+◌, ◌<◌, ◌≤◌, inl, inr, Bool, cond, ◌&&◌, ◌||◌, ◌==◌, List}
+use Rattle.std.proofs.Common.{[], ◌∷◌, length, map, refl, sym, ◌∙◌, ap, subst, arith}
 use Rattle.std.proofs.Math.Path.{fun_ext}
 use Rattle.std.specs.List.{count_by}
-use Rattle.std.proofs.lemmas.Bool.{cases_Bool, cases_eq, cases_lt, both_ways, lt-ltb, le-ltb, eq-eqb, ne_eqb}
+use Rattle.std.proofs.lemmas.Bool.{cases_Bool, cases_eq, cases_lt, both_ways, lt-ltb, le-ltb}
+use Rattle.std.proofs.lemmas.Bool.{eq-eqb, ne_eqb}
 use Rattle.std.proofs.lemmas.List.Sums.{sum_by-cons}
 use Rattle.task_sheet.specs.Sheet.{CriticalSection, Task, weighing, task_at}
-use Rattle.task_sheet.specs.Indexes.{Indexes, below, among, with_index, sum_below, greatest_below, some_below}
+use Rattle.task_sheet.specs.Indexes.{Indexes, below, among, with_index, sum_below, greatest_below}
+use Rattle.task_sheet.specs.Indexes.{some_below}
 use Rattle.task_sheet.specs.Locks.{shares_lock, reaches}
-use Rattle.task_sheet.specs.Demand.{greatest_of, longest_reached, blocking_of, interference_of, interrupts_of, interrupts_within, demand_of, limit_of}
-use Rattle.task_sheet.specs.Orders.{must_outrank, is_bound, Stands, AllStand, IsPassingOrder, IsFeasible}
+use Rattle.task_sheet.specs.Demand.{greatest_of, longest_reached, blocking_of, interference_of}
+use Rattle.task_sheet.specs.Demand.{interrupts_of, interrupts_within, demand_of, limit_of}
+use Rattle.task_sheet.specs.Orders.{must_outrank, is_bound, Stands, AllStand, IsPassingOrder}
+use Rattle.task_sheet.specs.Orders.{IsFeasible}
 use Rattle.preferences.specs.Preferences.{order_names, KeepsOrders}
-use Rattle.task_sheet.proofs.Below.{greatest_below-le, le-greatest_below, some_below-at, some_below-witness, some_below-none}
+use Rattle.task_sheet.proofs.Below.{greatest_below-le, le-greatest_below, some_below-at}
+use Rattle.task_sheet.proofs.Below.{some_below-witness, some_below-none}
 
 -- a renumbering of the tasks below n that turns itself back
 pub record IsRenumbering (n : ℕ) (turn : ℕ → ℕ) : Type 0 where
@@ -29,10 +35,12 @@ module _ (n : ℕ) (turn : ℕ → ℕ) (turns : IsRenumbering n turn) where
   some-turned p = elim (cases_Bool (some_below n p)) [
     | inl so ↦
         let found = some_below-witness n p so in
-        some_below-at n (λ k. p (turn k)) (turn found.0) (turns.within found.0 found.1) (ap p (turns.back found.0) ∙ found.2) ∙ sym so
+        some_below-at n (λ k. p (turn k)) (turn found.0) (turns.within found.0 found.1)
+        (ap p (turns.back found.0) ∙ found.2) ∙ sym so
     | inr none ↦
         some_below-none n (λ k. p (turn k)) (λ k lt. elim (cases_Bool (p (turn k))) [
-          | inl so ↦ absurd (both_ways (some_below n p) none (some_below-at n p (turn k) (turns.within k lt) so))
+          | inl so ↦ absurd (both_ways (some_below n p) none
+              (some_below-at n p (turn k) (turns.within k lt) so))
           | inr out ↦ out
         ]) ∙ sym none
   ]
@@ -40,20 +48,28 @@ module _ (n : ℕ) (turn : ℕ → ℕ) (turns : IsRenumbering n turn) where
   greatest-turned : (f : ℕ → ℕ) → greatest_below n (λ k. f (turn k)) ≡ greatest_below n f
   greatest-turned f =
       let low : greatest_below n (λ k. f (turn k)) ≤ greatest_below n f =
-      greatest_below-le n (λ k. f (turn k)) (greatest_below n f) (λ k lt. le-greatest_below n f (turn k) (turns.within k lt)) in
+      greatest_below-le n (λ k. f (turn k)) (greatest_below n f)
+      (λ k lt. le-greatest_below n f (turn k) (turns.within k lt)) in
       let high : greatest_below n f ≤ greatest_below n (λ k. f (turn k)) =
       greatest_below-le n f (greatest_below n (λ k. f (turn k))) (λ k lt.
-      omega (arith, ap f (turns.back k), le-greatest_below n (λ k. f (turn k)) (turn k) (turns.within k lt))) in
+      omega (
+        arith,
+        ap f (turns.back k),
+        le-greatest_below n (λ k. f (turn k)) (turn k)
+            (turns.within k lt),
+      )) in
       omega (arith, low, high)
 
   -- ---- sets of indexes, renumbered
   same-number : (i k : ℕ) → (k == turn i) ≡ (turn k == i)
   same-number i k = elim (cases_eq k (turn i)) [
     | inl e ↦ eq-eqb k (turn i) e ∙ sym (eq-eqb (turn k) i (ap turn e ∙ turns.back i))
-    | inr ne ↦ ne_eqb k (turn i) ne ∙ sym (ne_eqb (turn k) i (λ e. ne (sym (turns.back k) ∙ ap turn e)))
+    | inr ne ↦ ne_eqb k (turn i) ne
+        ∙ sym (ne_eqb (turn k) i (λ e. ne (sym (turns.back k) ∙ ap turn e)))
   ]
 
-  with-turned : (H : Indexes) (i : ℕ) → with_index (λ k. H (turn k)) (turn i) ≡ (λ k. with_index H i (turn k))
+  with-turned : (H : Indexes) (i : ℕ)
+      → with_index (λ k. H (turn k)) (turn i) ≡ (λ k. with_index H i (turn k))
   with-turned H i = fun_ext (λ k. ap (λ b. b || H (turn k)) (same-number i k))
 
   among-turned : (order : List ℕ) → among (map turn order) ≡ (λ k. among order (turn k))
@@ -66,7 +82,8 @@ module _ (n : ℕ) (turn : ℕ → ℕ) (turns : IsRenumbering n turn) where
           turned-number : (x k : ℕ) → (turn x == k) ≡ (x == turn k)
           turned-number x k = sym (same-number k x)
 
-  count-turned : (order : List ℕ) (k : ℕ) → count_by (λ x. x == k) (map turn order) ≡ count_by (λ x. x == turn k) order
+  count-turned : (order : List ℕ) (k : ℕ)
+      → count_by (λ x. x == k) (map turn order) ≡ count_by (λ x. x == turn k) order
   count-turned [] k = refl
   count-turned (x ∷ xs) k =
       sum_by-cons (λ y. cond (y == k) 1 0) (turn x) (map turn xs)
@@ -78,43 +95,57 @@ module _ (n : ℕ) (turn : ℕ → ℕ) (turns : IsRenumbering n turn) where
   below-turned k = elim (cases_lt k n) [
     | inl lt ↦ lt-ltb (turn k) n (turns.within k lt) ∙ sym (lt-ltb k n lt)
     | inr past ↦ elim (cases_lt (turn k) n) [
-      | inl lt ↦ let lt' : k < n = subst (λ j. j < n) (turns.back k) (turns.within (turn k) lt) in absurd (omega arith)
+      | inl lt ↦ let lt' : k < n = subst (λ j. j < n) (turns.back k) (turns.within (turn k) lt) in
+          absurd (omega arith)
       | inr past' ↦ le-ltb (turn k) n past' ∙ sym (le-ltb k n past)
     ]
   ]
 
 -- ---- the analysis of a renumbered set
 module _ (turn : ℕ → ℕ) (U V : List Task) (are : AreRenumbered turn U V) where
-  reaches-turned : (X : Indexes) (s : CriticalSection) → reaches V (λ k. X (turn k)) s ≡ reaches U X s
+  reaches-turned : (X : Indexes) (s : CriticalSection)
+      → reaches V (λ k. X (turn k)) s ≡ reaches U X s
   reaches-turned X s =
       ap (λ m. some_below m (λ k. X (turn k) && shares_lock (task_at V k) s)) are.count
-      ∙ ap (λ (p : ℕ → Bool). some_below (length U) p) (fun_ext (λ k. ap (λ (t : Task). X (turn k) && shares_lock t s) (are.same k).1))
+      ∙ ap (λ (p : ℕ → Bool). some_below (length U) p)
+      (fun_ext (λ k. ap (λ (t : Task). X (turn k) && shares_lock t s) (are.same k).1))
       ∙ some-turned (length U) turn are.turns (λ k. X k && shares_lock (task_at U k) s)
 
-  longest-turned : (X : Indexes) (t : Task) → longest_reached V (λ k. X (turn k)) t ≡ longest_reached U X t
-  longest-turned X t = ap (λ (r : CriticalSection → Bool). greatest_of (λ (s : CriticalSection). cond (r s) s.len 0) t.sections) (fun_ext (reaches-turned X))
+  longest-turned : (X : Indexes) (t : Task)
+      → longest_reached V (λ k. X (turn k)) t ≡ longest_reached U X t
+  longest-turned X t = ap (λ (r : CriticalSection → Bool). greatest_of
+      (λ (s : CriticalSection). cond (r s) s.len 0) t.sections) (fun_ext (reaches-turned X))
 
-  blocking-turned : (i : ℕ) (H : Indexes) → blocking_of V (turn i) (λ k. H (turn k)) ≡ blocking_of U i H
+  blocking-turned : (i : ℕ) (H : Indexes)
+      → blocking_of V (turn i) (λ k. H (turn k)) ≡ blocking_of U i H
   unfolding blocking_of
   blocking-turned i H =
       let W : Indexes = with_index H i in
-      ap (λ m. greatest_below m (λ k. cond (with_index (λ j. H (turn j)) (turn i) k) 0 (longest_reached V (with_index (λ j. H (turn j)) (turn i)) (task_at V k)))) are.count
-      ∙ ap (λ (X : Indexes). greatest_below (length U) (λ k. cond (X k) 0 (longest_reached V X (task_at V k)))) (with-turned (length U) turn are.turns H i)
+      ap (λ m. greatest_below m (λ k. cond (with_index (λ j. H (turn j)) (turn i) k) 0
+      (longest_reached V (with_index (λ j. H (turn j)) (turn i)) (task_at V k)))) are.count
+      ∙ ap (λ (X : Indexes). greatest_below (length U) (λ k. cond (X k) 0
+      (longest_reached V X (task_at V k)))) (with-turned (length U) turn are.turns H i)
       ∙ ap (λ (f : ℕ → ℕ). greatest_below (length U) f) (fun_ext (λ k.
-      ap (λ m. cond (W (turn k)) 0 m) (longest-turned W (task_at V k) ∙ ap (λ (t : Task). longest_reached U W t) (are.same k).1)))
-      ∙ greatest-turned (length U) turn are.turns (λ k. cond (W k) 0 (longest_reached U W (task_at U k)))
+      ap (λ m. cond (W (turn k)) 0 m) (longest-turned W (task_at V k)
+      ∙ ap (λ (t : Task). longest_reached U W t) (are.same k).1)))
+      ∙ greatest-turned (length U) turn are.turns
+      (λ k. cond (W k) 0 (longest_reached U W (task_at U k)))
 
-  interference-turned : (H : Indexes) (t : ℕ) → sum_below (length V) (λ h. cond (H (turn h)) (interference_of (task_at V h) t) 0) ≡ sum_below (length U) (λ h. cond (H h) (interference_of (task_at U h) t) 0)
+  interference-turned : (H : Indexes) (t : ℕ)
+      → sum_below (length V) (λ h. cond (H (turn h)) (interference_of (task_at V h) t) 0)
+      ≡ sum_below (length U) (λ h. cond (H h) (interference_of (task_at U h) t) 0)
   interference-turned H t =
       ap (λ m. sum_below m (λ h. cond (H (turn h)) (interference_of (task_at V h) t) 0)) are.count
-      ∙ ap (λ (f : ℕ → ℕ). sum_below (length U) f) (fun_ext (λ h. ap (λ (x : Task). cond (H (turn h)) (interference_of x t) 0) (are.same h).1))
+      ∙ ap (λ (f : ℕ → ℕ). sum_below (length U) f) (fun_ext
+      (λ h. ap (λ (x : Task). cond (H (turn h)) (interference_of x t) 0) (are.same h).1))
       ∙ are.turns.sums (λ h. cond (H h) (interference_of (task_at U h) t) 0)
 
   interrupts-turned : (t : ℕ) → interrupts_within V t ≡ interrupts_within U t
   unfolding interrupts_within
   interrupts-turned t =
       ap (λ m. sum_below m (λ k. interrupts_of t (task_at V k))) are.count
-      ∙ ap (λ (f : ℕ → ℕ). sum_below (length U) f) (fun_ext (λ k. ap (λ (x : Task). interrupts_of t x) (are.same k).1))
+      ∙ ap (λ (f : ℕ → ℕ). sum_below (length U) f)
+      (fun_ext (λ k. ap (λ (x : Task). interrupts_of t x) (are.same k).1))
       ∙ are.turns.sums (λ k. interrupts_of t (task_at U k))
 
   own : (i : ℕ) → (weight : ℕ) × (task_at V (turn i) ≡ weighing (task_at U i) weight)
@@ -122,9 +153,16 @@ module _ (turn : ℕ → ℕ) (U V : List Task) (are : AreRenumbered turn U V) w
       let there = are.same (turn i) in
       (there.0, there.1 ∙ ap (λ k. weighing (task_at U k) there.0) (are.turns.back i))
 
-  demand-turned : (i : ℕ) (H : Indexes) (t : ℕ) → demand_of V (turn i) (λ k. H (turn k)) t ≡ demand_of U i H t
+  demand-turned : (i : ℕ) (H : Indexes) (t : ℕ)
+      → demand_of V (turn i) (λ k. H (turn k)) t ≡ demand_of U i H t
   unfolding demand_of
-  demand-turned i H t = omega (arith, ap (λ (x : Task). x.cost) (own i).1, blocking-turned i H, interference-turned H t, interrupts-turned t)
+  demand-turned i H t = omega (
+    arith,
+    ap (λ (x : Task). x.cost) (own i).1,
+    blocking-turned i H,
+    interference-turned H t,
+    interrupts-turned t,
+  )
 
   bound-turned : (i : ℕ) (H : Indexes) → is_bound V (turn i) (λ k. H (turn k)) ≡ is_bound U i H
   unfolding is_bound
@@ -132,30 +170,39 @@ module _ (turn : ℕ → ℕ) (U V : List Task) (are : AreRenumbered turn U V) w
       let named : (k : ℕ) → must_outrank V (turn i) k ≡ must_outrank U i (turn k) =
       λ k. rw ((are.same k).1, (own i).1) refl in
       ap (λ m. some_below m (λ k. H (turn k) && must_outrank V (turn i) k)) are.count
-      ∙ ap (λ (p : ℕ → Bool). some_below (length U) p) (fun_ext (λ k. ap (λ b. H (turn k) && b) (named k)))
+      ∙ ap (λ (p : ℕ → Bool). some_below (length U) p)
+      (fun_ext (λ k. ap (λ b. H (turn k) && b) (named k)))
       ∙ some-turned (length U) turn are.turns (λ k. H k && must_outrank U i k)
 
   Stands-turned : (i : ℕ) (H : Indexes) → Stands U i H → Stands V (turn i) (λ k. H (turn k))
   Stands-turned i H stands =
       let passes = stands.0 in
       let limit = ap (λ (t : Task). limit_of t) (own i).1 in (
-        (passes.0, passes.1, omega (arith, passes.2, limit), omega (arith, demand-turned i H passes.0, passes.3)),
+        (
+          passes.0,
+          passes.1,
+          omega (arith, passes.2, limit),
+          omega (arith, demand-turned i H passes.0, passes.3),
+        ),
         bound-turned i H ∙ stands.1,
       )
 
   AllStand-turned : (order : List ℕ) → AllStand U order → AllStand V (map turn order)
   AllStand-turned [] all = tt
   AllStand-turned (i ∷ above) all = (
-    subst (λ (X : Indexes). Stands V (turn i) X) (sym (among-turned (length U) turn are.turns above)) (Stands-turned i (among above) all.0),
+    subst (λ (X : Indexes). Stands V (turn i) X)
+        (sym (among-turned (length U) turn are.turns above)) (Stands-turned i (among above) all.0),
     AllStand-turned above all.1,
   )
 
-  pub IsPassingOrder-turned : (order : List ℕ) → IsPassingOrder U order → IsPassingOrder V (map turn order)
+  pub IsPassingOrder-turned : (order : List ℕ) → IsPassingOrder U order
+      → IsPassingOrder V (map turn order)
   IsPassingOrder-turned order passing = record {
     each_once = λ k.
         count-turned (length U) turn are.turns order k
         ∙ passing.each_once (turn k)
-        ∙ ap (λ b. cond b 1 0) (below-turned (length U) turn are.turns k ∙ ap (λ m. below m k) (sym are.count));
+        ∙ ap (λ b. cond b 1 0) (below-turned (length U) turn are.turns k
+        ∙ ap (λ m. below m k) (sym are.count));
     each_stands = AllStand-turned order passing.each_stands;
   }
 
@@ -164,7 +211,8 @@ module _ (turn : ℕ → ℕ) (U V : List Task) (are : AreRenumbered turn U V) w
   renumbered-back = record {
     turns = subst (λ m. IsRenumbering m turn) (sym are.count) are.turns;
     count = sym are.count;
-    same = λ k. ((task_at U k).weight, ap (λ (t : Task). weighing t (task_at U k).weight) (sym (own k).1));
+    same = λ k.
+        ((task_at U k).weight, ap (λ (t : Task). weighing t (task_at U k).weight) (sym (own k).1));
   }
 
   names-turned : (order : List ℕ) → order_names V (map turn order) ≡ order_names U order
@@ -174,7 +222,8 @@ module _ (turn : ℕ → ℕ) (U V : List Task) (are : AreRenumbered turn U V) w
       ∙ ap (λ (ns : List (List ℕ)). (task_at U i).name ∷ ns) (names-turned above)
 
   pub KeepsOrders-turned : KeepsOrders U V
-  KeepsOrders-turned order passing = (map turn order, IsPassingOrder-turned order passing, names-turned order)
+  KeepsOrders-turned order passing =
+      (map turn order, IsPassingOrder-turned order passing, names-turned order)
 
 -- ---- orders that are kept
 pub KeepsOrders-self : (U : List Task) → KeepsOrders U U

@@ -1,5 +1,6 @@
 -- Sets whose weights are replaced.
-use Rattle.std.proofs.Common.{◌≡◌, Option, Some, Ok, refl, subst, ℕ, ◌+◌, ◌<◌, false, None, List, [], ◌∷◌, ◌++◌, length, get_or, take, sym, ◌∙◌, arith, map}
+use Rattle.std.proofs.Common.{◌≡◌, Option, Some, Ok, refl, subst, ℕ, ◌+◌, ◌<◌, false, None, List}
+use Rattle.std.proofs.Common.{[], ◌∷◌, ◌++◌, length, get_or, take, sym, ◌∙◌, arith, map}
 use Rattle.std.specs.List.{AllByRecursion}
 use Rattle.std.proofs.lemmas.List.{length-map, map_more}
 use Rattle.std.proofs.lemmas.List.Elements.{All-from_recursion, recursion_from_All}
@@ -18,7 +19,8 @@ use Rattle.task_sheet.specs.declared.prefer.Preference.{Preference}
 use Rattle.task_sheet.specs.declared.prefer.Preference.TheVariants.{Weights, Deadline}
 
 -- one sheet more
-pub reweighed_more : (U xs ys : List Task) (i : ℕ) (x y : Task) → i < length U → x ≡ get_or U i x → y ≡ reweighed_in U x → xs ≡ map (reweighed_in U) (take i U)
+pub reweighed_more : (U xs ys : List Task) (i : ℕ) (x y : Task) → i < length U → x ≡ get_or U i x
+    → y ≡ reweighed_in U x → xs ≡ map (reweighed_in U) (take i U)
     → ys ≡ xs ++ y ∷ [] → ys ≡ map (reweighed_in U) (take (i + 1) U)
 reweighed_more U xs ys i x y lt is weighs before pushed =
     pushed ∙ rw (before, weighs, is) (sym (map_more (reweighed_in U) U i x lt))
@@ -29,24 +31,33 @@ module _ (weight : Task → ℕ) where
   weighed xs = map (λ t. weighing t (weight t)) xs
 
   -- what doesn't rest on the weight holds of each task as before
-  all-weighed : (P : Task → Type 0) → ((y : Task) (n : ℕ) → P y → P (weighing y n)) → (xs : List Task) → AllByRecursion P xs → AllByRecursion P (weighed xs)
+  all-weighed : (P : Task → Type 0) → ((y : Task) (n : ℕ) → P y → P (weighing y n))
+      → (xs : List Task) → AllByRecursion P xs → AllByRecursion P (weighed xs)
   all-weighed P kept [] h = tt
   all-weighed P kept (y ∷ ys) h = (kept y (weight y) h.0, all-weighed P kept ys h.1)
 
-  distinct-weighed : (xs : List Task) → AreDistinct same_name xs → AreDistinct same_name (weighed xs)
+  distinct-weighed : (xs : List Task) → AreDistinct same_name xs
+      → AreDistinct same_name (weighed xs)
   distinct-weighed [] h = tt
-  distinct-weighed (y ∷ ys) h = (all-weighed (λ z. same_name y z ≡ false) (λ z n apart. apart) ys h.0, distinct-weighed ys h.1)
+  distinct-weighed (y ∷ ys) h = (
+    all-weighed (λ z. same_name y z ≡ false) (λ z n apart. apart) ys
+        h.0,
+    distinct-weighed ys h.1,
+  )
 
 -- the sheets with these weights are no fault
 pub no_fault-reweighed : (U : List Task) → IsTaskSet U → sheets_fault (reweighed U) ≡ None
 no_fault-reweighed U set =
     let weight : Task → ℕ = λ t. longer_limits U (limit_of t) in
-    no_fault (reweighed U) (distinct-weighed weight U set.distinct) (omega (arith, set.few, length-map U (λ (t : Task). weighing t (weight t))))
+    no_fault (reweighed U) (distinct-weighed weight U set.distinct)
+    (omega (arith, set.few, length-map U (λ (t : Task). weighing t (weight t))))
 
 -- ---- one set by each preference
-pub IsPreferred-one : (preference : Preference) (U first second : List Task) → IsPreferred preference U first → IsPreferred preference U second → first ≡ second
+pub IsPreferred-one : (preference : Preference) (U first second : List Task)
+    → IsPreferred preference U first → IsPreferred preference U second → first ≡ second
 IsPreferred-one Weights U first second one other = one ∙ sym other
-IsPreferred-one Deadline U first second one other = by_rank_one (reweighed U) (reweighed U) first second (IsPermutation-refl (reweighed U)) one other
+IsPreferred-one Deadline U first second one other = by_rank_one (reweighed U) (reweighed U) first
+    second (IsPermutation-refl (reweighed U)) one other
 
 -- ---- the laws of the analysis hold of it
 pub AllTasks-preferred : (U V : List Task) → AllTasks U → IsByRank (reweighed U) V → AllTasks V
@@ -58,13 +69,25 @@ AllTasks-preferred U V valid preferred =
       cost = task.cost;
       within = task.within;
     }) U each in
-    All-permutation IsTask (reweighed U) V preferred.permutation (All-from_recursion IsTask (reweighed U) weighed)
+    All-permutation IsTask (reweighed U) V preferred.permutation
+    (All-from_recursion IsTask (reweighed U) weighed)
 
 -- ---- who prefers
-pub SaysPreferred-own : (text : List ℕ) (d : Document) (preference : Preference) (U : List Task) → ReadsText text (Ok d) → d.prefers ≡ Some preference → IsPreferred preference d.set U → SaysPreferred None text U
-SaysPreferred-own text d preference U reads is preferred =
-    (d, reads, subst (λ (o : Option Preference). IsPreferred (chosen None o) d.set U) (sym is) preferred)
+pub SaysPreferred-own : (text : List ℕ) (d : Document) (preference : Preference) (U : List Task)
+    → ReadsText text (Ok d) → d.prefers ≡ Some preference → IsPreferred preference d.set U
+    → SaysPreferred None text U
+SaysPreferred-own text d preference U reads is preferred = (
+  d,
+  reads,
+  subst (λ (o : Option Preference). IsPreferred (chosen None o) d.set U) (sym is)
+      preferred,
+)
 
-pub SaysPreferred-nobody : (text : List ℕ) (d : Document) → ReadsText text (Ok d) → d.prefers ≡ None → SaysPreferred None text d.set
-SaysPreferred-nobody text d reads is =
-    (d, reads, subst (λ (o : Option Preference). IsPreferred (chosen None o) d.set d.set) (sym is) refl)
+pub SaysPreferred-nobody : (text : List ℕ) (d : Document) → ReadsText text (Ok d) → d.prefers ≡ None
+    → SaysPreferred None text d.set
+SaysPreferred-nobody text d reads is = (
+  d,
+  reads,
+  subst (λ (o : Option Preference). IsPreferred (chosen None o) d.set d.set)
+      (sym is) refl,
+)

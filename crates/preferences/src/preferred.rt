@@ -46,7 +46,7 @@ fn reweighed_sheets(alloc: Global, sheets: &[Sheet]) -> Result<Vec<Sheet>, Alloc
     Ok(others)
 }
 
-// The set with these weights. The error is want of memory.
+// The set with these weights. The error is out of memory.
 fn reweighed(alloc: Global, set: &TaskSet) -> Result<TaskSet, AllocError>
     ensures { IfOk result (λ other. IsByRank (reweighed set.now) other) }
 {
@@ -62,7 +62,7 @@ fn reweighed(alloc: Global, set: &TaskSet) -> Result<TaskSet, AllocError>
 
 /// The set by a preference: by weights as it is; by deadlines each weight is replaced by how many tasks of the set have a
 /// longer limit, which is at most 31. So the best of all passing orders bears most: it passes with whatever costs and
-/// sections some order passes (Leung, Whitehead 1982; with jitter Zuhily, Burns 2007). The error is want of memory, and
+/// sections some order passes (Leung, Whitehead 1982; with jitter Zuhily, Burns 2007). The error is out of memory, and
 /// hands the set back; by weights none is taken.
 pub fn prefer(
     alloc: Global,

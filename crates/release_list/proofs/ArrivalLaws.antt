@@ -1,7 +1,9 @@
 -- The arrivals of one stream.
-use Rattle.std.proofs.Common.{◌≡◌, ℕ, ◌+◌, ◌-◌, ◌*◌, ◌/◌, ◌%◌, ◌<◌, ◌≤◌, inl, inr, true, false, ◌==◌, nat_le, sym, ◌∙◌, ap, arith}
+use Rattle.std.proofs.Common.{◌≡◌, ℕ, ◌+◌, ◌-◌, ◌*◌, ◌/◌, ◌%◌, ◌<◌, ◌≤◌, inl, inr, true, false}
+use Rattle.std.proofs.Common.{◌==◌, nat_le, sym, ◌∙◌, ap, arith}
 use Rattle.std.proofs.Math.Nat.{mul-le-mul_left, mul-mod_left, div-add-mod}
-use Rattle.std.proofs.lemmas.Bool.{and_parts, and_from, and_left, and_right, cases_eq, cases_lt, leb-true, le-leb, lt-leb, eqb-true, eq-eqb, ne_eqb}
+use Rattle.std.proofs.lemmas.Bool.{and_parts, and_from, and_left, and_right, cases_eq, cases_lt}
+use Rattle.std.proofs.lemmas.Bool.{leb-true, le-leb, lt-leb, eqb-true, eq-eqb, ne_eqb}
 use Rattle.release_list.specs.declared.stream.Stream.{Stream}
 use Rattle.release_list.specs.Streams.{arrives, arrival_of}
 
@@ -36,7 +38,11 @@ pub record IsArrival (time : ℕ) (t : Stream) : Type 0 where
 pub arrival : (time : ℕ) (t : Stream) → arrives time t ≡ true → IsArrival time t
 arrival time t h =
     let p = and_parts (nat_le (t.first) time) (((time - t.first) % t.period) == 0) h in
-    record { from = leb-true (t.first) time p.0; whole = eqb-true ((time - t.first) % t.period) 0 p.1 }
+    record {
+      from = leb-true (t.first) time p.0;
+      whole =
+          eqb-true ((time - t.first) % t.period) 0 p.1;
+    }
 
 pub arrives_from : (time : ℕ) (t : Stream) → IsArrival time t → arrives time t ≡ true
 arrives_from time t a =
@@ -45,24 +51,29 @@ arrives_from time t a =
 
 -- before the first none arrives
 pub none_early : (time u : ℕ) (t : Stream) → u < t.first → arrives u t ≡ false
-none_early time u t lt = and_left (nat_le (t.first) u) (((u - t.first) % t.period) == 0) (lt-leb (t.first) u lt)
+none_early time u t lt =
+    and_left (nat_le (t.first) u) (((u - t.first) % t.period) == 0) (lt-leb (t.first) u lt)
 
 -- nor between a time and what the next multiple is
 pub none_between : (time u : ℕ) (t : Stream) → 0 < t.period → t.first ≤ time → time < u
     → u < time + (t.period - (time - t.first) % t.period) → arrives u t ≡ false
 none_between time u t some from less more =
     and_right (nat_le (t.first) u) (((u - t.first) % t.period) == 0)
-    (ne_eqb ((u - t.first) % t.period) 0 (λ e. between (time - t.first) (u - t.first) t.period some (omega arith) (omega arith) e))
+    (ne_eqb ((u - t.first) % t.period) 0
+    (λ e. between (time - t.first) (u - t.first) t.period some (omega arith) (omega arith) e))
 
 -- two arrivals are a period apart
-pub arrivals_apart : (a b : ℕ) (t : Stream) → 0 < t.period → a < b → IsArrival a t → IsArrival b t → a + t.period ≤ b
+pub arrivals_apart : (a b : ℕ) (t : Stream) → 0 < t.period → a < b → IsArrival a t → IsArrival b t
+    → a + t.period ≤ b
 arrivals_apart a b t some less x y =
     let d : (a - t.first) + t.period ≤ b - t.first =
-    apart (a - t.first) (b - t.first) t.period some (omega (arith, x.from, y.from)) x.whole y.whole in
+    apart (a - t.first) (b - t.first) t.period some (omega (arith, x.from, y.from)) x.whole
+    y.whole in
     omega (arith, x.from, y.from)
 
 -- ---- the number of an arrival
-pub number_of : (time : ℕ) (t : Stream) → 0 < t.period → IsArrival time t → (k : ℕ) × (time ≡ arrival_of t k) × ((time == t.first) ≡ (k == 0))
+pub number_of : (time : ℕ) (t : Stream) → 0 < t.period → IsArrival time t → (k : ℕ)
+    × (time ≡ arrival_of t k) × ((time == t.first) ≡ (k == 0))
 number_of time t some a =
     let d : ℕ = time - t.first in
     let e : t.period * (d / t.period) + d % t.period ≡ d = div-add-mod d t.period in
@@ -75,13 +86,15 @@ number_of time t some a =
             let none : (d / t.period) * t.period ≡ 0 * t.period = ap (λ x. x * t.period) first in
             eq-eqb time (t.first) (omega arith) ∙ sym (eq-eqb (d / t.period) 0 first)
         | inr later ↦
-            let more : t.period * 1 ≤ t.period * (d / t.period) = mul-le-mul_left t.period (omega arith) in
+            let more : t.period * 1 ≤ t.period * (d / t.period) =
+            mul-le-mul_left t.period (omega arith) in
             let ne : time ≡ t.first → ⊥ = λ same. omega arith in
             ne_eqb time (t.first) ne ∙ sym (ne_eqb (d / t.period) 0 later)
       ],
     )
 
-pub numbered : (t : Stream) (k : ℕ) → 0 < t.period → IsArrival (arrival_of t k) t × ((arrival_of t k == t.first) ≡ (k == 0))
+pub numbered : (t : Stream) (k : ℕ) → 0 < t.period → IsArrival (arrival_of t k) t
+    × ((arrival_of t k == t.first) ≡ (k == 0))
 numbered t k some =
     let back : arrival_of t k - t.first ≡ k * t.period = omega arith in (
       record { from = omega arith; whole = ap (λ x. x % t.period) back ∙ mul-mod_left k t.period },

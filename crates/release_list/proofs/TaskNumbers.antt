@@ -7,7 +7,8 @@ use Rattle.task_sheet.proofs.TaskLaws.{place_of_name}
 use Rattle.ceiling_kernel.specs.Releases.{task_named}
 
 -- the task at an index is found by its name
-pub found : (U : List Task) → AreDistinct same_name U → (k : ℕ) → k < length U → task_named U (task_at U k).name ≡ Some k
+pub found : (U : List Task) → AreDistinct same_name U → (k : ℕ) → k < length U
+    → task_named U (task_at U k).name ≡ Some k
 found U distinct k lt =
     let at = place_of_name U distinct k lt in
     let small : nat_lt k (length U) ≡ true = lt-ltb k (length U) lt in

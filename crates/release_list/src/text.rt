@@ -49,7 +49,7 @@ fn push_releases(text: &mut String, releases: &[Release]) -> Result<(), AllocErr
 }
 
 /// The lines that say a release list: when the run ends, and each release with how late it is where that isn't 0,
-/// and for how long it executes where it says so; in microseconds. The error is want of memory.
+/// and for how long it executes where it says so; in microseconds. The error is out of memory.
 pub fn list_text(alloc: Global, until: u64, releases: &[Release]) -> Result<String, AllocError>
     ensures { IfOk result (λ text. string_bytes text ≡ list_lines until releases.now) }
 {

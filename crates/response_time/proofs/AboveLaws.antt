@@ -18,16 +18,27 @@ module _ (U : List Task) (H : Indexes) (time n : ℕ) where
   term h = cond (H h) (interference_of (task_at U h) time) 0
 
   -- one task more, which is above
-  pub first-with : H n ≡ true → interference_first U H time (n + 1) ≡ interference_first U H time n + interference_of (task_at U n) time
-  first-with above = sym (sum_step n term (sum_below n term) (interference_of (task_at U n) time) (sum_below n term + interference_of (task_at U n) time) refl (cond-true {A = ℕ} (H n) (interference_of (task_at U n) time) 0 above) refl)
+  pub first-with : H n ≡ true → interference_first U H time (n + 1)
+      ≡ interference_first U H time n + interference_of (task_at U n) time
+  first-with above = sym (sum_step n term (sum_below n term) (interference_of (task_at U n) time)
+      (sum_below n term + interference_of (task_at U n) time) refl
+      (cond-true {A = ℕ} (H n) (interference_of (task_at U n) time) 0 above) refl)
 
   -- it executes its cost once at least
-  pub first-once : IsValidSheet (task_at U n) → H n ≡ true → 1 ≤ time → interference_first U H time n + (task_at U n).cost ≤ interference_first U H time (n + 1)
-  first-once valid above some = omega (arith, first-with above, cost-le-interference (task_at U n) time (IsTask-from_valid (task_at U n) valid) some)
+  pub first-once : IsValidSheet (task_at U n) → H n ≡ true → 1 ≤ time
+      → interference_first U H time n + (task_at U n).cost ≤ interference_first U H time (n + 1)
+  first-once valid above some = omega (
+    arith,
+    first-with above,
+    cost-le-interference (task_at U n)
+        time (IsTask-from_valid (task_at U n) valid) some,
+  )
 
   -- one task more, which isn't
-  pub first-without : H n ≡ false → interference_first U H time (n + 1) ≡ interference_first U H time n
-  first-without out = sym (sum_step n term (sum_below n term) 0 (sum_below n term) refl (cond-false {A = ℕ} (H n) (interference_of (task_at U n) time) 0 out) (omega arith))
+  pub first-without : H n ≡ false
+      → interference_first U H time (n + 1) ≡ interference_first U H time n
+  first-without out = sym (sum_step n term (sum_below n term) 0 (sum_below n term) refl
+      (cond-false {A = ℕ} (H n) (interference_of (task_at U n) time) 0 out) (omega arith))
 
 -- all tasks
 pub first-all : (U V : List Task) (i : ℕ) (H : Indexes) (time n : ℕ) → V ≡ U → n ≡ length V
@@ -35,10 +46,12 @@ pub first-all : (U V : List Task) (i : ℕ) (H : Indexes) (time n : ℕ) → V �
 first-all U V i H time n same all = rw (all, same) refl
 
 -- a demand is the work, and what timers and interrupts take
-pub demand-parts : (U : List Task) (i : ℕ) (H : Indexes) (time : ℕ) → demand_of U i H time ≡ work_of U i H time + interrupts_within U time
+pub demand-parts : (U : List Task) (i : ℕ) (H : Indexes) (time : ℕ)
+    → demand_of U i H time ≡ work_of U i H time + interrupts_within U time
 unfolding demand_of
 demand-parts U i H time = refl
 
 -- the next number of a walk is the demand
-pub next-is : (U : List Task) (i : ℕ) (H : Indexes) (time next work : ℕ) → next ≡ work + interrupts_within U time → work ≡ work_of U i H time → next ≡ demand_of U i H time
+pub next-is : (U : List Task) (i : ℕ) (H : Indexes) (time next work : ℕ) → next
+    ≡ work + interrupts_within U time → work ≡ work_of U i H time → next ≡ demand_of U i H time
 next-is U i H time next work is same = omega (arith, is, same, demand-parts U i H time)

@@ -7,7 +7,8 @@ use Rattle.response_time.specs.Starts.{iterate_from}
 
 module _ (W : ℕ → ℕ) (steady : DoesNotFall W) where
   -- the least number that covers its demand is the response
-  pub first_cover_is_response : (t : ℕ) → 1 ≤ t → W t ≤ t → ((s : ℕ) → 1 ≤ s → W s ≤ s → t ≤ s) → IsResponse W t
+  pub first_cover_is_response : (t : ℕ) → 1 ≤ t → W t ≤ t → ((s : ℕ) → 1 ≤ s → W s ≤ s → t ≤ s)
+      → IsResponse W t
   first_cover_is_response t pos covers first = record {
     positive = pos;
     fixed =
@@ -40,14 +41,16 @@ module _ (W : ℕ → ℕ) (steady : DoesNotFall W) where
           | inr far ↦ elim (cases_eq x r) [
             | inl there ↦ inl (ap W there ∙ is.fixed)
             | inr ne ↦ elim (cases_lt 0 x) [
-              | inl pos ↦ inr (omega (arith, short_below r x is pos (omega (arith, before.0, ne)), far))
+              | inl pos ↦
+                  inr (omega (arith, short_below r x is pos (omega (arith, before.0, ne)), far))
               | inr none ↦ inr (omega (arith, steady.positive x, far, none))
             ]
           ]
         ],
       )
 
-  pub comes_to_response : (r a : ℕ) → IsResponse W r → a ≤ r → (k : ℕ) → r ≤ k → iterate_from W a k ≡ r
+  pub comes_to_response : (r a : ℕ) → IsResponse W r → a ≤ r → (k : ℕ) → r ≤ k
+      → iterate_from W a k ≡ r
   comes_to_response r a is le k long =
       let at = climbs_to r a is le k in
       elim at.1 [

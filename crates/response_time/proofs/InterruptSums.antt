@@ -10,13 +10,16 @@ use Rattle.response_time.proofs.Shares.{jobs-fit}
 abbrev pub no_interrupt : Interrupt
 no_interrupt = record { period = 0; cost = 0 }
 
-pub interrupt-short : (x : Interrupt) (time : ℕ) → IsInterrupt x → time ≤ 10000000 → interrupt_within time x ≤ 30000000
-interrupt-short x time valid le = jobs-fit x.period x.cost (time + 0) (omega (arith, valid.period_from)) valid.cost valid.period_to (omega arith)
+pub interrupt-short : (x : Interrupt) (time : ℕ) → IsInterrupt x → time ≤ 10000000
+    → interrupt_within time x ≤ 30000000
+interrupt-short x time valid le = jobs-fit x.period x.cost (time + 0)
+    (omega (arith, valid.period_from)) valid.cost valid.period_to (omega arith)
 
 -- what those of the first n tasks take
 abbrev pub interrupts_first : List Task → ℕ → ℕ → ℕ
 interrupts_first U time n = sum_below n (λ k. interrupts_of time (task_at U k))
 
-pub first-whole : (U V : List Task) (time n : ℕ) → V ≡ U → n ≡ length V → interrupts_first V time n ≡ interrupts_within U time
+pub first-whole : (U V : List Task) (time n : ℕ) → V ≡ U → n ≡ length V
+    → interrupts_first V time n ≡ interrupts_within U time
 unfolding interrupts_within
 first-whole U V time n same all = rw (all, same) refl

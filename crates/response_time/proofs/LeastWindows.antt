@@ -1,15 +1,18 @@
 -- A window below which none covers its demand.
-use Rattle.std.proofs.Common.{◌≡◌, ℕ, inl, inr, ◌+◌, ◌-◌, ◌*◌, ◌/◌, ◌<◌, ◌≤◌, List, length, take, get_or, sum_by, sym, subst, arith}
+use Rattle.std.proofs.Common.{◌≡◌, ℕ, inl, inr, ◌+◌, ◌-◌, ◌*◌, ◌/◌, ◌<◌, ◌≤◌, List, length, take}
+use Rattle.std.proofs.Common.{get_or, sum_by, sym, subst, arith}
 use Rattle.std.proofs.lemmas.Bool.{cases_lt}
 use Rattle.std.proofs.lemmas.List.{take_more}
 use Rattle.std.proofs.lemmas.List.Sums.{sum_by_push}
 use Rattle.std.proofs.lemmas.Grind.{div_ceil_times}
-use Rattle.std.proofs.Math.Nat.{mul-le-mul_left, mul-le-mul_right, div-mul-le_self, div-le_of_le-mul}
+use Rattle.std.proofs.Math.Nat.{mul-le-mul_left, mul-le-mul_right, div-mul-le_self}
+use Rattle.std.proofs.Math.Nat.{div-le_of_le-mul}
 use Rattle.std.specs.Int.{div_ceil}
 use Rattle.response_time.specs.Workload.{ShareData, share_within}
 
 -- what a share takes of each window at least, in parts of the whole
-pub parts-le : (cost period jitter time whole : ℕ) → 0 < period → time * (cost * whole / period) ≤ whole * (div_ceil (time + jitter) period * cost)
+pub parts-le : (cost period jitter time whole : ℕ) → 0 < period
+    → time * (cost * whole / period) ≤ whole * (div_ceil (time + jitter) period * cost)
 parts-le cost period jitter time whole pos =
     let n = div_ceil (time + jitter) period in
     let q = cost * whole / period in
@@ -19,7 +22,8 @@ parts-le cost period jitter time whole pos =
     let two : n * (q * period) ≤ n * (cost * whole) = mul-le-mul_left n down in
     omega (arith, one, two)
 
-pub parts-fits : (cost period whole : ℕ) → 0 < period → cost ≤ period → cost * whole / period ≤ whole
+pub parts-fits : (cost period whole : ℕ) → 0 < period → cost ≤ period
+    → cost * whole / period ≤ whole
 parts-fits cost period whole pos le =
     div-le_of_le-mul period (mul-le-mul_right whole le)
 
@@ -27,27 +31,33 @@ parts-fits cost period whole pos le =
 positive_count : (n period time : ℕ) → time ≤ n * period → 1 ≤ time → 1 ≤ n
 positive_count n period time up some = elim (cases_lt 0 n) [
   | inl lt ↦ omega arith
-  | inr none ↦ let nothing : n * period ≤ 0 * period = mul-le-mul_right period none in absurd (omega (arith, up, nothing, some))
+  | inr none ↦ let nothing : n * period ≤ 0 * period = mul-le-mul_right period none in
+      absurd (omega (arith, up, nothing, some))
 ]
 
 pub once-le : (s : ShareData) (time : ℕ) → 0 < s.period → 1 ≤ time → s.cost ≤ share_within time s
 once-le s time pos some =
-    let up : time ≤ div_ceil (time + s.jitter) s.period * s.period = omega (arith, (div_ceil_times (time + s.jitter) s.period pos).0) in
+    let up : time ≤ div_ceil (time + s.jitter) s.period * s.period =
+    omega (arith, (div_ceil_times (time + s.jitter) s.period pos).0) in
     let one = positive_count (div_ceil (time + s.jitter) s.period) s.period time up some in
     omega (arith, mul-le-mul_right s.cost one)
 
 -- one share more
-pub least_added : (whole time once once' parts parts' always i : ℕ) (shares : List ShareData) (s : ShareData) → i < length shares → s ≡ get_or shares i s
+pub least_added : (whole time once once' parts parts' always i : ℕ) (shares : List ShareData)
+    (s : ShareData) → i < length shares → s ≡ get_or shares i s
     → time * parts + whole * once ≤ whole * (always + sum_by (share_within time) (take i shares))
     → time * parts' + whole * once' ≤ time * parts + whole * once + whole * share_within time s
-    → time * parts' + whole * once' ≤ whole * (always + sum_by (share_within time) (take (i + 1) shares))
+    → time * parts' + whole * once'
+    ≤ whole * (always + sum_by (share_within time) (take (i + 1) shares))
 least_added whole time once once' parts parts' always i shares s lt is before here =
-    let sum : sum_by (share_within time) (take (i + 1) shares) ≡ sum_by (share_within time) (take i shares) + share_within time s =
+    let sum : sum_by (share_within time) (take (i + 1) shares)
+    ≡ sum_by (share_within time) (take i shares) + share_within time s =
     rw (take_more shares i s lt, ← is) (sum_by_push (share_within time) (take i shares) s) in
     rw sum (omega (arith, before, here))
 
 -- a window that covers its demand is no less than what the shares leave of it allows
-left_over : (always parts rest work time : ℕ) → time * parts + (parts + rest) * always ≤ (parts + rest) * work → work ≤ time → always * (parts + rest) ≤ time * rest
+left_over : (always parts rest work time : ℕ) → time * parts + (parts + rest) * always
+    ≤ (parts + rest) * work → work ≤ time → always * (parts + rest) ≤ time * rest
 left_over always parts rest work time h le = omega (arith, h, mul-le-mul_left (parts + rest) le)
 
 ceil_least : (a d time : ℕ) → 0 < d → a ≤ time * d → div_ceil a d ≤ time
@@ -59,10 +69,13 @@ ceil_least a d time pos h = elim (cases_lt time (div_ceil a d)) [
   | inr le ↦ le
 ]
 
-pub window-least : (whole always parts work time : ℕ) → parts < whole → time * parts + whole * always ≤ whole * work → work ≤ time → div_ceil (always * whole) (whole - parts) ≤ time
+pub window-least : (whole always parts work time : ℕ) → parts < whole
+    → time * parts + whole * always ≤ whole * work → work ≤ time
+    → div_ceil (always * whole) (whole - parts) ≤ time
 window-least whole always parts work time lt h le =
     let e : parts + (whole - parts) ≡ whole = omega arith in
     let P : ℕ → Type 0 = λ w. time * parts + w * always ≤ w * work in
     let Q : ℕ → Type 0 = λ w. always * w ≤ time * (whole - parts) in
-    let left : Q whole = subst Q e (left_over always parts (whole - parts) work time (subst P (sym e) h) le) in
+    let left : Q whole =
+    subst Q e (left_over always parts (whole - parts) work time (subst P (sym e) h) le) in
     ceil_least (always * whole) (whole - parts) time (omega arith) left

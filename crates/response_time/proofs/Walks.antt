@@ -12,10 +12,12 @@ use Rattle.task_sheet.proofs.Runs.{next_is_no_less, run_next, run_passes, run_fa
 
 -- the numbers are a trail, and no more than the evaluation bound
 abbrev pub IsShortTrail : List Task → ℕ → Indexes → ℕ → List ℕ → Type 0
-IsShortTrail U i H limit numbers = IsTrail (demand_of U i H) limit numbers × (length numbers ≤ evaluation_bound U H limit)
+IsShortTrail U i H limit numbers = IsTrail (demand_of U i H) limit numbers
+    × (length numbers ≤ evaluation_bound U H limit)
 
 module _ (U : List Task) (i : ℕ) (H : Indexes) (valid : AllTasks U) (lt : i < length U) (limit : ℕ)
-    (numbers : List ℕ) (t : ℕ) (climb : IsClimb (demand_of U i H) (numbers ++ t ∷ [])) (within : AllWithinLimit limit numbers) where
+    (numbers : List ℕ) (t : ℕ) (climb : IsClimb (demand_of U i H) (numbers ++ t ∷ []))
+    (within : AllWithinLimit limit numbers) where
   steady : DoesNotFall (demand_of U i H)
   steady = demand_does_not_fall U valid i H lt
 
@@ -23,7 +25,8 @@ module _ (U : List Task) (i : ℕ) (H : Indexes) (valid : AllTasks U) (lt : i < 
   walk_climbs = next_is_no_less (demand_of U i H) steady limit numbers t climb within
 
   pub walk_goes_on : (next : ℕ) → next ≡ demand_of U i H t → t < next → t ≤ limit
-      → IsClimb (demand_of U i H) ((numbers ++ t ∷ []) ++ next ∷ []) × AllWithinLimit limit (numbers ++ t ∷ [])
+      → IsClimb (demand_of U i H) ((numbers ++ t ∷ []) ++ next ∷ [])
+      × AllWithinLimit limit (numbers ++ t ∷ [])
   walk_goes_on next is more le = (
     run_next (demand_of U i H) steady limit numbers t climb within next is more,
     within_push (demand_of U i H) numbers limit t within le,
@@ -32,7 +35,8 @@ module _ (U : List Task) (i : ℕ) (H : Indexes) (valid : AllTasks U) (lt : i < 
   pub walk_passes : demand_of U i H t ≡ t → t ≤ limit → IsShortTrail U i H limit (numbers ++ t ∷ [])
   walk_passes fixed le = (
     run_passes (demand_of U i H) steady limit numbers t climb within fixed le,
-    climb-short U valid i H limit (numbers ++ t ∷ []) climb (within_push (demand_of U i H) numbers limit t within le),
+    climb-short U valid i H limit (numbers ++ t ∷ []) climb
+        (within_push (demand_of U i H) numbers limit t within le),
   )
 
   pub walk_fails : 1 ≤ limit → limit < t

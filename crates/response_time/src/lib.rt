@@ -152,7 +152,7 @@ pub fn passes(set: &TaskSet, table: &LockTable, task: usize, above: Members) -> 
 }
 
 /// The response of a task with these above it, or the chain that shows that it has none in time (Audsley et al. 1993).
-/// The table is that of the set. The error is want of memory for the numbers.
+/// The table is that of the set. The error is out of memory for the numbers.
 pub fn respond(
     alloc: Global,
     set: &TaskSet,

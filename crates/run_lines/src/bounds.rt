@@ -14,7 +14,7 @@ pub struct TaskBound {
     pub bound: Option<u64>,
 }
 
-/// The tasks of places, whose responses are the bounds. The error is want of memory.
+/// The tasks of places, whose responses are the bounds. The error is out of memory.
 pub fn bounds_of(alloc: Global, places: &[Place]) -> Result<Vec<TaskBound>, AllocError>
     ensures bounds { IfOk result (λ bounds. bounds.items ≡ bounds_of places.now) }
     ensures tasks { IfOk result (λ bounds. tasks_of_bounds bounds.items

@@ -54,7 +54,7 @@ fn push_task(
 
 /// The lines that say what each task of an order came to in a run, the lowest level first: its name, how many of its jobs
 /// are done, the greatest response among them, `-` where none is, and its bound, `-` where it has none; in microseconds.
-/// The error is want of memory.
+/// The error is out of memory.
 pub fn tasks_text(
     alloc: Global,
     set: &TaskSet,

@@ -1,7 +1,10 @@
 -- The ceiling of a lock is the level of its highest user.
-use Rattle.std.proofs.Common.{◌≡◌, ◌↔◌, ℕ, zero, suc, ◌+◌, ◌<◌, inl, inr, Bool, true, false, ◌==◌, cond, Option, Some, None, List, [], ◌∷◌, length, get_or, refl, sym, ◌∙◌, ap, subst, arith}
+use Rattle.std.proofs.Common.{◌≡◌, ◌↔◌, ℕ, zero, suc, ◌+◌, ◌<◌, inl, inr, Bool, true, false, ◌==◌}
+use Rattle.std.proofs.Common.{cond, Option, Some, None, List, [], ◌∷◌, length, get_or, refl, sym}
+use Rattle.std.proofs.Common.{◌∙◌, ap, subst, arith}
 use Rattle.std.specs.Option.{option_or}
-use Rattle.std.proofs.lemmas.Bool.{cases_order, both_ways, or_cases, or_left, or_right, eqb-true, eq-eqb, ltb-true, lt-ltb}
+use Rattle.std.proofs.lemmas.Bool.{cases_order, both_ways, or_cases, or_left, or_right, eqb-true}
+use Rattle.std.proofs.lemmas.Bool.{eq-eqb, ltb-true, lt-ltb}
 use Rattle.task_sheet.specs.Sheet.{Task, task_at}
 use Rattle.task_sheet.specs.Indexes.{among}
 use Rattle.task_sheet.specs.Locks.{uses, ceiling_from, ceiling_of, IsHighestUser}
@@ -9,7 +12,8 @@ use Rattle.task_sheet.specs.Orders.{all_of, IsOrder}
 use Rattle.task_sheet.proofs.IndexLaws.{IsOrderOf-among}
 
 -- ---- places of a list
-among-place : (xs : List ℕ) (k : ℕ) → among xs k ≡ true → (j : ℕ) × (j < length xs) × (get_or xs j 0 ≡ k)
+among-place : (xs : List ℕ) (k : ℕ) → among xs k ≡ true → (j : ℕ) × (j < length xs)
+    × (get_or xs j 0 ≡ k)
 among-place [] k is = cc
 among-place (x ∷ xs) k is = elim (or_cases (x == k) (among xs k) is) [
   | inl here ↦ (0, omega arith, eqb-true x k here)
@@ -25,76 +29,96 @@ module _ (U : List Task) (lock : List ℕ) where
   abbrev NoUser : List ℕ → Type 0
   NoUser order = (k : ℕ) → k < length order → uses (task_at U (get_or order k 0)) lock ≡ false
 
-  none_more : (i : ℕ) (order : List ℕ) → uses (task_at U i) lock ≡ false → NoUser order → NoUser (i ∷ order)
+  none_more : (i : ℕ) (order : List ℕ) → uses (task_at U i) lock ≡ false → NoUser order
+      → NoUser (i ∷ order)
   none_more i order out none zero lt = out
   none_more i order out none (suc k) lt = none k (omega arith)
 
-  highest_later : (i : ℕ) (order : List ℕ) (place : ℕ) → IsHighestUser U order lock place → IsHighestUser U (i ∷ order) lock (suc place)
+  highest_later : (i : ℕ) (order : List ℕ) (place : ℕ) → IsHighestUser U order lock place
+      → IsHighestUser U (i ∷ order) lock (suc place)
   highest_later i order place h = record {
     in_order = omega (arith, h.in_order);
     user = h.user;
     none_above = above;
   }
     where
-      above : (k : ℕ) → suc place < k → k < length (i ∷ order) → uses (task_at U (get_or (i ∷ order) k 0)) lock ≡ false
+      above : (k : ℕ) → suc place < k → k < length (i ∷ order)
+          → uses (task_at U (get_or (i ∷ order) k 0)) lock ≡ false
       above zero lt lt' = absurd (omega arith)
       above (suc k) lt lt' = h.none_above k (omega arith) (omega arith)
 
-  highest_here : (i : ℕ) (order : List ℕ) → uses (task_at U i) lock ≡ true → NoUser order → IsHighestUser U (i ∷ order) lock 0
+  highest_here : (i : ℕ) (order : List ℕ) → uses (task_at U i) lock ≡ true → NoUser order
+      → IsHighestUser U (i ∷ order) lock 0
   highest_here i order user none = record {
     in_order = omega arith;
     user = user;
     none_above = above;
   }
     where
-      above : (k : ℕ) → 0 < k → k < length (i ∷ order) → uses (task_at U (get_or (i ∷ order) k 0)) lock ≡ false
+      above : (k : ℕ) → 0 < k → k < length (i ∷ order)
+          → uses (task_at U (get_or (i ∷ order) k 0)) lock ≡ false
       above zero lt lt' = absurd (omega arith)
       above (suc k) lt lt' = none k (omega arith)
 
   -- what the ceiling from a level says
   abbrev Says : ℕ → List ℕ → Option ℕ → Type 0
   Says level order None = NoUser order
-  Says level order (Some top) = (place : ℕ) × (top ≡ level + place) × IsHighestUser U order lock place
+  Says level order (Some top) = (place : ℕ) × (top ≡ level + place)
+      × IsHighestUser U order lock place
 
   ceiling-says : (level : ℕ) (order : List ℕ) → Says level order (ceiling_from level U order lock)
   ceiling-says level [] = λ k lt. absurd (omega arith)
-  ceiling-says level (i ∷ order) = by (ceiling_from (level + 1) U order lock) (uses (task_at U i) lock) refl (ceiling-says (level + 1) order)
+  ceiling-says level (i ∷ order) = by (ceiling_from (level + 1) U order lock)
+      (uses (task_at U i) lock) refl (ceiling-says (level + 1) order)
     where
-      by : (o : Option ℕ) (b : Bool) → uses (task_at U i) lock ≡ b → Says (level + 1) order o → Says level (i ∷ order) (option_or o (cond b (Some level) None))
+      by : (o : Option ℕ) (b : Bool) → uses (task_at U i) lock ≡ b → Says (level + 1) order o
+          → Says level (i ∷ order) (option_or o (cond b (Some level) None))
       by None true e says = (0, omega arith, highest_here i order e says)
       by None false e says = none_more i order e says
-      by (Some top) b e says = (suc says.0, omega (arith, says.1), highest_later i order says.0 says.2)
+      by (Some top) b e says =
+          (suc says.0, omega (arith, says.1), highest_later i order says.0 says.2)
 
   not_user : (order : List ℕ) (place : ℕ) → NoUser order → ¬ IsHighestUser U order lock place
-  not_user order place none h = both_ways (uses (task_at U (get_or order place 0)) lock) (none place h.in_order) h.user
+  not_user order place none h =
+      both_ways (uses (task_at U (get_or order place 0)) lock) (none place h.in_order) h.user
 
-  highest-one : (order : List ℕ) (j k : ℕ) → IsHighestUser U order lock j → IsHighestUser U order lock k → j ≡ k
+  highest-one : (order : List ℕ) (j k : ℕ) → IsHighestUser U order lock j
+      → IsHighestUser U order lock k → j ≡ k
   highest-one order j k h g = elim (cases_order j k) [
     | inl e ↦ e
     | inr apart ↦ elim apart [
-      | inl lt ↦ absurd (both_ways (uses (task_at U (get_or order k 0)) lock) (h.none_above k lt g.in_order) g.user)
-      | inr lt ↦ absurd (both_ways (uses (task_at U (get_or order j 0)) lock) (g.none_above j lt h.in_order) h.user)
+      | inl lt ↦ absurd (both_ways (uses (task_at U (get_or order k 0)) lock)
+          (h.none_above k lt g.in_order) g.user)
+      | inr lt ↦ absurd (both_ways (uses (task_at U (get_or order j 0)) lock)
+          (g.none_above j lt h.in_order) h.user)
     ]
   ]
 
   pub ceiling-highest : (order : List ℕ) (level : ℕ)
-      → (ceiling_of U order lock ≡ Some level) ↔ ((place : ℕ) × (level ≡ place + 1) × IsHighestUser U order lock place)
+      → (ceiling_of U order lock ≡ Some level)
+      ↔ ((place : ℕ) × (level ≡ place + 1) × IsHighestUser U order lock place)
   ceiling-highest order level = (
-    λ e. let says = subst (λ o. Says 1 order o) e (ceiling-says 1 order) in (says.0, omega (arith, says.1), says.2),
+    λ e. let says = subst (λ o. Says 1 order o) e (ceiling-says 1 order) in
+        (says.0, omega (arith, says.1), says.2),
     λ h. by h.0 h.1 h.2 (ceiling_of U order lock) (ceiling-says 1 order),
   )
     where
-      by : (place : ℕ) → level ≡ place + 1 → IsHighestUser U order lock place → (o : Option ℕ) → Says 1 order o → o ≡ Some level
+      by : (place : ℕ) → level ≡ place + 1 → IsHighestUser U order lock place → (o : Option ℕ)
+          → Says 1 order o → o ≡ Some level
       by place is h None none = absurd (not_user order place none h)
-      by place is h (Some top) says = ap (λ n. Some n) (omega (arith, says.1, highest-one order says.0 place says.2 h))
+      by place is h (Some top) says =
+          ap (λ n. Some n) (omega (arith, says.1, highest-one order says.0 place says.2 h))
 
-  pub ceiling-none : (order : List ℕ) → IsOrder U order → (ceiling_of U order lock ≡ None) ↔ ((k : ℕ) → k < length U → uses (task_at U k) lock ≡ false)
+  pub ceiling-none : (order : List ℕ) → IsOrder U order → (ceiling_of U order lock ≡ None)
+      ↔ ((k : ℕ) → k < length U → uses (task_at U k) lock ≡ false)
   ceiling-none order each = (
     λ e k lt.
         let none = subst (λ o. Says 1 order o) e (ceiling-says 1 order) in
         let place = among-place order k (ap (λ X. X k) same ∙ lt-ltb k (length U) lt) in
         subst (λ i. uses (task_at U i) lock ≡ false) place.2 (none place.0 place.1),
-    λ all. by (λ k lt. all (get_or order k 0) (ltb-true _ _ (ap (λ X. X (get_or order k 0)) (sym same) ∙ place-among order k lt))) (ceiling_of U order lock) (ceiling-says 1 order),
+    λ all. by (λ k lt. all (get_or order k 0)
+        (ltb-true _ _ (ap (λ X. X (get_or order k 0)) (sym same) ∙ place-among order k lt)))
+        (ceiling_of U order lock) (ceiling-says 1 order),
   )
     where
       same : among order ≡ all_of U

@@ -1,24 +1,30 @@
 -- Every set has a verdict: the climb from the lowest level up leads to one.
-use Rattle.std.proofs.Common.{◌≡◌, ℕ, zero, suc, ◌<◌, ◌≤◌, ◌⊎◌, inl, inr, Bool, true, false, cond, List, [], ◌∷◌, ◌++◌, length, refl, ◌∙◌, ap, subst, arith}
+use Rattle.std.proofs.Common.{◌≡◌, ℕ, zero, suc, ◌<◌, ◌≤◌, ◌⊎◌, inl, inr, Bool, true, false, cond}
+use Rattle.std.proofs.Common.{List, [], ◌∷◌, ◌++◌, length, refl, ◌∙◌, ap, subst, arith}
 use Rattle.std.proofs.lemmas.Bool.{cases_Bool, cases_eq, both_ways, cond-true, ltb-true}
 use Rattle.std.proofs.lemmas.List.{map-append}
 use Rattle.task_sheet.specs.Sheet.{Task, AllTasks}
 use Rattle.task_sheet.specs.Indexes.{Indexes, IsPart, without_index, listed_below}
 use Rattle.task_sheet.specs.Orders.{all_of, Stands, IsFeasible, IsBest}
-use Rattle.task_sheet.specs.Levels.{IsObstruction, IsGreatestObstruction, IsChosen, left_after, AllChosen}
-use Rattle.task_sheet.specs.Verdicts.{FailureData, LevelData, VerdictData, Admitted, Infeasible, tasks_of, order_of, AllFailures, IsLevel, AllLevels, IsVerdictOf}
+use Rattle.task_sheet.specs.Levels.{IsObstruction, IsGreatestObstruction, IsChosen, left_after}
+use Rattle.task_sheet.specs.Levels.{AllChosen}
+use Rattle.task_sheet.specs.Verdicts.{FailureData, LevelData, VerdictData, Admitted, Infeasible}
+use Rattle.task_sheet.specs.Verdicts.{tasks_of, order_of, AllFailures, IsLevel, AllLevels}
+use Rattle.task_sheet.specs.Verdicts.{IsVerdictOf}
 use Rattle.task_sheet.proofs.Below.{find_below, sum_below-le-term}
 use Rattle.task_sheet.proofs.IndexLaws.{without-parts, count_below, without-fewer}
 use Rattle.task_sheet.proofs.PassingLaws.{Passes-iff_response, decide_stands, find_reason}
 use Rattle.task_sheet.proofs.ObstructionLaws.{IsObstruction-fails}
-use Rattle.task_sheet.proofs.VerdictLaws.{AllFailures-push, IsVerdictOf-admitted, IsVerdictOf-infeasible}
+use Rattle.task_sheet.proofs.VerdictLaws.{AllFailures-push, IsVerdictOf-admitted}
+use Rattle.task_sheet.proofs.VerdictLaws.{IsVerdictOf-infeasible}
 
 -- none of L below n may stand below the others of L
 unfoldable pub NoneBelow : List Task → Indexes → ℕ → Type 0
 NoneBelow U L n = (j : ℕ) → j < n → L j ≡ true → ¬ Stands U j (without_index L j)
 
 -- the task of least rank of L that may stand below the others of L, or none below n
-pub find_chosen : (U : List Task) (L : Indexes) (n : ℕ) → ((i : ℕ) × (i < n) × IsChosen U L i) ⊎ NoneBelow U L n
+pub find_chosen : (U : List Task) (L : Indexes) (n : ℕ) → ((i : ℕ) × (i < n) × IsChosen U L i)
+    ⊎ NoneBelow U L n
 unfolding NoneBelow
 find_chosen U L zero = inr (λ j lt. absurd (omega arith))
 find_chosen U L (suc n) =
@@ -26,7 +32,8 @@ find_chosen U L (suc n) =
       | inl found ↦ inl (found.0, omega (arith, found.1), found.2)
       | inr none ↦ elim (cases_Bool (L n)) [
         | inl member ↦ elim (decide_stands U n (without_index L n)) [
-          | inl stands ↦ inl (n, omega arith, record { member = member; stands = stands; first = none })
+          | inl stands ↦
+              inl (n, omega arith, record { member = member; stands = stands; first = none })
           | inr fails ↦ inr (λ j lt is stands. elim (cases_eq j n) [
             | inl e ↦ fails (subst (λ i. Stands U i (without_index L i)) e stands)
             | inr ne ↦ none j (omega arith) is stands
@@ -43,11 +50,16 @@ find_chosen U L (suc n) =
 abbrev Fails : List Task → Indexes → List ℕ → Type 0
 Fails U L tasks = (fails : List FailureData) × (tasks_of fails ≡ tasks) × AllFailures U L fails
 
-one_more : (U : List Task) (L : Indexes) (tasks : List ℕ) (j : ℕ) → Fails U L tasks → ¬ Stands U j (without_index L j) → Fails U L (tasks ++ j ∷ [])
+one_more : (U : List Task) (L : Indexes) (tasks : List ℕ) (j : ℕ) → Fails U L tasks
+    → ¬ Stands U j (without_index L j) → Fails U L (tasks ++ j ∷ [])
 one_more U L tasks j before fails =
     let reason = find_reason U j (without_index L j) fails in
-    let f : FailureData = record { task = j; reason = reason.0 } in
-    (before.0 ++ f ∷ [], map-append (λ (f : FailureData). f.task) before.0 (f ∷ []) ∙ ap (λ ns. ns ++ j ∷ []) before.1, AllFailures-push U L before.0 f before.2 reason.1)
+    let f : FailureData = record { task = j; reason = reason.0 } in (
+      before.0 ++ f ∷ [],
+      map-append (λ (f : FailureData). f.task) before.0 (f ∷ [])
+          ∙ ap (λ ns. ns ++ j ∷ []) before.1,
+      AllFailures-push U L before.0 f before.2 reason.1,
+    )
 
 fails_below : (U : List Task) (L : Indexes) (n : ℕ) → NoneBelow U L n → Fails U L (listed_below n L)
 unfolding NoneBelow
@@ -56,7 +68,8 @@ fails_below U L (suc n) none =
     let before = fails_below U L n (λ j lt. none j (omega arith)) in
     by (L n) refl before
   where
-    by : (b : Bool) → L n ≡ b → Fails U L (listed_below n L) → Fails U L (cond b (listed_below n L ++ n ∷ []) (listed_below n L))
+    by : (b : Bool) → L n ≡ b → Fails U L (listed_below n L)
+        → Fails U L (cond b (listed_below n L ++ n ∷ []) (listed_below n L))
     by true member before = one_more U L (listed_below n L) n before (none n (omega arith) member)
     by false out before = before
 
@@ -65,12 +78,15 @@ record Climbed (U : List Task) (L : Indexes) : Type 0 where
   levels : List LevelData
   chosen : AllChosen U L (order_of levels)
   each : AllLevels U L levels
-  end : ((k : ℕ) → left_after L (order_of levels) k ≡ false) ⊎ (((k : ℕ) × (left_after L (order_of levels) k ≡ true)) × NoneBelow U (left_after L (order_of levels)) (length U))
+  end : ((k : ℕ) → left_after L (order_of levels) k ≡ false)
+      ⊎ (((k : ℕ) × (left_after L (order_of levels) k ≡ true))
+      × NoneBelow U (left_after L (order_of levels)) (length U))
 
 module _ (U : List Task) (valid : AllTasks U) where
   -- the response and the failures of a level
   fill_level : (L : Indexes) (i : ℕ) → i < length U → IsChosen U L i
-      → (response : ℕ) × (fails : List FailureData) × IsLevel U L (record { task = i; response = response; fails = fails })
+      → (response : ℕ) × (fails : List FailureData)
+      × IsLevel U L (record { task = i; response = response; fails = fails })
   unfolding NoneBelow
   fill_level L i lt chosen =
       let H = without_index L i in
@@ -78,13 +94,19 @@ module _ (U : List Task) (valid : AllTasks U) where
       let fails = fails_below U L i chosen.first in
       (found.0, fails.0, record { response = found.1; lesser = fails.1; fails = fails.2 })
 
-  climb : (fuel : ℕ) (L : Indexes) → IsPart L (all_of U) → count_below (length U) L ≤ fuel → Climbed U L
+  climb : (fuel : ℕ) (L : Indexes) → IsPart L (all_of U) → count_below (length U) L ≤ fuel
+      → Climbed U L
   climb zero L part few = record {
     levels = [];
     chosen = tt;
     each = tt;
     end = inl (λ k. elim (cases_Bool (L k)) [
-      | inl member ↦ absurd (omega (arith, sum_below-le-term (length U) (λ k. cond (L k) 1 0) k (ltb-true k (length U) (part k member)), cond-true {A = ℕ} (L k) 1 0 member))
+      | inl member ↦ absurd (omega (
+        arith,
+        sum_below-le-term (length U) (λ k. cond (L k) 1 0) k
+            (ltb-true k (length U) (part k member)),
+        cond-true {A = ℕ} (L k) 1 0 member,
+      ))
       | inr out ↦ out
     ]);
   }
@@ -93,7 +115,8 @@ module _ (U : List Task) (valid : AllTasks U) where
         | inl found ↦
             let i = found.0 in
             let parts = fill_level L i found.1 found.2 in
-            let rest = climb fuel (without_index L i) (λ k h. part k (without-parts L i k h).0) (omega (arith, without-fewer (length U) L i found.1 found.2.member)) in
+            let rest = climb fuel (without_index L i) (λ k h. part k (without-parts L i k h).0)
+            (omega (arith, without-fewer (length U) L i found.1 found.2.member)) in
             record {
               levels = record { task = i; response = parts.0; fails = parts.1 } ∷ rest.levels;
               chosen = (found.2, rest.chosen);
@@ -107,7 +130,8 @@ module _ (U : List Task) (valid : AllTasks U) where
           end = elim (find_below (length U) L) [
             | inl some ↦ inr ((some.0, some.2), none)
             | inr empty ↦ inl (λ k. elim (cases_Bool (L k)) [
-              | inl member ↦ absurd (both_ways (L k) (empty k (ltb-true k (length U) (part k member))) member)
+              | inl member ↦
+                  absurd (both_ways (L k) (empty k (ltb-true k (length U) (part k member))) member)
               | inr out ↦ out
             ])
           ];
@@ -119,21 +143,31 @@ module _ (U : List Task) (valid : AllTasks U) where
       let climbed = climb (count_below (length U) (all_of U)) (all_of U) (λ k h. h) (omega arith) in
       let left = left_after (all_of U) (order_of climbed.levels) in
       elim climbed.end [
-        | inl none ↦ (Admitted climbed.levels, IsVerdictOf-admitted U climbed.levels climbed.chosen climbed.each none)
+        | inl none ↦ (
+          Admitted climbed.levels,
+          IsVerdictOf-admitted U climbed.levels climbed.chosen
+              climbed.each none,
+        )
         | inr stuck ↦
-            let fails = fails_below U left (length U) stuck.1 in
-            (Infeasible fails.0, IsVerdictOf-infeasible U valid (order_of climbed.levels) fails.0 stuck.0.0 climbed.chosen stuck.0.1 fails.1 fails.2)
+            let fails = fails_below U left (length U) stuck.1 in (
+              Infeasible fails.0,
+              IsVerdictOf-infeasible U valid (order_of climbed.levels) fails.0
+                  stuck.0.0 climbed.chosen stuck.0.1 fails.1 fails.2,
+            )
       ]
 
-  best_of : (v : VerdictData) → IsVerdictOf U v → ((order : List ℕ) × IsBest U order) ⊎ ((S : Indexes) × IsGreatestObstruction U S)
+  best_of : (v : VerdictData) → IsVerdictOf U v → ((order : List ℕ) × IsBest U order)
+      ⊎ ((S : Indexes) × IsGreatestObstruction U S)
   best_of (Admitted levels) h = inl (order_of levels, h.best)
   best_of (Infeasible members) h = inr (_, h.greatest)
 
-  pub best_or_obstructed : ((order : List ℕ) × IsBest U order) ⊎ ((S : Indexes) × IsGreatestObstruction U S)
+  pub best_or_obstructed : ((order : List ℕ) × IsBest U order)
+      ⊎ ((S : Indexes) × IsGreatestObstruction U S)
   best_or_obstructed = best_of find_verdict.0 find_verdict.1
 
   -- where there is an obstruction, there is a greatest
-  pub greatest_obstruction : (S : Indexes) → IsObstruction U S → (G : Indexes) × IsGreatestObstruction U G
+  pub greatest_obstruction : (S : Indexes) → IsObstruction U S → (G : Indexes)
+      × IsGreatestObstruction U G
   greatest_obstruction S h = elim best_or_obstructed [
     | inl best ↦ absurd (IsObstruction-fails U valid S h (best.0, best.1.passing))
     | inr greatest ↦ greatest
@@ -141,4 +175,7 @@ module _ (U : List Task) (valid : AllTasks U) where
 
   -- where no order passes, there is an obstruction
   pub obstruction_of : ¬ IsFeasible U → (S : Indexes) × IsObstruction U S
-  obstruction_of none = elim best_or_obstructed [ inl best ↦ absurd (none (best.0, best.1.passing)) | inr greatest ↦ (greatest.0, greatest.1.obstruction) ]
+  obstruction_of none = elim best_or_obstructed [
+    | inl best ↦ absurd (none (best.0, best.1.passing))
+    | inr greatest ↦ (greatest.0, greatest.1.obstruction)
+  ]

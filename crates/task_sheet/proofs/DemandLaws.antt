@@ -14,7 +14,8 @@ module _ (U : List Task) (valid : AllTasks U) where
   pub demand-mono : (i : ℕ) (H : Indexes) (t s : ℕ) → t ≤ s → demand_of U i H t ≤ demand_of U i H s
   unfolding demand_of
   demand-mono i H t s le =
-      let terms = sum_below-le (length U) (term U t H) (term U s H) (λ h lt. elim (cases_Bool (H h)) [
+      let terms =
+      sum_below-le (length U) (term U t H) (term U s H) (λ h lt. elim (cases_Bool (H h)) [
         | inl above ↦ rw above (interference-mono (task_at U h) t s (valid h no_task lt) le)
         | inr below ↦ rw below (omega arith)
       ]) in
@@ -27,5 +28,7 @@ module _ (U : List Task) (valid : AllTasks U) where
     rises = demand-mono i H;
   }
 
-  pub demand-with_index : (i j : ℕ) (H : Indexes) (t : ℕ) → 1 ≤ t → demand_of U i H t ≤ demand_of U i (with_index H j) t
-  demand-with_index i j H t pos = demand-part U valid i H (with_index H j) (λ k h. or_right _ _ h) t pos
+  pub demand-with_index : (i j : ℕ) (H : Indexes) (t : ℕ) → 1 ≤ t
+      → demand_of U i H t ≤ demand_of U i (with_index H j) t
+  demand-with_index i j H t pos =
+      demand-part U valid i H (with_index H j) (λ k h. or_right _ _ h) t pos

@@ -1,12 +1,17 @@
 -- Sets of indexes: parts of one another, one index less or more, and the lists that name them.
-use Rattle.std.proofs.Common.{◌≡◌, ℕ, zero, suc, ◌+◌, ◌*◌, ◌<◌, ◌≤◌, ◌⊎◌, inl, inr, Bool, true, false, cond, ◌==◌, ◌&&◌, not, nat_lt, List, [], ◌∷◌, ◌++◌, length, refl, sym, ◌∙◌, ap, arith}
+use Rattle.std.proofs.Common.{◌≡◌, ℕ, zero, suc, ◌+◌, ◌*◌, ◌<◌, ◌≤◌, ◌⊎◌, inl, inr, Bool, true}
+use Rattle.std.proofs.Common.{false, cond, ◌==◌, ◌&&◌, not, nat_lt, List, [], ◌∷◌, ◌++◌, length}
+use Rattle.std.proofs.Common.{refl, sym, ◌∙◌, ap, arith}
 use Rattle.std.proofs.Math.Path.{fun_ext}
 use Rattle.std.specs.List.{count_by, AllByRecursion}
-use Rattle.std.proofs.lemmas.Bool.{cases_Bool, cases_eq, and_parts, and_from, or_cases, or_left, or_right, both_ways, cond-true, cond-false, eq-eqb, ne_eqb, not-true, lt-ltb, le-ltb, ltb-true}
+use Rattle.std.proofs.lemmas.Bool.{cases_Bool, cases_eq, and_parts, and_from, or_cases, or_left}
+use Rattle.std.proofs.lemmas.Bool.{or_right, both_ways, cond-true, cond-false, eq-eqb, ne_eqb}
+use Rattle.std.proofs.lemmas.Bool.{not-true, lt-ltb, le-ltb, ltb-true}
 use Rattle.std.proofs.lemmas.Bool.Decides.{nat_tests}
 use Rattle.std.proofs.Math.Bool.{and-false}
 use Rattle.std.proofs.lemmas.List.Sums.{sum_by-cons, sum_by-append}
-use Rattle.task_sheet.specs.Indexes.{Indexes, IsPart, below, with_index, without_index, among, listed_below, sum_below}
+use Rattle.task_sheet.specs.Indexes.{Indexes, IsPart, below, with_index, without_index, among}
+use Rattle.task_sheet.specs.Indexes.{listed_below, sum_below}
 use Rattle.task_sheet.specs.Orders.{IsOrderOf}
 use Rattle.task_sheet.proofs.Below.{cond-le, sum_below-gap, sum_below-fits}
 
@@ -14,10 +19,14 @@ use Rattle.task_sheet.proofs.Below.{cond-le, sum_below-gap, sum_below-fits}
 pub same_parts : (G H : Indexes) → IsPart G H → IsPart H G → G ≡ H
 same_parts G H part part' = fun_ext (λ k. elim (cases_Bool (G k)) [
   | inl member ↦ member ∙ sym (part k member)
-  | inr out ↦ elim (cases_Bool (H k)) [ inl member ↦ absurd (both_ways (G k) out (part' k member)) | inr out' ↦ out ∙ sym out' ]
+  | inr out ↦ elim (cases_Bool (H k)) [
+    | inl member ↦ absurd (both_ways (G k) out (part' k member))
+    | inr out' ↦ out ∙ sym out'
+  ]
 ])
 
-pub with_index-part : (H G : Indexes) (i : ℕ) → IsPart H G → IsPart (with_index H i) (with_index G i)
+pub with_index-part : (H G : Indexes) (i : ℕ) → IsPart H G
+    → IsPart (with_index H i) (with_index G i)
 with_index-part H G i part k h =
     elim (or_cases _ _ h) [ inl l ↦ or_left _ _ l | inr r ↦ or_right _ _ (part k r) ]
 
@@ -25,32 +34,43 @@ with_index-part H G i part k h =
 pub without-member : (H : Indexes) (i k : ℕ) → H k ≡ true → (k ≡ i → ⊥) → without_index H i k ≡ true
 without-member H i k member ne = and_from _ _ member (rw (ne_eqb k i ne))
 
-pub without-parts : (H : Indexes) (i k : ℕ) → without_index H i k ≡ true → (H k ≡ true) × (k ≡ i → ⊥)
+pub without-parts : (H : Indexes) (i k : ℕ) → without_index H i k ≡ true → (H k ≡ true)
+    × (k ≡ i → ⊥)
 without-parts H i k h =
     let both = and_parts (H k) (not (k == i)) h in
     (both.0, λ e. both_ways (k == i) (not-true _ both.1) (eq-eqb k i e))
 
-pub without-part : (G H : Indexes) (i : ℕ) → IsPart G H → IsPart (without_index G i) (without_index H i)
+pub without-part : (G H : Indexes) (i : ℕ) → IsPart G H
+    → IsPart (without_index G i) (without_index H i)
 without-part G H i part k h =
     let both = without-parts G i k h in without-member H i k (part k both.0) both.1
 
 -- what is left of a part is a part
-pub without-part_of : (n : ℕ) (L : Indexes) (i : ℕ) → IsPart L (below n) → IsPart (without_index L i) (below n)
+pub without-part_of : (n : ℕ) (L : Indexes) (i : ℕ) → IsPart L (below n)
+    → IsPart (without_index L i) (below n)
 without-part_of n L i part k h = part k (without-parts L i k h).0
 
 -- it is gone, and the others stay
 pub without-gone : (H : Indexes) (i k : ℕ) → k ≡ i → without_index H i k ≡ false
-without-gone H i k e = elim (cases_Bool (without_index H i k)) [ inl so ↦ absurd ((without-parts H i k so).1 e) | inr so ↦ so ]
+without-gone H i k e = elim (cases_Bool (without_index H i k)) [
+  | inl so ↦
+      absurd ((without-parts H i k so).1 e)
+  | inr so ↦ so
+]
 
 pub without-kept : (H : Indexes) (i k : ℕ) → (k ≡ i → ⊥) → without_index H i k ≡ H k
-without-kept H i k ne = elim (cases_Bool (H k)) [ inl so ↦ without-member H i k so ne ∙ sym so | inr so ↦ rw so ]
+without-kept H i k ne = elim (cases_Bool (H k)) [
+  | inl so ↦ without-member H i k so ne ∙ sym so
+  | inr so ↦ rw so
+]
 
 -- how many indexes below n are in a set
 abbrev pub count_below : ℕ → Indexes → ℕ
 count_below n L = sum_below n (λ k. cond (L k) 1 0)
 
 -- one member is counted less
-pub without-fewer : (n : ℕ) (L : Indexes) (i : ℕ) → i < n → L i ≡ true → count_below n (without_index L i) < count_below n L
+pub without-fewer : (n : ℕ) (L : Indexes) (i : ℕ) → i < n → L i ≡ true
+    → count_below n (without_index L i) < count_below n L
 without-fewer n L i lt member =
     let f : ℕ → ℕ = λ k. cond (without_index L i k) 1 0 in
     let g : ℕ → ℕ = λ k. cond (L k) 1 0 in
@@ -59,22 +79,30 @@ without-fewer n L i lt member =
     omega (
       arith,
       sum_below-gap n f g i (λ k. elim (cases_Bool (without_index L i k)) [
-        | inl so ↦ let here : f k ≡ 1 = cond-true {A = ℕ} (without_index L i k) 1 0 so in let there : g k ≡ 1 = cond-true {A = ℕ} (L k) 1 0 (without-parts L i k so).0 in omega arith
-        | inr so ↦ let here : f k ≡ 0 = cond-false {A = ℕ} (without_index L i k) 1 0 so in omega arith
+        | inl so ↦ let here : f k ≡ 1 = cond-true {A = ℕ} (without_index L i k) 1 0 so in
+            let there : g k ≡ 1 = cond-true {A = ℕ} (L k) 1 0 (without-parts L i k so).0 in
+            omega arith
+        | inr so ↦ let here : f k ≡ 0 = cond-false {A = ℕ} (without_index L i k) 1 0 so in
+            omega arith
       ]) lt none,
     )
 
 -- ---- how often a list names an index
-pub count-cons : (i k : ℕ) (xs : List ℕ) → count_by (λ x. x == k) (i ∷ xs) ≡ cond (i == k) 1 0 + count_by (λ x. x == k) xs
+pub count-cons : (i k : ℕ) (xs : List ℕ)
+    → count_by (λ x. x == k) (i ∷ xs) ≡ cond (i == k) 1 0 + count_by (λ x. x == k) xs
 count-cons i k xs = sum_by-cons (λ x. cond (x == k) 1 0) i xs
 
-count-same : (i k : ℕ) (xs : List ℕ) → i ≡ k → count_by (λ x. x == k) (i ∷ xs) ≡ 1 + count_by (λ x. x == k) xs
+count-same : (i k : ℕ) (xs : List ℕ) → i ≡ k
+    → count_by (λ x. x == k) (i ∷ xs) ≡ 1 + count_by (λ x. x == k) xs
 count-same i k xs e = let so : (i == k) ≡ true = eq-eqb i k e in count-cons i k xs ∙ rw so
 
-count-other : (i k : ℕ) (xs : List ℕ) → (i ≡ k → ⊥) → count_by (λ x. x == k) (i ∷ xs) ≡ count_by (λ x. x == k) xs
-count-other i k xs ne = let so : (i == k) ≡ false = ne_eqb i k ne in let e = count-cons i k xs in let c = cond-false {A = ℕ} (i == k) 1 0 so in omega arith
+count-other : (i k : ℕ) (xs : List ℕ) → (i ≡ k → ⊥)
+    → count_by (λ x. x == k) (i ∷ xs) ≡ count_by (λ x. x == k) xs
+count-other i k xs ne = let so : (i == k) ≡ false = ne_eqb i k ne in let e = count-cons i k xs in
+    let c = cond-false {A = ℕ} (i == k) 1 0 so in omega arith
 
-among-count : (xs : List ℕ) (k : ℕ) → ((among xs k ≡ true) × (1 ≤ count_by (λ x. x == k) xs)) ⊎ ((among xs k ≡ false) × (count_by (λ x. x == k) xs ≡ 0))
+among-count : (xs : List ℕ) (k : ℕ) → ((among xs k ≡ true) × (1 ≤ count_by (λ x. x == k) xs))
+    ⊎ ((among xs k ≡ false) × (count_by (λ x. x == k) xs ≡ 0))
 among-count [] k = inr (refl, refl)
 among-count (x ∷ xs) k =
     elim (cases_eq x k) [
@@ -90,28 +118,42 @@ pub IsOrderOf-among : (L : Indexes) (order : List ℕ) → IsOrderOf L order →
 IsOrderOf-among L order each = fun_ext (λ k.
     let once = each k in
     elim (cases_Bool (L k)) [
-      | inl member ↦ let c = cond-true {A = ℕ} (L k) 1 0 member in elim (among-count order k) [ inl is ↦ is.0 ∙ sym member | inr out ↦ absurd (omega (arith, out.1)) ]
-      | inr outside ↦ let c = cond-false {A = ℕ} (L k) 1 0 outside in elim (among-count order k) [ inl is ↦ absurd (omega (arith, is.1)) | inr out ↦ out.0 ∙ sym outside ]
+      | inl member ↦ let c = cond-true {A = ℕ} (L k) 1 0 member in
+          elim (among-count order k) [
+            | inl is ↦ is.0 ∙ sym member
+            | inr out ↦ absurd (omega (arith, out.1))
+          ]
+      | inr outside ↦ let c = cond-false {A = ℕ} (L k) 1 0 outside in
+          elim (among-count order k) [
+            | inl is ↦ absurd (omega (arith, is.1))
+            | inr out ↦ out.0 ∙ sym outside
+          ]
     ])
 
 pub IsOrderOf-head : (L : Indexes) (i : ℕ) (above : List ℕ) → IsOrderOf L (i ∷ above) → L i ≡ true
 IsOrderOf-head L i above each =
     elim (cases_Bool (L i)) [
       | inl member ↦ member
-      | inr outside ↦ let c = cond-false {A = ℕ} (L i) 1 0 outside in absurd (omega (arith, each i, count-same i i above refl))
+      | inr outside ↦ let c = cond-false {A = ℕ} (L i) 1 0 outside in
+          absurd (omega (arith, each i, count-same i i above refl))
     ]
 
-pub IsOrderOf-rest : (L : Indexes) (i : ℕ) (above : List ℕ) → IsOrderOf L (i ∷ above) → IsOrderOf (without_index L i) above
+pub IsOrderOf-rest : (L : Indexes) (i : ℕ) (above : List ℕ) → IsOrderOf L (i ∷ above)
+    → IsOrderOf (without_index L i) above
 IsOrderOf-rest L i above each k =
     let once = each k in
     elim (cases_eq k i) [
       | inl e ↦
-          let at_most : cond (L k) 1 0 ≤ 1 = elim (cases_Bool (L k)) [ inl so ↦ rw so (omega arith) | inr so ↦ rw so (omega arith) ] in
+          let at_most : cond (L k) 1 0 ≤ 1 = elim (cases_Bool (L k)) [
+            | inl so ↦ rw so (omega arith)
+            | inr so ↦ rw so (omega arith)
+          ] in
           rw (without-gone L i k e) (omega (arith, count-same i k above (sym e)))
       | inr ne ↦ rw (without-kept L i k ne) (omega (arith, count-other i k above (λ e. ne (sym e))))
     ]
 
-pub IsOrderOf-cons : (L : Indexes) (i : ℕ) (above : List ℕ) → L i ≡ true → IsOrderOf (without_index L i) above → IsOrderOf L (i ∷ above)
+pub IsOrderOf-cons : (L : Indexes) (i : ℕ) (above : List ℕ) → L i ≡ true
+    → IsOrderOf (without_index L i) above → IsOrderOf L (i ∷ above)
 IsOrderOf-cons L i above member each k =
     let once = each k in
     elim (cases_eq k i) [
@@ -124,46 +166,60 @@ IsOrderOf-cons L i above member each k =
     ]
 
 -- ---- such a list of indexes below n: each is below n, and there are n at most
-pub order-below : (n : ℕ) (L : Indexes) (order : List ℕ) → IsOrderOf L order → IsPart L (below n) → AllByRecursion (λ k. k < n) order
+pub order-below : (n : ℕ) (L : Indexes) (order : List ℕ) → IsOrderOf L order → IsPart L (below n)
+    → AllByRecursion (λ k. k < n) order
 order-below n L [] each part = tt
-order-below n L (i ∷ above) each part =
-    (ltb-true i n (part i (IsOrderOf-head L i above each)), order-below n (without_index L i) above (IsOrderOf-rest L i above each) (without-part_of n L i part))
+order-below n L (i ∷ above) each part = (
+  ltb-true i n (part i (IsOrderOf-head L i above each)),
+  order-below n (without_index L i) above
+      (IsOrderOf-rest L i above each) (without-part_of n L i part),
+)
 
-order-count : (n : ℕ) (L : Indexes) (order : List ℕ) → IsOrderOf L order → IsPart L (below n) → length order ≤ count_below n L
+order-count : (n : ℕ) (L : Indexes) (order : List ℕ) → IsOrderOf L order → IsPart L (below n)
+    → length order ≤ count_below n L
 order-count n L [] each part = omega arith
 order-count n L (i ∷ above) each part =
     let member = IsOrderOf-head L i above each in
     let fewer = without-fewer n L i (ltb-true i n (part i member)) member in
-    let rest = order-count n (without_index L i) above (IsOrderOf-rest L i above each) (without-part_of n L i part) in
+    let rest = order-count n (without_index L i) above (IsOrderOf-rest L i above each)
+    (without-part_of n L i part) in
     omega (arith, fewer, rest)
 
-pub order-few : (n : ℕ) (L : Indexes) (order : List ℕ) → IsOrderOf L order → IsPart L (below n) → length order ≤ n
+pub order-few : (n : ℕ) (L : Indexes) (order : List ℕ) → IsOrderOf L order → IsPart L (below n)
+    → length order ≤ n
 order-few n L order each part =
-    let all : count_below n L ≤ n * 1 = sum_below-fits n 1 (λ k. cond (L k) 1 0) (λ k lt. cond-le (L k) 1 0 1 (omega arith) (omega arith)) in
+    let all : count_below n L ≤ n * 1 = sum_below-fits n 1 (λ k. cond (L k) 1 0)
+    (λ k lt. cond-le (L k) 1 0 1 (omega arith) (omega arith)) in
     omega (arith, order-count n L order each part, all)
 
 -- ---- the rising list of a set
 push-count : (xs : List ℕ) (b : Bool) (n k : ℕ)
-    → count_by (λ x. x == k) (cond b (xs ++ n ∷ []) xs) ≡ cond b (count_by (λ x. x == k) xs + cond (n == k) 1 0) (count_by (λ x. x == k) xs)
-push-count xs true n k = omega (arith, sum_by-append (λ x. cond (x == k) 1 0) xs (n ∷ []), count-cons n k [])
+    → count_by (λ x. x == k) (cond b (xs ++ n ∷ []) xs)
+    ≡ cond b (count_by (λ x. x == k) xs + cond (n == k) 1 0) (count_by (λ x. x == k) xs)
+push-count xs true n k =
+    omega (arith, sum_by-append (λ x. cond (x == k) 1 0) xs (n ∷ []), count-cons n k [])
 push-count xs false n k = refl
 
 step-count : (n k : ℕ) (here there : Bool) → (k ≡ n → there ≡ here)
-    → cond here (cond (nat_lt k n && there) 1 0 + cond (n == k) 1 0) (cond (nat_lt k n && there) 1 0) ≡ cond (nat_lt k (suc n) && there) 1 0
+    → cond here (cond (nat_lt k n && there) 1 0 + cond (n == k) 1 0)
+    (cond (nat_lt k n && there) 1 0) ≡ cond (nat_lt k (suc n) && there) 1 0
 step-count n k here there same = grind (arith, nat_tests)
 
 -- how often it names an index
-listed-count : (n : ℕ) (L : Indexes) (k : ℕ) → count_by (λ x. x == k) (listed_below n L) ≡ cond (nat_lt k n && L k) 1 0
+listed-count : (n : ℕ) (L : Indexes) (k : ℕ)
+    → count_by (λ x. x == k) (listed_below n L) ≡ cond (nat_lt k n && L k) 1 0
 listed-count zero L k = let out = le-ltb k 0 (omega arith) in rw out
 listed-count (suc n) L k =
     push-count (listed_below n L) (L n) n k
     ∙ ap (λ c. cond (L n) (c + cond (n == k) 1 0) c) (listed-count n L k)
     ∙ step-count n k (L n) (L k) (λ e. ap L e)
 
-pub listed-has : (n : ℕ) (L : Indexes) (k : ℕ) → k < n → L k ≡ true → among (listed_below n L) k ≡ true
+pub listed-has : (n : ℕ) (L : Indexes) (k : ℕ) → k < n → L k ≡ true
+    → among (listed_below n L) k ≡ true
 listed-has n L k lt member =
     let lesser : Indexes = λ k. nat_lt k n && L k in
-    ap (λ X. X k) (IsOrderOf-among lesser (listed_below n L) (listed-count n L)) ∙ and_from _ _ (lt-ltb k n lt) member
+    ap (λ X. X k) (IsOrderOf-among lesser (listed_below n L) (listed-count n L))
+    ∙ and_from _ _ (lt-ltb k n lt) member
 
 pub listed-order : (n : ℕ) (L : Indexes) → IsPart L (below n) → IsOrderOf L (listed_below n L)
 listed-order n L part k = listed-count n L k ∙ elim (cases_Bool (L k)) [

@@ -1,5 +1,6 @@
 -- What timers and interrupts take of a window: no less of a longer one, so much at most, and nothing where there are none.
-use Rattle.std.proofs.Common.{◌≡◌, ◌↔◌, ℕ, zero, suc, ◌+◌, ◌*◌, ◌<◌, ◌≤◌, false, List, [], ◌∷◌, length, sum_by, nat_lt, refl, arith}
+use Rattle.std.proofs.Common.{◌≡◌, ◌↔◌, ℕ, zero, suc, ◌+◌, ◌*◌, ◌<◌, ◌≤◌, false, List, [], ◌∷◌}
+use Rattle.std.proofs.Common.{length, sum_by, nat_lt, refl, arith}
 use Rattle.std.specs.Int.{div_ceil}
 use Rattle.std.specs.List.{AllByRecursion}
 use Rattle.std.proofs.lemmas.Grind.{div_ceil_times}
@@ -9,59 +10,110 @@ use Rattle.std.proofs.lemmas.List.Elements.{recursion_from_All}
 use Rattle.std.proofs.lemmas.List.Sums.{sum_by-cons}
 use Rattle.std.proofs.Math.Nat.{mul-le-mul_left, mul-le-mul_right, mul-zero}
 use Rattle.task_sheet.specs.declared.node.Interrupt.{Interrupt}
-use Rattle.task_sheet.specs.Sheet.{Task, IsTask, AllTasks, IsInterrupt, IsValidSheet, no_task, task_at}
+use Rattle.task_sheet.specs.Sheet.{Task, IsTask, AllTasks, IsInterrupt, IsValidSheet, no_task}
+use Rattle.task_sheet.specs.Sheet.{task_at}
 use Rattle.task_sheet.specs.TaskSet.{IsTaskSet}
 use Rattle.task_sheet.specs.Indexes.{Indexes}
-use Rattle.task_sheet.specs.Demand.{releases_within, blocking_of, interference_within, interrupt_within, interrupts_of, interrupts_within, interrupts_some, has_interrupts, IsUninterrupted, demand_of}
+use Rattle.task_sheet.specs.Demand.{releases_within, blocking_of, interference_within}
+use Rattle.task_sheet.specs.Demand.{interrupt_within, interrupts_of, interrupts_within}
+use Rattle.task_sheet.specs.Demand.{interrupts_some, has_interrupts, IsUninterrupted, demand_of}
 use Rattle.task_sheet.proofs.Below.{sum_below-le, sum_below-fits}
 use Rattle.task_sheet.proofs.Releases.{div_ceil-mono, releases-mono}
 use Rattle.task_sheet.proofs.TaskLaws.{valid_at}
 
 -- ---- a longer window
 pub interrupt-mono : (x : Interrupt) (t s : ℕ) → t ≤ s → interrupt_within t x ≤ interrupt_within s x
-interrupt-mono x t s le = mul-le-mul_right x.cost (div_ceil-mono (t + 0) (s + 0) x.period (omega arith))
+interrupt-mono x t s le =
+    mul-le-mul_right x.cost (div_ceil-mono (t + 0) (s + 0) x.period (omega arith))
 
-interrupt_sum-mono : (xs : List Interrupt) (t s : ℕ) → t ≤ s → sum_by (interrupt_within t) xs ≤ sum_by (interrupt_within s) xs
+interrupt_sum-mono : (xs : List Interrupt) (t s : ℕ) → t ≤ s
+    → sum_by (interrupt_within t) xs ≤ sum_by (interrupt_within s) xs
 interrupt_sum-mono [] t s le = omega arith
 interrupt_sum-mono (x ∷ xs) t s le =
-    omega (arith, interrupt-mono x t s le, interrupt_sum-mono xs t s le, sum_by-cons (interrupt_within t) x xs, sum_by-cons (interrupt_within s) x xs)
+    omega (
+      arith,
+      interrupt-mono x t s le,
+      interrupt_sum-mono xs t s le,
+      sum_by-cons
+          (interrupt_within t) x xs,
+      sum_by-cons (interrupt_within s) x xs,
+    )
 
-pub interrupts_of-mono : (x : Task) (t s : ℕ) → IsTask x → t ≤ s → interrupts_of t x ≤ interrupts_of s x
+pub interrupts_of-mono : (x : Task) (t s : ℕ) → IsTask x → t ≤ s
+    → interrupts_of t x ≤ interrupts_of s x
 interrupts_of-mono x t s valid le =
-    omega (arith, mul-le-mul_right x.node.release (releases-mono x t s valid le), interrupt_sum-mono x.interrupts t s le)
+    omega (
+      arith,
+      mul-le-mul_right x.node.release (releases-mono x t s valid le),
+      interrupt_sum-mono
+          x.interrupts t s le,
+    )
 
-pub interrupts-mono : (U : List Task) → AllTasks U → (t s : ℕ) → t ≤ s → interrupts_within U t ≤ interrupts_within U s
+pub interrupts-mono : (U : List Task) → AllTasks U → (t s : ℕ) → t ≤ s
+    → interrupts_within U t ≤ interrupts_within U s
 unfolding interrupts_within
 interrupts-mono U valid t s le =
-    sum_below-le (length U) (λ k. interrupts_of t (task_at U k)) (λ k. interrupts_of s (task_at U k)) (λ k lt. interrupts_of-mono (task_at U k) t s (valid k no_task lt) le)
+    sum_below-le (length U) (λ k. interrupts_of t (task_at U k)) (λ k. interrupts_of s
+    (task_at U k)) (λ k lt. interrupts_of-mono (task_at U k) t s (valid k no_task lt) le)
 
 -- ---- within the longest period
-interrupt-fits : (x : Interrupt) (t : ℕ) → IsInterrupt x → t ≤ 10000000 → interrupt_within t x ≤ 20000000
+interrupt-fits : (x : Interrupt) (t : ℕ) → IsInterrupt x → t ≤ 10000000
+    → interrupt_within t x ≤ 20000000
 interrupt-fits x t valid le =
     let some : 0 < x.period = omega (arith, valid.period_from) in
     let jobs = div_ceil (t + 0) x.period in
-    omega (arith, (div_ceil_times (t + 0) x.period some).1, mul-le-mul_left jobs valid.cost, valid.period_to)
+    omega (
+      arith,
+      (div_ceil_times (t + 0) x.period some).1,
+      mul-le-mul_left jobs valid.cost,
+      valid.period_to,
+    )
 
-interrupt_sum-fits : (xs : List Interrupt) (t : ℕ) → AllByRecursion IsInterrupt xs → t ≤ 10000000 → sum_by (interrupt_within t) xs ≤ length xs * 20000000
+interrupt_sum-fits : (xs : List Interrupt) (t : ℕ) → AllByRecursion IsInterrupt xs → t ≤ 10000000
+    → sum_by (interrupt_within t) xs ≤ length xs * 20000000
 interrupt_sum-fits [] t valid le = omega arith
 interrupt_sum-fits (x ∷ xs) t valid le =
-    omega (arith, interrupt-fits x t valid.0 le, interrupt_sum-fits xs t valid.1 le, sum_by-cons (interrupt_within t) x xs)
+    omega (
+      arith,
+      interrupt-fits x t valid.0 le,
+      interrupt_sum-fits xs t valid.1 le,
+      sum_by-cons
+          (interrupt_within t) x xs,
+    )
 
-timer-fits : (x : Task) (t : ℕ) → IsValidSheet x → t ≤ 10000000 → releases_within x t * x.node.release ≤ 30000000
+timer-fits : (x : Task) (t : ℕ) → IsValidSheet x → t ≤ 10000000
+    → releases_within x t * x.node.release ≤ 30000000
 timer-fits x t valid le =
     let some : 0 < x.period = omega (arith, valid.period_from) in
     let jobs = div_ceil (t + x.jitter) x.period in
-    let short : x.node.release ≤ x.period = omega (arith, valid.period_from, valid.overheads.release) in
-    omega (arith, (div_ceil_times (t + x.jitter) x.period some).1, mul-le-mul_left jobs short, valid.period_to, valid.jitter, valid.deadline_to)
+    let short : x.node.release ≤ x.period =
+    omega (arith, valid.period_from, valid.overheads.release) in
+    omega (
+      arith,
+      (div_ceil_times (t + x.jitter) x.period some).1,
+      mul-le-mul_left jobs short,
+      valid.period_to,
+      valid.jitter,
+      valid.deadline_to,
+    )
 
-pub interrupts_of-fits : (x : Task) (t : ℕ) → IsValidSheet x → t ≤ 10000000 → interrupts_of t x ≤ 190000000
+pub interrupts_of-fits : (x : Task) (t : ℕ) → IsValidSheet x → t ≤ 10000000
+    → interrupts_of t x ≤ 190000000
 interrupts_of-fits x t valid le =
-    omega (arith, timer-fits x t valid le, interrupt_sum-fits x.interrupts t (recursion_from_All IsInterrupt x.interrupts valid.interrupts.valid) le, valid.interrupts.few)
+    omega (
+      arith,
+      timer-fits x t valid le,
+      interrupt_sum-fits x.interrupts t (recursion_from_All
+          IsInterrupt x.interrupts valid.interrupts.valid) le,
+      valid.interrupts.few,
+    )
 
-pub interrupts-fits : (U : List Task) → IsTaskSet U → (t : ℕ) → t ≤ 10000000 → interrupts_within U t ≤ 6080000000
+pub interrupts-fits : (U : List Task) → IsTaskSet U → (t : ℕ) → t ≤ 10000000
+    → interrupts_within U t ≤ 6080000000
 unfolding interrupts_within
 interrupts-fits U set t le =
-    let each = sum_below-fits (length U) 190000000 (λ k. interrupts_of t (task_at U k)) (λ k lt. interrupts_of-fits (task_at U k) t (valid_at U k set lt) le) in
+    let each = sum_below-fits (length U) 190000000 (λ k. interrupts_of t (task_at U k))
+    (λ k lt. interrupts_of-fits (task_at U k) t (valid_at U k set lt) le) in
     omega (arith, each, set.few)
 
 -- ---- without timers and interrupts
@@ -74,15 +126,21 @@ none-of x t none =
     let apart = or_parts (nat_lt 0 x.node.release) (nat_lt 0 (length x.interrupts)) none in
     let release : x.node.release ≡ 0 = grind (arith, nat_tests, apart.0) in
     let few : length x.interrupts ≡ 0 = grind (arith, nat_tests, apart.1) in
-    let timer : releases_within x t * x.node.release ≡ 0 = rw release (mul-zero (releases_within x t)) in
+    let timer : releases_within x t * x.node.release ≡ 0 =
+    rw release (mul-zero (releases_within x t)) in
     omega (arith, timer, sum-none x.interrupts t few)
 
 pub interrupts-none : (U : List Task) (t : ℕ) → IsUninterrupted U → interrupts_within U t ≡ 0
 unfolding interrupts_within
 interrupts-none U t none =
-    omega (arith, sum_below-fits (length U) 0 (λ k. interrupts_of t (task_at U k)) (λ k lt. omega (arith, none-of (task_at U k) t (none k lt))))
+    omega (
+      arith,
+      sum_below-fits (length U) 0 (λ k. interrupts_of t (task_at U k))
+          (λ k lt. omega (arith, none-of (task_at U k) t (none k lt))),
+    )
 
-pub demand-plain : (U : List Task) (i : ℕ) (H : Indexes) (t : ℕ) → IsUninterrupted U → demand_of U i H t ≡ (task_at U i).cost + blocking_of U i H + interference_within U H t
+pub demand-plain : (U : List Task) (i : ℕ) (H : Indexes) (t : ℕ) → IsUninterrupted U
+    → demand_of U i H t ≡ (task_at U i).cost + blocking_of U i H + interference_within U H t
 unfolding demand_of
 demand-plain U i H t none = omega (arith, interrupts-none U t none)
 
@@ -93,9 +151,11 @@ uninterrupted-iff (x ∷ xs) = (
   λ none.
       let apart = or_parts (interrupts_some x) (has_interrupts xs) none in
       λ k lt. at-place x xs apart.0 ((uninterrupted-iff xs).0 apart.1) k lt,
-  λ each. rw (each zero (omega arith), (uninterrupted-iff xs).1 (λ k lt. each (suc k) (omega arith))),
+  λ each.
+      rw (each zero (omega arith), (uninterrupted-iff xs).1 (λ k lt. each (suc k) (omega arith))),
 )
   where
-    at-place : (x : Task) (xs : List Task) → interrupts_some x ≡ false → IsUninterrupted xs → IsUninterrupted (x ∷ xs)
+    at-place : (x : Task) (xs : List Task) → interrupts_some x ≡ false → IsUninterrupted xs
+        → IsUninterrupted (x ∷ xs)
     at-place x xs here rest zero lt = here
     at-place x xs here rest (suc k) lt = rest k (omega arith)

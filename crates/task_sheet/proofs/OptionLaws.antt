@@ -6,6 +6,7 @@ pub option_or-none : {A : Type 0} (o : Option A) → option_or o None ≡ o
 option_or-none None = refl
 option_or-none (Some x) = refl
 
-pub option_or-assoc : {A : Type 0} (o p q : Option A) → option_or (option_or o p) q ≡ option_or o (option_or p q)
+pub option_or-assoc : {A : Type 0} (o p q : Option A)
+    → option_or (option_or o p) q ≡ option_or o (option_or p q)
 option_or-assoc None p q = refl
 option_or-assoc (Some x) p q = refl

@@ -1,5 +1,6 @@
 -- What is ready is best, or there is no order.
-use Rattle.std.proofs.Common.{◌≡◌, ℕ, inl, inr, true, false, ◌==◌, List, [], ◌∷◌, refl, sym, ◌∙◌, ap, subst}
+use Rattle.std.proofs.Common.{◌≡◌, ℕ, inl, inr, true, false, ◌==◌, List, [], ◌∷◌, refl, sym, ◌∙◌}
+use Rattle.std.proofs.Common.{ap, subst}
 use Rattle.std.proofs.lemmas.Bool.{both_ways, or_cases, eqb-true}
 use Rattle.task_sheet.specs.Sheet.{Task, AllTasks}
 use Rattle.task_sheet.specs.Indexes.{Indexes, without_index, among, listed_below}
@@ -13,37 +14,47 @@ use Rattle.task_sheet.proofs.LevelLaws.{AllChosen-best, left_after-order}
 use Rattle.task_sheet.proofs.ObstructionLaws.{IsObstruction-fails}
 
 module _ (U : List Task) (valid : AllTasks U) where
-  pub AllRefuted-fails : (L : Indexes) (fails : List FailureData) (j : ℕ) → AllRefuted U L fails → among (tasks_of fails) j ≡ true
+  pub AllRefuted-fails : (L : Indexes) (fails : List FailureData) (j : ℕ) → AllRefuted U L fails
+      → among (tasks_of fails) j ≡ true
       → ¬ Stands U j (without_index L j)
   AllRefuted-fails L [] j refuted is stands = both_ways false refl is
   AllRefuted-fails L (f ∷ fails) j refuted is stands =
       elim (or_cases (f.task == j) (among (tasks_of fails) j) is) [
         | inl here ↦
             let same = eqb-true f.task j here in
-            Refutes-fails U valid f.task (without_index L f.task) f.reason refuted.0 (subst (λ i. Stands U i (without_index L i)) (sym same) stands)
+            Refutes-fails U valid f.task (without_index L f.task) f.reason refuted.0
+            (subst (λ i. Stands U i (without_index L i)) (sym same) stands)
         | inr later ↦ AllRefuted-fails L fails j refuted.1 later stands
       ]
 
   -- where those of smaller rank are refuted, the task is the one chosen
-  pub IsChosen-from_refuted : (L : Indexes) (i : ℕ) (fails : List FailureData) → L i ≡ true → Stands U i (without_index L i)
+  pub IsChosen-from_refuted : (L : Indexes) (i : ℕ) (fails : List FailureData) → L i ≡ true
+      → Stands U i (without_index L i)
       → tasks_of fails ≡ listed_below i L → AllRefuted U L fails → IsChosen U L i
   IsChosen-from_refuted L i fails member stands lesser refuted = record {
     member = member;
     stands = stands;
-    first = λ j lt is. AllRefuted-fails L fails j refuted (ap (λ ns. among ns j) lesser ∙ listed-has i L j lt is);
+    first = λ j lt is. AllRefuted-fails L fails j refuted
+        (ap (λ ns. among ns j) lesser ∙ listed-has i L j lt is);
   }
 
-  AllReady-chosen : (L : Indexes) (levels : List LevelData) → IsOrderOf L (order_of levels) → AllReady U L levels → AllChosen U L (order_of levels)
+  AllReady-chosen : (L : Indexes) (levels : List LevelData) → IsOrderOf L (order_of levels)
+      → AllReady U L levels → AllChosen U L (order_of levels)
   AllReady-chosen L [] each ready = tt
   AllReady-chosen L (l ∷ levels) each ready = (
-    IsChosen-from_refuted L l.task l.fails (IsOrderOf-head L l.task (order_of levels) each) ((time_of U l, ready.0.positive, ready.0.within, ready.0.covers), ready.0.unbound) ready.0.lesser ready.0.refuted,
-    AllReady-chosen (without_index L l.task) levels (IsOrderOf-rest L l.task (order_of levels) each) ready.1,
+    IsChosen-from_refuted L l.task l.fails (IsOrderOf-head L l.task (order_of levels) each)
+        ((time_of U l, ready.0.positive, ready.0.within, ready.0.covers), ready.0.unbound)
+        ready.0.lesser ready.0.refuted,
+    AllReady-chosen (without_index L l.task) levels (IsOrderOf-rest L l.task (order_of levels) each)
+        ready.1,
   )
 
-  pub IsReadyOrder-best : (levels : List LevelData) → IsReadyOrder U levels → IsBest U (order_of levels)
+  pub IsReadyOrder-best : (levels : List LevelData) → IsReadyOrder U levels
+      → IsBest U (order_of levels)
   IsReadyOrder-best levels ready =
       let order = order_of levels in
-      AllChosen-best U order (AllReady-chosen (all_of U) levels ready.each_once ready.ready) (left_after-order (all_of U) order ready.each_once)
+      AllChosen-best U order (AllReady-chosen (all_of U) levels ready.each_once ready.ready)
+      (left_after-order (all_of U) order ready.each_once)
 
   pub IsReadySet-fails : (members : List FailureData) → IsReadySet U members → ¬ IsFeasible U
   IsReadySet-fails members ready =
@@ -54,6 +65,11 @@ module _ (U : List Task) (valid : AllTasks U) where
         stuck = λ i member. AllRefuted-fails S members i ready.refuted member;
       })
 
-pub AllRefuted-from_failures : (U : List Task) (L : Indexes) (fails : List FailureData) → AllFailures U L fails → AllRefuted U L fails
+pub AllRefuted-from_failures : (U : List Task) (L : Indexes) (fails : List FailureData)
+    → AllFailures U L fails → AllRefuted U L fails
 AllRefuted-from_failures U L [] h = tt
-AllRefuted-from_failures U L (f ∷ fails) h = (Refutes-from_reason U f.task (without_index L f.task) f.reason h.0, AllRefuted-from_failures U L fails h.1)
+AllRefuted-from_failures U L (f ∷ fails) h = (
+  Refutes-from_reason U f.task (without_index L f.task)
+      f.reason h.0,
+  AllRefuted-from_failures U L fails h.1,
+)

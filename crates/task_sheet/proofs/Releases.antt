@@ -30,7 +30,8 @@ one-le-div_ceil t p pos some =
     ]
 
 -- ---- the releases
-pub releases-mono : (x : Task) (t s : ℕ) → IsTask x → t ≤ s → releases_within x t ≤ releases_within x s
+pub releases-mono : (x : Task) (t s : ℕ) → IsTask x → t ≤ s
+    → releases_within x t ≤ releases_within x s
 releases-mono x t s valid le = div_ceil-mono (t + x.jitter) (s + x.jitter) x.period (omega arith)
 
 -- a window of positive length has a release
@@ -38,7 +39,8 @@ pub releases-some : (x : Task) (t : ℕ) → IsTask x → 1 ≤ t → 1 ≤ rele
 releases-some x t valid pos = one-le-div_ceil (t + x.jitter) x.period (omega arith) valid.period
 
 -- ---- what they execute
-pub interference-mono : (x : Task) (t s : ℕ) → IsTask x → t ≤ s → interference_of x t ≤ interference_of x s
+pub interference-mono : (x : Task) (t s : ℕ) → IsTask x → t ≤ s
+    → interference_of x t ≤ interference_of x s
 interference-mono x t s valid le = mul-le-mul_right x.cost (releases-mono x t s valid le)
 
 pub cost-le-interference : (x : Task) (t : ℕ) → IsTask x → 1 ≤ t → x.cost ≤ interference_of x t
@@ -48,8 +50,17 @@ cost-le-interference x t valid pos =
     omega arith
 
 -- within the longest period, under three times that
-pub interference-fits : (x : Task) (t : ℕ) → IsValidSheet x → t ≤ 10000000 → interference_of x t ≤ 30000000
+pub interference-fits : (x : Task) (t : ℕ) → IsValidSheet x → t ≤ 10000000
+    → interference_of x t ≤ 30000000
 interference-fits x t valid le =
     let some : 0 < x.period = omega (arith, valid.period_from) in
     let jobs = div_ceil (t + x.jitter) x.period in
-    omega (arith, (div_ceil_times (t + x.jitter) x.period some).1, mul-le-mul_left jobs valid.cost_to, valid.period_to, valid.jitter, valid.deadline_to)
+    omega (
+      arith,
+      (div_ceil_times (t + x.jitter) x.period some).1,
+      mul-le-mul_left jobs
+          valid.cost_to,
+      valid.period_to,
+      valid.jitter,
+      valid.deadline_to,
+    )

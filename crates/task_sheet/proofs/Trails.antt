@@ -1,8 +1,10 @@
 -- The numbers 1, W(1), W(W(1)), .. as a list that grows at its end.
-use Rattle.std.proofs.Common.{◌≡◌, ℕ, zero, suc, ◌+◌, ◌-◌, ◌<◌, ◌≤◌, ◌⊎◌, inl, inr, List, [], ◌∷◌, ◌++◌, length, get_or, add-one, refl, ap, sym, ◌∙◌, arith}
+use Rattle.std.proofs.Common.{◌≡◌, ℕ, zero, suc, ◌+◌, ◌-◌, ◌<◌, ◌≤◌, ◌⊎◌, inl, inr, List, [], ◌∷◌}
+use Rattle.std.proofs.Common.{◌++◌, length, get_or, add-one, refl, ap, sym, ◌∙◌, arith}
 use Rattle.std.specs.List.Sorted.{IsStrictlyIncreasing}
 use Rattle.std.proofs.lemmas.Bool.{cases_eq, cases_lt}
-use Rattle.std.proofs.lemmas.List.{get_or_past, get_or_default, get_or_append_left, get_or_push, length_push}
+use Rattle.std.proofs.lemmas.List.{get_or_past, get_or_default, get_or_append_left, get_or_push}
+use Rattle.std.proofs.lemmas.List.{length_push}
 use Rattle.task_sheet.specs.Responses.{ChainFrom, IsFullChain, FullFrom, iterate, IsTrail}
 use Rattle.task_sheet.proofs.ResponseLaws.{DoesNotFall}
 
@@ -52,15 +54,28 @@ module _ (W : ℕ → ℕ) (limit : ℕ) where
   chain_of a [] l = (l.past, tt)
   chain_of a (b ∷ bs) l =
       let rest = chain_of b bs (leads_on a b bs l) in
-      let here : b ≡ W a = l.full 0 (omega arith) in
-      ((l.within 0 (omega arith), omega (arith, l.rises 0 (omega arith)), omega (arith, here), rest.0), (here, rest.1))
+      let here : b ≡ W a = l.full 0 (omega arith) in (
+        (
+          l.within 0 (omega arith),
+          omega (arith, l.rises 0 (omega arith)),
+          omega (arith, here),
+          rest.0,
+        ),
+        (here, rest.1),
+      )
 
-  pub full_chain : (numbers : List ℕ) → IsClimb W numbers → ((k : ℕ) → k + 1 < length numbers → get_or numbers k 0 ≤ limit) → limit < last_of numbers
+  pub full_chain : (numbers : List ℕ) → IsClimb W numbers
+      → ((k : ℕ) → k + 1 < length numbers → get_or numbers k 0 ≤ limit) → limit < last_of numbers
       → IsFullChain W limit numbers
   full_chain [] climb within past = absurd (omega (arith, climb.first))
   full_chain (a ∷ bs) climb within past =
       let at_last : length (a ∷ bs) - 1 ≡ length bs = omega arith in
-      let both = chain_of a bs (record { rises = climb.rises; full = climb.full; within = within; past = rw at_last at past }) in
+      let both = chain_of a bs (record {
+        rises = climb.rises;
+        full = climb.full;
+        within = within;
+        past = rw at_last at past;
+      }) in
       record { chain = (climb.first, both.0); full = both.1 }
 
 module _ (W : ℕ → ℕ) (numbers : List ℕ) where
@@ -68,14 +83,16 @@ module _ (W : ℕ → ℕ) (numbers : List ℕ) where
   abbrev Ends : ℕ → Type 0
   Ends limit = (W (last_of numbers) ≡ last_of numbers) ⊎ (limit < W (last_of numbers))
 
-  pub climb-iterate : IsClimb W numbers → (k : ℕ) → k < length numbers → get_or numbers k 0 ≡ iterate W k
+  pub climb-iterate : IsClimb W numbers → (k : ℕ) → k < length numbers
+      → get_or numbers k 0 ≡ iterate W k
   climb-iterate climb zero lt = climb.first
   climb-iterate climb (suc k) lt =
       let here : get_or numbers k 0 ≡ iterate W k = climb-iterate climb k (omega arith) in
       let step : get_or numbers (k + 1) 0 ≡ W (get_or numbers k 0) = climb.full k (omega arith) in
       rw add-one at step ∙ ap W here
 
-  pub climb_push : IsClimb W numbers → (w : ℕ) → w ≡ W (last_of numbers) → last_of numbers < w → IsClimb W (numbers ++ w ∷ [])
+  pub climb_push : IsClimb W numbers → (w : ℕ) → w ≡ W (last_of numbers) → last_of numbers < w
+      → IsClimb W (numbers ++ w ∷ [])
   climb_push climb w is more =
       let some = some_first numbers climb.first in
       let long = length_push numbers w in
@@ -100,12 +117,14 @@ module _ (W : ℕ → ℕ) (numbers : List ℕ) where
         ];
       }
 
-  pub within_push : (limit w : ℕ) → AllWithinLimit limit numbers → w ≤ limit → AllWithinLimit limit (numbers ++ w ∷ [])
+  pub within_push : (limit w : ℕ) → AllWithinLimit limit numbers → w ≤ limit
+      → AllWithinLimit limit (numbers ++ w ∷ [])
   within_push limit w within le k lt =
       let long = length_push numbers w in
       elim (cases_lt k (length numbers)) [
         | inl in' ↦ omega (arith, within k in', get_or_append_left numbers (w ∷ []) 0 k in')
-        | inr out ↦ let at' : k ≡ length numbers = omega arith in rw at' (omega (arith, get_or_push numbers w 0 (length numbers) refl))
+        | inr out ↦ let at' : k ≡ length numbers = omega arith in
+            rw at' (omega (arith, get_or_push numbers w 0 (length numbers) refl))
       ]
 
   module _ (steady : DoesNotFall W) where
@@ -138,8 +157,11 @@ module _ (W : ℕ → ℕ) (numbers : List ℕ) where
       rises = climb.rises;
       all = λ x. (
         λ has.
-            let same : get_or numbers has.0 0 ≡ x = get_or_default numbers has.0 0 x has.1 ∙ has.2 in
-            (omega (arith, within has.0 has.1), (has.0, sym (climb-iterate climb has.0 has.1) ∙ same)),
+            let same : get_or numbers has.0 0 ≡ x = get_or_default numbers has.0 0 x has.1
+            ∙ has.2 in (
+              omega (arith, within has.0 has.1),
+              (has.0, sym (climb-iterate climb has.0 has.1) ∙ same),
+            ),
         λ is.
             let has = climb-holds limit climb within end is.1.0 (omega (arith, is.1.1)) in
             (has.0, has.1, get_or_default numbers has.0 x 0 has.1 ∙ has.2 ∙ is.1.1),

@@ -1,5 +1,7 @@
 -- What a document says of its node and of interrupts is within the limits.
-use Rattle.std.proofs.Common.{◌≡◌, ℕ, ◌+◌, ◌≤◌, min, Bool, true, false, ◌&&◌, inl, inr, nat_le, List, [], ◌∷◌, map, length, Option, Some, None, IfSome, option_map, option_and_then, unwrap_or, is_some, refl, arith}
+use Rattle.std.proofs.Common.{◌≡◌, ℕ, ◌+◌, ◌≤◌, min, Bool, true, false, ◌&&◌, inl, inr, nat_le}
+use Rattle.std.proofs.Common.{List, [], ◌∷◌, map, length, Option, Some, None, IfSome, option_map}
+use Rattle.std.proofs.Common.{option_and_then, unwrap_or, is_some, refl, arith}
 use Rattle.std.proofs.lemmas.Bool.{cases_Bool, and_parts, leb-true}
 use Rattle.std.proofs.lemmas.List.{length-map}
 use Rattle.std.proofs.lemmas.List.Elements.{All-from_recursion}
@@ -7,8 +9,13 @@ use Rattle.std.specs.List.{AllByRecursion}
 use Rattle.std.specs.Option.{option_or}
 use Rattle.toml.specs.Data.{Data, Members, as_table}
 use Rattle.task_sheet.specs.Sheet.{Task, IsInterrupt, AreInterrupts, AreOverheads}
-use Rattle.task_sheet.specs.Tree.{value_at, number_at, tables_at, only_keys, root_keys, interrupt_keys, node_at, tree_node, interrupt_at, tree_interrupts, tree_sheets}
-use Rattle.task_sheet.specs.TreeFault.{unless, node_kinds_fault, numbers_fault, table_fault, overheads_fault, is_interrupt, says_interrupt, bad_interrupt, interrupts_fault, prefer_fault, tasks_fault, of_set, tree_fault}
+use Rattle.task_sheet.specs.Tree.{value_at, number_at, tables_at, only_keys, root_keys}
+use Rattle.task_sheet.specs.Tree.{interrupt_keys, node_at, tree_node, interrupt_at, tree_interrupts}
+use Rattle.task_sheet.specs.Tree.{tree_sheets}
+use Rattle.task_sheet.specs.TreeFault.{unless, node_kinds_fault, numbers_fault, table_fault}
+use Rattle.task_sheet.specs.TreeFault.{overheads_fault, is_interrupt, says_interrupt, bad_interrupt}
+use Rattle.task_sheet.specs.TreeFault.{interrupts_fault, prefer_fault, tasks_fault, of_set}
+use Rattle.task_sheet.specs.TreeFault.{tree_fault}
 use Rattle.task_sheet.specs.SheetsFault.{sheets_fault}
 use Rattle.task_sheet.specs.ReadsSet.{AreWithinLimits, SaysDocument}
 use Rattle.task_sheet.specs.declared.keys.Key.TheVariants as key
@@ -27,7 +34,8 @@ holds true e none = refl
 holds false e none = absurd (cc)
 
 -- a test that has no fault, and those behind it
-passed : (b : Bool) (e : SetFault) (rest : Option SetFault) → option_or (unless b e) rest ≡ None → (b ≡ true) × (rest ≡ None)
+passed : (b : Bool) (e : SetFault) (rest : Option SetFault) → option_or (unless b e) rest ≡ None
+    → (b ≡ true) × (rest ≡ None)
 passed b e rest none =
     let both = neither (unless b e) rest none in
     (holds b e both.0, both.1)
@@ -47,11 +55,14 @@ numbers_within n none =
       release = omega (arith, least);
     }
 
-table_within : (o : Option Members) → table_fault o ≡ None → IfSome (option_map node_at o) AreOverheads
+table_within : (o : Option Members) → table_fault o ≡ None
+    → IfSome (option_map node_at o) AreOverheads
 table_within None none = tt
-table_within (Some ms) none = numbers_within (node_at ms) (neither (node_kinds_fault ms) (numbers_fault (node_at ms)) none).1
+table_within (Some ms) none =
+    numbers_within (node_at ms) (neither (node_kinds_fault ms) (numbers_fault (node_at ms)) none).1
 
-overheads_within : (o : Option Data) → overheads_fault o ≡ None → IfSome (option_map node_at (option_and_then as_table o)) AreOverheads
+overheads_within : (o : Option Data) → overheads_fault o ≡ None
+    → IfSome (option_map node_at (option_and_then as_table o)) AreOverheads
 overheads_within None none = tt
 overheads_within (Some d) none = table_within (as_table d) none
 
@@ -70,11 +81,13 @@ interrupt_said : (ms : Members) → says_interrupt ms ≡ true → IsInterrupt (
 interrupt_said ms says =
     let limits = is_interrupt (interrupt_at ms) in
     let cost = is_some (number_at key.Cost ms) && limits in
-    let keys = and_parts (only_keys interrupt_keys ms) (is_some (number_at key.Period ms) && cost) says in
+    let keys =
+    and_parts (only_keys interrupt_keys ms) (is_some (number_at key.Period ms) && cost) says in
     let period = and_parts (is_some (number_at key.Period ms)) cost keys.1 in
     interrupt_is (interrupt_at ms) (and_parts (is_some (number_at key.Cost ms)) limits period.1).1
 
-each_within : (place : ℕ) (mss : List Members) → bad_interrupt place mss ≡ None → AllByRecursion IsInterrupt (map interrupt_at mss)
+each_within : (place : ℕ) (mss : List Members) → bad_interrupt place mss ≡ None
+    → AllByRecursion IsInterrupt (map interrupt_at mss)
 each_within place [] none = tt
 each_within place (ms ∷ more) none = elim (cases_Bool (says_interrupt ms)) [
   | inl says ↦ (interrupt_said ms says, each_within (place + 1) more (rw says at none))
@@ -85,33 +98,48 @@ none_bad : (o : Option ℕ) → option_map fault.BadInterrupt o ≡ None → o �
 none_bad None none = refl
 none_bad (Some place) none = absurd (cc)
 
-tables_within : (o : Option (List Members)) → interrupts_fault o ≡ None → AreInterrupts (map interrupt_at (unwrap_or o []))
+tables_within : (o : Option (List Members)) → interrupts_fault o ≡ None
+    → AreInterrupts (map interrupt_at (unwrap_or o []))
 tables_within None none = absurd (cc)
 tables_within (Some mss) none =
-    let both = neither (option_map fault.BadInterrupt (bad_interrupt 1 mss)) (unless (nat_le (length mss) 8) fault.TooManyInterrupts) none in
+    let both = neither (option_map fault.BadInterrupt (bad_interrupt 1 mss))
+    (unless (nat_le (length mss) 8) fault.TooManyInterrupts) none in
     record {
-      valid = All-from_recursion IsInterrupt (map interrupt_at mss) (each_within 1 mss (none_bad (bad_interrupt 1 mss) both.0));
-      few = omega (arith, leb-true _ _ (holds (nat_le (length mss) 8) fault.TooManyInterrupts both.1), length-map mss interrupt_at);
+      valid = All-from_recursion IsInterrupt (map interrupt_at mss)
+          (each_within 1 mss (none_bad (bad_interrupt 1 mss) both.0));
+      few = omega (
+        arith,
+        leb-true _ _ (holds (nat_le (length mss) 8) fault.TooManyInterrupts
+            both.1),
+        length-map mss interrupt_at,
+      );
     }
 
 -- ---- the document
-pub tree_within : (ms : Members) → tree_fault ms ≡ None → AreWithinLimits (tree_node ms) (tree_interrupts ms)
+pub tree_within : (ms : Members) → tree_fault ms ≡ None
+    → AreWithinLimits (tree_node ms) (tree_interrupts ms)
 tree_within ms none =
-    let sets = option_or (tasks_fault 1 (unwrap_or (tables_at key.Task ms) [])) (option_or (option_map of_set (sheets_fault (tree_sheets ms))) None) in
+    let sets = option_or (tasks_fault 1 (unwrap_or (tables_at key.Task ms) []))
+    (option_or (option_map of_set (sheets_fault (tree_sheets ms))) None) in
     let interrupts = interrupts_fault (tables_at key.Interrupt ms) in
     let node = overheads_fault (value_at key.Node ms) in
-    let prefer = option_or (prefer_fault (value_at key.Prefer ms)) (option_or node (option_or interrupts sets)) in
-    let tasks = option_or (unless (is_some (tables_at key.Task ms)) (fault.WrongKind 0 0 key.Task)) prefer in
+    let prefer = option_or (prefer_fault (value_at key.Prefer ms))
+    (option_or node (option_or interrupts sets)) in
+    let tasks = option_or (unless (is_some (tables_at key.Task ms)) (fault.WrongKind 0 0 key.Task))
+    prefer in
     let known = passed (only_keys root_keys ms) (fault.UnknownKey 0 0) tasks none in
-    let tables = passed (is_some (tables_at key.Task ms)) (fault.WrongKind 0 0 key.Task) prefer known.1 in
-    let behind = neither (prefer_fault (value_at key.Prefer ms)) (option_or node (option_or interrupts sets)) tables.1 in
+    let tables =
+    passed (is_some (tables_at key.Task ms)) (fault.WrongKind 0 0 key.Task) prefer known.1 in
+    let behind = neither (prefer_fault (value_at key.Prefer ms))
+    (option_or node (option_or interrupts sets)) tables.1 in
     let said = neither node (option_or interrupts sets) behind.1 in
     record {
       node = overheads_within (value_at key.Node ms) said.0;
       interrupts = tables_within (tables_at key.Interrupt ms) (neither interrupts sets said.1).0;
     }
 
-pub says_within : (text : List ℕ) (U : List Task) (prefers : Option Preference) (said : Option Node) (xs : List Interrupt) → SaysDocument text U prefers said xs → AreWithinLimits said xs
+pub says_within : (text : List ℕ) (U : List Task) (prefers : Option Preference) (said : Option Node)
+    (xs : List Interrupt) → SaysDocument text U prefers said xs → AreWithinLimits said xs
 says_within text U prefers said xs says =
     let within = tree_within says.0 says.2 in
     rw (says.5, says.6) within

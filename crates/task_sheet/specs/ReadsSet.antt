@@ -20,7 +20,7 @@ pub record IsDocument (text : List ℕ) (tree : Members) : Type 0 where
   pub parsed : parse_document text ≡ Some tree
 
 -- a set: the tree's sheets by rank, where the tree has no fault; Syntax: there is no tree; any other
--- fault but want of memory: the tree's first
+-- fault but out of memory: the tree's first
 abbrev pub ReadsSet : List ℕ → Result TaskSet SetFault → Type 0
 ReadsSet text (Ok set) =
     (tree : Members)

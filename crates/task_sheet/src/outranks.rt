@@ -51,7 +51,7 @@ impl Outranks {
         }
     }
 
-    /// What says the same. The error is want of memory.
+    /// What says the same. The error is out of memory.
     pub fn copy(&self, alloc: Global) -> Result<Outranks, AllocError>
         ensures { IfOk result (λ other. outranks_of other ≡ outranks_of self.now) }
     {

@@ -25,7 +25,7 @@ pub enum SetCause {
     /// There are more than 32 tasks.
     #[error("more than 32 tasks")]
     TooManyTasks,
-    /// A growth was refused.
+    /// An allocation was refused.
     #[error("out of memory")]
     OutOfMemory,
 }
@@ -49,7 +49,7 @@ pub enum WithCause {
     /// The set has 32 tasks.
     #[error("more than 32 tasks")]
     TooManyTasks,
-    /// A growth was refused.
+    /// An allocation was refused.
     #[error("out of memory")]
     OutOfMemory,
 }
@@ -70,7 +70,7 @@ pub enum WithoutFault {
     /// No task of the set has the name.
     #[error("no task has the name")]
     NoSuchTask,
-    /// A growth was refused.
+    /// An allocation was refused.
     #[error("out of memory")]
     OutOfMemory,
 }

@@ -107,7 +107,7 @@ budgets_at (Some d) = budgets_of (unwrap_or (as_table d) no_members)
 abbrev pub budgets_in : Members → List Budget
 budgets_in root = budgets_at (get_member (key_word Team) root)
 
--- the budgets of the tree, where it has no fault; Syntax: there is no tree; any other fault but want of memory: the
+-- the budgets of the tree, where it has no fault; Syntax: there is no tree; any other fault but out of memory: the
 -- tree's first
 abbrev pub ReadsBudgets : List ℕ → Result (Vec Budget Global) NodeFault → Type 0
 ReadsBudgets text (Ok budgets) =

@@ -17,7 +17,7 @@ use Rattle.teams.specs.declared.fault.TeamsFault.TheVariants.{Alone, Node, Padde
 use Rattle.overheads.specs.Padding.{IsPadded, fault_by}
 use Rattle.overheads.specs.declared.padding.PadFault.TheVariants as pad
 
--- the answer on a text that is one document; want of memory is one fault, whoever saw it
+-- the answer on a text that is one document; out of memory is one fault, whoever saw it
 abbrev pub ReadsAlone : List ℕ → Result Document TeamsFault → Type 0
 ReadsAlone text (Ok d) = ReadsDocument text (Ok d)
 ReadsAlone text (Err OutOfMemory) = Unit {0}
@@ -29,7 +29,7 @@ ReadsAlone text (Err _) = ⊥
 abbrev pub is_gathered : List ℕ → Bool
 is_gathered text = starts_with nat_eq text (codes "#% ")
 
--- the answer on the node's document; want of memory is one fault, whoever saw it
+-- the answer on the node's document; out of memory is one fault, whoever saw it
 abbrev pub ReadsNode : List ℕ → Result (Vec Budget Global) TeamsFault → Type 0
 ReadsNode text (Ok budgets) = ReadsBudgets text (Ok budgets)
 ReadsNode text (Err OutOfMemory) = Unit {0}

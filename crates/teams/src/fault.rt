@@ -75,7 +75,7 @@ pub enum TeamsFault {
     /// There are more than 32 tasks.
     #[error("more than 32 tasks")]
     TooManyTasks,
-    /// A growth was refused.
+    /// An allocation was refused.
     #[error("out of memory")]
     OutOfMemory,
 }

@@ -65,7 +65,7 @@ pub enum NodeFault {
     /// The value at a team's key is no number: an integer that isn't negative.
     #[error("{team}: no number at {quantity:?}")]
     NoNumber { team: Name, quantity: Quantity },
-    /// A growth was refused.
+    /// An allocation was refused.
     #[error("out of memory")]
     OutOfMemory,
 }

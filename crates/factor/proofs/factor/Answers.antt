@@ -5,13 +5,20 @@ use Rattle.factor.proofs.factor.Goals as goal
 
 pub returns-then-not-branch-clause-answer : goal.returns-then-not-branch-clause-answer
 returns-then-not-branch-clause-answer c = λ factor may feasible.
-    both_ways c.in_ok-passes_at.field-0 c.if-not-branch.true (c.in_ok-passes_at.ensures.answer.1 (Scales-less c.args.set.now 1 factor c.passes_at.ensures.kept (omega arith) may.some record { may = may; feasible = feasible }))
+    both_ways c.in_ok-passes_at.field-0 c.if-not-branch.true
+    (c.in_ok-passes_at.ensures.answer.1 (Scales-less c.args.set.now 1 factor
+    c.passes_at.ensures.kept (omega arith) may.some record { may = may; feasible = feasible }))
 
 pub loop-failing-init : goal.loop-failing-init
 loop-failing-init c = record {
   scales = c.in_ok-passes_at.ensures.answer.0 c.if-not-branch.false;
   some = omega arith;
-  fails = λ more le scales. omega (arith, le, few-factor c.args.set.now more c.passes_at.ensures.kept c.requires scales.may);
+  fails = λ more le scales. omega (
+    arith,
+    le,
+    few-factor c.args.set.now more
+        c.passes_at.ensures.kept c.requires scales.may,
+  );
   apart = omega arith;
   short = omega arith;
 }
@@ -23,7 +30,9 @@ loop-failing-preserved c =
     record {
       scales = inv.scales;
       some = inv.some;
-      fails = λ more le scales. both_ways c.in_ok-passes_at-2.field-0 c.if-branch.false (c.in_ok-passes_at-2.ensures.answer.1 (Scales-less c.args.set.now middle more c.passes_at.ensures.kept (omega (arith, inv.some)) le scales));
+      fails = λ more le scales. both_ways c.in_ok-passes_at-2.field-0 c.if-branch.false
+          (c.in_ok-passes_at-2.ensures.answer.1 (Scales-less c.args.set.now middle more
+          c.passes_at.ensures.kept (omega (arith, inv.some)) le scales));
       apart = omega (arith, c.loop-failing-test.true);
       short = omega (arith, inv.short, c.loop-failing-test.true);
     }
@@ -34,5 +43,6 @@ returns-clause-answer c =
     record {
       may = inv.scales.may;
       feasible = inv.scales.feasible;
-      greatest = λ more lt may feasible. inv.fails more (omega (arith, lt, c.loop-failing-test.false)) record { may = may; feasible = feasible };
+      greatest = λ more lt may feasible. inv.fails more
+          (omega (arith, lt, c.loop-failing-test.false)) record { may = may; feasible = feasible };
     }

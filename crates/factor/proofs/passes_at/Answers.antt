@@ -6,6 +6,11 @@ use Rattle.factor.proofs.passes_at.Goals as goal
 pub returns-clause-answer : goal.returns-clause-answer
 returns-clause-answer c =
     let same = c.in_ok-other.ensures.other in (
-      λ passes. record { may = c.in-None.ensures.none; feasible = subst (λ (V : List Task). IsFeasible V) same (c.is_feasible.ensures.0 passes) },
-      λ scales. c.is_feasible.ensures.1 (subst (λ (V : List Task). IsFeasible V) (sym same) scales.feasible),
+      λ passes. record {
+        may = c.in-None.ensures.none;
+        feasible =
+            subst (λ (V : List Task). IsFeasible V) same (c.is_feasible.ensures.0 passes);
+      },
+      λ scales. c.is_feasible.ensures.1
+          (subst (λ (V : List Task). IsFeasible V) (sym same) scales.feasible),
     )

@@ -9,16 +9,23 @@ use Rattle.headroom.proofs.further.Goals as goal
 
 pub some_order-requires : goal.some_order-requires
 some_order-requires c =
-    subst (λ (V : List Task). IsTableOf V c.args.table.now) (sym c.in_ok-other.ensures) (IsTableOf-costed c.args.set.now c.args.task c.args.cost c.args.table.now c.requires.table)
+    subst (λ (V : List Task). IsTableOf V c.args.table.now) (sym c.in_ok-other.ensures)
+    (IsTableOf-costed c.args.set.now c.args.task c.args.cost c.args.table.now c.requires.table)
 
 pub headroom_in_order-requires-clause-table : goal.headroom_in_order-requires-clause-table
 headroom_in_order-requires-clause-table c =
-    subst (λ (V : List Task). IsTableOf V c.args.table.now) (sym c.in_ok-other.ensures) (IsTableOf-costed c.args.set.now c.args.task c.args.cost c.args.table.now c.requires.table)
+    subst (λ (V : List Task). IsTableOf V c.args.table.now) (sym c.in_ok-other.ensures)
+    (IsTableOf-costed c.args.set.now c.args.task c.args.cost c.args.table.now c.requires.table)
 
 pub returns-in-Some-clause-feasible : goal.returns-in-Some-clause-feasible
 returns-in-Some-clause-feasible c =
     let U = c.args.set.now in
     let i = c.args.task in
     let most = c.in_ok-headroom_in_order-in-Some.field-0 in
-    let same : costed c.in_ok-other.other i most ≡ costed U i most = ap (λ (V : List Task). costed V i most) c.in_ok-other.ensures ∙ costed-again U i c.args.cost most in
-    (c.deref.result.now, subst (λ (V : List Task). IsPassingOrder V c.deref.result.now) same c.in_ok-headroom_in_order-in-Some.ensures.passes)
+    let same : costed c.in_ok-other.other i most ≡ costed U i most =
+    ap (λ (V : List Task). costed V i most) c.in_ok-other.ensures
+    ∙ costed-again U i c.args.cost most in (
+      c.deref.result.now,
+      subst (λ (V : List Task). IsPassingOrder V c.deref.result.now) same
+          c.in_ok-headroom_in_order-in-Some.ensures.passes,
+    )

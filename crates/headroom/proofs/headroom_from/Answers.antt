@@ -9,7 +9,8 @@ further-requires-clause-may c =
     let U = c.args.set.now in
     let i = c.args.task in
     let inv = c.loop-failing.invariant.search in
-    may_cost-more (task_at U i) c.loop-failing.passing (c.loop-failing.passing + c.min.result) (valid_at U i c.sheets.ensures.kept c.requires.task) inv.may (omega arith)
+    may_cost-more (task_at U i) c.loop-failing.passing (c.loop-failing.passing + c.min.result)
+    (valid_at U i c.sheets.ensures.kept c.requires.task) inv.may (omega arith)
     (omega (arith, c.min.ensures, c.loop-failing-test.true, inv.within))
 
 pub loop-failing-preserved : goal.loop-failing-preserved

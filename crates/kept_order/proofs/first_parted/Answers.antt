@@ -9,6 +9,8 @@ returns-in-None c =
     let U = c.args.set.now in
     let K = c.args.kept.now in
     let n = c.loop-high.high in
-    let none : (order : List ℕ) → ¬ IsPassingKept U (take (n + 1) K) order = rw c.in-None.is at c.in_ok-climb.ensures.none in
+    let none : (order : List ℕ) → ¬ IsPassingKept U (take (n + 1) K) order =
+    rw c.in-None.is at c.in_ok-climb.ensures.none in
     subst (λ (k : Keeping). IsKeepingOf U K k) (sym c.parted_at.ensures)
-    (IsFirstParted-at U K n (slice_index K (n - 1)) (slice_index K n) c.loop-high.invariant.from c.loop-high-test.true refl refl c.loop-high.invariant.some none)
+    (IsFirstParted-at U K n (slice_index K (n - 1)) (slice_index K n) c.loop-high.invariant.from
+    c.loop-high-test.true refl refl c.loop-high.invariant.some none)

@@ -24,8 +24,10 @@ returns-then-not-branch c = λ value may feasible.
     let span = c.span_in-span.ensures.span in
     let there = span.all value may in
     let far = there.0 in
-    let near : IsNoFurther n e value = subst (λ v. IsNoFurther n e v) (sym there.2) (subst (λ v. IsNoFurther n v (at_distance n e far)) (at-start n e) (span.rises 0 far (omega arith))) in
-    let first : IsFeasible (numbered U i n e) = IsFeasible-nearer U i n e value c.span_in-span.ensures.kept c.requires.task may near feasible in
+    let near : IsNoFurther n e value = subst (λ v. IsNoFurther n e v) (sym there.2) (subst (λ v.
+    IsNoFurther n v (at_distance n e far)) (at-start n e) (span.rises 0 far (omega arith))) in
+    let first : IsFeasible (numbered U i n e) = IsFeasible-nearer U i n e value
+    c.span_in-span.ensures.kept c.requires.task may near feasible in
     both_ways _ c.if-not-branch.true (c.in_ok-passes_with.ensures.1 first)
 
 pub furthest_beyond-requires-clause-passes : goal.furthest_beyond-requires-clause-passes
@@ -34,4 +36,5 @@ furthest_beyond-requires-clause-passes c =
     let i = c.args.task in
     let n = c.args.number in
     let e = c.span_in-span.result.easiest in
-    subst (λ v. IsFeasible (numbered U i n v)) (sym (at-start n e)) (c.in_ok-passes_with.ensures.0 c.if-not-branch.false)
+    subst (λ v. IsFeasible (numbered U i n v)) (sym (at-start n e))
+    (c.in_ok-passes_with.ensures.0 c.if-not-branch.false)

@@ -13,7 +13,11 @@ furthest_beyond-requires-clause-within c =
     let e = c.span_in-span.result.easiest in
     let l = c.span_in-span.result.length in
     let span = c.span_in-span.ensures.span in
-    omega (arith, c.distance-far.ensures, (far-known (task_at U i) n e l c.args.known span c.requires.may).0)
+    omega (
+      arith,
+      c.distance-far.ensures,
+      (far-known (task_at U i) n e l c.args.known span c.requires.may).0,
+    )
 
 pub furthest_beyond-requires-clause-passes : goal.furthest_beyond-requires-clause-passes
 furthest_beyond-requires-clause-passes c =
@@ -24,5 +28,6 @@ furthest_beyond-requires-clause-passes c =
     let l = c.span_in-span.result.length in
     let span = c.span_in-span.ensures.span in
     let here : at_distance n e c.distance-far.result ≡ c.args.known =
-    ap (λ f. at_distance n e f) c.distance-far.ensures ∙ (far-known (task_at U i) n e l c.args.known span c.requires.may).1 in
+    ap (λ f. at_distance n e f) c.distance-far.ensures
+    ∙ (far-known (task_at U i) n e l c.args.known span c.requires.may).1 in
     subst (λ v. IsFeasible (numbered U i n v)) (sym here) c.requires.passes

@@ -9,7 +9,8 @@ use Rattle.response_time.proofs.respond.Given as goal
 -- the numbers and the next one are the first iterates
 abbrev pub invariant-loop-time : goal.invariant-loop-time
 invariant-loop-time l = record {
-  demand : (t : ℕ) → 1 ≤ t → t ≤ l.limit → work_within t l.work ≡ work_of l.set l.task (indexes_of l.fn.above) t;
+  demand : (t : ℕ) → 1 ≤ t → t ≤ l.limit
+      → work_within t l.work ≡ work_of l.set l.task (indexes_of l.fn.above) t;
   carried : l.work.time ≤ l.time;
   positive : 1 ≤ l.time;
   climb : IsClimb (demand_of l.set l.task (indexes_of l.fn.above)) (l.numbers.items ++ l.time ∷ []);

@@ -3,26 +3,37 @@ use Rattle.std.proofs.lemmas.Bool.{both_ways}
 use Rattle.task_sheet.specs.Sheet.{Task}
 use Rattle.task_sheet.proofs.TaskLaws.{AllTasks-from_set}
 use Rattle.task_sheet.proofs.MembersIndexes.{len-remove_member}
-use Rattle.assignment.proofs.FeasibilityLaws.{IsLeading-start, IsLeading-remove, IsLeading-empty, IsLeading-stuck}
+use Rattle.assignment.proofs.FeasibilityLaws.{IsLeading-start, IsLeading-remove, IsLeading-empty}
+use Rattle.assignment.proofs.FeasibilityLaws.{IsLeading-stuck}
 use Rattle.assignment.proofs.feasibility.is_feasible.Goals as goal
 
 pub loop-left-init : goal.loop-left-init
-loop-left-init c = IsLeading-start c.args.set.now c.all-left.result _ c.all-left.ensures (ap (λ (U : List Task). length U) c.sheets.ensures.same)
+loop-left-init c = IsLeading-start c.args.set.now c.all-left.result _ c.all-left.ensures
+    (ap (λ (U : List Task). length U) c.sheets.ensures.same)
 
 pub loop-left-smaller : goal.loop-left-smaller
-loop-left-smaller c = rw c.without-left.ensures (len-remove_member c.loop-left.left c.in-Some.task c.in-Some.ensures.member)
+loop-left-smaller c = rw c.without-left.ensures
+    (len-remove_member c.loop-left.left c.in-Some.task c.in-Some.ensures.member)
 
 pub loop-left-preserved : goal.loop-left-preserved
 loop-left-preserved c =
-    IsLeading-remove c.args.set.now c.loop-left.left c.without-left.result c.in-Some.task c.loop-left.invariant c.without-left.ensures c.in-Some.ensures.member c.in-Some.ensures.stands
+    IsLeading-remove c.args.set.now c.loop-left.left c.without-left.result c.in-Some.task
+    c.loop-left.invariant c.without-left.ensures c.in-Some.ensures.member
+    c.in-Some.ensures.stands
 
 pub returns-in-None : goal.returns-in-None
 returns-in-None c = (
   λ so. absurd (both_ways false refl so),
   λ feasible.
-      absurd (IsLeading-stuck c.args.set.now c.loop-left.left (AllTasks-from_set c.args.set.now c.sheets.ensures.kept) c.loop-left.invariant
-      (λ none. both_ways c.is_empty.result c.loop-left-test.true (c.is_empty.ensures.1 none)) c.in-None.ensures.none feasible),
+      absurd (IsLeading-stuck c.args.set.now c.loop-left.left
+      (AllTasks-from_set c.args.set.now c.sheets.ensures.kept) c.loop-left.invariant
+      (λ none. both_ways c.is_empty.result c.loop-left-test.true (c.is_empty.ensures.1 none))
+      c.in-None.ensures.none feasible),
 )
 
 pub returns : goal.returns
-returns c = (λ _. IsLeading-empty c.args.set.now c.loop-left.left c.loop-left.invariant (c.is_empty.ensures.0 c.loop-left-test.false), λ _. refl)
+returns c = (
+  λ _. IsLeading-empty c.args.set.now c.loop-left.left c.loop-left.invariant
+      (c.is_empty.ensures.0 c.loop-left-test.false),
+  λ _. refl,
+)

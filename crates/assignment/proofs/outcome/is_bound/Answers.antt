@@ -7,4 +7,5 @@ pub returns : goal.returns
 returns c =
     let U = c.args.set.now in
     let row = c.outranked.ensures U c.requires.table c.requires.task in
-    c.meets.ensures ∙ meet-bound U c.args.task (indexes_of c.outranked.result) (indexes_of c.args.above) row c.requires.table.few c.requires.part
+    c.meets.ensures ∙ meet-bound U c.args.task (indexes_of c.outranked.result)
+    (indexes_of c.args.above) row c.requires.table.few c.requires.part

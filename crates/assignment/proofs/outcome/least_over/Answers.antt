@@ -7,5 +7,11 @@ pub returns-clause-none : goal.returns-clause-none
 returns-clause-none c =
     let U = c.args.set.now in
     let row = c.outranked-outranked.ensures U c.requires.table c.requires.task in
-    NoneOver-all U c.args.task (indexes_of c.outranked-outranked.result) (indexes_of c.args.above) row
-    (λ j lt. let before : j < c.loop-other.other = omega (arith, c.loop-other-test.false, c.len-other-end.ensures.count, lt) in c.loop-other.invariant j before)
+    NoneOver-all U c.args.task (indexes_of c.outranked-outranked.result)
+    (indexes_of c.args.above) row
+    (λ j lt. let before : j < c.loop-other.other = omega (
+      arith,
+      c.loop-other-test.false,
+      c.len-other-end.ensures.count,
+      lt,
+    ) in c.loop-other.invariant j before)

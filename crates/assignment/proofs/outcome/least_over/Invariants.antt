@@ -4,4 +4,5 @@ use Rattle.task_sheet.specs.Orders.{must_outrank}
 use Rattle.assignment.proofs.outcome.least_over.Given as goal
 
 abbrev pub invariant-loop-other : goal.invariant-loop-other
-invariant-loop-other l = (j : ℕ) → j < l.other → IsTrue (indexes_of l.above j) → IsFalse (must_outrank l.set l.task j)
+invariant-loop-other l = (j : ℕ) → j < l.other → IsTrue (indexes_of l.above j)
+    → IsFalse (must_outrank l.set l.task j)

@@ -6,31 +6,40 @@ use Rattle.task_sheet.specs.Indexes.{indexes_of}
 use Rattle.task_sheet.proofs.TaskLaws.{AllTasks-from_set}
 use Rattle.task_sheet.proofs.MembersIndexes.{len-remove_member}
 use Rattle.assignment.specs.Places.{PlaceData}
-use Rattle.assignment.proofs.PlacingLaws.{IsPlaced-part, IsPlaced-start, IsPlaced-push, IsPlaced-best, IsPlaced-stuck}
+use Rattle.assignment.proofs.PlacingLaws.{IsPlaced-part, IsPlaced-start, IsPlaced-push}
+use Rattle.assignment.proofs.PlacingLaws.{IsPlaced-best, IsPlaced-stuck}
 use Rattle.assignment.proofs.placing.place_all.Goals as goal
 
 pub loop-left-init : goal.loop-left-init
 loop-left-init c =
-    IsPlaced-start c.args.set.now c.all-left.result _ c.in_ok-places.places.items c.all-left.ensures (ap (λ (U : List Task). length U) c.sheets.ensures.same) c.in_ok-places.ensures.items
+    IsPlaced-start c.args.set.now c.all-left.result _ c.in_ok-places.places.items c.all-left.ensures
+    (ap (λ (U : List Task). length U) c.sheets.ensures.same) c.in_ok-places.ensures.items
 
 pub lowest-requires-clause-part : goal.lowest-requires-clause-part
-lowest-requires-clause-part c = IsPlaced-part c.args.set.now (indexes_of c.loop-left.left) c.loop-left.places.items c.loop-left.invariant
+lowest-requires-clause-part c = IsPlaced-part c.args.set.now (indexes_of c.loop-left.left)
+    c.loop-left.places.items c.loop-left.invariant
 
 pub loop-left-smaller : goal.loop-left-smaller
 loop-left-smaller c =
     let same = ap (λ (p : PlaceData). p.task) c.place.view_is in
-    rw (c.without-left.ensures, same) (len-remove_member c.loop-left.left c.in-Some.place.task c.in-Some.ensures.chosen.member)
+    rw (c.without-left.ensures, same)
+    (len-remove_member c.loop-left.left c.in-Some.place.task c.in-Some.ensures.chosen.member)
 
 pub loop-left-preserved : goal.loop-left-preserved
 loop-left-preserved c =
     let same = ap (λ (p : PlaceData). p.task) c.place.view_is in
-    IsPlaced-push c.args.set.now c.loop-left.left c.without-left.result c.loop-left.places.items c.push.new.self.items c.in-Some.place c.loop-left.invariant
-    c.in-Some.ensures.chosen c.in-Some.ensures.response (c.without-left.ensures ∙ ap (λ n. members.remove c.loop-left.left n) same) c.in_ok-push-in-Some.ensures.items
+    IsPlaced-push c.args.set.now c.loop-left.left c.without-left.result c.loop-left.places.items
+    c.push.new.self.items c.in-Some.place c.loop-left.invariant
+    c.in-Some.ensures.chosen c.in-Some.ensures.response (c.without-left.ensures
+    ∙ ap (λ n. members.remove c.loop-left.left n) same) c.in_ok-push-in-Some.ensures.items
 
 pub returns-in-None : goal.returns-in-None
 returns-in-None c =
-    IsPlaced-stuck c.args.set.now c.loop-left.left c.loop-left.places.items (AllTasks-from_set c.args.set.now c.sheets.ensures.kept) c.loop-left.invariant
-    (λ none. both_ways c.is_empty.result c.loop-left-test.true (c.is_empty.ensures.1 none)) c.in-None.ensures.none
+    IsPlaced-stuck c.args.set.now c.loop-left.left c.loop-left.places.items
+    (AllTasks-from_set c.args.set.now c.sheets.ensures.kept) c.loop-left.invariant
+    (λ none. both_ways c.is_empty.result c.loop-left-test.true (c.is_empty.ensures.1 none))
+    c.in-None.ensures.none
 
 pub returns : goal.returns
-returns c = IsPlaced-best c.args.set.now c.loop-left.left c.loop-left.places.items c.loop-left.invariant (c.is_empty.ensures.0 c.loop-left-test.false)
+returns c = IsPlaced-best c.args.set.now c.loop-left.left c.loop-left.places.items
+    c.loop-left.invariant (c.is_empty.ensures.0 c.loop-left-test.false)

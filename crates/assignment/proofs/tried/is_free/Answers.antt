@@ -14,7 +14,8 @@ not-from_false true h = sym h
 not-from_false false h = refl
 
 pub is_bound-requires-clause-part : goal.is_bound-requires-clause-part
-is_bound-requires-clause-part c = rw c.without.ensures (remove-part c.args.set.now c.args.left c.args.task c.requires.part)
+is_bound-requires-clause-part c =
+    rw c.without.ensures (remove-part c.args.set.now c.args.left c.args.task c.requires.part)
 
 pub returns-then-has : goal.returns-then-has
 returns-then-has c =

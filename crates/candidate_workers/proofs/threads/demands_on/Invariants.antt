@@ -6,6 +6,7 @@ use Rattle.candidate_workers.proofs.threads.demands_on.Given as goal
 
 abbrev pub invariant-loop-sheet : goal.invariant-loop-sheet
 invariant-loop-sheet l = record {
-  is : l.demands ≡ 2 + sum_below l.sheet-index (λ k. events_within l.limit (task_at l.sheet-items k));
+  is : l.demands ≡ 2 + sum_below l.sheet-index
+      (λ k. events_within l.limit (task_at l.sheet-items k));
   fits : l.demands ≤ 2 + l.sheet-index * 2000000;
 }

@@ -11,11 +11,19 @@ loop-interrupt-preserved c =
     let xs = c.interrupts-interrupt-items.result.now in
     let i = c.loop-interrupt.interrupt-index in
     let x = get_or xs i no_interrupt in
-    let valid : IsInterrupt x = c.interrupts-interrupt-items.ensures.limits.valid i no_interrupt c.loop-interrupt-test.true in
+    let valid : IsInterrupt x = c.interrupts-interrupt-items.ensures.limits.valid i no_interrupt
+    c.loop-interrupt-test.true in
     let whole : c.args.time ≡ c.args.time + 0 = omega arith in
-    let here : c.div_ceil-events-in-loop-interrupt.result ≡ comes_within c.args.time x = c.div_ceil-events-in-loop-interrupt.ensures ∙ ap (λ t. div_ceil t x.period) whole in
-    let more = sum_by_more (comes_within c.args.time) xs i no_interrupt c.loop-interrupt-test.true in
+    let here : c.div_ceil-events-in-loop-interrupt.result ≡ comes_within c.args.time x =
+    c.div_ceil-events-in-loop-interrupt.ensures ∙ ap (λ t. div_ceil t x.period) whole in
+    let more =
+    sum_by_more (comes_within c.args.time) xs i no_interrupt c.loop-interrupt-test.true in
     record {
       total = omega (arith, here, more, c.loop-interrupt.invariant.total);
-      short = omega (arith, here, comes-few c.args.time x valid c.requires.time, c.loop-interrupt.invariant.short);
+      short = omega (
+        arith,
+        here,
+        comes-few c.args.time x valid c.requires.time,
+        c.loop-interrupt.invariant.short,
+      );
     }

@@ -8,7 +8,9 @@ loop-k-init c = first_start (is_unsorted c.args.releases.now)
 
 pub returns-then-is_unsorted-clause-first : goal.returns-then-is_unsorted-clause-first
 returns-then-is_unsorted-clause-first c =
-    sym (first_found (is_unsorted c.args.releases.now) (length c.args.releases.now) c.loop-k.k c.loop-k.invariant (sym c.if-is_unsorted.ensures) c.loop-k-test.true)
+    sym (first_found (is_unsorted c.args.releases.now) (length c.args.releases.now) c.loop-k.k
+    c.loop-k.invariant (sym c.if-is_unsorted.ensures) c.loop-k-test.true)
 
 pub loop-k-preserved : goal.loop-k-preserved
-loop-k-preserved c = first_more (is_unsorted c.args.releases.now) c.loop-k.k c.loop-k.invariant (sym c.if-is_unsorted.ensures)
+loop-k-preserved c = first_more (is_unsorted c.args.releases.now) c.loop-k.k c.loop-k.invariant
+    (sym c.if-is_unsorted.ensures)

@@ -6,4 +6,5 @@ use Rattle.ceiling_kernel.specs.NodeTasks.{AreSectionsOf}
 use Rattle.ceiling_kernel.proofs.build.sections_of.Given as goal
 
 abbrev pub invariant-loop-section : goal.invariant-loop-section
-invariant-loop-section l = (U : List Task) → IsTableOf U l.table → AreSectionsOf (node_in U l.order) (take l.section-index l.sections) l.kept.items
+invariant-loop-section l = (U : List Task) → IsTableOf U l.table
+    → AreSectionsOf (node_in U l.order) (take l.section-index l.sections) l.kept.items

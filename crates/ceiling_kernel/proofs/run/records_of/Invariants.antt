@@ -6,4 +6,5 @@ use Rattle.ceiling_kernel.specs.States.{AreFinishes}
 use Rattle.ceiling_kernel.proofs.run.records_of.Given as goal
 
 abbrev pub invariant-loop-k : goal.invariant-loop-k
-invariant-loop-k l = (node : Node) (t : ℕ) → AreFinishes node l.releases t l.finishes → l.records.items ≡ records_from node (jobs_of node.tasks l.releases) t 0 (take l.k l.releases)
+invariant-loop-k l = (node : Node) (t : ℕ) → AreFinishes node l.releases t l.finishes
+    → l.records.items ≡ records_from node (jobs_of node.tasks l.releases) t 0 (take l.k l.releases)

@@ -7,7 +7,8 @@ use Rattle.explain.proofs.accounts.response_accounts.Given as goal
 abbrev pub invariant-loop-place : goal.invariant-loop-place
 invariant-loop-place l = record {
   in_time : AreInTime l.tabled.set.now l.rest;
-  whole : (accounts : List Account) → AreResponseAccounts l.tabled.set.now l.rest accounts → AreResponseAccounts l.tabled.set.now l.places (l.accounts.items ++ accounts);
+  whole : (accounts : List Account) → AreResponseAccounts l.tabled.set.now l.rest accounts
+      → AreResponseAccounts l.tabled.set.now l.places (l.accounts.items ++ accounts);
 }
 
 abbrev pub decreases-loop-place : goal.decreases-loop-place

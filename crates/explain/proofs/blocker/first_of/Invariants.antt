@@ -1,5 +1,5 @@
 use Rattle.task_sheet.specs.Indexes.{indexes_of}
-use Rattle.explain.specs.Blockers.{HasNoneBefore}
+use Rattle.explain.specs.Blocking.{HasNoneBefore}
 use Rattle.explain.proofs.blocker.first_of.Given as goal
 
 abbrev pub invariant-loop-place : goal.invariant-loop-place

@@ -8,16 +8,25 @@ use Rattle.explain.proofs.conflict.gone_through.Goals as goal
 pub greatest_within-requires-clause-part : goal.greatest_within-requires-clause-part
 greatest_within-requires-clause-part c = λ k h.
     let less = ap indexes_of c.without.ensures ∙ indexes_of-remove c.args.tasks c.args.task in
-    c.requires.part k (without-parts (indexes_of c.args.tasks) c.args.task k (ap (λ (X : Indexes). X k) (sym less) ∙ h)).0
+    c.requires.part k (without-parts (indexes_of c.args.tasks) c.args.task k
+    (ap (λ (X : Indexes). X k) (sym less) ∙ h)).0
 
 pub returns-in-Some : goal.returns-in-Some
 returns-in-Some c =
     let U = c.args.set.now in
     let less = ap indexes_of c.without.ensures ∙ indexes_of-remove c.args.tasks c.args.task in
-    inl (sym c.has.ensures ∙ c.if-not-has.false, subst (λ (X : Indexes). IsGreatestWithin U X (indexes_of c.in-Some.rest)) less c.in-Some.ensures.some)
+    inl (
+      sym c.has.ensures ∙ c.if-not-has.false,
+      subst (λ (X : Indexes). IsGreatestWithin U X
+          (indexes_of c.in-Some.rest)) less c.in-Some.ensures.some,
+    )
 
 pub returns-in-None : goal.returns-in-None
 returns-in-None c =
     let U = c.args.set.now in
     let less = ap indexes_of c.without.ensures ∙ indexes_of-remove c.args.tasks c.args.task in
-    inr (λ member. subst (λ (X : Indexes). ¬ HoldsObstruction U X) less c.in-None.ensures.none, refl)
+    inr (
+      λ member. subst (λ (X : Indexes). ¬ HoldsObstruction U X) less
+          c.in-None.ensures.none,
+      refl,
+    )

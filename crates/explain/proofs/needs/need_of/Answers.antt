@@ -10,13 +10,18 @@ use Rattle.explain.proofs.needs.need_of.Goals as goal
 
 pub returns-in-Some : goal.returns-in-Some
 returns-in-Some c =
-    let rest = ap indexes_of c.without-above.ensures ∙ indexes_of-remove c.args.conflict c.args.task in
-    (refl, subst (λ (X : Indexes). IsLeastOver c.args.tabled.set.now c.args.task X c.in-Some.other) rest c.in-Some.ensures.some)
+    let rest = ap indexes_of c.without-above.ensures
+    ∙ indexes_of-remove c.args.conflict c.args.task in (
+      refl,
+      subst (λ (X : Indexes). IsLeastOver c.args.tabled.set.now c.args.task X c.in-Some.other)
+          rest c.in-Some.ensures.some,
+    )
 
 pub needs_account-requires-clause-within : goal.needs_account-requires-clause-within
 needs_account-requires-clause-within c =
     let n = length c.args.tabled.set.now in
-    subst (λ (ns : List ℕ). All (λ k. k < n) ns) (sym (c.deref.ensures.value ∙ c.in_ok-order.ensures))
+    subst (λ (ns : List ℕ). All (λ k. k < n) ns)
+    (sym (c.deref.ensures.value ∙ c.in_ok-order.ensures))
     (falling-within n (indexes_of c.without-above.result))
 
 pub needs_account-requires-clause-fails : goal.needs_account-requires-clause-fails
@@ -24,14 +29,17 @@ needs_account-requires-clause-fails c = λ passes.
     let U = c.args.tabled.set.now in
     let i = c.args.task in
     let rest = ap indexes_of c.without-above.ensures ∙ indexes_of-remove c.args.conflict i in
-    c.requires.obstruction.stuck i c.requires.member (subst (λ (X : Indexes). Stands U i X) rest (passes, c.in_default.ensures.none))
+    c.requires.obstruction.stuck i c.requires.member
+    (subst (λ (X : Indexes). Stands U i X) rest (passes, c.in_default.ensures.none))
 
 pub returns : goal.returns
 returns c =
     let U = c.args.tabled.set.now in
     let i = c.args.task in
     let rest = ap indexes_of c.without-above.ensures ∙ indexes_of-remove c.args.conflict i in
-    let account = subst (λ (order : List ℕ). IsNeedsAccount U i (indexes_of c.without-above.result) order c.in_ok-account.account) (c.deref.ensures.value ∙ c.in_ok-order.ensures) c.in_ok-account.ensures in (
+    let account = subst (λ (order : List ℕ). IsNeedsAccount U i (indexes_of c.without-above.result)
+    order c.in_ok-account.account) (c.deref.ensures.value ∙ c.in_ok-order.ensures)
+    c.in_ok-account.ensures in (
       subst (λ (X : Indexes). IsFalse (is_bound U i X)) rest c.in_default.ensures.none,
       subst (λ (X : Indexes). IsNeedsByRank U i X c.in_ok-account.account) rest account,
     )

@@ -11,5 +11,11 @@ pub unreachable-requires : goal.unreachable-requires
 unreachable-requires c =
     let U = c.args.set.now in
     let i = c.args.task in
-    let passes = subst (λ (a : Answer). IsAnswer U i (indexes_of c.args.above) a) c.in-Pass.is c.in_ok-chain.ensures.answer in
-    c.requires.fails (past_jitter (task_at U i) c.in-Pass.response, passes.0.positive, omega (arith, passes.1), omega (arith, passes.0.fixed))
+    let passes = subst (λ (a : Answer). IsAnswer U i (indexes_of c.args.above) a) c.in-Pass.is
+    c.in_ok-chain.ensures.answer in
+    c.requires.fails (
+      past_jitter (task_at U i) c.in-Pass.response,
+      passes.0.positive,
+      omega (arith, passes.1),
+      omega (arith, passes.0.fixed),
+    )

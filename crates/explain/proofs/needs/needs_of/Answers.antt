@@ -11,8 +11,11 @@ loop-task-preserved c =
     let n = c.loop-task.task in
     elim c.if-has.branch [
       | then-has+in_ok-need_of+in_ok-push w ↦
-          AreNeedsOf-in U C n c.loop-task.needs.items c.if-has.needs.items w.in_ok-need_of.field-0 (sym c.has.ensures ∙ w.if-has.true)
-          (ap (λ v. v.items) w.needs-is ∙ w.in_ok-push.ensures.items) c.loop-task.invariant w.in_ok-need_of.ensures
+          AreNeedsOf-in U C n c.loop-task.needs.items c.if-has.needs.items w.in_ok-need_of.field-0
+          (sym c.has.ensures ∙ w.if-has.true)
+          (ap (λ v. v.items) w.needs-is ∙ w.in_ok-push.ensures.items) c.loop-task.invariant
+          w.in_ok-need_of.ensures
       | else-has w ↦
-          AreNeedsOf-out U C n c.loop-task.needs.items c.if-has.needs.items (sym c.has.ensures ∙ w.if-has.false) (ap (λ v. v.items) w.needs-is) c.loop-task.invariant
+          AreNeedsOf-out U C n c.loop-task.needs.items c.if-has.needs.items (sym c.has.ensures
+          ∙ w.if-has.false) (ap (λ v. v.items) w.needs-is) c.loop-task.invariant
     ]

@@ -4,4 +4,5 @@ use Rattle.explain.proofs.parts.push_interruptions.Given as goal
 
 abbrev pub invariant-loop-interrupt : goal.invariant-loop-interrupt
 invariant-loop-interrupt l =
-    l.parts.items ++ map (interruption_at l.time) (drop l.interrupt-index l.sheet.interrupts) ≡ l.fn.parts.items ++ map (interruption_at l.time) l.sheet.interrupts
+    l.parts.items ++ map (interruption_at l.time) (drop l.interrupt-index l.sheet.interrupts)
+    ≡ l.fn.parts.items ++ map (interruption_at l.time) l.sheet.interrupts

@@ -3,4 +3,5 @@ use Rattle.explain.specs.Lines.{first_user}
 use Rattle.explain.proofs.text.first_user.Given as goal
 
 abbrev pub invariant-loop-user : goal.invariant-loop-user
-invariant-loop-user l = first_user l.set l.lock (drop l.user-index l.above) ≡ first_user l.set l.lock l.above
+invariant-loop-user l =
+    first_user l.set l.lock (drop l.user-index l.above) ≡ first_user l.set l.lock l.above

@@ -8,7 +8,8 @@ pub returns-in-Some : goal.returns-in-Some
 returns-in-Some c =
     let U : List Task = c.args.set.now in
     let same : task_at U c.args.task ≡ c.in-Some.sheet.now =
-    sym (unwrap_or-slice_get U c.args.task no_task) ∙ ap (λ o. unwrap_or o no_task) (sym c.in-Some.ensures) in
+    sym (unwrap_or-slice_get U c.args.task no_task)
+    ∙ ap (λ o. unwrap_or o no_task) (sym c.in-Some.ensures) in
     c.overhead.ensures ∙ ap overhead_of (sym same)
 
 -- past the end of a set stands a task on a node that takes nothing

@@ -12,19 +12,33 @@ use Rattle.factor.proofs.FreeLaws.{some-free}
 use Rattle.factor.proofs.failing.first_to_fail.Goals as goal
 
 pub overflow_add-more : goal.overflow_add-more
-overflow_add-more c = omega (arith, few-factor c.args.set.now c.args.factor c.requires.kept c.requires.some c.requires.factor.may)
+overflow_add-more c = omega (
+  arith,
+  few-factor c.args.set.now c.args.factor c.requires.kept
+      c.requires.some c.requires.factor.may,
+)
 
 pub first_past-requires-clause-short : goal.first_past-requires-clause-short
-first_past-requires-clause-short c = omega (arith, few-factor c.args.set.now c.args.factor c.requires.kept c.requires.some c.requires.factor.may)
+first_past-requires-clause-short c = omega (
+  arith,
+  few-factor c.args.set.now c.args.factor
+      c.requires.kept c.requires.some c.requires.factor.may,
+)
 
 pub scaled-requires-clause-short : goal.scaled-requires-clause-short
-scaled-requires-clause-short c = omega (arith, few-factor c.args.set.now c.args.factor c.requires.kept c.requires.some c.requires.factor.may)
+scaled-requires-clause-short c = omega (
+  arith,
+  few-factor c.args.set.now c.args.factor
+      c.requires.kept c.requires.some c.requires.factor.may,
+)
 
 -- with the next factor no order passes
 pub unreachable-requires : goal.unreachable-requires
 unreachable-requires c =
-    let best = subst (λ (p : Placing). IsPlacingOf c.in_ok-other.other p) c.in_default.is c.in_ok-tasks.ensures in
-    let feasible = subst (λ (V : List Task). IsFeasible V) c.in_ok-other.ensures.other (_, best.best.passing) in
+    let best = subst (λ (p : Placing). IsPlacingOf c.in_ok-other.other p) c.in_default.is
+    c.in_ok-tasks.ensures in
+    let feasible = subst (λ (V : List Task). IsFeasible V) c.in_ok-other.ensures.other
+    (_, best.best.passing) in
     c.requires.factor.greatest (c.args.factor + 1) (omega arith) c.in-None.ensures.none feasible
 
 -- some task in the way need not stand above another of them, since with the factor some order passes
@@ -34,21 +48,27 @@ unreachable-requires-in-None-longest_free c =
     let V = c.in_ok-other.other in
     let S = indexes_of c.in-Stuck.tasks in
     let same = c.in_ok-other.ensures.other in
-    let stuck : IsPlacingOf V (Stuck c.in-Stuck.tasks) = subst (λ (p : Placing). IsPlacingOf V p) c.in-Stuck.is c.in_ok-tasks.ensures in
-    some-free U c.requires.kept c.args.factor (c.args.factor + 1) record { may = c.requires.factor.may; feasible = c.requires.factor.feasible }
-    S (subst (λ (W : List Task). IsObstruction W S) same stuck.obstruction) (subst (λ (W : List Task). (j : ℕ) → ¬ IsFree W S j) same c.in-None-longest_free.ensures.none)
+    let stuck : IsPlacingOf V (Stuck c.in-Stuck.tasks) =
+    subst (λ (p : Placing). IsPlacingOf V p) c.in-Stuck.is c.in_ok-tasks.ensures in
+    some-free U c.requires.kept c.args.factor (c.args.factor + 1)
+    record { may = c.requires.factor.may; feasible = c.requires.factor.feasible }
+    S (subst (λ (W : List Task). IsObstruction W S) same stuck.obstruction)
+    (subst (λ (W : List Task). (j : ℕ) → ¬ IsFree W S j) same
+    c.in-None-longest_free.ensures.none)
 
 pub returns : goal.returns
 returns c =
     let V = c.in_ok-other.other in
     let S = indexes_of c.in-Stuck.tasks in
     let same = c.in_ok-other.ensures.other in
-    let stuck : IsPlacingOf V (Stuck c.in-Stuck.tasks) = subst (λ (p : Placing). IsPlacingOf V p) c.in-Stuck.is c.in_ok-tasks.ensures in
+    let stuck : IsPlacingOf V (Stuck c.in-Stuck.tasks) =
+    subst (λ (p : Placing). IsPlacingOf V p) c.in-Stuck.is c.in_ok-tasks.ensures in
     inr (
       c.in-None.ensures.none,
       (
         S,
         subst (λ (W : List Task). IsGreatestObstruction W S) same stuck,
-        subst (λ (W : List Task). IsLongestFree W S c.in-Some-longest_free.task) same c.in-Some-longest_free.ensures.some,
+        subst (λ (W : List Task). IsLongestFree W S c.in-Some-longest_free.task) same
+            c.in-Some-longest_free.ensures.some,
       ),
     )

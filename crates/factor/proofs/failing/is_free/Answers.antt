@@ -13,7 +13,8 @@ returns-in-Some c =
     let over = c.in-Some.ensures.some in
     let less = ap indexes_of c.without.ensures ∙ indexes_of-remove c.args.tasks i in (
       λ no. absurd (both_ways false refl no),
-      λ free. absurd (both_ways _ (ap (λ (X : Indexes). is_bound U i X) less ∙ free.1) (is_bound-at U i _ c.in-Some.field-0 over.in_set over.above over.named)),
+      λ free. absurd (both_ways _ (ap (λ (X : Indexes). is_bound U i X) less ∙ free.1)
+          (is_bound-at U i _ c.in-Some.field-0 over.in_set over.above over.named)),
     )
 
 pub returns-in-None : goal.returns-in-None

@@ -10,7 +10,8 @@ pub loop-failing-init : goal.loop-failing-init
 loop-failing-init c = record {
   scales = ScalesIn-same c.args.set.now c.args.order.now c.requires.kept c.requires.passing;
   some = omega arith;
-  fails = λ more le scales. omega (arith, le, few-factor c.args.set.now more c.requires.kept c.requires.some scales.may);
+  fails = λ more le scales.
+      omega (arith, le, few-factor c.args.set.now more c.requires.kept c.requires.some scales.may);
   apart = omega arith;
   short = omega arith;
 }
@@ -22,7 +23,9 @@ loop-failing-preserved c =
     record {
       scales = inv.scales;
       some = inv.some;
-      fails = λ more le scales. both_ways c.in_ok-order_passes_at.field-0 c.if-branch.false (c.in_ok-order_passes_at.ensures.answer.1 (ScalesIn-less c.args.set.now c.args.order.now middle more c.requires.kept (omega (arith, inv.some)) le scales));
+      fails = λ more le scales. both_ways c.in_ok-order_passes_at.field-0 c.if-branch.false
+          (c.in_ok-order_passes_at.ensures.answer.1 (ScalesIn-less c.args.set.now c.args.order.now
+          middle more c.requires.kept (omega (arith, inv.some)) le scales));
       apart = omega (arith, c.loop-failing-test.true);
       short = omega (arith, inv.short, c.loop-failing-test.true);
     }
@@ -33,5 +36,6 @@ returns c =
     record {
       may = inv.scales.may;
       passes = inv.scales.passes;
-      greatest = λ more lt may passes. inv.fails more (omega (arith, lt, c.loop-failing-test.false)) record { may = may; passes = passes };
+      greatest = λ more lt may passes. inv.fails more (omega (arith, lt, c.loop-failing-test.false))
+          record { may = may; passes = passes };
     }

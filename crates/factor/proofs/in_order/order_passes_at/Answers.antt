@@ -7,12 +7,18 @@ use Rattle.factor.proofs.in_order.order_passes_at.Goals as goal
 pub order_passes-requires-clause-each : goal.order_passes-requires-clause-each
 order_passes-requires-clause-each c =
     let order = c.args.order.now in
-    subst (λ (V : List Task). IsOrder V order) (sym c.in_ok-other.ensures.other) (IsOrder-scaled c.args.set.now c.args.factor order c.requires.each)
+    subst (λ (V : List Task). IsOrder V order) (sym c.in_ok-other.ensures.other)
+    (IsOrder-scaled c.args.set.now c.args.factor order c.requires.each)
 
 pub returns-clause-answer : goal.returns-clause-answer
 returns-clause-answer c =
     let order = c.args.order.now in
     let same = c.in_ok-other.ensures.other in (
-      λ passes. record { may = c.in-None.ensures.none; passes = subst (λ (V : List Task). IsPassingOrder V order) same (c.order_passes.ensures.0 passes) },
-      λ scales. c.order_passes.ensures.1 (subst (λ (V : List Task). IsPassingOrder V order) (sym same) scales.passes),
+      λ passes. record {
+        may = c.in-None.ensures.none;
+        passes = subst (λ (V : List Task).
+            IsPassingOrder V order) same (c.order_passes.ensures.0 passes);
+      },
+      λ scales. c.order_passes.ensures.1
+          (subst (λ (V : List Task). IsPassingOrder V order) (sym same) scales.passes),
     )

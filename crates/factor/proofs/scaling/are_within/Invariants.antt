@@ -5,4 +5,5 @@ use Rattle.factor.proofs.scaling.are_within.Given as goal
 
 abbrev pub invariant-loop-interrupt : goal.invariant-loop-interrupt
 invariant-loop-interrupt l =
-    (k : ℕ) (d : Interrupt) → k < l.interrupt-index → thousandths l.factor (get_or l.interrupts k d).cost ≤ (get_or l.interrupts k d).period
+    (k : ℕ) (d : Interrupt) → k < l.interrupt-index
+    → thousandths l.factor (get_or l.interrupts k d).cost ≤ (get_or l.interrupts k d).period

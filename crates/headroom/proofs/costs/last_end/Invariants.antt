@@ -5,6 +5,7 @@ use Rattle.headroom.proofs.costs.last_end.Given as goal
 
 abbrev pub invariant-loop-section : goal.invariant-loop-section
 invariant-loop-section l = record {
-  ends : (k : ℕ) (d : CriticalSection) → k < l.section-index → (get_or l.section-items k d).at + (get_or l.section-items k d).len ≤ l.end;
+  ends : (k : ℕ) (d : CriticalSection) → k < l.section-index
+      → (get_or l.section-items k d).at + (get_or l.section-items k d).len ≤ l.end;
   lower : l.end ≤ last_end l.sheet;
 }

@@ -2,4 +2,10 @@ use Rattle.headroom.proofs.OrderLaws.{in_order-each, in_order-own, in_order-one,
 use Rattle.headroom.proofs.laws.headroom_in_order_decides.Goals as goal
 
 pub returns : goal.returns
-returns c = record { each = in_order-each; own = in_order-own; one = in_order-one; within = in_order-within }
+returns c = record {
+  each = in_order-each;
+  own = in_order-own;
+  one = in_order-one;
+  within =
+      in_order-within;
+}

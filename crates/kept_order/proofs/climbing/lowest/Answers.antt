@@ -13,14 +13,16 @@ returns-in-Some-clause-chosen c =
     let rest = ap indexes_of c.without.ensures ∙ indexes_of-remove c.args.left c.loop-task.task in
     record {
       member = sym c.has.ensures ∙ c.if-has.true;
-      stands = subst (λ (X : Indexes). StandsKept c.args.set.now c.args.kept.now c.loop-task.task X) rest c.in-Some.ensures.stands;
+      stands = subst (λ (X : Indexes). StandsKept c.args.set.now c.args.kept.now c.loop-task.task X)
+          rest c.in-Some.ensures.stands;
       first = c.loop-task.invariant;
     }
 
 pub returns-in-Some-clause-response : goal.returns-in-Some-clause-response
 returns-in-Some-clause-response c =
     let rest = ap indexes_of c.without.ensures ∙ indexes_of-remove c.args.left c.loop-task.task in
-    subst (λ (X : Indexes). IsResponseOf c.args.set.now c.loop-task.task X c.in-Some.response) rest c.in-Some.ensures.some
+    subst (λ (X : Indexes). IsResponseOf c.args.set.now c.loop-task.task X c.in-Some.response) rest
+    c.in-Some.ensures.some
 
 pub loop-task-preserved : goal.loop-task-preserved
 loop-task-preserved c =
@@ -31,6 +33,8 @@ loop-task-preserved c =
     elim c.if-has.branch [
       | then-has+in_default w ↦
           let rest = ap indexes_of w.without.ensures ∙ indexes_of-remove c.args.left i in
-          one_more_fails U K L i c.loop-task.invariant (λ _. subst (λ (X : Indexes). ¬ StandsKept U K i X) rest w.in_default.ensures.none)
-      | else-has w ↦ one_more_fails U K L i c.loop-task.invariant (λ member. absurd (both_ways c.has.result w.if-has.false (c.has.ensures ∙ member)))
+          one_more_fails U K L i c.loop-task.invariant
+          (λ _. subst (λ (X : Indexes). ¬ StandsKept U K i X) rest w.in_default.ensures.none)
+      | else-has w ↦ one_more_fails U K L i c.loop-task.invariant
+          (λ member. absurd (both_ways c.has.result w.if-has.false (c.has.ensures ∙ member)))
     ]

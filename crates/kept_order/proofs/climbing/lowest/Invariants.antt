@@ -5,4 +5,5 @@ use Rattle.kept_order.proofs.climbing.lowest.Given as goal
 
 -- none before may stand
 abbrev pub invariant-loop-task : goal.invariant-loop-task
-invariant-loop-task l = (j : ℕ) → j < l.task → IsTrue (indexes_of l.left j) → ¬ StandsKept l.set l.kept j (without_index (indexes_of l.left) j)
+invariant-loop-task l = (j : ℕ) → j < l.task → IsTrue (indexes_of l.left j)
+    → ¬ StandsKept l.set l.kept j (without_index (indexes_of l.left) j)

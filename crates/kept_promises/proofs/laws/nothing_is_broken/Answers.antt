@@ -9,7 +9,9 @@ pub returns-clause-housed : goal.returns-clause-housed
 returns-clause-housed c = λ U places lines run. housed run
 
 pub returns-clause-kept : goal.returns-clause-kept
-returns-clause-kept c = λ tolerance U places lines run. all_are_kept tolerance (observed_in (promises_of U places) lines) (all_seen run Keeps (keeps run))
+returns-clause-kept c = λ tolerance U places lines run. all_are_kept tolerance
+    (observed_in (promises_of U places) lines) (all_seen run Keeps (keeps run))
 
 pub returns-clause-lines : goal.returns-clause-lines
-returns-clause-lines c = λ tolerance U places lines run. none_written tolerance (observed_in (promises_of U places) lines) (all_seen run Keeps (keeps run))
+returns-clause-lines c = λ tolerance U places lines run. none_written tolerance
+    (observed_in (promises_of U places) lines) (all_seen run Keeps (keeps run))

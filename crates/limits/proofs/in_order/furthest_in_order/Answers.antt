@@ -19,12 +19,19 @@ loop-failing-init c =
     let set = c.span_in-span.ensures.kept in
     let inside = c.requires.task in
     let may = may-own U i n set inside in
-    let own : IsPassingOrder (numbered U i n (value_of n (task_at U i))) order = subst (λ (V : List Task). IsPassingOrder V order) (sym (numbered-own U i n set inside)) c.requires.passing in
-    let known = far-known (task_at U i) n e c.span_in-span.result.length (value_of n (task_at U i)) span may in
-    let read-own = task_read U c.sheets.result.now i c.index-sheets-task.result c.sheets.ensures.same c.requires.task c.index-sheets-task.is in
-    let value : c.value_of-own.result ≡ value_of n (task_at U i) = c.value_of-own.ensures ∙ ap (λ (t : Task). value_of n t) read-own in
-    let far : c.distance-passing.result ≡ distance n e (value_of n (task_at U i)) = c.distance-passing.ensures ∙ ap (λ v. distance n e v) value in
-    let here : at_distance n e c.distance-passing.result ≡ value_of n (task_at U i) = ap (λ f. at_distance n e f) far ∙ known.1 in
+    let own : IsPassingOrder (numbered U i n (value_of n (task_at U i))) order =
+    subst (λ (V : List Task). IsPassingOrder V order) (sym (numbered-own U i n set inside))
+    c.requires.passing in
+    let known = far-known (task_at U i) n e c.span_in-span.result.length (value_of n (task_at U i))
+    span may in
+    let read-own = task_read U c.sheets.result.now i c.index-sheets-task.result
+    c.sheets.ensures.same c.requires.task c.index-sheets-task.is in
+    let value : c.value_of-own.result ≡ value_of n (task_at U i) = c.value_of-own.ensures
+    ∙ ap (λ (t : Task). value_of n t) read-own in
+    let far : c.distance-passing.result ≡ distance n e (value_of n (task_at U i)) =
+    c.distance-passing.ensures ∙ ap (λ v. distance n e v) value in
+    let here : at_distance n e c.distance-passing.result ≡ value_of n (task_at U i) =
+    ap (λ f. at_distance n e f) far ∙ known.1 in
     record {
       passes = subst (λ v. IsPassingOrder (numbered U i n v) order) (sym here) own;
       fails = λ far le within. absurd (omega (arith, le, within));
@@ -45,8 +52,12 @@ loop-failing-preserved c =
     record {
       passes = inv.passes;
       fails = λ far le within passing.
-          let here : IsPassingOrder (numbered U i n (at_distance n e mid)) order = IsPassingOrder-nearer U i n (at_distance n e mid) (at_distance n e far) order c.span_in-span.ensures.kept c.requires.task (span.may far within) (span.rises mid far le) passing in
-          both_ways _ c.if-branch.false (c.in_ok-order_passes_with.ensures.1 (subst (λ v. IsPassingOrder (numbered U i n v) order) (sym c.at_distance-value.ensures) here));
+          let here : IsPassingOrder (numbered U i n (at_distance n e mid)) order =
+          IsPassingOrder-nearer U i n (at_distance n e mid) (at_distance n e far) order
+          c.span_in-span.ensures.kept c.requires.task (span.may far within)
+          (span.rises mid far le) passing in
+          both_ways _ c.if-branch.false (c.in_ok-order_passes_with.ensures.1 (subst (λ v.
+          IsPassingOrder (numbered U i n v) order) (sym c.at_distance-value.ensures) here));
       apart = omega (arith, c.loop-failing-test.true);
       within = omega (arith, inv.within);
     }
@@ -60,14 +71,17 @@ returns c =
     let e = c.span_in-span.result.easiest in
     let span = c.span_in-span.ensures.span in
     let inv = c.loop-failing.invariant in
-    let last : c.loop-failing.passing ≤ c.span_in-span.result.length = omega (arith, inv.apart, inv.within) in
+    let last : c.loop-failing.passing ≤ c.span_in-span.result.length =
+    omega (arith, inv.apart, inv.within) in
     rw c.at_distance.ensures record {
       may = span.may c.loop-failing.passing last;
       passes = inv.passes;
       furthest = λ other may passing.
           let there = span.all other may in
           elim (cases_lt c.loop-failing.passing there.0) [
-            | inl lt ↦ absurd (inv.fails there.0 (omega (arith, c.loop-failing-test.false)) there.1 (subst (λ v. IsPassingOrder (numbered U i n v) order) there.2 passing))
-            | inr le ↦ subst (λ v. IsNoFurther n v (at_distance n e c.loop-failing.passing)) (sym there.2) (span.rises there.0 c.loop-failing.passing le)
+            | inl lt ↦ absurd (inv.fails there.0 (omega (arith, c.loop-failing-test.false)) there.1
+                (subst (λ v. IsPassingOrder (numbered U i n v) order) there.2 passing))
+            | inr le ↦ subst (λ v. IsNoFurther n v (at_distance n e c.loop-failing.passing))
+                (sym there.2) (span.rises there.0 c.loop-failing.passing le)
           ];
     }

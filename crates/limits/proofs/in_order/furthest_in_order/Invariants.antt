@@ -5,8 +5,10 @@ use Rattle.limits.proofs.in_order.furthest_in_order.Given as goal
 
 abbrev pub invariant-loop-failing : goal.invariant-loop-failing
 invariant-loop-failing l = record {
-  passes : IsPassingOrder (numbered l.set l.task l.number (at_distance l.number l.span.easiest l.passing)) l.order;
-  fails : (far : ℕ) → l.failing ≤ far → far ≤ l.span.length → ¬ IsPassingOrder (numbered l.set l.task l.number (at_distance l.number l.span.easiest far)) l.order;
+  passes : IsPassingOrder
+      (numbered l.set l.task l.number (at_distance l.number l.span.easiest l.passing)) l.order;
+  fails : (far : ℕ) → l.failing ≤ far → far ≤ l.span.length → ¬ IsPassingOrder
+      (numbered l.set l.task l.number (at_distance l.number l.span.easiest far)) l.order;
   apart : l.passing < l.failing;
   within : l.failing ≤ l.span.length + 1;
 }

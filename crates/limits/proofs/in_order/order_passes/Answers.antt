@@ -10,7 +10,8 @@ use Rattle.limits.proofs.in_order.order_passes.Goals as goal
 pub loop-low-init : goal.loop-low-init
 loop-low-init c =
     let U = c.args.set.now in
-    let all : indexes_of c.all-above.result ≡ all_of U = ap indexes_of c.all-above.ensures ∙ indexes_of-all_below c.len.result ∙ ap (λ m. below m) c.len.ensures.count in
+    let all : indexes_of c.all-above.result ≡ all_of U = ap indexes_of c.all-above.ensures
+    ∙ indexes_of-all_below c.len.result ∙ ap (λ m. below m) c.len.ensures.count in
     record {
       part = subst (λ X. IsPart X (all_of U)) (sym all) (λ k h. h);
       rest = subst (λ X. IsOrderOf X c.args.order.now) (sym all) c.requires.each;
@@ -20,17 +21,24 @@ loop-low-init c =
 pub without-above-requires : goal.without-above-requires
 without-above-requires c =
     let inv = c.loop-low.invariant in
-    omega (arith, low-inside c.args.set.now c.args.order.now c.loop-low.low-index c.loop-low.above inv.part inv.rest c.loop-low-test.true, c.requires.table.few)
+    omega (
+      arith,
+      low-inside c.args.set.now c.args.order.now c.loop-low.low-index c.loop-low.above
+          inv.part inv.rest c.loop-low-test.true,
+      c.requires.table.few,
+    )
 
 pub least_over-requires-clause-task : goal.least_over-requires-clause-task
 least_over-requires-clause-task c =
     let inv = c.loop-low.invariant in
-    low-inside c.args.set.now c.args.order.now c.loop-low.low-index c.loop-low.above inv.part inv.rest c.loop-low-test.true
+    low-inside c.args.set.now c.args.order.now c.loop-low.low-index c.loop-low.above inv.part
+    inv.rest c.loop-low-test.true
 
 pub passes-requires-clause-task : goal.passes-requires-clause-task
 passes-requires-clause-task c =
     let inv = c.loop-low.invariant in
-    low-inside c.args.set.now c.args.order.now c.loop-low.low-index c.loop-low.above inv.part inv.rest c.loop-low-test.true
+    low-inside c.args.set.now c.args.order.now c.loop-low.low-index c.loop-low.above inv.part
+    inv.rest c.loop-low-test.true
 
 pub returns-in-Some : goal.returns-in-Some
 returns-in-Some c =
@@ -39,8 +47,11 @@ returns-in-Some c =
     let over = c.in-Some.ensures.some in (
       λ no. absurd (both_ways false refl no),
       λ passing.
-          let stands = stands-here U c.args.order.now c.loop-low.low-index c.loop-low.above inv.part inv.rest c.loop-low-test.true c.without-above.result c.without-above.ensures U passing.each_stands in
-          absurd (both_ways _ stands.1 (is_bound-at U _ _ c.in-Some.field-0 over.in_set over.above over.named)),
+          let stands = stands-here U c.args.order.now c.loop-low.low-index c.loop-low.above inv.part
+          inv.rest c.loop-low-test.true c.without-above.result c.without-above.ensures U
+          passing.each_stands in
+          absurd (both_ways _ stands.1
+          (is_bound-at U _ _ c.in-Some.field-0 over.in_set over.above over.named)),
     )
 
 pub returns-then-not-passes : goal.returns-then-not-passes
@@ -49,7 +60,9 @@ returns-then-not-passes c =
     let U = c.args.set.now in (
       λ no. absurd (both_ways false refl no),
       λ passing.
-          let stands = stands-here U c.args.order.now c.loop-low.low-index c.loop-low.above inv.part inv.rest c.loop-low-test.true c.without-above.result c.without-above.ensures U passing.each_stands in
+          let stands = stands-here U c.args.order.now c.loop-low.low-index c.loop-low.above inv.part
+          inv.rest c.loop-low-test.true c.without-above.result c.without-above.ensures U
+          passing.each_stands in
           absurd (both_ways _ c.if-not-passes.true (c.passes.ensures.1 stands.0)),
     )
 
@@ -62,9 +75,11 @@ loop-low-preserved c =
     let left = c.loop-low.above in
     let left' = c.without-above.result in
     let removed = c.without-above.ensures in
-    let stands : Stands U (get_or order n 0) (indexes_of left') = (c.passes.ensures.0 c.if-not-passes.false, c.in-None.ensures.none) in
+    let stands : Stands U (get_or order n 0) (indexes_of left') =
+    (c.passes.ensures.0 c.if-not-passes.false, c.in-None.ensures.none) in
     record {
       part = part-next U order n left inv.part inv.rest c.loop-low-test.true left' removed;
       rest = rest-next U order n left inv.part inv.rest c.loop-low-test.true left' removed;
-      stood = λ all. inv.stood (all-here U order n left inv.part inv.rest c.loop-low-test.true left' removed U stands all);
+      stood = λ all. inv.stood (all-here U order n left inv.part inv.rest c.loop-low-test.true left'
+          removed U stands all);
     }

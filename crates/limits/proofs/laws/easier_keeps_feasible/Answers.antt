@@ -1,4 +1,5 @@
-use Rattle.limits.proofs.EasierLaws.{blocking-easier, demand-easier, limit-easier, Passes-easier, IsPassingOrder-easier, IsFeasible-easier}
+use Rattle.limits.proofs.EasierLaws.{blocking-easier, demand-easier, limit-easier, Passes-easier}
+use Rattle.limits.proofs.EasierLaws.{IsPassingOrder-easier, IsFeasible-easier}
 use Rattle.limits.proofs.laws.easier_keeps_feasible.Goals as goal
 
 pub returns : goal.returns

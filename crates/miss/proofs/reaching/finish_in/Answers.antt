@@ -9,23 +9,41 @@ use Rattle.miss.proofs.reaching.finish_in.Goals as goal
 
 pub finish_of-requires-clause-jobs : goal.finish_of-requires-clause-jobs
 finish_of-requires-clause-jobs c =
-    lengths c.args.kernel.now (subst (λ x. IsTaskSet x) (sym c.requires.set) c.sheets.ensures.kept) c.args.run.now.releases.items c.args.run.now.until c.args.task (subst (λ x. c.args.task < length x) (sym c.requires.set) c.requires.task)
-    c.in-Ok.trace (subst (λ (x : List Release). Runs c.args.kernel.now x c.args.run.now.until (Ok c.in-Ok.trace)) c.deref.ensures.value c.in-Ok.ensures.trace) c.args.set.now c.deref-in-Ok.result.now c.deref-in-Ok-2.result.now c.requires.set c.deref-in-Ok.ensures.value c.deref-in-Ok-2.ensures.value
+    lengths c.args.kernel.now (subst (λ x. IsTaskSet x) (sym c.requires.set) c.sheets.ensures.kept)
+    c.args.run.now.releases.items c.args.run.now.until c.args.task
+    (subst (λ x. c.args.task < length x) (sym c.requires.set) c.requires.task)
+    c.in-Ok.trace (subst (λ (x : List Release). Runs c.args.kernel.now x c.args.run.now.until
+    (Ok c.in-Ok.trace)) c.deref.ensures.value c.in-Ok.ensures.trace) c.args.set.now
+    c.deref-in-Ok.result.now c.deref-in-Ok-2.result.now c.requires.set
+    c.deref-in-Ok.ensures.value c.deref-in-Ok-2.ensures.value
 
 pub returns-in-Ok-clause-some : goal.returns-in-Ok-clause-some
 returns-in-Ok-clause-some c =
-    read_some c.args.kernel.now (subst (λ x. IsTaskSet x) (sym c.requires.set) c.sheets.ensures.kept) c.args.run.now.releases.items c.args.run.now.until c.args.task (subst (λ x. c.args.task < length x) (sym c.requires.set) c.requires.task)
-    c.in-Ok.trace (subst (λ (x : List Release). Runs c.args.kernel.now x c.args.run.now.until (Ok c.in-Ok.trace)) c.deref.ensures.value c.in-Ok.ensures.trace) c.args.set.now c.deref-in-Ok.result.now c.deref-in-Ok-2.result.now c.requires.set c.deref-in-Ok.ensures.value c.deref-in-Ok-2.ensures.value c.finish_of.result c.finish_of.ensures.some
+    read_some c.args.kernel.now (subst (λ x. IsTaskSet x) (sym c.requires.set)
+    c.sheets.ensures.kept) c.args.run.now.releases.items c.args.run.now.until c.args.task
+    (subst (λ x. c.args.task < length x) (sym c.requires.set) c.requires.task)
+    c.in-Ok.trace (subst (λ (x : List Release). Runs c.args.kernel.now x c.args.run.now.until
+    (Ok c.in-Ok.trace)) c.deref.ensures.value c.in-Ok.ensures.trace) c.args.set.now
+    c.deref-in-Ok.result.now c.deref-in-Ok-2.result.now c.requires.set
+    c.deref-in-Ok.ensures.value c.deref-in-Ok-2.ensures.value c.finish_of.result
+    c.finish_of.ensures.some
 
 pub returns-in-Ok-clause-none : goal.returns-in-Ok-clause-none
 returns-in-Ok-clause-none c =
-    read_none c.args.kernel.now (subst (λ x. IsTaskSet x) (sym c.requires.set) c.sheets.ensures.kept) c.args.run.now.releases.items c.args.run.now.until c.args.task (subst (λ x. c.args.task < length x) (sym c.requires.set) c.requires.task)
-    c.args.set.now c.deref-in-Ok.result.now c.requires.set c.deref-in-Ok.ensures.value c.finish_of.result c.finish_of.ensures.none
+    read_none c.args.kernel.now (subst (λ x. IsTaskSet x) (sym c.requires.set)
+    c.sheets.ensures.kept) c.args.run.now.releases.items c.args.run.now.until c.args.task
+    (subst (λ x. c.args.task < length x) (sym c.requires.set) c.requires.task)
+    c.args.set.now c.deref-in-Ok.result.now c.requires.set c.deref-in-Ok.ensures.value
+    c.finish_of.result c.finish_of.ensures.none
 
 pub returns-in_default : goal.returns-in_default
 returns-in_default c = record {
   some = tt;
   err = tt;
-  none = no_run c.args.kernel.now (subst (λ x. IsTaskSet x) (sym c.requires.set) c.sheets.ensures.kept) c.args.run.now.releases.items c.args.run.now.until c.args.task (subst (λ x. c.args.task < length x) (sym c.requires.set) c.requires.task)
-      c.in-Err.fault c.in_default.not-OutOfMemory (subst (λ (x : List Release). Runs c.args.kernel.now x c.args.run.now.until (Err c.in-Err.fault)) c.deref.ensures.value c.in-Err.ensures.trace);
+  none = no_run c.args.kernel.now (subst (λ x. IsTaskSet x) (sym c.requires.set)
+      c.sheets.ensures.kept) c.args.run.now.releases.items c.args.run.now.until c.args.task
+      (subst (λ x. c.args.task < length x) (sym c.requires.set) c.requires.task)
+      c.in-Err.fault c.in_default.not-OutOfMemory
+      (subst (λ (x : List Release). Runs c.args.kernel.now x c.args.run.now.until
+      (Err c.in-Err.fault)) c.deref.ensures.value c.in-Err.ensures.trace);
 }

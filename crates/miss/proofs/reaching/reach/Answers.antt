@@ -6,7 +6,10 @@ use Rattle.miss.proofs.OrderLaws.{place_of}
 use Rattle.miss.proofs.reaching.reach.Goals as goal
 
 pub place_of-requires : goal.place_of-requires
-place_of-requires c = place_of c.args.set.now c.args.order.now c.in_ok-kernel.ensures.order c.args.task c.requires
+place_of-requires c =
+    place_of c.args.set.now c.args.order.now c.in_ok-kernel.ensures.order c.args.task c.requires
 
 pub returns-clause-reached : goal.returns-clause-reached
-returns-clause-reached c = subst (λ k. IfOk c.reach_at.result (IsReachedOf (node_in c.args.set.now c.args.order.now) k)) c.place_of.ensures.is c.reach_at.ensures.reached
+returns-clause-reached c =
+    subst (λ k. IfOk c.reach_at.result (IsReachedOf (node_in c.args.set.now c.args.order.now) k))
+    c.place_of.ensures.is c.reach_at.ensures.reached

@@ -6,18 +6,33 @@ use Rattle.miss.proofs.reason.ends_inside.Goals as goal
 
 pub returns-then-is_raised : goal.returns-then-is_raised
 returns-then-is_raised c =
-    let read = task_read c.args.set.now c.sheets.result.now c.args.task c.index-sheets-task.result c.sheets.ensures.same c.requires.task c.index-sheets-task.is in
-    found_inside c.args.set.now c.args.task (indexes_of c.args.above) c.index-sheets-task.result c.sections-section-items.result.now c.saturating_sub-last.result read c.sections-section-items.ensures (omega (arith, c.cost.ensures, c.saturating_sub-last.ensures))
-    c.loop-section.section-index c.section-item.result c.loop-section-test.true c.section-item.is (sym (c.is_raised.ensures c.args.set.now c.requires.table) ∙ c.if-is_raised.true)
+    let read = task_read c.args.set.now c.sheets.result.now c.args.task c.index-sheets-task.result
+    c.sheets.ensures.same c.requires.task c.index-sheets-task.is in
+    found_inside c.args.set.now c.args.task (indexes_of c.args.above) c.index-sheets-task.result
+    c.sections-section-items.result.now c.saturating_sub-last.result read
+    c.sections-section-items.ensures
+    (omega (arith, c.cost.ensures, c.saturating_sub-last.ensures))
+    c.loop-section.section-index c.section-item.result c.loop-section-test.true c.section-item.is
+    (sym (c.is_raised.ensures c.args.set.now c.requires.table) ∙ c.if-is_raised.true)
 
 pub loop-section-preserved : goal.loop-section-preserved
 loop-section-preserved c =
-    let read = task_read c.args.set.now c.sheets.result.now c.args.task c.index-sheets-task.result c.sheets.ensures.same c.requires.task c.index-sheets-task.is in
-    more_inside c.args.set.now c.args.task (indexes_of c.args.above) c.index-sheets-task.result c.sections-section-items.result.now c.saturating_sub-last.result read c.sections-section-items.ensures (omega (arith, c.cost.ensures, c.saturating_sub-last.ensures))
-    c.loop-section.section-index c.section-item.result c.loop-section-test.true c.section-item.is c.loop-section.invariant (sym (c.is_raised.ensures c.args.set.now c.requires.table) ∙ c.if-is_raised.false)
+    let read = task_read c.args.set.now c.sheets.result.now c.args.task c.index-sheets-task.result
+    c.sheets.ensures.same c.requires.task c.index-sheets-task.is in
+    more_inside c.args.set.now c.args.task (indexes_of c.args.above) c.index-sheets-task.result
+    c.sections-section-items.result.now c.saturating_sub-last.result read
+    c.sections-section-items.ensures
+    (omega (arith, c.cost.ensures, c.saturating_sub-last.ensures))
+    c.loop-section.section-index c.section-item.result c.loop-section-test.true c.section-item.is
+    c.loop-section.invariant
+    (sym (c.is_raised.ensures c.args.set.now c.requires.table) ∙ c.if-is_raised.false)
 
 pub returns : goal.returns
 returns c =
-    let read = task_read c.args.set.now c.sheets.result.now c.args.task c.index-sheets-task.result c.sheets.ensures.same c.requires.task c.index-sheets-task.is in
-    none_inside c.args.set.now c.args.task (indexes_of c.args.above) c.index-sheets-task.result c.sections-section-items.result.now c.saturating_sub-last.result read c.sections-section-items.ensures (omega (arith, c.cost.ensures, c.saturating_sub-last.ensures))
+    let read = task_read c.args.set.now c.sheets.result.now c.args.task c.index-sheets-task.result
+    c.sheets.ensures.same c.requires.task c.index-sheets-task.is in
+    none_inside c.args.set.now c.args.task (indexes_of c.args.above) c.index-sheets-task.result
+    c.sections-section-items.result.now c.saturating_sub-last.result read
+    c.sections-section-items.ensures
+    (omega (arith, c.cost.ensures, c.saturating_sub-last.ensures))
     c.loop-section.section-index c.loop-section.invariant c.loop-section-test.false

@@ -6,4 +6,5 @@ use Rattle.ceiling_kernel.specs.Tick.{is_inside}
 use Rattle.miss.proofs.reason.ends_inside.Given as goal
 
 abbrev pub invariant-loop-section : goal.invariant-loop-section
-invariant-loop-section l = list_any (λ s. is_inside s l.last && reaches l.set (indexes_of l.above) s) (take l.section-index l.section-items) ≡ false
+invariant-loop-section l = list_any (λ s. is_inside s l.last
+    && reaches l.set (indexes_of l.above) s) (take l.section-index l.section-items) ≡ false

@@ -17,10 +17,14 @@ loop-index-preserved c =
     let inv = c.loop-index.invariant in
     elim c.if-has.branch [
       | then-has w ↦
-          let is = get_or_read U n c.index-sheets-index.result c.loop-index-test.true c.index-sheets-index.is no_task in
-          let valid = valid_at U n (rw c.sheets-sheets.ensures.same c.sheets-sheets.ensures.kept) c.loop-index-test.true in
-          let takes : w.div_ceil.result * w.cost.result ≡ interference_of (task_at U n) c.args.time =
-          rw (w.div_ceil.ensures, w.jitter.ensures, w.period.ensures, w.cost.ensures) (ap (λ t. interference_of t c.args.time) is) in
+          let is = get_or_read U n c.index-sheets-index.result c.loop-index-test.true
+          c.index-sheets-index.is no_task in
+          let valid = valid_at U n (rw c.sheets-sheets.ensures.same c.sheets-sheets.ensures.kept)
+          c.loop-index-test.true in
+          let takes : w.div_ceil.result * w.cost.result
+          ≡ interference_of (task_at U n) c.args.time =
+          rw (w.div_ceil.ensures, w.jitter.ensures, w.period.ensures, w.cost.ensures)
+          (ap (λ t. interference_of t c.args.time) is) in
           let fits = interference-fits (task_at U n) c.args.time valid c.requires.time in
           let step = first-with U H c.args.time n (sym c.has.ensures ∙ w.if-has.true) in
           record {
@@ -29,6 +33,12 @@ loop-index-preserved c =
           }
       | else-has w ↦ record {
         fits = omega (arith, inv.fits, w.work-is);
-        sum = omega (arith, inv.sum, w.work-is, first-without U H c.args.time n (sym c.has.ensures ∙ w.if-has.false));
+        sum = omega (
+          arith,
+          inv.sum,
+          w.work-is,
+          first-without U H c.args.time n
+              (sym c.has.ensures ∙ w.if-has.false),
+        );
       }
     ]

@@ -6,8 +6,12 @@ use Rattle.overheads.proofs.padding.charged.Goals as goal
 
 pub returns : goal.returns
 returns c =
-    let some : 0 < length c.args.interrupts.now = grind (arith, nat_tests, c.is_empty.ensures, c.if-is_empty.false) in
-    let any : 0 < length c.args.sheets.items = grind (arith, nat_tests, c.is_empty-else-is_empty.ensures, c.if-is_empty-2.false) in
-    let put : c.insert.new.self.items ≡ insert (remove c.args.sheets.items 0) 0 c.interrupted-first.result = search rules in
-    charged-first c.args.sheets.items c.insert.new.self.items c.args.interrupts.now c.in_ok-interrupts.interrupts.items c.remove.result c.interrupted-first.result some any
+    let some : 0 < length c.args.interrupts.now =
+    grind (arith, nat_tests, c.is_empty.ensures, c.if-is_empty.false) in
+    let any : 0 < length c.args.sheets.items =
+    grind (arith, nat_tests, c.is_empty-else-is_empty.ensures, c.if-is_empty-2.false) in
+    let put : c.insert.new.self.items
+    ≡ insert (remove c.args.sheets.items 0) 0 c.interrupted-first.result = search rules in
+    charged-first c.args.sheets.items c.insert.new.self.items c.args.interrupts.now
+    c.in_ok-interrupts.interrupts.items c.remove.result c.interrupted-first.result some any
     c.in_ok-interrupts.ensures.items c.remove.ensures.value c.interrupted-first.ensures put

@@ -12,10 +12,12 @@ use Rattle.overheads.proofs.padding.pad.Goals as goal
 pub returns-in-Ok-clause-ok : goal.returns-in-Ok-clause-ok
 returns-in-Ok-clause-ok c =
     let read = c.in_ok-sheets.ensures in
-    let set : IsTaskSet (padded_by c.args.node c.args.set.now) = set-padded_by c.args.set.now c.args.node read.kept c.requires.limits.node read.ok.0 in
+    let set : IsTaskSet (padded_by c.args.node c.args.set.now) =
+    set-padded_by c.args.set.now c.args.node read.kept c.requires.limits.node read.ok.0 in
     let sheets = c.in_ok-sheets-2.ensures ∙ ap (charged c.args.interrupts.now) read.ok.1 in (
       read.ok.0,
-      IsByRank-charged (padded_by c.args.node c.args.set.now) c.in-Ok.other c.args.interrupts.now set
+      IsByRank-charged (padded_by c.args.node c.args.set.now) c.in-Ok.other
+          c.args.interrupts.now set
           (subst (λ (xs : List Task). IsByRank xs c.in-Ok.other) sheets c.in-Ok.ensures.ok.1),
     )
 
@@ -23,8 +25,11 @@ returns-in-Ok-clause-ok c =
 pub unreachable-requires : goal.unreachable-requires
 unreachable-requires c =
     let read = c.in_ok-sheets.ensures in
-    let set : IsTaskSet (padded_by c.args.node c.args.set.now) = set-padded_by c.args.set.now c.args.node read.kept c.requires.limits.node read.ok.0 in
+    let set : IsTaskSet (padded_by c.args.node c.args.set.now) =
+    set-padded_by c.args.set.now c.args.node read.kept c.requires.limits.node read.ok.0 in
     let sheets = c.in_ok-sheets-2.ensures ∙ ap (charged c.args.interrupts.now) read.ok.1 in
-    let fault : sheets_fault c.in_ok-sheets-2.sheets.items ≡ Some c.in-Err.fault.cause = c.in-Err.ensures.err c.in_default.not-OutOfMemory in
-    let none : sheets_fault c.in_ok-sheets-2.sheets.items ≡ None = ap sheets_fault sheets ∙ no_fault-charged (padded_by c.args.node c.args.set.now) c.args.interrupts.now set in
+    let fault : sheets_fault c.in_ok-sheets-2.sheets.items ≡ Some c.in-Err.fault.cause =
+    c.in-Err.ensures.err c.in_default.not-OutOfMemory in
+    let none : sheets_fault c.in_ok-sheets-2.sheets.items ≡ None = ap sheets_fault sheets
+    ∙ no_fault-charged (padded_by c.args.node c.args.set.now) c.args.interrupts.now set in
     none-some c.in-Err.fault.cause (sym none ∙ fault)

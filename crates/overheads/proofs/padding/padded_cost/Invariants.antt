@@ -3,4 +3,5 @@ use Rattle.task_sheet.specs.Overheads.{calls_in}
 use Rattle.overheads.proofs.padding.padded_cost.Given as goal
 
 abbrev pub invariant-loop-section : goal.invariant-loop-section
-invariant-loop-section l = l.cost ≡ l.sheet.cost + l.node.job + calls_in l.node (take l.section-index l.section-items)
+invariant-loop-section l =
+    l.cost ≡ l.sheet.cost + l.node.job + calls_in l.node (take l.section-index l.section-items)

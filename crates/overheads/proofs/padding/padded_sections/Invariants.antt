@@ -5,6 +5,8 @@ use Rattle.overheads.proofs.padding.padded_sections.Given as goal
 
 abbrev pub invariant-loop-section : goal.invariant-loop-section
 invariant-loop-section l = record {
-  before : l.before ≡ l.node.job - l.node.release + calls_in l.node (take l.section-index l.sections);
-  items : l.others.items ≡ padded_sections l.node (l.node.job - l.node.release) (take l.section-index l.sections);
+  before : l.before ≡ l.node.job - l.node.release + calls_in l.node
+      (take l.section-index l.sections);
+  items : l.others.items ≡ padded_sections l.node (l.node.job - l.node.release)
+      (take l.section-index l.sections);
 }

@@ -5,4 +5,6 @@ use Rattle.plays.proofs.printing.push_members.Given as goal
 
 abbrev pub invariant-loop-member : goal.invariant-loop-member
 invariant-loop-member l =
-    string_bytes l.text ++ named l.fn.obstruction.set (tasks_of (drop l.member-index l.member-items)) ≡ string_bytes l.initial.text ++ named l.fn.obstruction.set (tasks_of l.fn.obstruction.members)
+    string_bytes l.text ++ named l.fn.obstruction.set
+    (tasks_of (drop l.member-index l.member-items)) ≡ string_bytes l.initial.text
+    ++ named l.fn.obstruction.set (tasks_of l.fn.obstruction.members)

@@ -6,5 +6,6 @@ use Rattle.preferences.proofs.preferred.read_preferred.Goals as goal
 pub returns-in-Ok : goal.returns-in-Ok
 returns-in-Ok c =
     let document = c.in_ok-document.document in
-    let set = subst (λ (p : Preference). IsPreferred p document.set c.in-Ok.set) c.preference.ensures c.in-Ok.ensures.ok in
+    let set = subst (λ (p : Preference). IsPreferred p document.set c.in-Ok.set)
+    c.preference.ensures c.in-Ok.ensures.ok in
     (document, c.in_ok-document.ensures, refl, refl, set)

@@ -9,7 +9,10 @@ use Rattle.preferences.proofs.preferred.reweighed.Goals as goal
 pub unreachable-requires : goal.unreachable-requires
 unreachable-requires c =
     let set = c.args.set.now in
-    let fault : sheets_fault c.in_ok-sheets.sheets.items ≡ Some c.in-Err.fault.cause = c.in-Err.ensures.err c.in_default.not-OutOfMemory in
-    let own : c.in_ok-sheets.sheets.items ≡ reweighed set = c.in_ok-sheets.ensures ∙ ap reweighed c.sheets.ensures.same in
-    let none : sheets_fault c.in_ok-sheets.sheets.items ≡ None = ap sheets_fault own ∙ no_fault-reweighed set c.sheets.ensures.kept in
+    let fault : sheets_fault c.in_ok-sheets.sheets.items ≡ Some c.in-Err.fault.cause =
+    c.in-Err.ensures.err c.in_default.not-OutOfMemory in
+    let own : c.in_ok-sheets.sheets.items ≡ reweighed set = c.in_ok-sheets.ensures
+    ∙ ap reweighed c.sheets.ensures.same in
+    let none : sheets_fault c.in_ok-sheets.sheets.items ≡ None = ap sheets_fault own
+    ∙ no_fault-reweighed set c.sheets.ensures.kept in
     none-some c.in-Err.fault.cause (sym none ∙ fault)

@@ -5,4 +5,5 @@ use Rattle.release_list.proofs.list.next_time.Given as goal
 abbrev pub invariant-loop-stream : goal.invariant-loop-stream
 invariant-loop-stream l =
     (l.time < l.next) × (l.next ≤ l.until)
-    × ((i t : ℕ) → i < l.stream-index → l.time < t → t < l.next → arrives t (stream_at l.streams i) ≡ false)
+    × ((i t : ℕ) → i < l.stream-index → l.time < t → t < l.next
+    → arrives t (stream_at l.streams i) ≡ false)

@@ -4,6 +4,7 @@ use Rattle.response_time.proofs.interrupts.interrupts_of.Given as goal
 
 abbrev pub invariant-loop-interrupt : goal.invariant-loop-interrupt
 invariant-loop-interrupt l = record {
-  total : l.taken ≡ l.initial.taken + sum_by (interrupt_within l.time) (take l.interrupt-index l.interrupt-items);
+  total : l.taken ≡ l.initial.taken + sum_by (interrupt_within l.time)
+      (take l.interrupt-index l.interrupt-items);
   short : l.taken ≤ 30000000 + l.interrupt-index * 30000000;
 }

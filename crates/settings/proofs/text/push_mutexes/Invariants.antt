@@ -7,4 +7,5 @@ use Rattle.settings.proofs.text.push_mutexes.Given as goal
 abbrev pub invariant-loop-place : goal.invariant-loop-place
 invariant-loop-place l =
     (U : List Task) → IsTableOf U l.table
-    → string_bytes l.text ++ mutex_lines_from U l.base l.order (drop l.place (locks_of U)) ≡ string_bytes l.fn.text ++ mutex_lines_from U l.base l.order (locks_of U)
+    → string_bytes l.text ++ mutex_lines_from U l.base l.order (drop l.place (locks_of U))
+    ≡ string_bytes l.fn.text ++ mutex_lines_from U l.base l.order (locks_of U)

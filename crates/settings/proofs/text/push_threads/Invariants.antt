@@ -4,4 +4,5 @@ use Rattle.settings.proofs.text.push_threads.Given as goal
 
 abbrev pub invariant-loop-below : goal.invariant-loop-below
 invariant-loop-below l =
-    string_bytes l.text ++ thread_lines l.set (l.base + l.below) (drop l.below l.order) ≡ string_bytes l.fn.text ++ thread_lines l.set l.base l.order
+    string_bytes l.text ++ thread_lines l.set (l.base + l.below) (drop l.below l.order)
+    ≡ string_bytes l.fn.text ++ thread_lines l.set l.base l.order

@@ -9,7 +9,8 @@ record IsShort (order : List ℕ) : Type 0 where
   within : All (λ index. index < 32) order
   few : length order ≤ 32
 
-short : (U : List Task) (tasks order : List ℕ) → IsOrder U tasks → length U ≤ 32 → order ≡ tasks → IsShort order
+short : (U : List Task) (tasks order : List ℕ) → IsOrder U tasks → length U ≤ 32 → order ≡ tasks
+    → IsShort order
 short U tasks order each few is =
     let same : IsOrder U order = subst (IsOrder U) (sym is) each in
     let all = (order_iff (length U) order).1 same in
@@ -20,12 +21,15 @@ short U tasks order each few is =
 
 pub push_threads-requires : goal.push_threads-requires
 push_threads-requires c =
-    (short c.args.set.now _ c.deref.result.now c.requires c.in_ok-table.ensures.few (c.deref.ensures.value ∙ c.in_ok-order.ensures)).few
+    (short c.args.set.now _ c.deref.result.now c.requires c.in_ok-table.ensures.few
+    (c.deref.ensures.value ∙ c.in_ok-order.ensures)).few
 
 pub push_mutexes-requires-clause-within : goal.push_mutexes-requires-clause-within
 push_mutexes-requires-clause-within c =
-    (short c.args.set.now _ c.deref-2.result.now c.requires c.in_ok-table.ensures.few (c.deref-2.ensures.value ∙ c.in_ok-order.ensures)).within
+    (short c.args.set.now _ c.deref-2.result.now c.requires c.in_ok-table.ensures.few
+    (c.deref-2.ensures.value ∙ c.in_ok-order.ensures)).within
 
 pub push_mutexes-requires-clause-few : goal.push_mutexes-requires-clause-few
 push_mutexes-requires-clause-few c =
-    (short c.args.set.now _ c.deref-2.result.now c.requires c.in_ok-table.ensures.few (c.deref-2.ensures.value ∙ c.in_ok-order.ensures)).few
+    (short c.args.set.now _ c.deref-2.result.now c.requires c.in_ok-table.ensures.few
+    (c.deref-2.ensures.value ∙ c.in_ok-order.ensures)).few

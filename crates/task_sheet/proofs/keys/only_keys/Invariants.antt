@@ -5,5 +5,7 @@ use Rattle.task_sheet.proofs.keys.only_keys.Given as goal
 
 abbrev pub invariant-loop-key : goal.invariant-loop-key
 invariant-loop-key l =
-    (goal.iterator-loop-key).can_next l.key-iterator × (goal.iterator-loop-key).is_finite l.key-iterator
-    × (only_keys l.keys (members_view l.key-iterator) ≡ only_keys l.keys (members_view l.table.entries))
+    (goal.iterator-loop-key).can_next l.key-iterator
+    × (goal.iterator-loop-key).is_finite l.key-iterator
+    × (only_keys l.keys (members_view l.key-iterator)
+    ≡ only_keys l.keys (members_view l.table.entries))

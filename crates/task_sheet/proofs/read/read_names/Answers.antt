@@ -11,13 +11,21 @@ loop-item-preserved c = elim c.match-as_str.branch [
       let text = w.in-Some.text.now in
       let left = strings_in (items_view (drop (c.loop-item.item-index + 1) c.args.items.now)) in
       let named = rw w.as_bytes.ensures.value at (w.in-Ok.ensures.named.0 refl) in
-      let rest = strings_more c.args.items.now c.loop-item.item-index c.item-item.result text c.loop-item-test.true c.item-item.is w.in-Some.ensures in
+      let rest = strings_more c.args.items.now c.loop-item.item-index c.item-item.result text
+      c.loop-item-test.true c.item-item.is w.in-Some.ensures in
       record {
         named = sym (named_more text left named) ∙ (rw rest at c.loop-item.invariant.named);
-        read = rw (w.names-is, w.in_ok-push-in-Ok.ensures.items, w.in-Ok.ensures.same, w.as_bytes.ensures.value, append_assoc) (rw rest at c.loop-item.invariant.read);
+        read = rw (
+          w.names-is,
+          w.in_ok-push-in-Ok.ensures.items,
+          w.in-Ok.ensures.same,
+          w.as_bytes.ensures.value,
+          append_assoc,
+        ) (rw rest at c.loop-item.invariant.read);
       }
   | in_default w ↦
-      let rest = strings_same c.args.items.now c.loop-item.item-index c.item-item.result c.loop-item-test.true c.item-item.is w.in_default.ensures in
+      let rest = strings_same c.args.items.now c.loop-item.item-index c.item-item.result
+      c.loop-item-test.true c.item-item.is w.in_default.ensures in
       record {
         named = rw rest at c.loop-item.invariant.named;
         read = rw w.names-is (rw rest at c.loop-item.invariant.read);
@@ -28,5 +36,7 @@ pub returns-in-Err : goal.returns-in-Err
 returns-in-Err c =
     let text = c.in-Some.text.now in
     let left = strings_in (items_view (drop (c.loop-item.item-index + 1) c.args.items.now)) in
-    let rest = strings_more c.args.items.now c.loop-item.item-index c.item-item.result text c.loop-item-test.true c.item-item.is c.in-Some.ensures in
-    sym c.loop-item.invariant.named ∙ rw rest (named_fails text left (λ named. c.in-Err.ensures.named.1 (rw c.as_bytes.ensures.value named)))
+    let rest = strings_more c.args.items.now c.loop-item.item-index c.item-item.result text
+    c.loop-item-test.true c.item-item.is c.in-Some.ensures in
+    sym c.loop-item.invariant.named ∙ rw rest (named_fails text left
+    (λ named. c.in-Err.ensures.named.1 (rw c.as_bytes.ensures.value named)))

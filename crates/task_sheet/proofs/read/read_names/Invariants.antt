@@ -7,6 +7,8 @@ use Rattle.task_sheet.proofs.read.read_names.Given as goal
 
 abbrev pub invariant-loop-item : goal.invariant-loop-item
 invariant-loop-item l = record {
-  named : list_all is_name (strings_in (items_view (drop l.item-index l.items))) ≡ list_all is_name (strings_in (items_view l.items));
-  read : l.names.items ++ strings_in (items_view (drop l.item-index l.items)) ≡ strings_in (items_view l.items);
+  named : list_all is_name (strings_in (items_view (drop l.item-index l.items)))
+      ≡ list_all is_name (strings_in (items_view l.items));
+  read : l.names.items ++ strings_in (items_view (drop l.item-index l.items))
+      ≡ strings_in (items_view l.items);
 }

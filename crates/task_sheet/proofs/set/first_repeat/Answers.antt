@@ -8,10 +8,18 @@ use Rattle.task_sheet.proofs.set.first_repeat.Goals as goal
 
 pub loop-i-preserved : goal.loop-i-preserved
 loop-i-preserved c =
-    let new : has_name (take c.loop-i.i c.args.sheets.now) c.index-sheets-i.result.name ≡ false = search rules in
-    let step = repeat_step c.args.sheets.now c.loop-i.i c.index-sheets-i.result _ c.loop-i-test.true c.index-sheets-i.is (sym new) in
+    let new : has_name (take c.loop-i.i c.args.sheets.now) c.index-sheets-i.result.name ≡ false =
+    search rules in
+    let step = repeat_step c.args.sheets.now c.loop-i.i c.index-sheets-i.result _ c.loop-i-test.true
+    c.index-sheets-i.is (sym new) in
     record {
-      valid = rw (take_more c.args.sheets.now c.loop-i.i c.index-sheets-i.result c.loop-i-test.true, ← c.index-sheets-i.is) (All-push IsValidSheet _ _ c.loop-i.invariant.valid c.name.ensures.valid);
+      valid = rw (
+        take_more c.args.sheets.now c.loop-i.i c.index-sheets-i.result
+            c.loop-i-test.true,
+        ← c.index-sheets-i.is,
+      )
+          (All-push IsValidSheet _ _ c.loop-i.invariant.valid c.name.ensures.valid);
       same = sym step ∙ c.loop-i.invariant.same;
-      names = λ q. names_step c.args.sheets.now c.loop-i.i c.index-sheets-i.result q _ _ c.loop-i-test.true c.index-sheets-i.is (c.loop-i.invariant.names q) (search rules);
+      names = λ q. names_step c.args.sheets.now c.loop-i.i c.index-sheets-i.result q _ _
+          c.loop-i-test.true c.index-sheets-i.is (c.loop-i.invariant.names q) (search rules);
     }

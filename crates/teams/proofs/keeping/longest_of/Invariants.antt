@@ -4,4 +4,5 @@ use Rattle.teams.specs.Budgets.{is_shared}
 use Rattle.teams.proofs.keeping.longest_of.Given as goal
 
 abbrev pub invariant-loop-section : goal.invariant-loop-section
-invariant-loop-section l = l.longest ≡ greatest_of (λ s. if is_shared l.tasks l.team s then s.len else 0) (take l.section-index l.section-items)
+invariant-loop-section l = l.longest ≡ greatest_of
+    (λ s. if is_shared l.tasks l.team s then s.len else 0) (take l.section-index l.section-items)

@@ -5,6 +5,8 @@ use Rattle.teams.proofs.node.read_entries.Given as goal
 
 abbrev pub invariant-loop-name : goal.invariant-loop-name
 invariant-loop-name l =
-    (goal.iterator-loop-name).can_next l.name-iterator × (goal.iterator-loop-name).is_finite l.name-iterator
+    (goal.iterator-loop-name).can_next l.name-iterator
+    × (goal.iterator-loop-name).is_finite l.name-iterator
     × (entries_fault (members_view l.name-iterator) ≡ entries_fault (members_view l.table.entries))
-    × (l.budgets.items ++ budgets_of (members_view l.name-iterator) ≡ budgets_of (members_view l.table.entries))
+    × (l.budgets.items ++ budgets_of (members_view l.name-iterator)
+    ≡ budgets_of (members_view l.table.entries))

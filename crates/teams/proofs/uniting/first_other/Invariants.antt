@@ -3,4 +3,5 @@ use Rattle.teams.specs.Agreeing.{first_other}
 use Rattle.teams.proofs.uniting.first_other.Given as goal
 
 abbrev pub invariant-loop-part : goal.invariant-loop-part
-invariant-loop-part l = first_other l.preference (drop l.part-index l.sets) ≡ first_other l.preference l.sets
+invariant-loop-part l =
+    first_other l.preference (drop l.part-index l.sets) ≡ first_other l.preference l.sets

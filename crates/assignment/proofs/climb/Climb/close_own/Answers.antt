@@ -8,7 +8,9 @@ use Rattle.assignment.specs.Climbs.{ClimbState, IsNext}
 use Rattle.assignment.specs.Levels.{LevelState, IsObstructed}
 use Rattle.assignment.proofs.climb.Climb.close_own.Goals as goal
 
-obstructed_inside : (a climb : ClimbState) (l : LevelState) (fails : List FailureData) → a ≡ climb → IsNext climb l → IsObstructed l.set (indexes_of l.left) fails → IsObstructed a.set (indexes_of a.left) fails
+obstructed_inside : (a climb : ClimbState) (l : LevelState) (fails : List FailureData) → a ≡ climb
+    → IsNext climb l → IsObstructed l.set (indexes_of l.left) fails
+    → IsObstructed a.set (indexes_of a.left) fails
 obstructed_inside a climb l fails same next h =
     subst (λ (x : ClimbState). IsObstructed x.set (indexes_of x.left) fails) (sym same)
     (subst (λ (s : List Task). IsObstructed s (indexes_of climb.left) fails) next.same

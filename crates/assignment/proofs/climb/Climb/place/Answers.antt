@@ -9,16 +9,27 @@ use Rattle.assignment.specs.Levels.{IsObstructed}
 use Rattle.assignment.proofs.ClimbLaws.{IsClimbing-push, none_known}
 use Rattle.assignment.proofs.climb.Climb.place.Goals as goal
 
-chosen_inside : (climb a : ClimbState) (level b : LevelData) → a ≡ climb → b ≡ level → IsChosen climb.set (indexes_of climb.left) level.task → IsChosen a.set (indexes_of a.left) b.task
-chosen_inside climb a level b same same' h = subst (λ (x : LevelData). IsChosen a.set (indexes_of a.left) x.task) (sym same') (subst (λ (x : ClimbState). IsChosen x.set (indexes_of x.left) level.task) (sym same) h)
+chosen_inside : (climb a : ClimbState) (level b : LevelData) → a ≡ climb → b ≡ level → IsChosen
+    climb.set (indexes_of climb.left) level.task → IsChosen a.set (indexes_of a.left) b.task
+chosen_inside climb a level b same same' h =
+    subst (λ (x : LevelData). IsChosen a.set (indexes_of a.left) x.task) (sym same')
+    (subst (λ (x : ClimbState). IsChosen x.set (indexes_of x.left) level.task) (sym same) h)
 
-level_inside : (climb a : ClimbState) (level b : LevelData) → a ≡ climb → b ≡ level → IsLevel climb.set (indexes_of climb.left) level → IsLevel a.set (indexes_of a.left) b
-level_inside climb a level b same same' h = subst (λ (x : LevelData). IsLevel a.set (indexes_of a.left) x) (sym same') (subst (λ (x : ClimbState). IsLevel x.set (indexes_of x.left) level) (sym same) h)
+level_inside : (climb a : ClimbState) (level b : LevelData) → a ≡ climb → b ≡ level
+    → IsLevel climb.set (indexes_of climb.left) level → IsLevel a.set (indexes_of a.left) b
+level_inside climb a level b same same' h =
+    subst (λ (x : LevelData). IsLevel a.set (indexes_of a.left) x) (sym same')
+    (subst (λ (x : ClimbState). IsLevel x.set (indexes_of x.left) level) (sym same) h)
 
 pub push_reserved-requires : goal.push_reserved-requires
 push_reserved-requires c =
     let chosen = chosen_inside _ _ _ _ c.self.view_is c.level.view_is c.requires.chosen in
-    omega (arith, c.self.invariant.room, len-of_member c.self.inside.left c.level.inside.task chosen.member)
+    omega (
+      arith,
+      c.self.invariant.room,
+      len-of_member c.self.inside.left c.level.inside.task
+          chosen.member,
+    )
 
 pub invariant_of-self : goal.invariant_of-self
 invariant_of-self c =
@@ -26,10 +37,20 @@ invariant_of-self c =
     let chosen = chosen_inside _ _ _ _ c.self.view_is c.level.view_is c.requires.chosen in
     let level = level_inside _ _ _ _ c.self.view_is c.level.view_is c.requires.level in
     let goes_on = ap (λ (x : ClimbState). x.stuck) c.self.view_is ∙ c.requires.goes_on in
-    let fewer : len c.without-self-inside.result < len a.left = rw c.without-self-inside.ensures (len-remove_member a.left c.level.inside.task chosen.member) in
+    let fewer : len c.without-self-inside.result < len a.left = rw c.without-self-inside.ensures
+    (len-remove_member a.left c.level.inside.task chosen.member) in
     record {
       valid = c.self.invariant.valid;
-      climbing = IsClimbing-push a.set.value a.left c.without-self-inside.result a.levels.items c.push_reserved.new.self.items _ c.self.invariant.climbing chosen level c.without-self-inside.ensures (c.push_reserved.ensures.items ∙ ap (λ (x : LevelData). a.levels.items ++ x ∷ []) (sym c.level.view_is));
-      room = omega (arith, c.self.invariant.room, c.push_reserved.ensures.len, c.push_reserved.ensures.capacity);
-      obstructed = none_known (λ members. IsObstructed a.set.value (indexes_of c.without-self-inside.result) members.items) a.members goes_on;
+      climbing = IsClimbing-push a.set.value a.left c.without-self-inside.result a.levels.items
+          c.push_reserved.new.self.items _ c.self.invariant.climbing chosen level
+          c.without-self-inside.ensures (c.push_reserved.ensures.items
+          ∙ ap (λ (x : LevelData). a.levels.items ++ x ∷ []) (sym c.level.view_is));
+      room = omega (
+        arith,
+        c.self.invariant.room,
+        c.push_reserved.ensures.len,
+        c.push_reserved.ensures.capacity,
+      );
+      obstructed = none_known (λ members. IsObstructed a.set.value
+          (indexes_of c.without-self-inside.result) members.items) a.members goes_on;
     }

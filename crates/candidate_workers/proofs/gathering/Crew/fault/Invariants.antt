@@ -5,5 +5,6 @@ use Rattle.candidate_workers.proofs.gathering.Crew.fault.Given as goal
 
 abbrev pub invariant-loop-handed : goal.invariant-loop-handed
 invariant-loop-handed l = record {
-  first : IsFirstFault (cond l.self.refused (ThreadRefused ∷ []) [] ++ work_faults (take l.handed-index l.self.handed.items)) l.first;
+  first : IsFirstFault (cond l.self.refused (ThreadRefused ∷ []) []
+      ++ work_faults (take l.handed-index l.self.handed.items)) l.first;
 }

@@ -5,4 +5,5 @@ use Rattle.release_list.proofs.random_list.Generator.draw.Goals as goal
 
 pub returns-clause-drawn : goal.returns-clause-drawn
 returns-clause-drawn c =
-    ap (λ w. ((w / 4294967296) * c.args.below) / 4294967296) c.step.ensures ∙ sym (drawn_is (word_after c.args.self.now.word) c.args.below)
+    ap (λ w. ((w / 4294967296) * c.args.below) / 4294967296) c.step.ensures
+    ∙ sym (drawn_is (word_after c.args.self.now.word) c.args.below)

@@ -1,63 +1,123 @@
-use Rattle.std.proofs.Common.{List, ℕ, ◌≡◌, ◌≤◌, ◌+◌, ◌∙◌, ◌++◌, sum_by, refl, take, drop, length, ap, sym, subst, arith}
+use Rattle.std.proofs.Common.{List, ℕ, ◌≡◌, ◌≤◌, ◌+◌, ◌∙◌, ◌++◌, sum_by, refl, take, drop, length}
+use Rattle.std.proofs.Common.{ap, sym, subst, arith}
 use Rattle.std.proofs.lemmas.List.{length-take, length-take-le, take-append-le, take_all}
-use Rattle.response_time.specs.Workload.{ShareData, WorkloadData, IsCarried, work_within, further_work, share_within}
+use Rattle.response_time.specs.Workload.{ShareData, WorkloadData, IsCarried, work_within}
+use Rattle.response_time.specs.Workload.{further_work, share_within}
 use Rattle.response_time.proofs.Shares.{sum-further, sum-counted, sum-fits, IsCarried-further}
 use Rattle.response_time.proofs.workload.Workload.advance.Goals as goal
 
 -- the demand is that of the longer window
-total-is : (w : WorkloadData) (time work : ℕ) → IsCarried w → w.time ≤ time → work ≡ sum_by (further_work time) w.shares → w.total + work ≡ work_within time w
-total-is w time work h le is = omega (arith, h.total, is, sum-further w.time time le w.shares h.counted)
+total-is : (w : WorkloadData) (time work : ℕ) → IsCarried w → w.time ≤ time
+    → work ≡ sum_by (further_work time) w.shares → w.total + work ≡ work_within time w
+total-is w time work h le is =
+    omega (arith, h.total, is, sum-further w.time time le w.shares h.counted)
 
-total-fits : (w : WorkloadData) (time work : ℕ) → IsCarried w → w.time ≤ time → time ≤ 10000000 → length w.shares ≤ 32 → w.always ≤ 980000000
+total-fits : (w : WorkloadData) (time work : ℕ) → IsCarried w → w.time ≤ time → time ≤ 10000000
+    → length w.shares ≤ 32 → w.always ≤ 980000000
     → work ≡ sum_by (further_work time) w.shares → w.total + work ≤ 1940000000
-total-fits w time work h le short few once is = omega (arith, total-is w time work h le is, sum-fits w.time time w.shares short h.counted)
+total-fits w time work h le short few once is =
+    omega (arith, total-is w time work h le is, sum-fits w.time time w.shares short h.counted)
 
 pub overflow_add-self : goal.overflow_add-self
 overflow_add-self c =
-    let w : WorkloadData = record { always = c.self.inside.always; shares = take c.self.inside.count c.self.inside.shares; time = c.self.inside.time; total = c.self.inside.total } in
-    let longer : w.time ≤ c.args.time = subst (λ (v : WorkloadData). v.time ≤ c.args.time) (sym c.self.view_is) c.requires.longer in
-    let few : length w.shares ≤ 32 = omega (arith, length-take c.self.inside.count c.self.inside.shares, c.self.invariant.0) in
-    let fits = total-fits w c.args.time c.count_all-work.result c.self.invariant.3 longer c.requires.time few c.self.invariant.1 c.count_all-work.ensures.work in
+    let w : WorkloadData = record {
+      always = c.self.inside.always;
+      shares = take c.self.inside.count
+          c.self.inside.shares;
+      time = c.self.inside.time;
+      total = c.self.inside.total;
+    } in
+    let longer : w.time ≤ c.args.time =
+    subst (λ (v : WorkloadData). v.time ≤ c.args.time) (sym c.self.view_is) c.requires.longer in
+    let few : length w.shares ≤ 32 =
+    omega (arith, length-take c.self.inside.count c.self.inside.shares, c.self.invariant.0) in
+    let fits = total-fits w c.args.time c.count_all-work.result c.self.invariant.3 longer
+    c.requires.time few c.self.invariant.1 c.count_all-work.ensures.work in
     omega (arith, fits)
 
 pub returns-clause-fits : goal.returns-clause-fits
 returns-clause-fits c =
-    let w : WorkloadData = record { always = c.self.inside.always; shares = take c.self.inside.count c.self.inside.shares; time = c.self.inside.time; total = c.self.inside.total } in
-    let longer : w.time ≤ c.args.time = subst (λ (v : WorkloadData). v.time ≤ c.args.time) (sym c.self.view_is) c.requires.longer in
-    let few : length w.shares ≤ 32 = omega (arith, length-take c.self.inside.count c.self.inside.shares, c.self.invariant.0) in
-    let fits = total-fits w c.args.time c.count_all-work.result c.self.invariant.3 longer c.requires.time few c.self.invariant.1 c.count_all-work.ensures.work in
+    let w : WorkloadData = record {
+      always = c.self.inside.always;
+      shares = take c.self.inside.count
+          c.self.inside.shares;
+      time = c.self.inside.time;
+      total = c.self.inside.total;
+    } in
+    let longer : w.time ≤ c.args.time =
+    subst (λ (v : WorkloadData). v.time ≤ c.args.time) (sym c.self.view_is) c.requires.longer in
+    let few : length w.shares ≤ 32 =
+    omega (arith, length-take c.self.inside.count c.self.inside.shares, c.self.invariant.0) in
+    let fits = total-fits w c.args.time c.count_all-work.result c.self.invariant.3 longer
+    c.requires.time few c.self.invariant.1 c.count_all-work.ensures.work in
     omega (arith, fits)
 
 pub returns-clause-is : goal.returns-clause-is
 returns-clause-is c =
-    let w : WorkloadData = record { always = c.self.inside.always; shares = take c.self.inside.count c.self.inside.shares; time = c.self.inside.time; total = c.self.inside.total } in
-    let longer : w.time ≤ c.args.time = subst (λ (v : WorkloadData). v.time ≤ c.args.time) (sym c.self.view_is) c.requires.longer in
-    subst (λ (v : WorkloadData). c.self.inside.total + c.count_all-work.result ≡ work_within c.args.time v) c.self.view_is
-    (total-is w c.args.time c.count_all-work.result c.self.invariant.3 longer c.count_all-work.ensures.work)
+    let w : WorkloadData = record {
+      always = c.self.inside.always;
+      shares = take c.self.inside.count
+          c.self.inside.shares;
+      time = c.self.inside.time;
+      total = c.self.inside.total;
+    } in
+    let longer : w.time ≤ c.args.time =
+    subst (λ (v : WorkloadData). v.time ≤ c.args.time) (sym c.self.view_is) c.requires.longer in
+    subst (λ (v : WorkloadData). c.self.inside.total + c.count_all-work.result
+    ≡ work_within c.args.time v) c.self.view_is
+    (total-is w c.args.time c.count_all-work.result c.self.invariant.3 longer
+    c.count_all-work.ensures.work)
 
 -- the first shares of the array are those that were written
-written : (count : ℕ) (new rest : List ShareData) → length new ≡ count → take count (new ++ rest) ≡ new
-written count new rest long = take-append-le count new rest (omega (arith, long)) ∙ take_all count new (omega (arith, long))
+written : (count : ℕ) (new rest : List ShareData) → length new ≡ count
+    → take count (new ++ rest) ≡ new
+written count new rest long = take-append-le count new rest (omega (arith, long))
+    ∙ take_all count new (omega (arith, long))
 
 pub invariant_of-self : goal.invariant_of-self
 invariant_of-self c =
-    let w : WorkloadData = record { always = c.self.inside.always; shares = take c.self.inside.count c.self.inside.shares; time = c.self.inside.time; total = c.self.inside.total } in
-    let longer : w.time ≤ c.args.time = subst (λ (v : WorkloadData). v.time ≤ c.args.time) (sym c.self.view_is) c.requires.longer in
-    let shares = take c.self.inside.count (c.count_all-work.new.shares ++ drop c.self.inside.count c.self.inside.shares) in
-    let v : WorkloadData = record { always = c.self.inside.always; shares = shares; time = c.args.time; total = c.self.inside.total + c.count_all-work.result } in
-    let long : length c.count_all-work.new.shares ≡ c.self.inside.count = c.count_all-work.auto.shares ∙ length-take-le c.self.inside.count c.self.inside.shares (omega (arith, c.self.invariant.0)) in
-    let same : shares ≡ c.count_all-work.new.shares = written c.self.inside.count c.count_all-work.new.shares _ long in (
+    let w : WorkloadData = record {
+      always = c.self.inside.always;
+      shares = take c.self.inside.count
+          c.self.inside.shares;
+      time = c.self.inside.time;
+      total = c.self.inside.total;
+    } in
+    let longer : w.time ≤ c.args.time =
+    subst (λ (v : WorkloadData). v.time ≤ c.args.time) (sym c.self.view_is) c.requires.longer in
+    let shares = take c.self.inside.count
+    (c.count_all-work.new.shares ++ drop c.self.inside.count c.self.inside.shares) in
+    let v : WorkloadData = record {
+      always = c.self.inside.always;
+      shares = shares;
+      time =
+          c.args.time;
+      total = c.self.inside.total + c.count_all-work.result;
+    } in
+    let long : length c.count_all-work.new.shares ≡ c.self.inside.count =
+    c.count_all-work.auto.shares ∙ length-take-le c.self.inside.count c.self.inside.shares
+    (omega (arith, c.self.invariant.0)) in
+    let same : shares ≡ c.count_all-work.new.shares =
+    written c.self.inside.count c.count_all-work.new.shares _ long in (
       c.self.invariant.0,
       c.self.invariant.1,
       c.requires.time,
-      IsCarried-further w v c.self.invariant.3 longer refl (same ∙ c.count_all-work.ensures.counted) (ap (λ n. c.self.inside.total + n) c.count_all-work.ensures.work),
+      IsCarried-further w v c.self.invariant.3 longer refl (same ∙ c.count_all-work.ensures.counted)
+          (ap (λ n. c.self.inside.total + n) c.count_all-work.ensures.work),
     )
 
 pub returns-clause-same : goal.returns-clause-same
 returns-clause-same c = λ t.
-    let shares = take c.self.inside.count (c.count_all-work.new.shares ++ drop c.self.inside.count c.self.inside.shares) in
-    let long : length c.count_all-work.new.shares ≡ c.self.inside.count = c.count_all-work.auto.shares ∙ length-take-le c.self.inside.count c.self.inside.shares (omega (arith, c.self.invariant.0)) in
-    let same : shares ≡ c.count_all-work.new.shares = written c.self.inside.count c.count_all-work.new.shares _ long in
-    let sums : sum_by (share_within t) shares ≡ sum_by (share_within t) (take c.self.inside.count c.self.inside.shares) =
-    ap (sum_by (share_within t)) (same ∙ c.count_all-work.ensures.counted) ∙ sum-counted t c.args.time (take c.self.inside.count c.self.inside.shares) in
-    subst (λ (v : WorkloadData). c.self.inside.always + sum_by (share_within t) shares ≡ work_within t v) c.self.view_is (ap (λ n. c.self.inside.always + n) sums)
+    let shares = take c.self.inside.count
+    (c.count_all-work.new.shares ++ drop c.self.inside.count c.self.inside.shares) in
+    let long : length c.count_all-work.new.shares ≡ c.self.inside.count =
+    c.count_all-work.auto.shares ∙ length-take-le c.self.inside.count c.self.inside.shares
+    (omega (arith, c.self.invariant.0)) in
+    let same : shares ≡ c.count_all-work.new.shares =
+    written c.self.inside.count c.count_all-work.new.shares _ long in
+    let sums : sum_by (share_within t) shares
+    ≡ sum_by (share_within t) (take c.self.inside.count c.self.inside.shares) =
+    ap (sum_by (share_within t)) (same ∙ c.count_all-work.ensures.counted)
+    ∙ sum-counted t c.args.time (take c.self.inside.count c.self.inside.shares) in
+    subst (λ (v : WorkloadData). c.self.inside.always + sum_by (share_within t) shares
+    ≡ work_within t v) c.self.view_is (ap (λ n. c.self.inside.always + n) sums)

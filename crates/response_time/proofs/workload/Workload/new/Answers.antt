@@ -19,17 +19,27 @@ loop-index-preserved c =
         few = rw w.work-is (omega (arith, w.add.ensures.room, inv.few));
         fits = rw w.work-is (omega (arith, w.add.ensures.fits, inv.fits));
         sum = λ time from to.
-            let is = get_or_read U n c.index-sheets-index.result c.loop-index-test.true c.index-sheets-index.is no_task in
+            let is = get_or_read U n c.index-sheets-index.result c.loop-index-test.true
+            c.index-sheets-index.is no_task in
             let more = w.add.ensures.is time (omega (arith, inv.start, from)) to in
-            let step = first-with U (indexes_of c.args.above) time n (sym c.has.ensures ∙ w.if-has.true) in
-            rw w.work-is (omega (arith, inv.sum time from to, more, ap (λ t. interference_of t time) is, step));
+            let step =
+            first-with U (indexes_of c.args.above) time n (sym c.has.ensures ∙ w.if-has.true) in
+            rw w.work-is (omega (
+              arith,
+              inv.sum time from to,
+              more,
+              ap (λ t. interference_of t time)
+                  is,
+              step,
+            ));
       }
       | else-has w ↦ record {
         start = rw w.work-is inv.start;
         few = rw w.work-is (omega (arith, inv.few));
         fits = rw w.work-is (omega (arith, inv.fits));
         sum = λ time from to.
-            let step = first-without U (indexes_of c.args.above) time n (sym c.has.ensures ∙ w.if-has.false) in
+            let step = first-without U (indexes_of c.args.above) time n
+            (sym c.has.ensures ∙ w.if-has.false) in
             rw w.work-is (omega (arith, inv.sum time from to, step));
       }
     ]
@@ -38,6 +48,15 @@ pub returns-clause-is : goal.returns-clause-is
 returns-clause-is c = λ time from to.
     let U = c.args.set.now in
     let items = c.sheets-sheets.result.now in
-    let is = task_read U items c.args.task c.index-sheets-task.result c.sheets-sheets.ensures.same c.requires.task c.index-sheets-task.is in
-    let all = first-all U items c.args.task (indexes_of c.args.above) time c.loop-index.index c.sheets-sheets.ensures.same (omega arith) in
-    omega (arith, c.loop-index.invariant.sum time from to, all, c.blocking.ensures.is, c.cost.ensures, ap (λ t. t.cost) is)
+    let is = task_read U items c.args.task c.index-sheets-task.result c.sheets-sheets.ensures.same
+    c.requires.task c.index-sheets-task.is in
+    let all = first-all U items c.args.task (indexes_of c.args.above) time c.loop-index.index
+    c.sheets-sheets.ensures.same (omega arith) in
+    omega (
+      arith,
+      c.loop-index.invariant.sum time from to,
+      all,
+      c.blocking.ensures.is,
+      c.cost.ensures,
+      ap (λ t. t.cost) is,
+    )

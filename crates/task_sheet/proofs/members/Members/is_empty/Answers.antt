@@ -6,4 +6,5 @@ use Rattle.task_sheet.proofs.members.Members.is_empty.Goals as goal
 
 pub returns : goal.returns
 returns c =
-    rw (← c.self.view_is, ← places-zero) (same_members_told (places c.self.inside.bits) (places 0) _ (same_bits c.self.inside.bits 0 c.self.invariant (omega arith)))
+    rw (← c.self.view_is, ← places-zero) (same_members_told (places c.self.inside.bits) (places 0) _
+    (same_bits c.self.inside.bits 0 c.self.invariant (omega arith)))
