@@ -59,7 +59,7 @@ fn try_out(alloc: Global, draft: &Draft) -> Result<Option<Trial>, AllocError>
 {
     match draft.applied(alloc)? {
         Applied::Refused { refusal: _ } => Ok(None),
-        Applied::Tasks { set, teams: _ } => Ok(Some(Trial::begin(alloc, set)?)),
+        Applied::Tasks { set } => Ok(Some(Trial::begin(alloc, set)?)),
     }
 }
 
