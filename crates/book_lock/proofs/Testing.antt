@@ -74,11 +74,11 @@ none_shut_from shut (Err refusal) U r is h = absurd is
 
 -- what is told of tasks
 abbrev pub IsToldSet : Applied → List Task → Type 0
-IsToldSet (Tasks set teams) U = set.value ≡ U
+IsToldSet (Tasks set) U = set.value ≡ U
 IsToldSet (Refused refusal) U = ⊥
 
 pub set_told : (outcome : Result (List Owned) Refusal) (o : Applied) (U : List Task) → IsApplied outcome o → IsToldSet o U → IsSetOf outcome U
-set_told (Ok tasks) (Tasks set teams) U h e = sym e ∙ h.1
+set_told (Ok tasks) (Tasks set) U h e = sym e ∙ h
 set_told (Ok tasks) (Refused refusal) U h e = absurd h
-set_told (Err told) (Tasks set teams) U h e = absurd h
+set_told (Err told) (Tasks set) U h e = absurd h
 set_told (Err told) (Refused refusal) U h e = absurd e

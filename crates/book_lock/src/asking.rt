@@ -74,7 +74,7 @@ fn test<G: Gate + Sync, R: Threads + Wait>(
     match draft.applied(alloc) {
         Err(_) => Err(CommitCause::OutOfMemory),
         Ok(Applied::Refused { refusal }) => Ok(Judged::Refused { refusal }),
-        Ok(Applied::Tasks { set, teams: _ }) => test_set(rt, alloc, set, workers, gate),
+        Ok(Applied::Tasks { set }) => test_set(rt, alloc, set, workers, gate),
     }
 }
 

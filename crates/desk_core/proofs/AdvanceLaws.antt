@@ -7,14 +7,13 @@ use Rattle.drafts.specs.declared.roster.Owned.{Owned}
 use Rattle.drafts.specs.declared.change.Refusal.{Refusal}
 use Rattle.drafts.specs.Applied.{set_of}
 use Rattle.drafts.specs.Edits.{on_base}
-use Rattle.desk_core.specs.declared.asked.Asked.{Asked}
 use Rattle.desk_core.specs.declared.told.Told.{Told}
 use Rattle.desk_core.specs.declared.events.Reply.{Reply}
 use Rattle.desk_core.specs.declared.events.Standing.{Standing}
 use Rattle.desk_core.specs.declared.events.Standing.TheVariants.{Asking}
 use Rattle.desk_core.specs.Advances.{IsTried, IsAdvancedOn, IsAdvancedIn, IsAdvanced}
 use Rattle.desk_core.specs.Asking.{IsNextAsked}
-use Rattle.desk_core.specs.Findings.{Decides, IsTold}
+use Rattle.desk_core.specs.Findings.{Asked, Decides, IsTold}
 use Rattle.desk_core.specs.Stages.{IsTrialOn}
 use Rattle.desk_core.specs.Standings.{IsStanding, IsStandingOn}
 use Rattle.desk_core.specs.Trials.{TrialData}

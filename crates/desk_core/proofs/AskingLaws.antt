@@ -16,9 +16,8 @@ use Rattle.task_sheet.proofs.MembersIndexes.{indexes_of-remove}
 use Rattle.assignment.specs.Questions.{QuestionData}
 use Rattle.assignment.specs.Levels.{LevelState, IsAsked}
 use Rattle.assignment.specs.Climbs.{ClimbState, IsUnfinished}
-use Rattle.desk_core.specs.declared.asked.Asked.{Asked}
 use Rattle.task_sheet.specs.Choices.{level_at}
-use Rattle.desk_core.specs.Findings.{is_on, missing_after}
+use Rattle.desk_core.specs.Findings.{Asked, is_on, missing_after}
 use Rattle.desk_core.specs.Progress.{IsProgress}
 use Rattle.desk_core.specs.Advances.{IsLeast}
 use Rattle.desk_core.specs.Asking.{IsNextAsked, IsAskedBy}

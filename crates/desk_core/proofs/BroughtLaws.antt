@@ -8,10 +8,9 @@ use Rattle.drafts.specs.Edits.{on_base}
 use Rattle.desk_core.specs.declared.events.Reply.{Reply}
 use Rattle.desk_core.specs.declared.events.Reply.TheVariants as reply
 use Rattle.desk_core.specs.declared.events.Cause.TheVariants as cause
-use Rattle.desk_core.specs.declared.asked.Asked.{Asked}
 use Rattle.desk_core.specs.declared.told.Told.{Told}
 use Rattle.desk_core.specs.declared.told.Told.TheVariants.{Stranger, Twice, Taken, LevelDone, Tested}
-use Rattle.desk_core.specs.Findings.{asked_of, IsTold, IsTested, found_after}
+use Rattle.desk_core.specs.Findings.{Asked, asked_of, IsTold, IsTested, found_after}
 use Rattle.desk_core.specs.Trials.{TrialData}
 use Rattle.desk_core.specs.World.{Live, with_found, IsFound, IsBroughtTo, IsToldReply, IsTestedOn}
 use Rattle.desk_core.specs.Stages.{IsTrialOn}

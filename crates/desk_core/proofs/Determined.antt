@@ -13,7 +13,6 @@ use Rattle.drafts.specs.Applied.{set_of, applied}
 use Rattle.drafts.specs.Machine.{Entry, Ruling, Admitted, Refused, Infeasible, IsRuling}
 use Rattle.drafts.specs.Books.{Book, logged, IsNextEntry}
 use Rattle.drafts.specs.Edits.{Draft, on_base, after_put, after_remove}
-use Rattle.desk_core.specs.declared.asked.Asked.{Asked}
 use Rattle.desk_core.specs.declared.told.Told.{Told}
 use Rattle.desk_core.specs.declared.told.Told.TheVariants as told
 use Rattle.desk_core.specs.declared.events.Cause.TheVariants as cause
@@ -21,7 +20,7 @@ use Rattle.desk_core.specs.declared.events.Event.{Event}
 use Rattle.desk_core.specs.declared.events.Event.TheVariants.{Open, Put, Remove, Found, Commit, Abandon}
 use Rattle.desk_core.specs.declared.events.Reply.{Reply}
 use Rattle.desk_core.specs.declared.events.Reply.TheVariants as reply
-use Rattle.desk_core.specs.Findings.{asked_of, found_after}
+use Rattle.desk_core.specs.Findings.{Asked, asked_of, found_after}
 use Rattle.desk_core.specs.Said.{Said, said_of}
 use Rattle.desk_core.specs.Said as said
 use Rattle.desk_core.specs.World.{World, Live, live_at, with_slot, with_found, changed, rebased, cause_of, IsShown, IsTestedReply, IsToldReply, IsEdited, IsFound, IsBroughtTo, IsStale, IsCommitted, IfLive, IsEdit, Happens, IsRun}

@@ -11,9 +11,8 @@ use Rattle.std.proofs.Math.Bool.{and-true}
 use Rattle.task_sheet.proofs.MembersIndexes.{indexes_of-insert, indexes_of-remove, same_members}
 use Rattle.assignment.specs.Questions.{QuestionData}
 use Rattle.assignment.specs.Levels.{LevelState, IsDecided, with_finding}
-use Rattle.desk_core.specs.declared.asked.Asked.{Asked}
 use Rattle.task_sheet.specs.Choices.{level_at}
-use Rattle.desk_core.specs.Findings.{asked_of, is_on, missing_after, level_of, Decides, IsPresent}
+use Rattle.desk_core.specs.Findings.{Asked, asked_of, is_on, missing_after, level_of, Decides, IsPresent}
 use Rattle.desk_core.specs.Progress.{AreWide}
 
 -- ---- a level with one finding more

@@ -13,8 +13,7 @@ use Rattle.task_sheet.proofs.MembersEdits.{len-set_of, set_of-zero}
 use Rattle.task_sheet.proofs.MembersIndexes.{len-of_member, len-remove_member}
 use Rattle.assignment.specs.Questions.{QuestionData}
 use Rattle.assignment.specs.Levels.{LevelState, IsDecided}
-use Rattle.desk_core.specs.declared.asked.Asked.{Asked}
-use Rattle.desk_core.specs.Findings.{asked_of, is_on, level_of, missing_after, IsPresent, IsNews, AreNews}
+use Rattle.desk_core.specs.Findings.{Asked, asked_of, is_on, level_of, missing_after, IsPresent, IsNews, AreNews}
 use Rattle.desk_core.proofs.FindingLaws.{level_of-on, level_of-off, asked-on}
 
 -- ---- the candidate that is chosen is one

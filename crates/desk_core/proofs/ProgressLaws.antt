@@ -13,9 +13,8 @@ use Rattle.assignment.specs.Questions.{QuestionData}
 use Rattle.assignment.specs.Levels.{LevelState, IsAsked, IsDecided, with_finding}
 use Rattle.assignment.specs.Climbs.{ClimbState, IsNext, IsPlaced, IsEnded, IsUnfinished}
 use Rattle.assignment.proofs.ClimbLaws.{not_unfinished}
-use Rattle.desk_core.specs.declared.asked.Asked.{Asked}
 use Rattle.task_sheet.specs.Choices.{level_at}
-use Rattle.desk_core.specs.Findings.{asked_of, is_on, missing_after, level_of, Decides, IsPresent, IsTested}
+use Rattle.desk_core.specs.Findings.{Asked, asked_of, is_on, missing_after, level_of, Decides, IsPresent, IsTested}
 use Rattle.desk_core.specs.Progress.{present_of, AreWide, IsProgress}
 use Rattle.task_sheet.proofs.ChosenLaws.{level_at-next, level_at-stays}
 use Rattle.desk_core.proofs.FindingLaws.{level_of-on, asked-whole, asked-on, Decides-push, missing_after-fresh, AreWide-less, AreWide-push, fresh-undecided}

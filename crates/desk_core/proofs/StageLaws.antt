@@ -1,5 +1,5 @@
 -- How far the test of a draft has come, from stage to stage.
-use Rattle.std.proofs.Common.{◌≡◌, ◌∙◌, ◌↔◌, ℕ, zero, suc, ◌<◌, List, [], length, map, None, Result, Ok, Err, Vec, Box, Global, IfOk, IsTrue, refl, sym, ap, subst, arith}
+use Rattle.std.proofs.Common.{◌≡◌, ◌∙◌, ◌↔◌, ℕ, zero, suc, ◌<◌, List, [], length, map, None, Result, Ok, Err, Box, Global, IfOk, IsTrue, refl, sym, ap, subst, arith}
 use Rattle.std.specs.Ordering.{nat_cmp}
 use Rattle.std.specs.declared.sync.Arc.{Arc}
 use Rattle.std.specs.FinSet.{FinSet, contains, empty}
@@ -12,15 +12,15 @@ use Rattle.task_sheet.specs.Choices.{level_at}
 use Rattle.task_sheet.proofs.MembersIndexes.{indexes_of-all_below, indexes_of-empty}
 use Rattle.drafts.specs.declared.roster.Owned.{Owned}
 use Rattle.drafts.specs.declared.change.Refusal.{Refusal}
-use Rattle.desk_core.specs.declared.asked.Asked.{Asked}
 use Rattle.desk_core.specs.declared.events.Standing.{Standing}
 use Rattle.desk_core.specs.declared.events.Standing.TheVariants as standing
+use Rattle.desk_core.specs.declared.notes.Notes.{Notes}
 use Rattle.desk_core.specs.declared.stage.Kept.{Kept}
 use Rattle.desk_core.specs.declared.stage.Stage.{Stage}
 use Rattle.desk_core.specs.declared.stage.Stage.TheVariants.{Trying, Tested}
 use Rattle.drafts.specs.Applied.{set_of}
 use Rattle.desk_core.specs.Trials.{TrialData, names_of}
-use Rattle.desk_core.specs.Findings.{IsTested}
+use Rattle.desk_core.specs.Findings.{Asked, IsTested}
 use Rattle.desk_core.specs.World.{IsTestedOn, IsShown}
 use Rattle.desk_core.specs.Stages.{found_of, IsKeptOn, IsStage, IsTrialOn}
 use Rattle.desk_core.specs.Standings.{IsNaming, IsStandingOn, IsQuestionOn}
@@ -46,12 +46,12 @@ trying-tested (Ok tasks) trial found so same = (
   λ tested. subst (λ U. IsTested U trial.found) (sym so) (subst (λ xs. IsTested (set_of tasks) xs) (sym same) tested),
 )
 
-pub tested-tested : (outcome : Result (List Owned) Refusal) (set : Arc (List Task) Global) (members : FinSet nat_cmp) (kept : Kept) (found : Vec Asked Global) → IsStage outcome (Tested set members kept found) → IsTestedOn outcome found.items
+pub tested-tested : (outcome : Result (List Owned) Refusal) (set : Arc (List Task) Global) (members : FinSet nat_cmp) (kept : Kept) (found : Notes) → IsStage outcome (Tested set members kept found) → IsTestedOn outcome found.items
 tested-tested (Err refusal) set members kept found so = absurd so
 tested-tested (Ok tasks) set members kept found so = so.1
 
 -- the same of a stage that is complete, by the findings that were brought
-pub tested-stage : (outcome : Result (List Owned) Refusal) (stage : Stage) (set : Arc (List Task) Global) (members : FinSet nat_cmp) (kept : Kept) (found : Vec Asked Global) (brought : List Asked) → stage ≡ Tested set members kept found → IsStage outcome stage → found_of stage ≡ brought → IsTestedOn outcome brought
+pub tested-stage : (outcome : Result (List Owned) Refusal) (stage : Stage) (set : Arc (List Task) Global) (members : FinSet nat_cmp) (kept : Kept) (found : Notes) (brought : List Asked) → stage ≡ Tested set members kept found → IsStage outcome stage → found_of stage ≡ brought → IsTestedOn outcome brought
 tested-stage outcome stage set members kept found brought is so same =
     let tested = tested-tested outcome set members kept found (subst (λ (s : Stage). IsStage outcome s) is so) in
     subst (λ (xs : List Asked). IsTestedOn outcome xs) (sym (ap (λ (s : Stage). found_of s) is) ∙ same) tested
@@ -63,7 +63,7 @@ trying-stage outcome stage trial now brought is at so same = (
   ap (λ (t : TrialData). t.found) at ∙ sym (ap (λ (s : Stage). found_of s) is) ∙ same,
 )
 
-pub trying-rest : (outcome : Result (List Owned) Refusal) (trial : TrialData) (set : Arc (List Task) Global) (members : FinSet nat_cmp) (kept : Kept) (found : Vec Asked Global) → IsTrialOn outcome trial → set.value ≡ trial.set → IsTested trial.set trial.found → IsShown trial.set (names_of trial.set members) → found.items ≡ trial.found
+pub trying-rest : (outcome : Result (List Owned) Refusal) (trial : TrialData) (set : Arc (List Task) Global) (members : FinSet nat_cmp) (kept : Kept) (found : Notes) → IsTrialOn outcome trial → set.value ≡ trial.set → IsTested trial.set trial.found → IsShown trial.set (names_of trial.set members) → found.items ≡ trial.found
     → ((tasks : List Owned) → set_of tasks ≡ trial.set → IsKeptOn (Ok tasks) kept)
     → IsStage outcome (Tested set members kept found)
 trying-rest (Err refusal) trial set members kept found so of_set tested shown same right = absurd so
@@ -75,16 +75,16 @@ trying-rest (Ok tasks) trial set members kept found so of_set tested shown same 
 )
 
 -- the verdict of a test that is complete, and one kept in its place
-pub tested-kept : (outcome : Result (List Owned) Refusal) (stage : Stage) (set : Arc (List Task) Global) (members : FinSet nat_cmp) (kept : Kept) (found : Vec Asked Global) → stage ≡ Tested set members kept found → IsStage outcome stage → IsKeptOn outcome kept
+pub tested-kept : (outcome : Result (List Owned) Refusal) (stage : Stage) (set : Arc (List Task) Global) (members : FinSet nat_cmp) (kept : Kept) (found : Notes) → stage ≡ Tested set members kept found → IsStage outcome stage → IsKeptOn outcome kept
 tested-kept (Err refusal) stage set members kept found is so = absurd (subst (λ (s : Stage). IsStage (Err refusal) s) is so)
 tested-kept (Ok tasks) stage set members kept found is so = (subst (λ (s : Stage). IsStage (Ok tasks) s) is so).3
 
-pub kept-again : (outcome : Result (List Owned) Refusal) (set : Arc (List Task) Global) (members : FinSet nat_cmp) (kept other : Kept) (found : Vec Asked Global) → (IsKeptOn outcome kept → IsKeptOn outcome other) → IsStage outcome (Tested set members kept found) → IsStage outcome (Tested set members other found)
+pub kept-again : (outcome : Result (List Owned) Refusal) (set : Arc (List Task) Global) (members : FinSet nat_cmp) (kept other : Kept) (found : Notes) → (IsKeptOn outcome kept → IsKeptOn outcome other) → IsStage outcome (Tested set members kept found) → IsStage outcome (Tested set members other found)
 kept-again (Err refusal) set members kept other found right so = absurd so
 kept-again (Ok tasks) set members kept other found right so = (so.0, so.1, so.2, right so.3)
 
 -- ---- where it stands
-pub tested-standing : {E : Type 0} (outcome : Result (List Owned) Refusal) (set : Arc (List Task) Global) (members : FinSet nat_cmp) (kept : Kept) (found : Vec Asked Global) (before : List Asked) (result : Result Standing E) → IsStage outcome (Tested set members kept found) → found.items ≡ before
+pub tested-standing : {E : Type 0} (outcome : Result (List Owned) Refusal) (set : Arc (List Task) Global) (members : FinSet nat_cmp) (kept : Kept) (found : Notes) (before : List Asked) (result : Result Standing E) → IsStage outcome (Tested set members kept found) → found.items ≡ before
     → IfOk result (IsNaming (names_of set.value members)) → IfOk result (IsStandingOn outcome before)
 tested-standing (Err refusal) set members kept found before result so same is = absurd so
 tested-standing (Ok tasks) set members kept found before (Err e) so same is = tt

@@ -5,13 +5,12 @@ use Rattle.task_sheet.specs.Sheet.{Task}
 use Rattle.assignment.specs.Questions.{QuestionData}
 use Rattle.assignment.specs.Levels.{LevelState, with_finding}
 use Rattle.assignment.specs.Climbs.{ClimbState, IsUnfinished}
-use Rattle.std.specs.Global.{Vec}
-use Rattle.desk_core.specs.declared.asked.Asked.{Asked}
+use Rattle.desk_core.specs.declared.notes.Notes.{Notes}
 use Rattle.desk_core.specs.declared.trial.Trial.TheInside.{Inside}
 use Rattle.desk_core.specs.TrialFields.{IsTrialKept}
 use Rattle.desk_core.specs.declared.told.Told.{Told}
 use Rattle.desk_core.specs.declared.told.Told.TheVariants.{Stranger, Twice, Taken, LevelDone, Tested}
-use Rattle.desk_core.specs.Findings.{asked_of, IsTold, found_after}
+use Rattle.desk_core.specs.Findings.{Asked, asked_of, IsTold, found_after}
 use Rattle.desk_core.specs.Progress.{present_of, IsProgress}
 use Rattle.desk_core.specs.Closing.{IsTakenAt}
 use Rattle.desk_core.proofs.ProgressLaws.{progress-taken, progress-placed, progress-ended}
@@ -61,12 +60,19 @@ level_here c old new got level started taken is = cc
 
 -- ---- what is kept of a trial
 module _ (a : Inside) (trial : IsTrialKept a) where
-  -- with room for one finding more, and its level started or not
-  pub trial-roomy : (level : Option LevelState) (found : Vec Asked) → found.items ≡ a.found.items → present_of a.climb level ≡ present_of a.climb a.level → IsTrialKept (let x : Inside = record { set = a.set; table = a.table; climb = a.climb; level = level; found = found } in x)
-  trial-roomy level found same present = record {
+  -- with its level started or not
+  pub trial-started : (level : Option LevelState) → present_of a.climb level ≡ present_of a.climb a.level
+      → IsTrialKept (let x : Inside = record {
+        set = a.set;
+        table = a.table;
+        climb = a.climb;
+        level = level;
+        found = a.found;
+      } in x)
+  trial-started level present = record {
     tabled = trial.tabled;
     present = trial.present;
-    progress = subst (λ (xs : List Asked). IsProgress a.set.value a.climb trial.present xs) (sym same) trial.progress;
+    progress = trial.progress;
     kept = λ goes_on. trial.kept goes_on ∙ sym present;
   }
 
@@ -78,14 +84,10 @@ module _ (a : Inside) (trial : IsTrialKept a) where
     pub trial-told : IsTold a.set.value a.found.items q told
     trial-told = step.0
 
-    pub trial-taken : (found : Vec Asked) → found.items ≡ found_after a.found.items (asked_of q) told → IsTrialKept (let x : Inside = record { set = a.set; table = a.table; climb = climb; level = level; found = found } in x)
+    pub trial-taken : (found : Notes) → found.items ≡ found_after a.found.items (asked_of q) told → IsTrialKept (let x : Inside = record { set = a.set; table = a.table; climb = climb; level = level; found = found } in x)
     trial-taken found noted = record {
       tabled = trial.tabled;
       present = step.1.present;
       progress = subst (λ (xs : List Asked). IsProgress a.set.value climb step.1.present xs) (sym noted) step.1.progress;
       kept = step.1.kept;
     }
-
--- the findings, once one is noted where there was room
-pub noted_in : (q : QuestionData) (told : Told) (asked : Asked) (old roomy new : List Asked) → new ≡ found_after roomy asked told → roomy ≡ old → asked ≡ asked_of q → new ≡ found_after old (asked_of q) told
-noted_in q told asked old roomy new is kept same = is ∙ ap (λ (xs : List Asked). found_after xs asked told) kept ∙ ap (λ (x : Asked). found_after old x told) same

@@ -11,10 +11,9 @@ use Rattle.task_sheet.proofs.MembersIndexes.{indexes_of-all_below}
 use Rattle.assignment.specs.Questions.{QuestionData}
 use Rattle.assignment.specs.Levels.{LevelState, IsAsked}
 use Rattle.assignment.specs.Climbs.{ClimbState, IsPlaced, IsUnfinished}
-use Rattle.desk_core.specs.declared.asked.Asked.{Asked}
 use Rattle.desk_core.specs.declared.told.Told.TheVariants.{Stranger, Twice, Taken, LevelDone, Tested}
 use Rattle.task_sheet.specs.Choices.{level_at}
-use Rattle.desk_core.specs.Findings.{asked_of, level_of, IsPresent, IsTested, IsNews, IsTold}
+use Rattle.desk_core.specs.Findings.{Asked, asked_of, level_of, IsPresent, IsTested, IsNews, IsTold}
 use Rattle.desk_core.specs.Progress.{present_of, IsProgress}
 use Rattle.desk_core.proofs.FindingLaws.{IsPresent-one, fresh-undecided}
 use Rattle.desk_core.proofs.ProgressLaws.{progress-present, progress-tested}

@@ -9,11 +9,10 @@ use Rattle.task_sheet.specs.Levels.{IsChosen}
 use Rattle.task_sheet.proofs.PassingLaws.{IsResponseOf-one}
 use Rattle.assignment.specs.Questions.{QuestionData}
 use Rattle.assignment.specs.Levels.{IsAsked}
-use Rattle.desk_core.specs.declared.asked.Asked.{Asked}
 use Rattle.desk_core.specs.declared.told.Told.{Told}
 use Rattle.desk_core.specs.declared.told.Told.TheVariants.{Stranger, Twice, Taken, LevelDone, Tested}
 use Rattle.task_sheet.specs.Choices.{level_at}
-use Rattle.desk_core.specs.Findings.{asked_of, level_of, IsPresent, IsNews, IsLevelDone, IsTold}
+use Rattle.desk_core.specs.Findings.{Asked, asked_of, level_of, IsPresent, IsNews, IsLevelDone, IsTold}
 use Rattle.desk_core.proofs.FindingLaws.{IsPresent-one}
 
 chosen-one : (U : List Task) (L : Indexes) (i j : ℕ) → IsChosen U L i → IsChosen U L j → i ≡ j

@@ -5,13 +5,12 @@ use Rattle.assignment.specs.Questions.{QuestionData, FindingData}
 use Rattle.assignment.specs.Levels.{LevelState, IsAsked}
 use Rattle.drafts.specs.declared.roster.Owned.{Owned}
 use Rattle.drafts.specs.declared.change.Refusal.{Refusal}
-use Rattle.desk_core.specs.declared.asked.Asked.{Asked}
 use Rattle.desk_core.specs.declared.told.Told.{Told}
 use Rattle.desk_core.specs.declared.events.Event.TheVariants.{Found}
 use Rattle.desk_core.specs.declared.events.Reply.{Reply}
 use Rattle.desk_core.specs.declared.events.Standing.TheVariants.{Asking}
 use Rattle.desk_core.specs.Asking.{IsNextAsked}
-use Rattle.desk_core.specs.Findings.{asked_of, IsTold, found_after, IsTested}
+use Rattle.desk_core.specs.Findings.{Asked, asked_of, IsTold, found_after, IsTested}
 use Rattle.desk_core.specs.Standings.{IsStanding, IsStandingOn}
 use Rattle.desk_core.specs.Trials.{TrialData}
 use Rattle.desk_core.specs.World.{World, Live, live_at, IsFound, Happens}

@@ -4,8 +4,7 @@ use Rattle.std.specs.FinSet.{contains}
 use Rattle.task_sheet.specs.Sheet.{Task, task_at}
 use Rattle.assignment.specs.Questions.{QuestionData}
 use Rattle.assignment.specs.Levels.{IsAsked}
-use Rattle.desk_core.specs.declared.asked.Asked.{Asked}
-use Rattle.desk_core.specs.Findings.{level_of, IsPresent, IsTested}
+use Rattle.desk_core.specs.Findings.{Asked, level_of, IsPresent, IsTested}
 
 -- the question on the missing candidate of least rank at the present level
 pub record IsNextAsked (U : List Task) (found : List Asked) (q : QuestionData) (k : ℕ) : Type 0 where

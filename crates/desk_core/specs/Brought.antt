@@ -1,12 +1,11 @@
 -- What is answered to a finding that is brought to a trial.
 use Rattle.std.specs.Prelude.{◌≡◌, ◌<◌, List, length}
 use Rattle.assignment.specs.Questions.{QuestionData}
-use Rattle.desk_core.specs.declared.asked.Asked.{Asked}
 use Rattle.desk_core.specs.declared.events.Reply.{Reply}
 use Rattle.desk_core.specs.declared.told.Told.{Told}
 use Rattle.desk_core.specs.declared.told.Told.TheVariants.{Stranger, Twice, Taken, LevelDone, Tested}
 use Rattle.desk_core.specs.Trials.{TrialData}
-use Rattle.desk_core.specs.Findings.{asked_of, found_after, IsTested, IsTold}
+use Rattle.desk_core.specs.Findings.{Asked, asked_of, found_after, IsTested, IsTold}
 use Rattle.desk_core.specs.World.{IsToldReply}
 
 -- what is told speaks of a task of the set, or of a verdict that is complete

@@ -9,10 +9,14 @@ use Rattle.task_sheet.specs.Demand.{IsResponseOf}
 use Rattle.task_sheet.specs.Levels.{IsChosen}
 use Rattle.assignment.specs.Questions.{QuestionData}
 use Rattle.assignment.specs.Levels.{LevelState, IsAsked, IsDecided}
-use Rattle.desk_core.specs.declared.asked.Asked.{Asked}
 use Rattle.desk_core.specs.declared.told.Told.{Told}
 use Rattle.desk_core.specs.declared.told.Told.TheVariants.{Stranger, Twice, Taken, LevelDone, Tested}
 use Rattle.task_sheet.specs.Choices.{level_at}
+
+-- which question a finding answers, in a set that is known: a candidate, and the others of its level above it
+pub record Asked : Type 0 where
+  pub above : FinSet nat_cmp
+  pub task : ℕ
 
 -- the question of a finding, on a set that is known; a finding is determined by its question
 abbrev pub asked_of : QuestionData → Asked

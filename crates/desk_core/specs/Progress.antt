@@ -7,9 +7,8 @@ use Rattle.task_sheet.specs.Orders.{all_of}
 use Rattle.task_sheet.specs.Levels.{NoneStands}
 use Rattle.assignment.specs.Levels.{LevelState, IsDecided}
 use Rattle.assignment.specs.Climbs.{ClimbState}
-use Rattle.desk_core.specs.declared.asked.Asked.{Asked}
 use Rattle.task_sheet.specs.Choices.{level_at}
-use Rattle.desk_core.specs.Findings.{level_of, Decides}
+use Rattle.desk_core.specs.Findings.{Asked, level_of, Decides}
 
 -- the present level, which is not kept before its first finding comes
 abbrev pub present_of : ClimbState → Option LevelState → LevelState

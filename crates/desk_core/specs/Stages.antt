@@ -6,7 +6,7 @@ use Rattle.drafts.specs.Outcomes.{IsJudged}
 use Rattle.drafts.specs.declared.roster.Owned.{Owned}
 use Rattle.drafts.specs.declared.change.Refusal.{Refusal}
 use Rattle.drafts.specs.Applied.{set_of}
-use Rattle.desk_core.specs.declared.asked.Asked.{Asked}
+use Rattle.desk_core.specs.Findings.{Asked}
 use Rattle.desk_core.specs.declared.stage.Kept.{Kept}
 use Rattle.desk_core.specs.declared.stage.Kept.TheVariants.{Own, Shared, Dropped}
 use Rattle.desk_core.specs.declared.stage.Stage.{Stage}

@@ -4,12 +4,11 @@ use Rattle.task_sheet.specs.Sheet.{Task}
 use Rattle.assignment.specs.Questions.{QuestionData}
 use Rattle.drafts.specs.declared.roster.Owned.{Owned}
 use Rattle.drafts.specs.declared.change.Refusal.{Refusal}
-use Rattle.desk_core.specs.declared.asked.Asked.{Asked}
 use Rattle.desk_core.specs.declared.events.Standing.{Standing}
 use Rattle.desk_core.specs.declared.events.Standing.TheVariants.{NoSuchDraft, Untestable, Asking, Tested}
 use Rattle.drafts.specs.Applied.{set_of}
 use Rattle.desk_core.specs.Asking.{IsNextAsked, IsQuestionNamed}
-use Rattle.desk_core.specs.Findings.{IsTested}
+use Rattle.desk_core.specs.Findings.{Asked, IsTested}
 use Rattle.desk_core.specs.World.{Live, IsShown}
 use Rattle.drafts.specs.Edits.{on_base}
 

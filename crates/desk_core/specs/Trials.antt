@@ -5,7 +5,7 @@ use Rattle.std.specs.FinSet.{FinSet}
 pub use Rattle.task_sheet.specs.SetCodes.{set_codes}
 use Rattle.task_sheet.specs.Sheet.{Task, task_at}
 use Rattle.task_sheet.specs.Indexes.{indexes_of, listed_below}
-use Rattle.desk_core.specs.declared.asked.Asked.{Asked}
+use Rattle.desk_core.specs.Findings.{Asked}
 
 -- a set, and the findings that were taken, in their order
 pub record TrialData : Type 0 where

@@ -21,10 +21,9 @@ use Rattle.desk_core.specs.declared.events.Reply.{Reply}
 use Rattle.desk_core.specs.declared.events.Reply.TheVariants.{Opened, Done, Taken, LevelDone, Tested, Stale, Decided, Refused}
 use Rattle.desk_core.specs.declared.events.Event.{Event}
 use Rattle.desk_core.specs.declared.events.Event.TheVariants.{Open, Put, Remove, Found, Commit, Abandon}
-use Rattle.desk_core.specs.declared.asked.Asked.{Asked}
 use Rattle.desk_core.specs.declared.told.Told.{Told}
 use Rattle.desk_core.specs.declared.told.Told.TheVariants as told
-use Rattle.desk_core.specs.Findings.{asked_of, found_after, IsTested, IsTold}
+use Rattle.desk_core.specs.Findings.{Asked, asked_of, found_after, IsTested, IsTold}
 
 -- a draft that hasn't ended, and which findings were taken since its last change, in their order
 pub record Live : Type 0 where

@@ -1,17 +1,16 @@
 //! The core over events.
 #![tactic(auto)]
 
-mod asked;
 mod desk_core;
 mod events;
 pub mod laws;
 mod live;
+mod notes;
 mod slot;
 mod stage;
 mod told;
 mod trial;
 
-pub use asked::Asked;
 pub use desk_core::{Core, StepFault, run};
 pub use events::{Cause, Event, Reply, Standing};
 pub use told::Told;

@@ -12,8 +12,8 @@ ghost use Rattle.desk_core.specs.Standings.{IsNaming, IsQuestionOn, IsStandingOn
 ghost use Rattle.desk_core.specs.Trials.{names_of};
 ghost use Rattle.desk_core.specs.World.{IsTestedOn};
 
-use crate::asked::Asked;
 use crate::events::Standing;
+use crate::notes::Notes;
 use crate::trial::{Trial, list_names};
 use assignment::{Failure, Question, Reason, Verdict};
 use drafts::{Applied, Book, Decided, Draft, Judged, share};
@@ -36,7 +36,7 @@ pub enum Stage {
         set: Arc<TaskSet>,
         members: Members,
         kept: Kept,
-        found: Vec<Asked>,
+        found: Notes,
     },
 }
 
@@ -59,7 +59,7 @@ fn try_out(alloc: Global, draft: &Draft) -> Result<Option<Trial>, AllocError>
 {
     match draft.applied(alloc)? {
         Applied::Refused { refusal: _ } => Ok(None),
-        Applied::Tasks { set, teams: _ } => Ok(Some(Trial::begin(alloc, set)?)),
+        Applied::Tasks { set } => Ok(Some(Trial::begin(alloc, set)?)),
     }
 }
 

@@ -1,6 +1,6 @@
 //! The test of a set by findings that come in any order.
 
-ghost use Rattle.std.specs.Prelude.{◌≡◌, ◌↔◌, ◌<◌, ◌≤◌, ◌+◌, [], ◌∷◌, ◌++◌, List, length, map, None, Some, ℕ, IsTrue, IsFalse, MatchOption, IfOk, IfErr, OnOk, OnErr, vec_len, vec_capacity};
+ghost use Rattle.std.specs.Prelude.{◌≡◌, ◌↔◌, ◌<◌, ◌≤◌, ◌+◌, [], ◌∷◌, ◌++◌, List, length, map, None, Some, ℕ, IsTrue, IsFalse, MatchOption, IfOk, IfErr, OnOk, OnErr, vec_capacity};
 ghost use Rattle.std.specs.FinSet.{contains, remove};
 ghost use Rattle.desk_core.specs.Asking.{IsAsking, IsQuestionNamed};
 ghost use Rattle.task_sheet.specs.Indexes.{indexes_of, listed_below, IsPart};
@@ -19,12 +19,13 @@ ghost use Rattle.desk_core.specs.World.{IsShown};
 ghost use Rattle.desk_core.specs.Closing.{IsClosing, IsNew, IsTakenAt};
 ghost use Rattle.desk_core.specs.Advances.{IsLeast, IsTried};
 
-use crate::asked::Asked;
+use crate::notes::Notes;
 use crate::told::Told;
 use assignment::{AnswerFault, Climb, Finding, Level, LevelRecord, Question, TakeFault, Verdict};
 use ceilings::LockTable;
 use std::alloc::{AllocError, Global};
 use std::marker::Model;
+use std::snapshot::Snapshot;
 use std::sync::Arc;
 use task_sheet::{Members, Name, TaskSet};
 
@@ -36,7 +37,7 @@ pub struct Trial {
     table: LockTable,
     climb: Climb,
     level: Option<Level>,
-    found: Vec<Asked>,
+    found: Notes,
 }
 
 impl Model for Trial {
@@ -53,22 +54,18 @@ impl Model for Trial {
     ghost invariant = { IsTrialKept };
 }
 
-// Starts the present level where it is not kept yet, and makes room for one finding.
-fn make_room(
+// Starts the present level where it is not kept yet.
+fn start_level(
     alloc: Global,
     set: &Arc<TaskSet>,
     climb: &Climb,
     level: &mut Option<Level>,
-    found: &mut Vec<Asked>,
 ) -> Result<(), AllocError>
     requires same { climb.now.set ≡ set.now.value }
     requires going { IsUnfinished climb.now }
     ensures ok { OnOk result (level.new ≡ Some (present_of climb.now level.old)) }
-    ensures room { OnOk result (vec_len found.new < vec_capacity found.new) }
-    ensures kept { found.new.items ≡ found.old.items }
     ensures err { OnErr result (level.new ≡ level.old) }
 {
-    found.reserve(1)?;
     if level.is_none() {
         *level = Some(Level::start(alloc, set.clone()?, climb.left())?);
     }
@@ -126,36 +123,6 @@ fn accept_at(climb: &mut Climb, mut level: Level, finding: Finding) -> (Told, Op
         (close_level(climb, level), None)
     } else {
         (Told::Taken, Some(level))
-    }
-}
-
-// Keeps what a finding made of the present level, and notes the finding where it was taken.
-fn keep(
-    level: &mut Option<Level>,
-    found: &mut Vec<Asked>,
-    kept: Option<Level>,
-    asked: Asked,
-    told: Told,
-)
-    requires { vec_len found.old < vec_capacity found.old }
-    ensures level { level.new ≡ kept }
-    ensures found { found.new.items ≡ found_after found.old.items asked told }
-{
-    *level = kept;
-    match told {
-        Told::Stranger | Told::Twice => {}
-        Told::Taken | Told::LevelDone { .. } | Told::Tested => found.push_reserved(asked),
-    }
-}
-
-// Which question a finding answers.
-fn asked_by(finding: &Finding) -> Asked
-    ensures { result ≡ asked_of finding.now.question }
-{
-    let question = finding.question();
-    Asked {
-        above: question.above(),
-        task: question.task(),
     }
 }
 
@@ -240,7 +207,7 @@ impl Trial {
             table,
             climb,
             level: None,
-            found: Vec::new(alloc),
+            found: Notes::none(),
         })
     }
 
@@ -337,7 +304,7 @@ impl Trial {
 
     // What is kept of a complete test: the set with the tasks whose names its verdict shows, the verdict, and the
     // findings. The table goes.
-    pub(crate) fn finish(self) -> (Arc<TaskSet>, Members, Verdict, Vec<Asked>)
+    pub(crate) fn finish(self) -> (Arc<TaskSet>, Members, Verdict, Notes)
         requires { IsTested self.set self.found }
         ensures set { result.0.value ≡ self.set }
         ensures shown { IsShown self.set (names_of self.set result.1) }
@@ -372,23 +339,16 @@ impl Trial {
         if !self.climb.is_unfinished() {
             return Ok(Told::Stranger);
         }
-        if make_room(
-            alloc,
-            &self.set,
-            &self.climb,
-            &mut self.level,
-            &mut self.found,
-        )
-        .is_err()
-        {
+        if start_level(alloc, &self.set, &self.climb, &mut self.level).is_err() {
             return Err(finding);
         }
         let Some(level) = self.level.take() else {
             unreachable!();
         };
-        let asked = asked_by(&finding);
+        let brought = Snapshot::of(&finding);
         let (told, kept) = take_at(&mut self.climb, level, finding);
-        keep(&mut self.level, &mut self.found, kept, asked, told);
+        self.level = kept;
+        self.found = self.found.with(&brought, &told);
         Ok(told)
     }
 
@@ -402,13 +362,7 @@ impl Trial {
         if !self.climb.is_unfinished() {
             return Ok(None);
         }
-        make_room(
-            alloc,
-            &self.set,
-            &self.climb,
-            &mut self.level,
-            &mut self.found,
-        )?;
+        start_level(alloc, &self.set, &self.climb, &mut self.level)?;
         let Some(level) = &self.level else {
             unreachable!();
         };
@@ -416,9 +370,10 @@ impl Trial {
         let Some(level) = self.level.take() else {
             unreachable!();
         };
-        let asked = asked_by(&finding);
+        let brought = Snapshot::of(&finding);
         let (told, kept) = accept_at(&mut self.climb, level, finding);
-        keep(&mut self.level, &mut self.found, kept, asked, told);
+        self.level = kept;
+        self.found = self.found.with(&brought, &told);
         Ok(Some(told))
     }
 }

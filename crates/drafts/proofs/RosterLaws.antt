@@ -155,10 +155,6 @@ pub same-tasks : (xs ys : List Owned) → set_of xs ≡ set_of ys → teams_of x
 same-tasks xs ys set teams =
     sym (owned_of-parts xs) ∙ ap (λ U. owned_of U (teams_of xs)) set ∙ ap (owned_of (set_of ys)) teams ∙ owned_of-parts ys
 
-pub same_count : (ts : List Owned) → length (teams_of ts) ≡ length (set_of ts)
-same_count [] = refl
-same_count (x ∷ ts) = omega (arith, same_count ts)
-
 pub few-tasks : (ts : List Owned) → length ts ≤ 32 → if_few ts ≡ Ok ts
 few-tasks ts few = let test : nat_le (length ts) 32 ≡ true = grind (arith, nat_tests) in rw test refl
 

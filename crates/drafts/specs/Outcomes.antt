@@ -1,5 +1,5 @@
 -- What the code's answers say of what changes come to.
-use Rattle.std.specs.Prelude.{◌≡◌, ℕ, ◌+◌, List, length, Option, None, Some, Result, Ok, Err}
+use Rattle.std.specs.Prelude.{◌≡◌, ℕ, ◌+◌, List, Option, None, Some, Result, Ok, Err}
 use Rattle.task_sheet.specs.TaskSet.{IsTaskSet}
 use Rattle.task_sheet.specs.Verdicts.{IsVerdictOf, Admitted, Infeasible}
 use Rattle.assignment.specs.declared.verdict.Verdict.{Verdict}
@@ -10,18 +10,16 @@ use Rattle.drafts.specs.declared.applying.Applied.{Applied}
 use Rattle.drafts.specs.declared.applying.Applied.TheVariants.{Tasks, Refused}
 use Rattle.drafts.specs.declared.judging.Judged.{Judged}
 use Rattle.drafts.specs.declared.judging.Judged.TheVariants as judged
-use Rattle.drafts.specs.Applied.{owned_of, set_of}
+use Rattle.drafts.specs.Applied.{set_of}
 use Rattle.drafts.specs.Machine.{MachineState, Ruling, Entry, admitted}
 use Rattle.drafts.specs.Machine as ruling
 use Rattle.drafts.specs.Edits.{Draft}
 
--- the changes are refused, or come to these tasks with their teams
+-- the changes are refused, or come to these tasks
 abbrev pub IsApplied : Result (List Owned) Refusal → Applied → Type 0
 IsApplied (Err refusal) (Refused told) = told ≡ refusal
-IsApplied (Ok tasks) (Tasks set teams) =
-    (owned_of set.value teams.items ≡ tasks) × (set.value ≡ set_of tasks)
-    × (length teams.items ≡ length set.value)
-IsApplied (Err refusal) (Tasks set teams) = ⊥
+IsApplied (Ok tasks) (Tasks set) = set.value ≡ set_of tasks
+IsApplied (Err refusal) (Tasks set) = ⊥
 IsApplied (Ok tasks) (Refused told) = ⊥
 
 -- the refusal, or the verdict on the set that the changes come to

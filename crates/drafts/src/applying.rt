@@ -10,7 +10,7 @@ ghost use Rattle.drafts.specs.Outcomes.{IsApplied};
 
 use crate::change::{Change, Refusal};
 use crate::draft::Draft;
-use crate::roster::{Owned, is_foreign, is_there, place, split, take_out};
+use crate::roster::{Owned, is_foreign, is_there, place, sheets_of, take_out};
 use crate::state::NodeState;
 use crate::team::Team;
 use indexmap::IndexMap;
@@ -21,8 +21,8 @@ use task_sheet::{Name, SetCause, Sheet, TASK_LIMIT, TaskSet};
 /// What changes come to.
 #[derive(Drop)]
 pub enum Applied {
-    /// These tasks by rank, and their teams.
-    Tasks { set: Arc<TaskSet>, teams: Vec<Team> },
+    /// These tasks by rank.
+    Tasks { set: Arc<TaskSet> },
     Refused { refusal: Refusal },
 }
 
@@ -125,7 +125,7 @@ fn make_set(alloc: Global, sheets: Vec<Sheet>) -> Result<TaskSet, AllocError>
     }
 }
 
-// The set of the tasks with their teams, unless they are too many.
+// The set of the tasks, unless they are too many.
 fn as_set(alloc: Global, tasks: Vec<Owned>) -> Result<Applied, AllocError>
     requires { IsRoster tasks.items }
     ensures { IfOk result (IsApplied (if_few tasks.items)) }
@@ -134,10 +134,9 @@ fn as_set(alloc: Global, tasks: Vec<Owned>) -> Result<Applied, AllocError>
         let refusal = Refusal::TooManyTasks;
         return Ok(Applied::Refused { refusal });
     }
-    let (sheets, teams) = split(alloc, tasks)?;
-    let set = make_set(alloc, sheets)?;
+    let set = make_set(alloc, sheets_of(alloc, tasks)?)?;
     match Arc::new(alloc, set) {
-        Ok(set) => Ok(Applied::Tasks { set, teams }),
+        Ok(set) => Ok(Applied::Tasks { set }),
         Err(_) => Err(AllocError),
     }
 }

@@ -46,7 +46,7 @@ pub fn judge(alloc: Global, draft: &Draft, state: &NodeState) -> Result<Judged, 
 {
     match apply(alloc, draft, state)? {
         Applied::Refused { refusal } => Ok(Judged::Refused { refusal }),
-        Applied::Tasks { set, teams: _ } => match share(alloc, assign(alloc, set)?) {
+        Applied::Tasks { set } => match share(alloc, assign(alloc, set)?) {
             Ok(judged) => Ok(judged),
             Err(_) => Err(AllocError),
         },

@@ -55,7 +55,7 @@ fn is_on(alloc: Global, draft: &Draft, verdict: &Verdict) -> Result<bool, AllocE
     let set = verdict.set();
     match draft.applied(alloc)? {
         Applied::Refused { refusal: _ } => Ok(false),
-        Applied::Tasks { set: own, teams: _ } => Ok(set.is_same(&own)),
+        Applied::Tasks { set: own } => Ok(set.is_same(&own)),
     }
 }
 

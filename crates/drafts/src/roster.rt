@@ -3,7 +3,7 @@
 ghost use Rattle.std.specs.Prelude.{◌≡◌, ◌≤◌, ◌<◌, length, take, insert, position, not, option_copied, IfOk, OnOk, OnErr};
 ghost use Rattle.std.specs.Ordering.{is_lt};
 ghost use Rattle.task_sheet.specs.Rank.{rank_cmp};
-ghost use Rattle.drafts.specs.Applied.{owned_of, set_of, teams_of, held, is_foreign, is_there, without_name, placed};
+ghost use Rattle.drafts.specs.Applied.{owned_of, set_of, held, is_foreign, is_there, without_name, placed};
 
 use crate::team::Team;
 use std::alloc::{AllocError, Global};
@@ -34,18 +34,15 @@ pub(crate) fn join(
     Ok(tasks)
 }
 
-// The sheets, and their teams.
-pub(crate) fn split(alloc: Global, tasks: Vec<Owned>) -> Result<(Vec<Sheet>, Vec<Team>), AllocError>
-    ensures sheets { IfOk result (λ parts. parts.0.items ≡ set_of tasks.items) }
-    ensures teams { IfOk result (λ parts. parts.1.items ≡ teams_of tasks.items) }
+// The sheets, without their teams.
+pub(crate) fn sheets_of(alloc: Global, tasks: Vec<Owned>) -> Result<Vec<Sheet>, AllocError>
+    ensures { IfOk result (λ sheets. sheets.items ≡ set_of tasks.items) }
 {
     let mut sheets = Vec::with_capacity(alloc, tasks.len())?;
-    let mut teams = Vec::with_capacity(alloc, tasks.len())?;
     for task in tasks {
         sheets.push(task.sheet)?;
-        teams.push(task.team)?;
     }
-    Ok((sheets, teams))
+    Ok(sheets)
 }
 
 // The task of a name.

@@ -60,7 +60,7 @@ fn still_holds(alloc: Global, book: &Book, proposal: &Proposal) -> Result<bool, 
             Judged::Refused { refusal: told } => Ok(told.is_same(&refusal)),
             _ => Ok(false),
         },
-        Applied::Tasks { set, teams: _ } => match proposal.judged() {
+        Applied::Tasks { set } => match proposal.judged() {
             Judged::Refused { refusal: _ } => Ok(false),
             Judged::Best { assignment } => Ok(assignment.set().is_same(&set)),
             Judged::Stuck { obstruction } => Ok(obstruction.set().is_same(&set)),

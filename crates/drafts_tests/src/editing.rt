@@ -96,14 +96,13 @@ fn holders(alloc: Global) -> Result<String, Fail> {
     Ok(text)
 }
 
-// What a draft's changes come to: each task with its team, or the refusal.
+// What a draft's changes come to: the names of the tasks, or the refusal.
 fn push_applied(alloc: Global, text: &mut String, draft: &Draft) -> Result<(), Fail> {
     match again!(draft.applied(alloc))? {
-        Applied::Tasks { set, teams } => {
-            for (sheet, team) in set.sheets().iter().zip(&teams) {
+        Applied::Tasks { set } => {
+            for sheet in set.sheets() {
                 let name = sheet.name();
-                let number = team.number();
-                write!(text, "{name} {number}; ")?;
+                write!(text, "{name}; ")?;
             }
         }
         Applied::Refused { refusal } => push_refusal(text, &refusal)?,
@@ -201,7 +200,7 @@ fn courses_of_drafts(rt: HostRuntime) -> Result<(), Fail> {
         (Course::TasksOfEachTeam, "1:0 2:1 "),
         (
             Course::WhatChangesComeTo,
-            "a 1; c 2; d 1; 1 admitted 1; NotYours a",
+            "a; c; d; 1 admitted 1; NotYours a",
         ),
         (
             Course::OneNameTwoTeams,

@@ -11,13 +11,12 @@ use Rattle.drafts.specs.declared.roster.Owned.{Owned}
 use Rattle.drafts.specs.declared.change.Refusal.{Refusal}
 use Rattle.drafts.specs.Applied.{set_of}
 use Rattle.drafts.specs.Edits.{on_base}
-use Rattle.desk_core.specs.declared.asked.Asked.{Asked}
 use Rattle.desk_core.specs.declared.told.Told.{Told}
 use Rattle.desk_core.specs.declared.told.Told.TheVariants as told
 use Rattle.desk_core.specs.declared.events.Reply.{Reply}
 use Rattle.desk_core.specs.declared.events.Standing.TheVariants.{Asking}
 use Rattle.plays.specs.Plays.{IsBroughtAll}
-use Rattle.desk_core.specs.Findings.{asked_of, found_after, level_of, IsNews, IsTold}
+use Rattle.desk_core.specs.Findings.{Asked, asked_of, found_after, level_of, IsNews, IsTold}
 use Rattle.desk_core.specs.Asking.{IsNextAsked}
 use Rattle.desk_core.specs.World.{World, Live, if_live, live_at, with_slot, IsFound, IsBroughtTo}
 use Rattle.desk_core.specs.World.{IfLive}

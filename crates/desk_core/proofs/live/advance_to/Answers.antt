@@ -1,6 +1,6 @@
 use Rattle.std.proofs.Common.{subst, List, IfOk}
 use Rattle.drafts.specs.Edits.{on_base}
-use Rattle.desk_core.specs.declared.asked.Asked.{Asked}
+use Rattle.desk_core.specs.Findings.{Asked}
 use Rattle.desk_core.specs.Advances.{IsAdvancedOn}
 use Rattle.desk_core.specs.Stages.{found_of}
 use Rattle.desk_core.proofs.AdvanceLaws.{tested-silent}

@@ -3,7 +3,7 @@ use Rattle.task_sheet.specs.Sheet.{Task}
 use Rattle.ceilings.specs.IsTableOf.{IsTableOf}
 use Rattle.task_sheet.specs.MembersWords.{all_below}
 use Rattle.assignment.specs.Climbs.{ClimbState}
-use Rattle.desk_core.specs.declared.asked.Asked.{Asked}
+use Rattle.desk_core.specs.Findings.{Asked}
 use Rattle.desk_core.specs.Progress.{present_of, IsProgress}
 use Rattle.desk_core.proofs.ToldLaws.{progress-start}
 use Rattle.desk_core.proofs.trial.Trial.begin.Goals as goal
@@ -19,6 +19,6 @@ invariant_of-result c =
     record {
       tabled = subst (λ U. IsTableOf U c.in_ok-table.table) c.deref.ensures c.in_ok-table.ensures;
       present = present_of climb None;
-      progress = subst (λ (xs : List Asked). IsProgress c.args.set.value climb (present_of climb None) xs) (sym c.new-2.ensures.items) (progress-start c.args.set.value climb is);
+      progress = subst (λ (xs : List Asked). IsProgress c.args.set.value climb (present_of climb None) xs) (sym c.none.ensures) (progress-start c.args.set.value climb is);
       kept = λ _. refl;
     }
