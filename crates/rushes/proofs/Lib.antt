@@ -1,4 +1,4 @@
-pub mod HandLaws
+pub mod SplitLaws
 pub mod RunLaws
 pub mod EachLaws
 pub mod PartLaws

@@ -8,12 +8,14 @@ use Rattle.book_lock.specs.TeamPass.{Known, newcomer, newcomers, has_team, place
 use Rattle.scripts.specs.declared.line.Line.{Line}
 use Rattle.rushes.specs.Hands.{Hand, new_hand, AreDone, AreParts}
 use Rattle.rushes.specs.Faults.{Each, IsEnd, first_fault}
+use Rattle.rushes.specs.TeamLines.{TeamLine, lines_of}
 use Rattle.rushes.specs.declared.fault.RushFault.{RushFault}
-use Rattle.rushes.proofs.RunLaws.{lines_team}
+use Rattle.rushes.proofs.RunLaws.{run_team}
 
 -- so many teams, from that one on, after their lines
 abbrev pub AreAfter : ℕ → List Line → ℕ → ℕ → List Hand → Type 0
-AreAfter workers lines first n teams = Each (λ start last. AreDone workers (new_hand start) lines last) (newcomers first n) teams
+AreAfter workers lines first n teams =
+    Each (λ start last. AreDone workers (new_hand start) (lines_of start.team [] lines) last) (newcomers first n) teams
 
 -- the parts of the ledger that a team's pass begins with, where so many teams come after it
 abbrev parts_with : ℕ → ℕ → ℕ
@@ -36,7 +38,7 @@ pub all_there : (workers : ℕ) (lines : List Line) (first n : ℕ) (teams : Lis
 all_there workers lines first zero teams runs team low high = absurd (omega arith)
 all_there workers lines first (suc n) [] runs team low high = absurd runs
 all_there workers lines first (suc n) (k ∷ ks) runs team low high = elim (cases_order first team) [
-  | inl same ↦ or_left (k.pass.team == team) (has_team team (passes_in ks)) ((Decides-eqb k.pass.team team).1 (lines_team workers (new_hand (newcomer first (parts_with first n))) k lines runs.0 ∙ same))
+  | inl same ↦ or_left (k.pass.team == team) (has_team team (passes_in ks)) ((Decides-eqb k.pass.team team).1 (run_team workers (newcomer first (parts_with first n)) k (lines_of first [] lines) runs.0 ∙ same))
   | inr (inl less) ↦ or_right (k.pass.team == team) (has_team team (passes_in ks)) (all_there workers lines (first + 1) n ks runs.1 team (omega arith) (omega arith))
   | inr (inr more) ↦ absurd (omega arith)
 ]
@@ -48,7 +50,7 @@ parts_of workers lines first zero [] log runs have = tt
 parts_of workers lines first zero (k ∷ ks) log runs have = absurd runs
 parts_of workers lines first (suc n) [] log runs have = absurd runs
 parts_of workers lines first (suc n) (k ∷ ks) log runs have = (
-  (parts_with first n, k, runs.0, (have first (omega arith) (omega arith)).0 (lines_team workers (new_hand (newcomer first (parts_with first n))) k lines runs.0), refl),
+  (parts_with first n, k, runs.0, (have first (omega arith) (omega arith)).0 (run_team workers (newcomer first (parts_with first n)) k (lines_of first [] lines) runs.0), refl),
   parts_of workers lines (first + 1) n ks log runs.1 (λ team low high. (have team (omega arith) (omega arith)).1),
 )
 
@@ -59,19 +61,25 @@ all_after workers lines first zero (k ∷ ks) runs = absurd runs
 all_after workers lines first (suc n) [] runs = absurd runs
 all_after workers lines first (suc n) (k ∷ ks) runs = ap suc (all_after workers lines (first + 1) n ks runs.1)
 
--- what a team's start came to is an end of the pass that it was started with
-pub finish_end : {H : Type 0} (workers : ℕ) (lines : List Line) (started : Result H (Result Hand RushFault)) (at : H → List Line) (by : H → ℕ) (from : H → Known) (start : Known) (ended : Result Hand RushFault)
-    → (IfOk started (λ h. (at h ≡ lines) × (by h ≡ workers) × (from h ≡ start)) × IfErr started (λ over. IsEnd workers lines start over))
-    → (IfOk started (λ h. at h ≡ lines → by h ≡ workers → IsEnd workers lines (from h) ended) × IfErr started (λ over. ended ≡ over))
-    → IsEnd workers lines start ended
+-- what a team's start came to is an end of the pass that it was started with, and of the team's lines
+pub finish_end : {H : Type 0} (workers : ℕ) (lines : List Line) (started : Result H (Result Hand RushFault))
+    (at : H → List TeamLine) (by : H → ℕ) (from : H → Known) (start : Known) (ended : Result Hand RushFault)
+    → ((own : List TeamLine) × (own ≡ lines_of start.team [] lines)
+    × IfOk started (λ h. (at h ≡ own) × (by h ≡ workers) × (from h ≡ start))
+    × IfErr started (λ over. IsEnd workers own start over))
+    → (IfOk started (λ h. IsEnd (by h) (at h) (from h) ended) × IfErr started (λ over. ended ≡ over))
+    → IsEnd workers (lines_of start.team [] lines) start ended
 finish_end workers lines (Ok h) at by from start ended is so =
-    let end : IsEnd workers lines (from h) ended = so.0 is.0.0 is.0.1 in
-    subst (λ (s : Known). IsEnd workers lines s ended) is.0.2 end
+    let end = so.0 in
+    subst (λ (own : List TeamLine). IsEnd workers own start ended) is.1 (rw (is.2.0, is.2.1, is.2.2) at end)
 finish_end workers lines (Err over) at by from start ended is so =
-    subst (λ (r : Result Hand RushFault). IsEnd workers lines start r) (sym so.1) is.1
+    subst (λ (own : List TeamLine). IsEnd workers own start ended) is.1
+    (subst (λ (r : Result Hand RushFault). IsEnd workers is.0 start r) (sym so.1) is.3)
 
 -- where all ends are teams, these are what the lines made
-pub all_run : (workers : ℕ) (lines : List Line) (starts : List Known) (teams : List Hand) → Each (λ start ended. IsEnd workers lines start ended) starts (map (λ last. Ok last) teams) → Each (λ start last. AreDone workers (new_hand start) lines last) starts teams
+pub all_run : (workers : ℕ) (lines : List Line) (starts : List Known) (teams : List Hand)
+    → Each (λ start ended. IsEnd workers (lines_of start.team [] lines) start ended) starts (map (λ last. Ok last) teams)
+    → Each (λ start last. AreDone workers (new_hand start) (lines_of start.team [] lines) last) starts teams
 all_run workers lines [] [] all = tt
 all_run workers lines (s ∷ starts) (k ∷ teams) all = (all.0, all_run workers lines starts teams all.1)
 all_run workers lines [] (k ∷ teams) all = absurd all

@@ -1,12 +1,12 @@
 -- Threads that run the lines of teams.
 use Rattle.std.specs.Prelude.{ℕ, List, [], ◌∷◌, Option, None, Some, Result, Ok, Err}
-use Rattle.scripts.specs.declared.line.Line.{Line}
 use Rattle.book_lock.specs.TeamPass.{Known}
 use Rattle.rushes.specs.Hands.{Hand, new_hand, AreDone}
+use Rattle.rushes.specs.TeamLines.{TeamLine}
 use Rattle.rushes.specs.declared.fault.RushFault.{RushFault}
 
 -- what a team's lines come to: the team after all of them, or a fault
-abbrev pub IsEnd : ℕ → List Line → Known → Result Hand RushFault → Type 0
+abbrev pub IsEnd : ℕ → List TeamLine → Known → Result Hand RushFault → Type 0
 IsEnd workers lines start (Ok last) = AreDone workers (new_hand start) lines last
 IsEnd workers lines start (Err fault) = Unit {0}
 

@@ -1,3 +1,4 @@
+pub mod TeamLines
 pub mod Hands
 pub mod HandFields
 pub mod Faults

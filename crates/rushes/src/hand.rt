@@ -1,90 +1,145 @@
 //! A team's drafts and its pass, and its lines of a script.
-ghost use Rattle.std.specs.Prelude.{◌≡◌, ◌+◌, ◌<◌, [], length, None, Some, OnOk, IfOk, IsSome, MatchOption, slice_index_or};
+ghost use Rattle.std.specs.Prelude.{◌≡◌, ◌++◌, IfOk, OnOk, Option, None, option_map};
 ghost use Rattle.candidate_workers.specs.Faults.{IsBadCount};
-ghost use Rattle.rushes.specs.Hands.{abandoned, after_edit, AreDone, comes_to, draft_at, line_draft, new_hand, has_ended, IsTeamCommit, IsRowDone, IsLineDone, IsOpened, noting, own_at, refused, told, told_edit, Hand};
+ghost use Rattle.drafts.specs.Edits.{Draft, after_put, after_remove};
+ghost use Rattle.drafts.specs.declared.draft.EditCause.TheVariants.{Refused};
+ghost use Rattle.rushes.specs.Hands.{draft_at, edited, new_hand, noted, refusal_in, AreDone, IsCommitted, IsLineDone, IsOn, IsOpened, IsSet, IsStep};
 ghost use Rattle.rushes.specs.HandFields.{AllOwn};
 
-use crate::edit::Edit;
 use crate::fault::RushFault;
 use crate::note::{Missed, Note};
 use crate::site::Site;
-use crate::slot::DraftSlot;
+use crate::split::{TeamLine, opens};
 use book_lock::{CommitCause, OpenFault, Pass};
 use candidate_workers::OpenGate;
-use drafts::{EditRefusal, Team};
-use scripts::{Line, Row};
+use drafts::{Draft, EditCause, EditRefusal};
+use scripts::Row;
 use std::alloc::{AllocError, Global};
+use std::collections::HashMap;
 use std::marker::Model;
 use std::sync::Wait;
 use std::sync::ledger::Ledger;
 use std::thread::Threads;
+use task_sheet::{Name, Sheet};
 
-/// All drafts that the lines so far opened, by number from 1, which of them are the team's, its pass, and what is told of
-/// its lines that did nothing.
+/// The drafts that the team's lines opened and that haven't ended, by number; its pass; and what is told of its lines
+/// that did nothing.
 #[derive(Drop)]
 pub(crate) struct Hand<L: Ledger> {
-    drafts: Vec<DraftSlot>,
-    own: Vec<bool>,
+    drafts: HashMap<usize, Draft>,
     pass: Pass<L>,
     notes: Vec<Note>,
 }
 
 impl<L: Ledger> Model for Hand<L> {
+    ghost use Rattle.rushes.specs.Hands.{Hand};
+
     ghost Value = { Hand };
 
     ghost view = { λ h. record {
-      drafts = h.drafts.items;
-      own = h.own.items;
+      drafts = h.drafts.entries;
       pass = h.pass;
       notes = h.notes.items;
     } };
-
-    ghost invariant = { λ h. AllOwn h.pass.team h.drafts.items };
 }
 
-// The index of a draft that is the team's and hasn't ended.
-fn index_of(drafts: &[DraftSlot], number: usize) -> Option<usize>
-    ensures { MatchOption result (draft_at drafts.now number ≡ None)
-        (λ i. (i + 1 ≡ number) × (i < length drafts.now)
-        × (draft_at drafts.now number ≡ slice_index_or drafts.now i None)
-        × IsSome (draft_at drafts.now number)) }
+// The refusal for which an edit was not made; the error is want of memory.
+fn refusal_of(cause: EditCause) -> Result<EditRefusal, AllocError>
+    ensures { IfOk result (λ refusal. cause ≡ Refused refusal) }
 {
-    if number == 0 {
-        return None;
-    }
-    let i = number - 1;
-    if i < drafts.len() && drafts[i].is_there() {
-        Some(i)
-    } else {
-        None
+    match cause {
+        EditCause::Refused { refusal } => Ok(refusal),
+        EditCause::OutOfMemory => Err(AllocError),
     }
 }
 
-// Whether the draft of a number is the team's, ended or not.
-fn is_own(own: &[bool], number: usize) -> bool
-    ensures { result ≡ own_at own.now number }
+// Puts a sheet into a draft, and gives what is told of that.
+fn put(alloc: Global, draft: &mut Draft, sheet: &Sheet) -> Result<Option<Missed>, AllocError>
+    ensures draft { OnOk result (draft.new ≡ edited draft.old (after_put draft.old sheet.now)) }
+    ensures missed { IfOk result (λ missed. missed
+        ≡ option_map (λ refusal. Missed.PutRefused sheet.now.name refusal)
+        (refusal_in (after_put draft.old sheet.now))) }
 {
-    if number == 0 {
-        return false;
-    }
-    match own.get(number - 1) {
-        Some(own) => *own,
-        None => false,
+    let name = sheet.name();
+    match draft.put(sheet.copy(alloc)?) {
+        Ok(()) => Ok(None),
+        Err(fault) => {
+            let refusal = refusal_of(fault.cause)?;
+            Ok(Some(Missed::PutRefused { name, refusal }))
+        }
     }
 }
 
-// The draft that a line is on; 0 where it opens one.
-fn draft_of(row: &Row) -> usize
-    ensures { result ≡ line_draft row.now }
+// Removes a task from a draft, and gives what is told of that.
+fn remove(draft: &mut Draft, name: Name) -> Result<Option<Missed>, AllocError>
+    ensures draft { OnOk result (draft.new ≡ edited draft.old (after_remove draft.old name)) }
+    ensures missed { IfOk result (λ missed. missed
+        ≡ option_map (λ refusal. Missed.RemoveRefused name refusal)
+        (refusal_in (after_remove draft.old name))) }
 {
+    match draft.remove(name) {
+        Ok(()) => Ok(None),
+        Err(cause) => {
+            let refusal = refusal_of(cause)?;
+            Ok(Some(Missed::RemoveRefused { name, refusal }))
+        }
+    }
+}
+
+// Commits a draft.
+fn commit<L: Ledger, R: Threads + Wait>(
+    site: &Site<'_, L, R>,
+    pass: &mut Pass<L>,
+    draft: Draft,
+) -> Result<(), RushFault>
+    requires team { draft.team ≡ pass.old.team }
+    requires workers { IsBadCount site.now.workers → ⊥ }
+    ensures { OnOk result (IsCommitted site.now.workers draft pass.old pass.new) }
+{
+    match site
+        .desk
+        .commit(site.rt, site.alloc, pass, draft, site.workers, &OpenGate)
+    {
+        Ok(_) => Ok(()),
+        Err(fault) => match fault.cause {
+            CommitCause::ThreadRefused => Err(RushFault::ThreadRefused),
+            CommitCause::OutOfMemory => Err(RushFault::OutOfMemory),
+            CommitCause::OtherTeam | CommitCause::BadWorkers | CommitCause::GateShut { name: _ } =>
+                { unreachable!() }
+        },
+    }
+}
+
+// What a line makes of a draft, none where that ends it; and what is told of the line.
+fn step<L: Ledger, R: Threads + Wait>(
+    site: &Site<'_, L, R>,
+    pass: &mut Pass<L>,
+    draft: Draft,
+    row: &Row,
+) -> Result<(Option<Draft>, Option<Missed>), RushFault>
+    requires team { draft.team ≡ pass.old.team }
+    requires workers { IsBadCount site.now.workers → ⊥ }
+    ensures { IfOk result (λ step. IsStep site.now.workers row.now draft pass.old step.0 step.1
+        pass.new) }
+{
+    let mut draft = draft;
     match row {
-        Row::Open { .. } => 0,
-        Row::Put { draft, .. } => *draft,
-        Row::Remove { draft, .. } => *draft,
-        Row::Found { draft, .. } => *draft,
-        Row::Test { draft } => *draft,
-        Row::Commit { draft } => *draft,
-        Row::Abandon { draft } => *draft,
+        Row::Open { .. } => Ok((Some(draft), None)),
+        Row::Put { sheet, .. } => {
+            let missed = put(site.alloc, &mut draft, sheet.sheet())?;
+            Ok((Some(draft), missed))
+        }
+        Row::Remove { name, .. } => {
+            let missed = remove(&mut draft, *name)?;
+            Ok((Some(draft), missed))
+        }
+        Row::Found { .. } => Ok((Some(draft), None)),
+        Row::Test { .. } => Ok((Some(draft), None)),
+        Row::Commit { .. } => {
+            commit(site, pass, draft)?;
+            Ok((None, None))
+        }
+        Row::Abandon { .. } => Ok((None, None)),
     }
 }
 
@@ -93,27 +148,19 @@ impl<L: Ledger> Hand<L> {
         ensures { result ≡ new_hand pass }
     {
         Hand {
-            drafts: Vec::new(alloc),
-            own: Vec::new(alloc),
+            drafts: HashMap::new(alloc),
             pass,
             notes: Vec::new(alloc),
         }
     }
 
-    // The line `open`.
-    fn open<R: Wait>(&mut self, site: &Site<'_, L, R>, team: Team) -> Result<(), RushFault>
-        ensures { OnOk result (IsOpened self.old team self.new) }
+    // A line that opens the draft of this number.
+    fn open<R: Wait>(&mut self, site: &Site<'_, L, R>, number: usize) -> Result<(), RushFault>
+        ensures { OnOk result (IsOpened self.old number self.new) }
     {
-        self.own.reserve(1)?;
-        if team.number() != self.pass.team().number() {
-            self.drafts.push(DraftSlot::empty())?;
-            self.own.push_reserved(false);
-            return Ok(());
-        }
         match site.desk.open(site.rt, site.alloc, &self.pass) {
             Ok(draft) => {
-                self.drafts.push(DraftSlot::of(site.alloc, draft)?)?;
-                self.own.push_reserved(true);
+                self.drafts.insert(number, draft)?;
                 Ok(())
             }
             Err(OpenFault::Foreign { name: _ }) => Err(RushFault::Foreign),
@@ -122,121 +169,48 @@ impl<L: Ledger> Hand<L> {
         }
     }
 
-    // The lines `put` and `remove`; why the edit is refused, if it is.
-    fn edit(
-        &mut self,
-        alloc: Global,
-        number: usize,
-        edit: &Edit<'_>,
-    ) -> Result<Option<EditRefusal>, AllocError>
-        ensures edited { OnOk result (self.new
-            ≡ after_edit self.old number (comes_to edit.now) (draft_at self.old.drafts number)) }
-        ensures refused { IfOk result (λ refusal. refusal
-            ≡ refused (comes_to edit.now) (draft_at self.old.drafts number)) }
+    // Puts a draft back that goes on.
+    fn put_back(&mut self, number: usize, next: Option<Draft>) -> Result<(), RushFault>
+        requires { draft_at self.old number ≡ None }
+        ensures drafts { OnOk result (IsSet self.old number next self.new) }
+        ensures pass { self.new.pass ≡ self.old.pass }
+        ensures notes { self.new.notes ≡ self.old.notes }
     {
-        match index_of(&self.drafts, number) {
-            None => Ok(None),
-            Some(i) => self.drafts[i].edit(alloc, edit),
+        if let Some(draft) = next {
+            self.drafts.insert(number, draft)?;
         }
+        Ok(())
     }
 
-    // The line `commit`.
-    fn commit<R: Threads + Wait>(
+    // A line on the draft of this number, and what is told of it.
+    fn run_on<R: Threads + Wait>(
         &mut self,
         site: &Site<'_, L, R>,
         number: usize,
-    ) -> Result<(), RushFault>
-        requires { IsBadCount site.now.workers → ⊥ }
-        ensures { OnOk result (IsTeamCommit site.now.workers self.old number self.new
-            (draft_at self.old.drafts number)) }
-    {
-        let Some(i) = index_of(&self.drafts, number) else {
-            return Ok(());
-        };
-        let Some(draft) = self.drafts[i].take() else {
-            unreachable!();
-        };
-        let committed = site.desk.commit(
-            site.rt,
-            site.alloc,
-            &mut self.pass,
-            draft,
-            site.workers,
-            &OpenGate,
-        );
-        let Err(fault) = committed else {
-            return Ok(());
-        };
-        match fault.cause {
-            CommitCause::ThreadRefused => Err(RushFault::ThreadRefused),
-            CommitCause::OutOfMemory => Err(RushFault::OutOfMemory),
-            CommitCause::OtherTeam | CommitCause::BadWorkers | CommitCause::GateShut { name: _ } =>
-                { unreachable!() }
-        }
-    }
-
-    // The line `abandon`.
-    fn abandon(&mut self, number: usize)
-        ensures { self.new ≡ abandoned self.old number (draft_at self.old.drafts number) }
-    {
-        if let Some(i) = index_of(&self.drafts, number) {
-            let _ = self.drafts[i].take();
-        }
-    }
-
-    // Whether the draft of a number is the team's and has ended.
-    fn has_ended(&self, number: usize) -> bool
-        ensures { result ≡ has_ended self.now number }
-    {
-        is_own(&self.own, number) && index_of(&self.drafts, number).is_none()
-    }
-
-    // What a line says; why its edit is refused, if it is.
-    fn run<R: Threads + Wait>(
-        &mut self,
-        site: &Site<'_, L, R>,
         row: &Row,
     ) -> Result<Option<Missed>, RushFault>
-        requires { IsBadCount site.now.workers → ⊥ }
-        ensures done { OnOk result (IsRowDone site.now.workers self.old row.now self.new) }
-        ensures told { IfOk result (λ missed. missed ≡ told_edit self.old row.now) }
+        requires own { AllOwn self.old }
+        requires workers { IsBadCount site.now.workers → ⊥ }
+        ensures { IfOk result (λ missed. (next : Option Draft)
+            × IsOn site.now.workers row.now number (draft_at self.old number) self.old.pass next
+            missed self.new.pass
+            × IsSet self.old number next self.new
+            × (self.new.notes ≡ self.old.notes)) }
     {
-        match row {
-            Row::Open { team } => {
-                self.open(site, *team)?;
-                Ok(None)
-            }
-            Row::Put { draft, sheet } => {
-                let sheet = sheet.sheet();
-                let refusal = self.edit(site.alloc, *draft, &Edit::Put { sheet })?;
-                let name = sheet.name();
-                Ok(refusal.map(|refusal| Missed::PutRefused { name, refusal }))
-            }
-            Row::Remove { draft, name } => {
-                let name = *name;
-                let refusal = self.edit(site.alloc, *draft, &Edit::Remove { name })?;
-                Ok(refusal.map(|refusal| Missed::RemoveRefused { name, refusal }))
-            }
-            Row::Found { .. } => Ok(None),
-            Row::Test { .. } => Ok(None),
-            Row::Commit { draft } => {
-                self.commit(site, *draft)?;
-                Ok(None)
-            }
-            Row::Abandon { draft } => {
-                self.abandon(*draft);
-                Ok(None)
-            }
-        }
+        let Some(draft) = self.drafts.remove(&number) else {
+            return Ok(Some(Missed::Ended { draft: number }));
+        };
+        let (next, missed) = step(site, &mut self.pass, draft, row)?;
+        self.put_back(number, next)?;
+        Ok(missed)
     }
 
     // Tells of a line why it did nothing, if so.
     fn note(&mut self, line: u64, missed: Option<Missed>) -> Result<(), AllocError>
-        ensures { OnOk result (self.new ≡ noting self.old line missed) }
+        ensures { OnOk result (self.new ≡ record self.old { notes = self.old.notes ++ noted line missed }) }
     {
-        match missed {
-            Some(missed) => self.notes.push(Note { line, missed })?,
-            None => {}
+        if let Some(missed) = missed {
+            self.notes.push(Note { line, missed })?;
         }
         Ok(())
     }
@@ -245,20 +219,17 @@ impl<L: Ledger> Hand<L> {
     fn run_line<R: Threads + Wait>(
         &mut self,
         site: &Site<'_, L, R>,
-        line: &Line,
+        line: &TeamLine<'_>,
     ) -> Result<(), RushFault>
-        requires { IsBadCount site.now.workers → ⊥ }
+        requires own { AllOwn self.old }
+        requires workers { IsBadCount site.now.workers → ⊥ }
         ensures { OnOk result (IsLineDone site.now.workers self.old line.now self.new) }
     {
-        let draft = draft_of(&line.row);
-        let has_ended = self.has_ended(draft);
-        let refused = self.run(site, &line.row)?;
-        let missed = if has_ended {
-            Some(Missed::Ended { draft })
-        } else {
-            refused
-        };
-        self.note(line.number, missed)?;
+        if opens(&line.line.row).is_some() {
+            return self.open(site, line.draft);
+        }
+        let missed = self.run_on(site, line.draft, &line.line.row)?;
+        self.note(line.line.number, missed)?;
         Ok(())
     }
 
@@ -277,11 +248,11 @@ impl<L: Ledger> Hand<L> {
     }
 }
 
-/// Runs a team's lines of a script, whose other lines are skipped. The first fault that is no refusal ends them.
+/// Runs a team's lines. The first fault that is no refusal ends them.
 pub(crate) fn run_lines<L: Ledger, R: Threads + Wait>(
     site: &Site<'_, L, R>,
     pass: Pass<L>,
-    lines: &[Line],
+    lines: &[TeamLine<'_>],
 ) -> Result<Hand<L>, RushFault>
     requires { IsBadCount site.now.workers → ⊥ }
     ensures { IfOk result (λ last. AreDone site.now.workers (new_hand pass) lines.now last) }

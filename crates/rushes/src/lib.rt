@@ -1,14 +1,13 @@
 //! Rushing a script: each team's lines run on a thread of its own over one locked book, and then the log is printed.
 #![tactic(auto)]
 
-mod edit;
 mod fault;
 mod hand;
 mod note;
 mod printing;
 mod rushing;
 mod site;
-mod slot;
+mod split;
 mod teams;
 
 pub use fault::RushFault;

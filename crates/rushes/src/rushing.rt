@@ -7,6 +7,7 @@ ghost use Rattle.rushes.specs.Printed.{IsRushText};
 use crate::fault::RushFault;
 use crate::printing::{log_text, notes_text};
 use crate::site::Site;
+use crate::split::Split;
 use crate::teams::{passes_of, run_teams, teams_of};
 use book_lock::{CloseCause, Desk};
 use drafts::TEAM_LIMIT;
@@ -39,22 +40,23 @@ fn rush_on<L: Ledger + Send + Sync, R: Threads + Wait + Sync>(
     ensures { IfOk result (λ texts. IsRushText workers lines.now (string_bytes texts.log)
         (string_bytes texts.notes)) }
 {
+    let split = Split::new(alloc, lines)?;
     let Ok((desk, passes)) = Desk::<L>::new(alloc, blank, TEAM_LIMIT) else {
         return Err(RushFault::OutOfMemory);
     };
-    // For the teams and the passes that come back; made before any thread starts.
+    // For the teams that come back; made before any thread starts.
     let room = Vec::with_capacity(alloc, passes.len())?;
-    let pass_room = Vec::with_capacity(alloc, passes.len())?;
     let site = Site {
         rt,
         alloc,
         desk: &desk,
         workers,
     };
-    let ends = run_teams(&site, passes, lines)?;
+    let ends = run_teams(&site, passes, &split)?;
     let teams = teams_of(ends, room)?;
     let notes = notes_text(alloc, &teams)?;
-    match desk.close(passes_of(teams, pass_room)) {
+    let passes = passes_of(alloc, teams)?;
+    match desk.close(passes) {
         Ok(closing) => {
             let log = log_text(alloc, &closing)?;
             Ok(RushTexts { log, notes })

@@ -2,13 +2,14 @@
 ghost use Rattle.std.specs.Prelude.{◌≡◌, ◌≤◌, [], IfOk, IfErr, length, map, vec_capacity};
 ghost use Rattle.candidate_workers.specs.Faults.{IsBadCount};
 ghost use Rattle.rushes.specs.Faults.{Each, IsEnd, first_fault};
+ghost use Rattle.rushes.specs.TeamLines.{lines_of};
 
 use crate::fault::RushFault;
 use crate::hand::{Hand, run_lines};
 use crate::site::Site;
+use crate::split::{Split, TeamLine};
 use book_lock::Pass;
-use scripts::{Line, Row};
-use std::alloc::AllocError;
+use std::alloc::{AllocError, Global};
 use std::snapshot::Snapshot;
 use std::sync::Wait;
 use std::sync::ledger::Ledger;
@@ -21,7 +22,7 @@ pub(crate) type Ended<L> = Result<Hand<L>, RushFault>;
 /// What a thread gives back is what the lines made of this pass.
 #[derive(Drop)]
 pub(crate) struct TeamPromise<'a, L: Ledger> {
-    lines: &'a [Line],
+    lines: &'a [TeamLine<'a>],
     pass: Snapshot<Pass<L>>,
     workers: usize,
 }
@@ -33,24 +34,12 @@ impl<'a, L: Ledger> Promise<Result<Hand<L>, RushFault>> for TeamPromise<'a, L> {
 // The thread of a team; or what the team came to, if it needs none or got none.
 type Started<'a, L> = Result<PromisedHandle<Ended<L>, TeamPromise<'a, L>>, Ended<L>>;
 
-// Whether a line opens a draft for that team.
-fn has_lines(lines: &[Line], team: u64) -> bool {
-    for line in lines {
-        if let Row::Open { team: opener } = &line.row {
-            if opener.number() == team {
-                return true;
-            }
-        }
-    }
-    false
-}
-
-// Starts a team's thread. A team for which no draft is opened has nothing to do, and its lines are run here.
+// Starts a team's thread. A team without lines needs none.
 fn start<'s, 'e: 's, L: Ledger + Send + Sync, R: Threads + Wait + Sync>(
     site: &'e Site<'e, L, R>,
     scope: &Scope<'s, &'e ()>,
     pass: Pass<L>,
-    lines: &'e [Line],
+    lines: &'e [TeamLine<'e>],
 ) -> Started<'e, L>
     requires { IsBadCount site.now.workers → ⊥ }
     ensures thread { IfOk result (λ h. (h.promise.lines.now ≡ lines.now)
@@ -58,7 +47,7 @@ fn start<'s, 'e: 's, L: Ledger + Send + Sync, R: Threads + Wait + Sync>(
         × (h.promise.pass.value ≡ pass)) }
     ensures over { IfErr result (λ ended. IsEnd site.now.workers lines.now pass ended) }
 {
-    if !has_lines(lines, pass.team().number()) {
+    if lines.is_empty() {
         return Err(run_lines(site, pass, lines));
     }
     let kept = TeamPromise {
@@ -73,15 +62,9 @@ fn start<'s, 'e: 's, L: Ledger + Send + Sync, R: Threads + Wait + Sync>(
 }
 
 // What a team came to, once its thread is joined.
-fn finish<'e, L: Ledger, R: Threads>(
-    rt: &R,
-    lines: &[Line],
-    workers: usize,
-    started: Started<'e, L>,
-) -> Ended<L>
-    ensures thread { IfOk started.entry (λ h. h.promise.lines.now ≡ lines.now
-        → h.promise.workers ≡ workers
-        → IsEnd workers lines.now h.promise.pass.value result) }
+fn finish<'e, L: Ledger, R: Threads>(rt: &R, started: Started<'e, L>) -> Ended<L>
+    ensures thread { IfOk started.entry (λ h. IsEnd h.promise.workers h.promise.lines.now
+        h.promise.pass.value result) }
     ensures over { IfErr started.entry (λ ended. result ≡ ended) }
 {
     match started {
@@ -93,22 +76,19 @@ fn finish<'e, L: Ledger, R: Threads>(
 // Joins all teams in their order, and gives what each came to.
 fn join_all<'e, L: Ledger, R: Threads>(
     rt: &R,
-    lines: &[Line],
-    workers: usize,
     all: Vec<Started<'e, L>>,
     room: Vec<Ended<L>>,
 ) -> Vec<Ended<L>>
     requires empty { room.items ≡ [] }
     requires room { length all.items ≤ vec_capacity room }
     ensures { Each (λ started ended. IfOk started
-        (λ h. h.promise.lines.now ≡ lines.now → h.promise.workers ≡ workers
-        → IsEnd workers lines.now h.promise.pass.value ended)
+        (λ h. IsEnd h.promise.workers h.promise.lines.now h.promise.pass.value ended)
         × IfErr started (λ over. ended ≡ over))
         all.entry.items result.items }
 {
     let mut ends = room;
     for started in all {
-        ends.push_reserved(finish(rt, lines, workers, started));
+        ends.push_reserved(finish(rt, started));
     }
     ends
 }
@@ -118,18 +98,20 @@ fn run_all<'s, 'e: 's, L: Ledger + Send + Sync, R: Threads + Wait + Sync>(
     site: &'e Site<'e, L, R>,
     scope: &Scope<'s, &'e ()>,
     passes: Vec<Pass<L>>,
-    lines: &'e [Line],
+    split: &'e Split<'e>,
 ) -> Result<Vec<Ended<L>>, AllocError>
     requires { IsBadCount site.now.workers → ⊥ }
     ensures { IfOk result (λ ends. Each
-        (λ start ended. IsEnd site.now.workers lines.now start ended) passes.items ends.items) }
+        (λ start ended. IsEnd site.now.workers (lines_of start.team [] split.now) start ended)
+        passes.items ends.items) }
 {
     let room = Vec::with_capacity(site.alloc, passes.len())?;
     let mut all = Vec::with_capacity(site.alloc, passes.len())?;
     for pass in passes {
+        let lines = split.lines_of(pass.team());
         all.push_reserved(start(site, scope, pass, lines));
     }
-    Ok(join_all(site.rt, lines, site.workers, all, room))
+    Ok(join_all(site.rt, all, room))
 }
 
 /// Runs the lines of each pass's team on a thread of its own, joins all threads, and gives what each team came to, in
@@ -137,11 +119,12 @@ fn run_all<'s, 'e: 's, L: Ledger + Send + Sync, R: Threads + Wait + Sync>(
 pub(crate) fn run_teams<L: Ledger + Send + Sync, R: Threads + Wait + Sync>(
     site: &Site<'_, L, R>,
     passes: Vec<Pass<L>>,
-    lines: &[Line],
+    split: &Split<'_>,
 ) -> Result<Vec<Ended<L>>, AllocError>
     requires { IsBadCount site.now.workers → ⊥ }
     ensures { IfOk result (λ ends. Each
-        (λ start ended. IsEnd site.now.workers lines.now start ended) passes.items ends.items) }
+        (λ start ended. IsEnd site.now.workers (lines_of start.team [] split.now) start ended)
+        passes.items ends.items) }
 {
     thread::scope(
         thread::scope_env(),
@@ -149,9 +132,10 @@ pub(crate) fn run_teams<L: Ledger + Send + Sync, R: Threads + Wait + Sync>(
         |scope| -> Result<Vec<Ended<L>>, AllocError>
             requires { IsBadCount site.now.workers → ⊥ }
             ensures { IfOk result (λ ends. Each
-                (λ start ended. IsEnd site.entry.now.workers lines.entry.now start ended)
+                (λ start ended. IsEnd site.entry.now.workers
+                (lines_of start.team [] split.entry.now) start ended)
                 passes.items ends.items) }
-        { run_all(site, scope, passes, lines) },
+        { run_all(site, scope, passes, split) },
     )
 }
 
@@ -172,15 +156,16 @@ pub(crate) fn teams_of<L: Ledger>(
     Ok(teams)
 }
 
-/// The passes of teams, put into room that was made before.
-pub(crate) fn passes_of<L: Ledger>(teams: Vec<Hand<L>>, room: Vec<Pass<L>>) -> Vec<Pass<L>>
-    requires empty { room.items ≡ [] }
-    requires room { length teams.items ≤ vec_capacity room }
-    ensures { result.items ≡ map (λ last. last.pass) teams.items }
+/// The passes of teams.
+pub(crate) fn passes_of<L: Ledger>(
+    alloc: Global,
+    teams: Vec<Hand<L>>,
+) -> Result<Vec<Pass<L>>, AllocError>
+    ensures { IfOk result (λ passes. passes.items ≡ map (λ last. last.pass) teams.items) }
 {
-    let mut passes = room;
+    let mut passes = Vec::with_capacity(alloc, teams.len())?;
     for last in teams {
-        passes.push_reserved(last.into_pass());
+        passes.push(last.into_pass())?;
     }
-    passes
+    Ok(passes)
 }

@@ -1,5 +1,4 @@
-use Rattle.std.proofs.Common.{◌≡◌, ◌≤◌, ◌+◌, ◌++◌, length, map, vec_len}
-use Rattle.std.specs.Prelude.{vec_capacity}
+use Rattle.std.proofs.Common.{◌≡◌, ◌++◌, length, map}
 use Rattle.std.specs.Vec.Iter.{into_iter_items, into_iter_len}
 use Rattle.rushes.proofs.teams.passes_of.Given as goal
 
@@ -7,6 +6,5 @@ use Rattle.rushes.proofs.teams.passes_of.Given as goal
 abbrev pub invariant-loop-last : goal.invariant-loop-last
 invariant-loop-last g l = record {
   counted : length (into_iter_items l.last-iterator) ≡ into_iter_len l.last-iterator;
-  room : vec_len l.passes + into_iter_len l.last-iterator ≤ vec_capacity l.passes;
   rest : l.passes.items ++ map (λ last. last.pass) (into_iter_items l.last-iterator) ≡ map (λ last. last.pass) l.fn.teams.items;
 }
