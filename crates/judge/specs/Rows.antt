@@ -1,8 +1,8 @@
 -- The lines of settings: what a node's threads and mutexes are set to (POSIX.1-2017, SCHED_FIFO and
 -- PTHREAD_PRIO_PROTECT). A greater number is a higher priority.
-use Rattle.std.specs.Prelude.{ℕ, ◌+◌, ◌-◌, Bool, true, false, ◌&&◌, nat_le, List, [], ◌∷◌, ◌++◌, Option, Some, None, Result, Ok, Err, bytes_eq, codes, map, if◌then◌else◌}
-use Rattle.lines.specs.Lines.{kept_lines}
-use Rattle.lines.specs.Words.{name_in, number_in, words}
+use Rattle.std.specs.Prelude.{ℕ, ◌+◌, ◌-◌, Bool, true, false, ◌&&◌, nat_le, List, [], ◌∷◌, Option, Some, None, Result, bytes_eq, codes, map, if◌then◌else◌}
+use Rattle.lines.specs.Lines.{kept_lines, rows_by}
+use Rattle.lines.specs.Words.{name_in, number_in}
 use Rattle.judge.specs.declared.rows.SettingRow.{SettingRow}
 use Rattle.judge.specs.declared.rows.SettingRow.TheVariants.{Thread, Mutex}
 use Rattle.judge.specs.declared.rows.TheConstants.{NUMBER_LIMIT}
@@ -47,21 +47,9 @@ setting_row_in line (word ∷ name ∷ number ∷ []) =
 setting_row_in line (word ∷ name ∷ number ∷ more ∷ rest) = None
 
 -- ---- a text
--- these, and then the rows that are found; a faulty line stays the fault
-abbrev pub before : List SettingRow → Result (List SettingRow) ℕ → Result (List SettingRow) ℕ
-before front (Ok rows) = Ok (front ++ rows)
-before front (Err line) = Err line
-
--- one row more in front, or the number of the bad line
-abbrev pub with_row : ℕ → Option SettingRow → Result (List SettingRow) ℕ
-    → Result (List SettingRow) ℕ
-with_row line None rest = Err line
-with_row line (Some row) rest = before (row ∷ []) rest
-
 -- the rows of numbered lines, or the number of the first faulty line
 abbrev pub rows_from : List (ℕ × List ℕ) → Result (List SettingRow) ℕ
-rows_from [] = Ok []
-rows_from (l ∷ ls) = with_row l.0 (setting_row_in l.0 (words l.1)) (rows_from ls)
+rows_from ls = rows_by setting_row_in ls
 
 -- the rows of the lines of a text that are not skipped, or the number of the first faulty line
 abbrev pub rows_in : List ℕ → Result (List SettingRow) ℕ

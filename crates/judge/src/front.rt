@@ -7,8 +7,8 @@ ghost use Rattle.judge.specs.Front.{behind_front, front_of, is_setting};
 ghost use Rattle.judge.specs.Rows.{rows_from};
 
 use crate::fault::SettingsFault;
-use crate::rows::{SettingRow, read_row};
-use lines::{TextPlace, Words, next_kept};
+use crate::rows::SettingRow;
+use lines::{LineRow, TextPlace, Words, next_kept};
 use std::alloc::Global;
 
 /// The settings in front of a text, and the place behind them.
@@ -50,7 +50,7 @@ pub fn read_front<'a>(alloc: Global, at: TextPlace<'a>) -> Result<Front<'a>, Set
         if !is_setting(line.text) {
             break;
         }
-        let Some(row) = read_row(line.number, line.text) else {
+        let Some(row) = SettingRow::read(line.number, line.text) else {
             return Err(SettingsFault::BadLine { line: line.number });
         };
         if rows.push(row).is_err() {

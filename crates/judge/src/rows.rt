@@ -1,11 +1,10 @@
 //! The lines of settings: `thread NAME NUMBER` and `mutex NAME NUMBER`.
 ghost use Rattle.std.specs.Prelude.{◌≡◌, Ok, MatchResult, IfOk, map};
-ghost use Rattle.lines.specs.Words.{words};
 ghost use Rattle.judge.specs.Faults.{IsRowsFault};
-ghost use Rattle.judge.specs.Rows.{as_written, heights, mutexes_of, number_in_range, setting_row_in, setting_row, rows_in, threads_of, turned};
+ghost use Rattle.judge.specs.Rows.{as_written, heights, mutexes_of, number_in_range, setting_row, rows_in, threads_of, turned};
 
 use crate::fault::SettingsFault;
-use lines::{TextPlace, Words, name_of, next_kept, number_of};
+use lines::{LineRow, TextPlace, Words, name_of, number_of, read_lines};
 use std::alloc::{AllocError, Global};
 use task_sheet::Name;
 
@@ -62,20 +61,23 @@ fn row_of(word: &[u8], setting: Setting) -> Option<SettingRow>
     }
 }
 
-// The row that a line says.
-pub(crate) fn read_row(line: u64, text: &[u8]) -> Option<SettingRow>
-    ensures { result ≡ setting_row_in line (words text.now) }
-{
-    let mut words = Words::of(text);
-    let word = words.next()?;
-    let name = words.next()?;
-    let number = words.next()?;
-    match words.next() {
-        Some(_more) => None,
-        None => {
-            let name = name_of(name)?;
-            let number = number_in_range(number)?;
-            row_of(word, Setting { line, name, number })
+impl LineRow for SettingRow {
+    ghost use Rattle.judge.specs.Rows.{setting_row_in};
+
+    ghost row_in = { setting_row_in };
+
+    fn read(line: u64, text: &[u8]) -> Option<SettingRow> {
+        let mut words = Words::of(text);
+        let word = words.next()?;
+        let name = words.next()?;
+        let number = words.next()?;
+        match words.next() {
+            Some(_more) => None,
+            None => {
+                let name = name_of(name)?;
+                let number = number_in_range(number)?;
+                row_of(word, Setting { line, name, number })
+            }
         }
     }
 }
@@ -85,18 +87,7 @@ pub(crate) fn read_rows(alloc: Global, text: &[u8]) -> Result<Vec<SettingRow>, S
     ensures { MatchResult result
         (λ rows. rows_in text.now ≡ Ok rows.items) (λ fault. IsRowsFault fault (rows_in text.now)) }
 {
-    let mut at = TextPlace::start(text);
-    let mut rows = Vec::new(alloc);
-    while let Ok((line, after)) = next_kept(at) {
-        let Some(row) = read_row(line.number, line.text) else {
-            return Err(SettingsFault::BadLine { line: line.number });
-        };
-        if rows.push(row).is_err() {
-            return Err(SettingsFault::OutOfMemory);
-        }
-        at = after;
-    }
-    Ok(rows)
+    read_lines(alloc, TextPlace::start(text))?.map_err(|line| SettingsFault::BadLine { line })
 }
 
 // What rows set of threads and of mutexes.

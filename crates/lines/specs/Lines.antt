@@ -1,6 +1,8 @@
 -- Lines of a text.
-use Rattle.std.specs.Prelude.{ℕ, ◌+◌, ◌==◌, Bool, true, List, [], ◌∷◌, if◌then◌else◌}
+use Rattle.std.specs.Prelude.{ℕ, ◌+◌, ◌==◌, Bool, true, List, [], ◌∷◌, Option, ok_or, Result, if◌then◌else◌}
 use Rattle.std.specs.List.{slice_split}
+use Rattle.lines.specs.Steps.{each_in}
+use Rattle.lines.specs.Words.{words}
 
 -- a text, cut at each line end: what stands behind the last line end is the last part
 abbrev pub parts : List ℕ → List (List ℕ)
@@ -32,3 +34,8 @@ kept_from number (l ∷ ls) =
 -- the lines of a text that are not skipped, each with its number; the first line has the number 1
 abbrev pub kept_lines : List ℕ → List (ℕ × List ℕ)
 kept_lines text = kept_from 1 (lines_of text)
+
+-- what numbered lines say, each by its number and words, or the number of the first faulty one
+abbrev pub rows_by : {A : Type 0} → (ℕ → List (List ℕ) → Option A) → List (ℕ × List ℕ)
+    → Result (List A) ℕ
+rows_by row_in ls = each_in (λ l. ok_or (row_in l.0 (words l.1)) l.0) ls

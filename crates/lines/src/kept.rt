@@ -1,9 +1,11 @@
 //! Reading the lines that are not skipped.
-ghost use Rattle.std.specs.Prelude.{◌≡◌, ◌+◌, ◌<◌, ◌∷◌, [], length, MatchResult, IfOk};
-ghost use Rattle.lines.specs.Lines.{is_skipped, kept_from, lines_of};
+ghost use Rattle.std.specs.Prelude.{◌≡◌, ◌+◌, ◌<◌, ℕ, List, ◌∷◌, [], length, Option, Ok, Err, MatchResult, IfOk};
+ghost use Rattle.lines.specs.Lines.{is_skipped, kept_from, lines_of, rows_by};
+ghost use Rattle.lines.specs.Words.{words};
 
 use crate::next::next_line;
 use crate::place::TextPlace;
+use std::alloc::{AllocError, Global};
 
 /// A line that is not skipped.
 #[derive(Clone, Copy)]
@@ -45,4 +47,35 @@ pub fn next_kept<'a>(at: TextPlace<'a>) -> Result<(KeptLine<'a>, TextPlace<'a>),
         at = after;
     }
     Err(at.line)
+}
+
+/// What a line says by itself.
+pub trait LineRow: Drop + Sized {
+    ghost row_in: { ℕ → List (List ℕ) → Option Self };
+
+    /// What a line with this number says; `None` of a faulty line.
+    fn read(number: u64, line: &[u8]) -> Option<Self>
+        ensures { result ≡ row_in number (words line.now) };
+}
+
+/// What each line says from a place on, or the number of the first faulty one. Empty lines and lines that begin with `#`
+/// are skipped and counted; the last line may lack its LF. The error is want of memory.
+pub fn read_lines<R: LineRow>(
+    alloc: Global,
+    at: TextPlace<'_>,
+) -> Result<Result<Vec<R>, u64>, AllocError>
+    ensures { IfOk result (λ found.
+        let read = rows_by R.row_in (kept_from at.entry.line (lines_of at.entry.rest.now)) in
+        MatchResult found (λ rows. read ≡ Ok rows.items) (λ line. read ≡ Err line)) }
+{
+    let mut at = at;
+    let mut rows = Vec::new(alloc);
+    while let Ok((line, after)) = next_kept(at) {
+        let Some(row) = R::read(line.number, line.text) else {
+            return Ok(Err(line.number));
+        };
+        rows.push(row)?;
+        at = after;
+    }
+    Ok(Ok(rows))
 }

@@ -8,6 +8,7 @@ use Rattle.std.proofs.lemmas.Fmt.{decimal_nonempty}
 use Rattle.std.proofs.lemmas.Slice.Eq.{bytes_eq-Decides}
 use Rattle.task_sheet.specs.Name.{IsName, is_name, is_name_byte}
 use Rattle.lines.specs.Lines.{is_skipped, kept_from, lines_of}
+use Rattle.lines.specs.Steps.{ahead}
 use Rattle.lines.specs.Words.{words}
 use Rattle.lines.proofs.NumberLaws.{number_again}
 use Rattle.lines.proofs.Parts.{line_cut}
@@ -15,7 +16,7 @@ use Rattle.scripted.proofs.Spelled.{Lacks, cut_at, joined_again, joined_lacks, n
 use Rattle.ceiling_kernel.specs.Runs.{no_record}
 use Rattle.ceiling_kernel.specs.declared.trace.JobRecord.{JobRecord}
 use Rattle.ceiling_kernel.specs.declared.trace.Slice.{Slice}
-use Rattle.trace_text.specs.Rows.{before, finish_in, rows_from, trace_row_in}
+use Rattle.trace_text.specs.Rows.{finish_in, rows_from, trace_row_in}
 use Rattle.trace_text.specs.declared.rows.TraceRow.{TraceRow}
 use Rattle.trace_text.specs.declared.rows.TraceRow.TheVariants as row
 use Rattle.kept_promises.specs.Rows.{job_row, jobs_from, slice_row, slices_from}
@@ -115,10 +116,10 @@ one_more : (line rest : List ℕ) → Lacks 10 line → lines_of (line ++ 10 ∷
 one_more line rest lacks = line_cut (line ++ 10 ∷ rest) line rest (cut_at 10 line rest lacks)
 
 -- a line that is a row, in front of others
-row_more : (number : ℕ) (text : List ℕ) (ls : List (List ℕ)) (r : TraceRow) → is_skipped text ≡ false → trace_row_in number (words text) ≡ Some r → rows_from (kept_from number (text ∷ ls)) ≡ before (r ∷ []) (rows_from (kept_from (number + 1) ls))
+row_more : (number : ℕ) (text : List ℕ) (ls : List (List ℕ)) (r : TraceRow) → is_skipped text ≡ false → trace_row_in number (words text) ≡ Some r → rows_from (kept_from number (text ∷ ls)) ≡ ahead (r ∷ []) (rows_from (kept_from (number + 1) ls))
 row_more number text ls r kept is = rw (kept, is) refl
 
-before_more : (r : TraceRow) (rows : List TraceRow) (rest : Result (List TraceRow) ℕ) → before (r ∷ []) (before rows rest) ≡ before (r ∷ rows) rest
+before_more : (r : TraceRow) (rows : List TraceRow) (rest : Result (List TraceRow) ℕ) → ahead (r ∷ []) (ahead rows rest) ≡ ahead (r ∷ rows) rest
 before_more r rows (Ok more) = refl
 before_more r rows (Err line) = refl
 
@@ -136,17 +137,17 @@ jobs_again (job ∷ jobs) line each =
     ap lines_of (job_shape job.name (decimal job.release) (finish_words job.finish) (job_lines jobs)) ∙ one_more (job_text job) (job_lines jobs) lacks in
     ap (λ (ls : List (List ℕ)). rows_from (kept_from line ls)) cut
     ∙ row_more line (job_text job) (lines_of (job_lines jobs)) (row.Job (job_row line job)) refl (job_again job line each.0)
-    ∙ ap (before (row.Job (job_row line job) ∷ [])) (jobs_again jobs (line + 1) each.1)
+    ∙ ap (ahead (row.Job (job_row line job) ∷ [])) (jobs_again jobs (line + 1) each.1)
 
-before_none : (rest : Result (List TraceRow) ℕ) → before [] rest ≡ rest
+before_none : (rest : Result (List TraceRow) ℕ) → ahead [] rest ≡ rest
 before_none (Ok rows) = refl
 before_none (Err line) = refl
 
 pub slices_again : (jobs : List JobRecord) (ss : List Slice) (line : ℕ) (more : List ℕ) → AllByRecursion (λ s. IsSliceLine jobs s) ss
-    → rows_from (kept_from line (lines_of (slice_lines jobs ss ++ more))) ≡ before (map row.Slice (slices_from jobs line ss)) (rows_from (kept_from (line + length ss) (lines_of more)))
+    → rows_from (kept_from line (lines_of (slice_lines jobs ss ++ more))) ≡ ahead (map row.Slice (slices_from jobs line ss)) (rows_from (kept_from (line + length ss) (lines_of more)))
 slices_again jobs [] line more each =
     let z : line ≡ line + 0 = omega arith in
-    sym (before_none (rows_from (kept_from line (lines_of more)))) ∙ ap (λ n. before [] (rows_from (kept_from n (lines_of more)))) z
+    sym (before_none (rows_from (kept_from line (lines_of more)))) ∙ ap (λ n. ahead [] (rows_from (kept_from n (lines_of more)))) z
 slices_again jobs (s ∷ ss) line more each =
     let name : List ℕ = (slice_index_or jobs s.job no_record).name in
     let lacks : Lacks 10 (slice_text jobs s) = joined_lacks 32 10 (decimal s.start ∷ decimal s.stop ∷ name ∷ []) refl (slice_words 10 jobs s line_end each.0) in
@@ -155,6 +156,6 @@ slices_again jobs (s ∷ ss) line more each =
     let next : line + 1 + length ss ≡ line + suc (length ss) = omega arith in
     ap (λ (ls : List (List ℕ)). rows_from (kept_from line ls)) cut
     ∙ row_more line (slice_text jobs s) (lines_of (slice_lines jobs ss ++ more)) (row.Slice (slice_row jobs line s)) (slice_kept jobs s each.0) (slice_again jobs s line each.0)
-    ∙ ap (before (row.Slice (slice_row jobs line s) ∷ [])) (slices_again jobs ss (line + 1) more each.1)
+    ∙ ap (ahead (row.Slice (slice_row jobs line s) ∷ [])) (slices_again jobs ss (line + 1) more each.1)
     ∙ before_more (row.Slice (slice_row jobs line s)) (map row.Slice (slices_from jobs (line + 1) ss)) (rows_from (kept_from (line + 1 + length ss) (lines_of more)))
-    ∙ ap (λ n. before (row.Slice (slice_row jobs line s) ∷ map row.Slice (slices_from jobs (line + 1) ss)) (rows_from (kept_from n (lines_of more)))) next
+    ∙ ap (λ n. ahead (row.Slice (slice_row jobs line s) ∷ map row.Slice (slices_from jobs (line + 1) ss)) (rows_from (kept_from n (lines_of more)))) next

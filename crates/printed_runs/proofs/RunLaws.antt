@@ -25,8 +25,9 @@ use Rattle.ceiling_kernel.proofs.FinishLaws.{finish_is}
 use Rattle.ceiling_kernel.proofs.MachineLaws.{idle_of, other_of, pending_parts, picked_is, start_of}
 use Rattle.ceiling_kernel.proofs.ReleaseLaws.{job_is, jobs_length}
 use Rattle.ceiling_kernel.proofs.SliceLaws.{longest_runs}
+use Rattle.lines.specs.Steps.{ahead}
 use Rattle.trace_text.specs.Faults.{IsTraceIn, are_too_many, overlap_from, trace_fault, rows_fault, unsorted_from}
-use Rattle.trace_text.specs.Rows.{before, rows_in}
+use Rattle.trace_text.specs.Rows.{rows_in}
 use Rattle.trace_text.specs.Rows as rows
 use Rattle.trace_text.specs.declared.fault.TraceFault.TheVariants as trace_fault_is
 use Rattle.trace_text.specs.declared.reading.TraceLines.{TraceLines}
@@ -190,7 +191,7 @@ module _ (U : List Task) (order : List ℕ) (rs : List Release) (until : ℕ) (t
   pub read_back : rows_in (trace_lines trace) ≡ Ok (rows_of trace)
   read_back =
       slices_again trace.jobs.items trace.slices.items 1 (job_lines trace.jobs.items) slices_spelled
-      ∙ ap (before (map row.Slice (slices_from trace.jobs.items 1 trace.slices.items))) (jobs_again trace.jobs.items (1 + length trace.slices.items) jobs_spelled)
+      ∙ ap (ahead (map row.Slice (slices_from trace.jobs.items 1 trace.slices.items))) (jobs_again trace.jobs.items (1 + length trace.slices.items) jobs_spelled)
 
   abbrev said_slices : List TraceSlice
   said_slices = slices_from trace.jobs.items 1 trace.slices.items

@@ -15,12 +15,12 @@ use Rattle.task_sheet.specs.Sheet.{CriticalSection, OutranksData, Named, AllOthe
 use Rattle.task_sheet.specs.TaskSet.{IsTaskSet}
 use Rattle.task_sheet.proofs.SheetLaws.{sheet_valid, outranks_valid}
 use Rattle.lines.specs.Lines.{kept_from, lines_of}
-use Rattle.lines.specs.Steps.{◌>>=◌}
+use Rattle.lines.specs.Steps.{◌>>=◌, each_in}
 use Rattle.lines.specs.Words.{number_in, words}
 use Rattle.lines.proofs.NumberLaws.{number_again}
 use Rattle.lines.proofs.Parts.{line_cut}
 use Rattle.drafts.specs.declared.team.TheConstants.{TEAM_LIMIT}
-use Rattle.scripts.specs.Rows.{each_in, field_case, made_in, all_sign, interrupt_in, interrupts_or_none, node_of, node_or_none, over_in, over_or_none, next_draft, next_field, next_name, next_number, only_draft, open_in, or_bad, pair_of, put_in, round, row_in, section_in, sections_in, sheet_in, sheet_with_jitter, up_to, value_of, value_or_zero, word_names}
+use Rattle.scripts.specs.Rows.{field_case, made_in, all_sign, interrupt_in, interrupts_or_none, node_of, node_or_none, over_in, over_or_none, next_draft, next_field, next_name, next_number, only_draft, open_in, or_bad, pair_of, put_in, round, row_in, section_in, sections_in, sheet_in, sheet_with_jitter, up_to, value_of, value_or_zero, word_names}
 use Rattle.scripts.specs.Script.{script_from, script_in}
 use Rattle.scripts.proofs.Nodes.{overheads_tested, interrupts_tested}
 use Rattle.scripts.specs.declared.line.Row.TheVariants.{Open, Put, Commit}
@@ -45,7 +45,6 @@ draft_next ws = ap (λ (o : Option ℕ). or_bad (up_to 1 o) >>= λ k. Ok (k, ws)
 
 -- ---- names
 names_each : (names : List (List ℕ)) → AllByRecursion IsName names → word_names names ≡ Ok names
-unfolding each_in
 names_each [] each = refl
 names_each (n ∷ ns) each = rw (each.0, names_each ns each.1) refl
 
@@ -119,7 +118,6 @@ section_again s is =
     rw (sides, halves, number_again s.at is.at, number_again s.len is.len, locks_again s.locks is.named is.some) refl
 
 sections_again : (ss : List CriticalSection) → AllByRecursion IsSpelled ss → sections_in (map section_word ss) ≡ Ok ss
-unfolding each_in
 sections_again [] each = refl
 sections_again (s ∷ ss) each = rw (section_again s each.0, sections_again ss each.1) refl
 
@@ -373,7 +371,6 @@ interrupt_again x short =
     rw (sides, number_again x.period short.period, number_again x.cost short.cost) refl
 
 each_again : (xs : List Interrupt) → AllByRecursion IsShortInterrupt xs → each_in interrupt_in (map interrupt_word xs) ≡ Ok xs
-unfolding each_in
 each_again [] each = refl
 each_again (x ∷ xs) each = rw (interrupt_again x each.0, each_again xs each.1) refl
 

@@ -1,5 +1,6 @@
 -- Reading line after line, as a loop does.
-use Rattle.std.proofs.Common.{◌≡◌, ℕ, ◌≤◌, ◌+◌, List, [], ◌∷◌, ◌++◌, length, Result, Ok, Err, refl, sym, ap, ◌∙◌, append_assoc, append-nil, length-append, arith}
+use Rattle.std.proofs.Common.{◌≡◌, ℕ, ◌≤◌, ◌+◌, List, [], ◌∷◌, ◌++◌, length, Result, Ok, Err, refl, sym, ap, ◌∙◌, append-nil, length-append, arith}
+use Rattle.lines.specs.Steps.{ahead}
 use Rattle.lines.specs.Words.{words}
 use Rattle.scripts.specs.declared.line.Line.{Line}
 use Rattle.scripts.specs.declared.line.Row.{Row}
@@ -9,16 +10,13 @@ use Rattle.scripts.specs.declared.line.RowFault.TheVariants as row
 use Rattle.scripts.specs.declared.line.ScriptFault.{ScriptFault}
 use Rattle.scripts.specs.Gives.{FailsRow}
 use Rattle.scripts.specs.Rows.{row_in}
-use Rattle.scripts.specs.Script.{before, fault_at, opened_after, script_from, IsFault}
+use Rattle.scripts.proofs.Ahead.{ahead-ahead}
+use Rattle.scripts.specs.Script.{fault_at, opened_after, script_from, IsFault}
 
 -- what is read so far is ahead of the lines that are left, and no more drafts were opened than lines were read
 pub record IsReadTo (front : List Line) (opened : ℕ) (left : List (ℕ × List ℕ)) (total : Result (List Line) ScriptFault) : Type 0 where
-  pub so_far : before front (script_from opened left) ≡ total
+  pub so_far : ahead front (script_from opened left) ≡ total
   pub few : opened ≤ length front
-
-before-before : (front : List Line) (line : Line) (rest : Result (List Line) ScriptFault) → before front (before (line ∷ []) rest) ≡ before (front ++ line ∷ []) rest
-before-before front line (Ok lines) = ap (λ (ys : List Line). Ok ys) (simp append_assoc)
-before-before front line (Err fault) = refl
 
 opened_after-le : (opened : ℕ) (row : Row) → opened_after opened row ≤ opened + 1
 opened_after-le opened (Open team) = omega arith
@@ -34,8 +32,8 @@ module _ (front : List Line) (opened number : ℕ) (text : List ℕ) (ls all : L
   unfolding script_from
   script_next row is =
       let line : Line = record { number = number; row = row } in
-      let one : before front (script_from opened all) ≡ before (front ++ line ∷ []) (script_from (opened_after opened row) ls) =
-      rw (cut, is) (before-before front line (script_from (opened_after opened row) ls)) in
+      let one : ahead front (script_from opened all) ≡ ahead (front ++ line ∷ []) (script_from (opened_after opened row) ls) =
+      rw (cut, is) (ahead-ahead front line (script_from (opened_after opened row) ls)) in
       record {
         so_far = sym one ∙ read.so_far;
         few = omega (arith, opened_after-le opened row, read.few, length-append front (line ∷ []));
@@ -44,7 +42,7 @@ module _ (front : List Line) (opened number : ℕ) (text : List ℕ) (ls all : L
   stops : (fault : RowFault) → row_in opened (words text) ≡ Err fault → total ≡ Err (fault_at number fault)
   unfolding script_from
   stops fault is =
-      let one : before front (script_from opened all) ≡ Err (fault_at number fault) = rw (cut, is) refl in
+      let one : ahead front (script_from opened all) ≡ Err (fault_at number fault) = rw (cut, is) refl in
       sym read.so_far ∙ one
 
   pub script_fails : (fault : RowFault) → FailsRow fault (row_in opened (words text)) → IsFault (fault_at number fault) total
@@ -59,5 +57,5 @@ module _ (front : List Line) (opened number : ℕ) (text : List ℕ) (ls all : L
 pub script_end : (front : List Line) (opened : ℕ) (all : List (ℕ × List ℕ)) (total : Result (List Line) ScriptFault) → all ≡ [] → IsReadTo front opened all total → total ≡ Ok front
 unfolding script_from
 script_end front opened all total none read =
-    let one : before front (script_from opened all) ≡ Ok front = rw none (ap (λ (ys : List Line). Ok ys) (append-nil front)) in
+    let one : ahead front (script_from opened all) ≡ Ok front = rw none (ap (λ (ys : List Line). Ok ys) (append-nil front)) in
     sym read.so_far ∙ one

@@ -1,17 +1,12 @@
 -- What a reading of words answers.
 use Rattle.std.specs.Prelude.{◌≡◌, ℕ, List, take, Result, Ok, Err}
 use Rattle.scripts.specs.declared.line.RowFault.{RowFault}
-use Rattle.scripts.specs.declared.line.RowFault.TheVariants.{Bad, Sheet, BadJitter, Outranks, BadOverhead, BadInterrupt, OutOfMemory}
+use Rattle.scripts.specs.declared.line.RowFault.TheVariants.{OutOfMemory}
 
 -- the reading has this fault; want of memory says nothing of it
 abbrev pub FailsRow : {Y : Type 0} → RowFault → Result Y RowFault → Type 0
 FailsRow OutOfMemory read = Unit {0}
-FailsRow Bad read = read ≡ Err Bad
-FailsRow (Sheet cause) read = read ≡ Err (Sheet cause)
-FailsRow BadJitter read = read ≡ Err BadJitter
-FailsRow (Outranks cause) read = read ≡ Err (Outranks cause)
-FailsRow BadOverhead read = read ≡ Err BadOverhead
-FailsRow BadInterrupt read = read ≡ Err BadInterrupt
+FailsRow fault read = read ≡ Err fault
 
 -- a result is that of the definition, or want of memory
 abbrev pub GivesRow : {X Y : Type 0} → (X → Y) → Result X RowFault → Result Y RowFault → Type 0

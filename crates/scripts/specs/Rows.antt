@@ -11,7 +11,7 @@ use Rattle.task_sheet.specs.declared.sheet.OutranksCause.{OutranksCause}
 use Rattle.task_sheet.specs.declared.sheet.SheetCause.{SheetCause}
 use Rattle.task_sheet.specs.declared.sheet.TheConstants.{PERIOD_FROM, PERIOD_TO}
 use Rattle.drafts.specs.declared.team.TheConstants.{TEAM_LIMIT}
-use Rattle.lines.specs.Steps.{◌>>=◌}
+use Rattle.lines.specs.Steps.{◌>>=◌, each_in}
 use Rattle.lines.specs.Words.{name_in, number_in}
 use Rattle.scripts.specs.declared.line.Row.{Row}
 use Rattle.scripts.specs.declared.line.Row.TheVariants.{Open, Put, Remove, Found, Test, Commit, Abandon}
@@ -32,15 +32,6 @@ head_word (w ∷ ws) = Ok (w, ws)
 abbrev pub at_end : {A : Type 0} → List (List ℕ) → A → Result A RowFault
 at_end [] x = Ok x
 at_end (w ∷ ws) x = Err Bad
-
--- what each of some words says
-unfoldable pub each_in : {A : Type 0} → (List ℕ → Result A RowFault) → List (List ℕ)
-    → Result (List A) RowFault
-each_in read [] = Ok []
-each_in read (w ∷ ws) = do
-  x ← read w
-  xs ← each_in read ws
-  Ok (x ∷ xs)
 
 -- no word is left
 abbrev pub is_over : List (List ℕ) → Bool

@@ -1,7 +1,8 @@
 -- The lines of a script.
-use Rattle.std.specs.Prelude.{◌≡◌, ℕ, ◌+◌, List, [], ◌∷◌, ◌++◌, Result, Ok, Err}
+use Rattle.std.specs.Prelude.{◌≡◌, ℕ, ◌+◌, List, [], ◌∷◌, Result, Ok, Err}
 use Rattle.lines.specs.Words.{words}
 use Rattle.lines.specs.Lines.{kept_lines}
+use Rattle.lines.specs.Steps.{◌>>=◌, ahead}
 use Rattle.scripts.specs.declared.line.Line.{Line}
 use Rattle.scripts.specs.declared.line.Row.{Row}
 use Rattle.scripts.specs.declared.line.Row.TheVariants.{Open}
@@ -26,22 +27,17 @@ fault_at number row.BadOverhead = BadOverhead number
 fault_at number row.BadInterrupt = BadInterrupt number
 fault_at number row.OutOfMemory = OutOfMemory
 
--- these lines, and then those that are read
-abbrev pub before : List Line → Result (List Line) ScriptFault → Result (List Line) ScriptFault
-before front (Ok lines) = Ok (front ++ lines)
-before front (Err fault) = Err fault
-
--- one line more in front, or its fault
-abbrev pub with_line : ℕ → Result Row RowFault → (Row → Result (List Line) ScriptFault)
-    → Result (List Line) ScriptFault
-with_line number (Err fault) rest = Err (fault_at number fault)
-with_line number (Ok row) rest = before (record { number = number; row = row } ∷ []) (rest row)
+-- a row with the number of its line, or its fault there
+abbrev pub line_of : ℕ → Result Row RowFault → Result Line ScriptFault
+line_of number (Ok row) = Ok (record { number = number; row = row })
+line_of number (Err fault) = Err (fault_at number fault)
 
 -- what numbered lines say, where so many drafts were opened above them; or the fault of the first faulty one
 unfoldable pub script_from : ℕ → List (ℕ × List ℕ) → Result (List Line) ScriptFault
 script_from opened [] = Ok []
 script_from opened (l ∷ ls) =
-    with_line l.0 (row_in opened (words l.1)) (λ row. script_from (opened_after opened row) ls)
+    line_of l.0 (row_in opened (words l.1)) >>= λ line.
+    ahead (line ∷ []) (script_from (opened_after opened line.row) ls)
 
 -- what the lines of a text say that are not skipped, or the fault of the first faulty one
 abbrev pub script_in : List ℕ → Result (List Line) ScriptFault
@@ -50,9 +46,4 @@ script_in text = script_from 0 (kept_lines text)
 -- the fault is that of the reading, or want of memory
 abbrev pub IsFault : ScriptFault → Result (List Line) ScriptFault → Type 0
 IsFault OutOfMemory read = Unit {0}
-IsFault (BadLine number) read = read ≡ Err (BadLine number)
-IsFault (Sheet number cause) read = read ≡ Err (Sheet number cause)
-IsFault (BadJitter number) read = read ≡ Err (BadJitter number)
-IsFault (Outranks number cause) read = read ≡ Err (Outranks number cause)
-IsFault (BadOverhead number) read = read ≡ Err (BadOverhead number)
-IsFault (BadInterrupt number) read = read ≡ Err (BadInterrupt number)
+IsFault fault read = read ≡ Err fault

@@ -1,8 +1,8 @@
 -- The lines of a trace, as a simulated run prints them: `START STOP NAME` for a slice, `job NAME ARRIVAL FINISH` for a job,
 -- with `-` where it has no finish. Times are whole microseconds.
-use Rattle.std.specs.Prelude.{ℕ, nat_le, nat_lt, List, [], ◌∷◌, ◌++◌, Option, Some, None, Result, Ok, Err, bytes_eq, codes, if◌then◌else◌}
-use Rattle.lines.specs.Lines.{kept_from, kept_lines, lines_of}
-use Rattle.lines.specs.Words.{name_in, number_in, words}
+use Rattle.std.specs.Prelude.{ℕ, nat_le, nat_lt, List, [], ◌∷◌, Option, Some, None, Result, bytes_eq, codes, if◌then◌else◌}
+use Rattle.lines.specs.Lines.{kept_from, kept_lines, lines_of, rows_by}
+use Rattle.lines.specs.Words.{name_in, number_in}
 use Rattle.trace_text.specs.declared.rows.TraceRow.{TraceRow}
 use Rattle.trace_text.specs.declared.rows.TraceRow.TheVariants.{Slice, Job}
 use Rattle.trace_text.specs.declared.rows.TraceSlice.{TraceSlice}
@@ -65,20 +65,9 @@ trace_row_in line (a ∷ b ∷ c ∷ d ∷ []) = job_words line a b c d
 trace_row_in line (a ∷ b ∷ c ∷ d ∷ more ∷ rest) = None
 
 -- ---- a text
--- these, and then the rows that are found; a faulty line stays the fault
-abbrev pub before : List TraceRow → Result (List TraceRow) ℕ → Result (List TraceRow) ℕ
-before front (Ok rows) = Ok (front ++ rows)
-before front (Err line) = Err line
-
--- one row more in front, or the number of the bad line
-abbrev pub with_row : ℕ → Option TraceRow → Result (List TraceRow) ℕ → Result (List TraceRow) ℕ
-with_row line None rest = Err line
-with_row line (Some row) rest = before (row ∷ []) rest
-
 -- the rows of numbered lines, or the number of the first faulty line
 abbrev pub rows_from : List (ℕ × List ℕ) → Result (List TraceRow) ℕ
-rows_from [] = Ok []
-rows_from (l ∷ ls) = with_row l.0 (trace_row_in l.0 (words l.1)) (rows_from ls)
+rows_from ls = rows_by trace_row_in ls
 
 -- the rows of lines, the first of which has a number, that are not skipped, or the number of the first faulty line
 abbrev pub rows_at : ℕ → List ℕ → Result (List TraceRow) ℕ

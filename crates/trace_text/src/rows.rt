@@ -1,11 +1,10 @@
 //! The lines of a trace: `START STOP NAME` and `job NAME ARRIVAL FINISH`.
 ghost use Rattle.std.specs.Prelude.{◌≡◌, Ok, MatchResult, IfOk};
-ghost use Rattle.lines.specs.Words.{words};
 ghost use Rattle.trace_text.specs.Faults.{IsRowsFault};
-ghost use Rattle.trace_text.specs.Rows.{finish_in, job_at, job_words, jobs_of, rows_at, slice_at, slices_of, trace_row_in};
+ghost use Rattle.trace_text.specs.Rows.{finish_in, job_at, job_words, jobs_of, rows_at, slice_at, slices_of};
 
 use crate::fault::TraceFault;
-use lines::{TextPlace, Words, name_of, next_kept, number_of};
+use lines::{LineRow, TextPlace, Words, name_of, number_of, read_lines};
 use std::alloc::{AllocError, Global};
 use task_sheet::Name;
 
@@ -99,20 +98,23 @@ fn job_words(line: u64, word: &[u8], name: &[u8], arrival: &[u8], finish: &[u8])
     }
 }
 
-// The row that a line says.
-fn read_row(line: u64, text: &[u8]) -> Option<TraceRow>
-    ensures { result ≡ trace_row_in line (words text.now) }
-{
-    let mut words = Words::of(text);
-    let first = words.next()?;
-    let second = words.next()?;
-    let third = words.next()?;
-    let Some(fourth) = words.next() else {
-        return slice_at(line, first, second, third);
-    };
-    match words.next() {
-        Some(_more) => None,
-        None => job_words(line, first, second, third, fourth),
+impl LineRow for TraceRow {
+    ghost use Rattle.trace_text.specs.Rows.{trace_row_in};
+
+    ghost row_in = { trace_row_in };
+
+    fn read(line: u64, text: &[u8]) -> Option<TraceRow> {
+        let mut words = Words::of(text);
+        let first = words.next()?;
+        let second = words.next()?;
+        let third = words.next()?;
+        let Some(fourth) = words.next() else {
+            return slice_at(line, first, second, third);
+        };
+        match words.next() {
+            Some(_more) => None,
+            None => job_words(line, first, second, third, fourth),
+        }
     }
 }
 
@@ -123,18 +125,7 @@ pub(crate) fn read_rows<'a>(alloc: Global, at: TextPlace<'a>) -> Result<Vec<Trac
         (λ rows. rows_at at.entry.line at.entry.rest.now ≡ Ok rows.items)
         (λ fault. IsRowsFault fault (rows_at at.entry.line at.entry.rest.now)) }
 {
-    let mut at = at;
-    let mut rows = Vec::new(alloc);
-    while let Ok((line, after)) = next_kept(at) {
-        let Some(row) = read_row(line.number, line.text) else {
-            return Err(TraceFault::BadLine { line: line.number });
-        };
-        if rows.push(row).is_err() {
-            return Err(TraceFault::OutOfMemory);
-        }
-        at = after;
-    }
-    Ok(rows)
+    read_lines(alloc, at)?.map_err(|line| TraceFault::BadLine { line })
 }
 
 // The slices of rows, in their order.

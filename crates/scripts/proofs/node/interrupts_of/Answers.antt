@@ -1,7 +1,8 @@
 use Rattle.std.proofs.Common.{◌==◌, ℕ, List, []}
 use Rattle.std.specs.List.{slice_split}
 use Rattle.std.proofs.lemmas.Result.{err_from_is_err_and}
-use Rattle.scripts.specs.Rows.{each_in, interrupt_in}
+use Rattle.lines.specs.Steps.{each_in}
+use Rattle.scripts.specs.Rows.{interrupt_in}
 use Rattle.scripts.proofs.Ahead.{each_next, each_fails, each_last}
 use Rattle.scripts.proofs.node.interrupts_of.Goals as goal
 
