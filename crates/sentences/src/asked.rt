@@ -1,9 +1,8 @@
 //! That what a call asks for isn't there: a task, or a part of a run.
 
 use crate::lists::until_of;
-use crate::shown::push_behind;
-use crate::told::told;
-use std::alloc::{AllocError, Global};
+use crate::told::{Told, between};
+use std::alloc::Global;
 use task_sheet::{Name, TaskSet};
 
 // The most tasks of a set that a sentence names.
@@ -18,26 +17,27 @@ fn has_task(set: &TaskSet, word: &str) -> bool {
 }
 
 // The names of the tasks by rank, and how many more there are.
-fn push_tasks(text: &mut String, set: &TaskSet) -> Result<(), AllocError> {
-    for (i, sheet) in set.sheets().iter().enumerate() {
-        if i == MOST_NAMED {
-            let more = set.len().saturating_sub(i);
-            return write!(text, " and {more} more");
-        }
-        text.push_str(if i == 0 { " " } else { ", " })?;
-        text.push_str(sheet.name().as_str())?;
+fn tell_tasks(told: &mut Told, set: &TaskSet) {
+    for (i, sheet) in set.sheets().iter().take(MOST_NAMED).enumerate() {
+        told.name(between(i), sheet.name());
     }
-    Ok(())
+    if set.len() > MOST_NAMED {
+        told.number(" and ", (set.len() - MOST_NAMED) as u64);
+        told.words(" more");
+    }
 }
 
 // That no task of the set has the name, and which there are.
-fn push_no_task(text: &mut String, set: &TaskSet, word: &str) -> Result<(), AllocError> {
-    push_behind(text, "no task is called ", Some(word.as_bytes()))?;
+fn no_task(alloc: Global, set: &TaskSet, word: &str) -> Option<String> {
+    let mut told = Told::new(alloc);
+    told.quoted("no task is called ", Some(word.as_bytes()));
     if set.is_empty() {
-        return text.push_str(": the set has none");
+        told.words(": the set has none");
+    } else {
+        told.words(": the set has");
+        tell_tasks(&mut told, set);
     }
-    text.push_str(": the set has")?;
-    push_tasks(text, set)
+    told.whole()
 }
 
 /// What a person is told where no task of a set has the name that a word says; none where one has it, or memory is
@@ -46,38 +46,27 @@ pub fn of_task(alloc: Global, set: &TaskSet, word: &str) -> Option<String> {
     if has_task(set, word) {
         return None;
     }
-    told(alloc, |text| push_no_task(text, set, word))
+    no_task(alloc, set, word)
 }
 
 /// The same of the first such name, of names with a comma between two.
 pub fn of_tasks(alloc: Global, set: &TaskSet, words: &str) -> Option<String> {
     for word in words.split(',') {
         if !has_task(set, word) {
-            return told(alloc, |text| push_no_task(text, set, word));
+            return no_task(alloc, set, word);
         }
     }
     None
 }
 
-// Where the run of a list ends, and that nothing of it lies in the window.
-fn push_window(
-    text: &mut String,
-    bytes: &[u8],
-    from: usize,
-    to: Option<usize>,
-) -> Result<(), AllocError> {
-    let until = until_of(bytes);
-    write!(
-        text,
-        "its run ends at {until}: nothing of it lies from {from} "
-    )?;
-    match to {
-        Some(to) => write!(text, "to {to}"),
-        None => text.push_str("on"),
-    }
-}
-
 /// What a person is told where nothing of a list's run lies in the window that is asked for; none where memory is wanting.
 pub fn of_window(alloc: Global, bytes: &[u8], from: usize, to: Option<usize>) -> Option<String> {
-    told(alloc, |text| push_window(text, bytes, from, to))
+    let mut told = Told::new(alloc);
+    told.number("its run ends at ", until_of(bytes));
+    told.number(": nothing of it lies from ", from as u64);
+    match to {
+        Some(to) => told.number(" to ", to as u64),
+        None => told.words(" on"),
+    }
+    told.whole()
 }

@@ -1,106 +1,80 @@
 //! What a task's values break. The limits stand in the texts of the causes.
 
-use crate::shown::push_shown;
+use crate::told::Told;
 use crate::values::{Numbers, Span, end_of};
-use std::alloc::AllocError;
 use task_sheet::{Node, SheetCause};
 
-// A value behind a text, where it is at hand.
-fn push_value(text: &mut String, before: &str, value: Option<u64>) -> Result<(), AllocError> {
-    match value {
-        Some(value) => write!(text, "{before}{value}"),
-        None => Ok(()),
+// Up to two values that a cause is about, behind words.
+fn values_of(
+    cause: SheetCause,
+    numbers: &Numbers,
+    span: &Span,
+) -> [(&'static str, Option<u64>); 2] {
+    match cause {
+        SheetCause::BadWeight => [(": weight ", numbers.weight), ("", None)],
+        SheetCause::BadPeriod => [(" microseconds: period ", numbers.period), ("", None)],
+        SheetCause::DeadlinePastPeriod => {
+            [
+                (": deadline ", numbers.deadline),
+                (", period ", numbers.period),
+            ]
+        }
+        SheetCause::CostPastPeriod => [(": cost ", numbers.cost), (", period ", numbers.period)],
+        SheetCause::TooManySections => [(": there are ", numbers.sections), ("", None)],
+        SheetCause::TooManyLocks { .. } => [(": there are ", span.locks), ("", None)],
+        SheetCause::Overlap { .. } => { [(": at ", span.at), (", that one ends at ", span.from)] }
+        _ => [("", None), ("", None)],
     }
 }
 
 /// A fault of the numbers or of a section, with the values at hand.
-pub(crate) fn push_cause(
-    text: &mut String,
-    cause: SheetCause,
-    numbers: &Numbers,
-    span: &Span<'_>,
-) -> Result<(), AllocError> {
-    write!(text, "{cause}")?;
-    match cause {
-        SheetCause::BadWeight => push_value(text, ": weight ", numbers.weight),
-        SheetCause::BadPeriod => push_value(text, " microseconds: period ", numbers.period),
-        SheetCause::DeadlineZero | SheetCause::CostZero => Ok(()),
-        SheetCause::DeadlinePastPeriod => {
-            push_value(text, ": deadline ", numbers.deadline)?;
-            push_value(text, ", period ", numbers.period)
-        }
-        SheetCause::CostPastPeriod => {
-            push_value(text, ": cost ", numbers.cost)?;
-            push_value(text, ", period ", numbers.period)
-        }
-        SheetCause::TooManySections => push_value(text, ": there are ", numbers.sections),
-        SheetCause::NoLocks { .. } | SheetCause::LenZero { .. } => Ok(()),
-        SheetCause::TooManyLocks { .. } => push_value(text, ": there are ", span.locks),
-        SheetCause::LockTwice { .. } => push_twice(text, span),
-        SheetCause::Overlap { .. } => {
-            push_value(text, ": at ", span.at)?;
-            push_value(text, ", that one ends at ", span.from)
-        }
-        SheetCause::SectionPastCost { .. } => push_span(text, numbers, span),
-    }
-}
-
-// The lock that stands twice.
-fn push_twice(text: &mut String, span: &Span<'_>) -> Result<(), AllocError> {
-    match span.twice {
-        Some(lock) => {
-            text.push_str(": ")?;
-            push_shown(text, lock)
-        }
-        None => Ok(()),
+pub(crate) fn tell_cause(told: &mut Told, cause: SheetCause, numbers: &Numbers, span: &Span) {
+    told.cause(cause);
+    let [first, second] = values_of(cause, numbers, span);
+    told.value(first.0, first.1);
+    told.value(second.0, second.1);
+    if let SheetCause::SectionPastCost { .. } = cause {
+        tell_span(told, numbers, span);
     }
 }
 
 // Where a section ends, and the cost.
-fn push_span(text: &mut String, numbers: &Numbers, span: &Span<'_>) -> Result<(), AllocError> {
-    push_value(text, ": at ", span.at)?;
-    push_value(text, " and len ", span.len)?;
-    push_value(text, " make ", end_of(span.at, span.len))?;
-    push_value(text, ", cost ", numbers.cost)
+fn tell_span(told: &mut Told, numbers: &Numbers, span: &Span) {
+    told.value(": at ", span.at);
+    told.value(" and len ", span.len);
+    told.value(" make ", end_of(span.at, span.len));
+    told.value(", cost ", numbers.cost);
 }
 
 /// A jitter that isn't below the deadline.
-pub(crate) fn push_jitter(text: &mut String, numbers: &Numbers) -> Result<(), AllocError> {
-    text.push_str("the jitter is not below the deadline")?;
-    push_value(text, ": jitter ", numbers.jitter)?;
-    push_value(text, ", deadline ", numbers.deadline)
-}
-
-// A cost with what the node takes of a job and of so many locks, where that is a number of 64 bits.
-fn padded_cost(numbers: &Numbers, node: &Node, locks: u64) -> Option<u64> {
-    let calls = node.lock.checked_mul(locks)?;
-    numbers.cost?.checked_add(node.job)?.checked_add(calls)
+pub(crate) fn tell_jitter(told: &mut Told, numbers: &Numbers) {
+    told.words("the jitter is not below the deadline");
+    told.value(": jitter ", numbers.jitter);
+    told.value(", deadline ", numbers.deadline);
 }
 
 /// A cost that is past the period with what the node takes of a job and of so many locks.
-pub(crate) fn push_padded_cost(
-    text: &mut String,
-    numbers: &Numbers,
-    node: &Node,
-    locks: u64,
-) -> Result<(), AllocError> {
-    let (job, lock) = (node.job, node.lock);
-    text.push_str("with job and lock of [node] the cost is past the period")?;
-    push_value(text, ": cost ", numbers.cost)?;
-    write!(text, ", job {job} and {locks} times lock {lock}")?;
-    push_value(text, " make ", padded_cost(numbers, node, locks))?;
-    push_value(text, ", period ", numbers.period)
+pub(crate) fn tell_padded_cost(told: &mut Told, numbers: &Numbers, node: &Node, locks: u64) {
+    told.words("with job and lock of [node] the cost is past the period");
+    let cost = numbers.cost.unwrap_or(0);
+    let padded = cost.saturating_add(node.job);
+    told.number(": cost ", cost);
+    told.number(", job ", node.job);
+    told.number(" and ", locks);
+    told.number(" times lock ", node.lock);
+    told.number(
+        " make ",
+        padded.saturating_add(node.lock.saturating_mul(locks)),
+    );
+    told.value(", period ", numbers.period);
 }
 
 /// A jitter that isn't below the deadline with how late the node may be.
-pub(crate) fn push_padded_jitter(
-    text: &mut String,
-    numbers: &Numbers,
-    late: u64,
-) -> Result<(), AllocError> {
+pub(crate) fn tell_padded_jitter(told: &mut Told, numbers: &Numbers, late: u64) {
     let jitter = numbers.jitter.unwrap_or(0);
-    let padded = jitter.saturating_add(late);
-    text.push_str("with late of [node] the jitter isn't below the deadline")?;
-    write!(text, ": jitter {jitter} and late {late} make {padded}")?;
-    push_value(text, ", deadline ", numbers.deadline)
+    told.words("with late of [node] the jitter isn't below the deadline");
+    told.number(": jitter ", jitter);
+    told.number(" and late ", late);
+    told.number(" make ", jitter.saturating_add(late));
+    told.value(", deadline ", numbers.deadline);
 }

@@ -1,8 +1,24 @@
 //! Which tasks of a set no order meets together.
 
+use crate::pieces::{put_pieces, write_note};
+use crate::told::between;
 use std::io::Write;
 use streams::{Held, Watched, WriteFailed};
 use task_sheet::{Members, TASK_LIMIT, TaskSet};
+
+// The name of the task at an index behind some words.
+fn put_name<W: Write + Drop>(
+    words: &str,
+    set: &TaskSet,
+    task: usize,
+    held: &mut Held,
+    out: &mut Watched<W>,
+) -> Result<(), WriteFailed> {
+    match set.get(task) {
+        Some(sheet) => put_pieces(&[words, sheet.name().as_str()], held, out),
+        None => Ok(()),
+    }
+}
 
 // The names of some tasks, by rank, with commas.
 fn put_names<W: Write + Drop>(
@@ -11,14 +27,11 @@ fn put_names<W: Write + Drop>(
     held: &mut Held,
     out: &mut Watched<W>,
 ) -> Result<(), WriteFailed> {
-    let mut is_first = true;
+    let mut count = 0usize;
     for i in 0..TASK_LIMIT {
-        if tasks.has(i)
-            && let Some(sheet) = set.get(i)
-        {
-            held.put(if is_first { b" " } else { b", " }, out)?;
-            held.put(sheet.name().bytes(), out)?;
-            is_first = false;
+        if tasks.has(i) {
+            put_name(between(count), set, i, held, out)?;
+            count = 1;
         }
     }
     Ok(())
@@ -32,16 +45,18 @@ pub fn put_conflict<W: Write + Drop>(
     out: &mut Watched<W>,
 ) -> Result<(), WriteFailed> {
     let mut held = Held::new();
-    held.put(b"note:", out)?;
-    if least.len() < greatest.len() {
-        held.put(b" of these", out)?;
-    }
-    put_names(set, least, &mut held, out)?;
+    let head: &[u8] = if least.len() < greatest.len() {
+        b"note: of these"
+    } else {
+        b"note:"
+    };
     let said: &[u8] = if least.len() == 1 {
         b" alone can't be met: desk explain says why\n"
     } else {
         b" can't be met together: desk explain says why\n"
     };
+    held.put(head, out)?;
+    put_names(set, least, &mut held, out)?;
     held.put(said, out)?;
     held.send(out)
 }
@@ -56,14 +71,15 @@ pub fn put_parted<W: Write + Drop>(
     let (Some(low), Some(high)) = (set.get(low), set.get(high)) else {
         return Ok(());
     };
-    let mut held = Held::new();
-    held.put(b"note: with ", out)?;
-    held.put(high.name().bytes(), out)?;
-    held.put(b" above ", out)?;
-    held.put(low.name().bytes(), out)?;
-    held.put(b", and those below as they are, no order passes: ", out)?;
-    held.put(b"without the line of one it may move\n", out)?;
-    held.send(out)
+    let (low, high) = (low.name(), high.name());
+    let pieces = [
+        "note: with ",
+        high.as_str(),
+        " above ",
+        low.as_str(),
+        ", and those below as they are, no order passes: without the line of one it may move\n",
+    ];
+    write_note(&pieces, out)
 }
 
 /// Writes a note that nothing was run, since no order of the set passes. It takes no memory.

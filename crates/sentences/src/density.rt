@@ -1,5 +1,6 @@
 //! Up to when the densest release list of a set has no more releases than a list may have.
 
+use crate::told::Told;
 use ceiling_kernel::{HORIZON, RELEASE_LIMIT};
 use std::alloc::Global;
 use task_sheet::{Sheet, TaskSet};
@@ -55,5 +56,9 @@ pub fn greatest_until(set: &TaskSet) -> u64 {
 
 /// What a person is told where the densest list has too many releases; none where memory is wanting.
 pub fn of_density(alloc: Global, until: u64) -> Option<String> {
-    format!(in alloc; "more than {RELEASE_LIMIT} releases; UNTIL may be {until} at most").ok()
+    let mut told = Told::new(alloc);
+    told.number("more than ", RELEASE_LIMIT as u64);
+    told.number(" releases; UNTIL may be ", until);
+    told.words(" at most");
+    told.whole()
 }

@@ -1,52 +1,62 @@
 //! Why a set's text is no task set.
 
-use crate::node::{of_budget, of_node, of_stranger};
-use crate::padding::{of_padding, task_of};
-use crate::sets::of_set;
-use crate::texts::push_unseen;
-use crate::told::told;
+use crate::node::{tell_budget, tell_node, tell_stranger};
+use crate::padding::{task_of, tell_padding};
+use crate::sets::tell_set;
+use crate::texts::tell_unseen;
+use crate::told::Told;
 use overheads::PadFault;
-use std::alloc::{AllocError, Global};
+use std::alloc::Global;
 use task_sheet::{Document, Name, Node, SetFault, read_document};
 use teams::{TeamsFault, first_part, node_part};
 
 /// What a person is told of the fault of a set's text, from its bytes; none where memory is wanting. What is said of a
 /// team's document names it as a file, `TEAM.toml`, and its own lines; what is said of the node's, `node.toml`.
 pub fn of_set_text(alloc: Global, bytes: &[u8], fault: TeamsFault) -> Option<String> {
+    let mut told = Told::new(alloc);
+    tell_gathered(&mut told, alloc, bytes, fault);
+    told.whole()
+}
+
+// Why it is no task set.
+fn tell_gathered(told: &mut Told, alloc: Global, bytes: &[u8], fault: TeamsFault) {
     match fault {
-        TeamsFault::Alone { fault } => of_set(alloc, bytes, fault),
-        TeamsFault::Of { team, fault } => of_document(alloc, teams_in(bytes), team, fault),
-        TeamsFault::BadHead { part } => told(alloc, |text| push_head(text, teams_in(bytes), part)),
+        TeamsFault::Alone { fault } => tell_set(told, alloc, bytes, fault),
+        TeamsFault::Of { team, fault } => tell_document(told, alloc, teams_in(bytes), team, fault),
+        TeamsFault::BadHead { part } => tell_head(told, teams_in(bytes), part),
         TeamsFault::Taken { team, task, other } => {
-            format!(in alloc; "{team}.toml: {task} is the name of a task of {other}").ok()
+            told.name("", team);
+            told.name(".toml: ", task);
+            told.name(" is the name of a task of ", other);
         }
         TeamsFault::OtherPreference { team, other } => {
-            format!(in alloc;
-                "{team}.toml: prefers otherwise than {other}.toml; one team says it for all"
-            ).ok()
+            tell_two(told, team, ".toml: prefers otherwise than ", other);
         }
         TeamsFault::OtherNode { team, other } => {
-            format!(in alloc;
-                "{team}.toml: another [node] than {other}.toml; one team says it for all"
-            ).ok()
+            tell_two(told, team, ".toml: another [node] than ", other);
         }
         TeamsFault::TooManyInterrupts => {
-            String::from_str(alloc, "the teams have more than 8 interrupts together").ok()
+            told.words("the teams have more than 8 interrupts together");
         }
-        TeamsFault::Node { fault } => of_node(alloc, node_in(bytes), fault),
-        TeamsFault::NoSuchTeam { team } => of_stranger(alloc, node_in(bytes), team),
+        TeamsFault::Node { fault } => tell_node(told, alloc, node_in(bytes), fault),
+        TeamsFault::NoSuchTeam { team } => tell_stranger(told, node_in(bytes), team),
         TeamsFault::PastBudget {
             team,
             quantity,
             number,
             limit,
-        } => of_budget(alloc, node_in(bytes), team, quantity, number, limit),
-        TeamsFault::Padded { fault } => of_padded(alloc, bytes, fault),
-        TeamsFault::TooManyTasks => {
-            String::from_str(alloc, "the teams have more than 32 tasks together").ok()
-        }
-        TeamsFault::OutOfMemory => None,
+        } => tell_budget(told, node_in(bytes), team, quantity, number, limit),
+        TeamsFault::Padded { fault } => tell_padded(told, alloc, bytes, fault),
+        TeamsFault::TooManyTasks => told.words("the teams have more than 32 tasks together"),
+        TeamsFault::OutOfMemory => told.give_up(),
     }
+}
+
+// Two teams whose documents say something otherwise.
+fn tell_two(told: &mut Told, team: Name, says: &str, other: Name) {
+    told.name("", team);
+    told.name(says, other);
+    told.words(".toml; one team says it for all");
 }
 
 // The node's document of a text; nothing where there is none.
@@ -77,12 +87,10 @@ fn part_at(bytes: &[u8], part: usize) -> &[u8] {
 }
 
 // A part without its head, or with too few bytes behind it.
-fn push_head(text: &mut String, bytes: &[u8], part: usize) -> Result<(), AllocError> {
-    write!(
-        text,
-        "part {part}: no line `#% TEAM COUNT` that so many bytes follow"
-    )?;
-    push_unseen(text, part_at(bytes, part), 1)
+fn tell_head(told: &mut Told, bytes: &[u8], part: usize) {
+    told.number("part ", part as u64);
+    told.words(": no line `#% TEAM COUNT` that so many bytes follow");
+    tell_unseen(told, part_at(bytes, part), 1);
 }
 
 // What is looked for among the documents of teams.
@@ -116,31 +124,31 @@ fn is_sought(alloc: Global, team: Name, text: &[u8], sought: &Sought) -> bool {
     }
 }
 
-// The place, from 1, of the first document that is sought.
-fn place_of(alloc: Global, bytes: &[u8], sought: &Sought) -> Option<usize> {
+// What stands from the first document on that is sought; nothing where there is none.
+fn from_sought<'a>(alloc: Global, bytes: &'a [u8], sought: &Sought) -> &'a [u8] {
     let mut rest = bytes;
-    let mut place = 1usize;
     while !rest.is_empty() {
         let Some((part, after)) = first_part(rest) else {
-            return None;
+            return b"";
         };
         if is_sought(alloc, part.team, part.text, sought) {
-            return Some(place);
+            return rest;
         }
         rest = after;
-        place = place.saturating_add(1);
     }
-    None
+    b""
 }
 
-// What a person is told of the fault of a team's document.
-fn of_document(alloc: Global, bytes: &[u8], team: Name, fault: SetFault) -> Option<String> {
-    let place = place_of(alloc, bytes, &Sought::Faulty(team))?;
-    let Some((part, _)) = first_part(part_at(bytes, place)) else {
-        return None;
-    };
-    let said = of_set(alloc, part.text, fault)?;
-    format!(in alloc; "{team}.toml: {said}").ok()
+// The fault of a team's document.
+fn tell_document(told: &mut Told, alloc: Global, bytes: &[u8], team: Name, fault: SetFault) {
+    match first_part(from_sought(alloc, bytes, &Sought::Faulty(team))) {
+        Some((part, _)) => {
+            told.name("", team);
+            told.words(".toml: ");
+            tell_set(told, alloc, part.text, fault);
+        }
+        None => told.give_up(),
+    }
 }
 
 // ---- what the node takes
@@ -155,37 +163,40 @@ fn node_said(alloc: Global, document: &[u8]) -> Option<Node> {
 
 // The node that one of the documents of teams says.
 fn node_of_teams(alloc: Global, bytes: &[u8]) -> Option<Node> {
-    let place = place_of(alloc, bytes, &Sought::Node)?;
-    match first_part(part_at(bytes, place)) {
+    match first_part(from_sought(alloc, bytes, &Sought::Node)) {
         Some((part, _)) => node_said(alloc, part.text),
         None => None,
     }
 }
 
-// What a person is told where one document's set has no room for what its node takes.
-fn of_padded_alone(alloc: Global, bytes: &[u8], fault: PadFault) -> Option<String> {
-    let node = node_said(alloc, bytes)?;
-    of_padding(alloc, bytes, &node, &fault)
+// One document's set that has no room for what its node takes.
+fn tell_padded_alone(told: &mut Told, alloc: Global, bytes: &[u8], fault: PadFault) {
+    match node_said(alloc, bytes) {
+        Some(node) => tell_padding(told, alloc, bytes, &node, &fault),
+        None => told.give_up(),
+    }
 }
 
 // The same of documents of teams, of the one with the task; another one may say the node.
-fn of_padded_teams(alloc: Global, bytes: &[u8], fault: PadFault) -> Option<String> {
-    let node = node_of_teams(alloc, bytes)?;
-    let task = task_of(&fault)?;
-    let place = place_of(alloc, bytes, &Sought::Task(task))?;
-    let Some((part, _)) = first_part(part_at(bytes, place)) else {
-        return None;
+fn tell_padded_teams(told: &mut Told, alloc: Global, bytes: &[u8], fault: PadFault) {
+    let (Some(node), Some(task)) = (node_of_teams(alloc, bytes), task_of(&fault)) else {
+        return told.give_up();
     };
-    let said = of_padding(alloc, part.text, &node, &fault)?;
-    let team = part.team;
-    format!(in alloc; "{team}.toml: {said}").ok()
+    match first_part(from_sought(alloc, bytes, &Sought::Task(task))) {
+        Some((part, _)) => {
+            told.name("", part.team);
+            told.words(".toml: ");
+            tell_padding(told, alloc, part.text, &node, &fault);
+        }
+        None => told.give_up(),
+    }
 }
 
-// What a person is told where a set's text has no room for what its node takes.
-fn of_padded(alloc: Global, bytes: &[u8], fault: PadFault) -> Option<String> {
+// A set's text that has no room for what its node takes.
+fn tell_padded(told: &mut Told, alloc: Global, bytes: &[u8], fault: PadFault) {
     if bytes.starts_with(b"#% ") {
-        of_padded_teams(alloc, teams_in(bytes), fault)
+        tell_padded_teams(told, alloc, teams_in(bytes), fault);
     } else {
-        of_padded_alone(alloc, bytes, fault)
+        tell_padded_alone(told, alloc, bytes, fault);
     }
 }

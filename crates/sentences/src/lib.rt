@@ -12,6 +12,7 @@ mod node;
 mod notes;
 mod overload;
 mod padding;
+mod pieces;
 mod puts;
 mod records;
 mod sets;

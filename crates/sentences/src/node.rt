@@ -1,35 +1,22 @@
 //! Why a node's document says no budgets, or why a team doesn't keep to its own.
 
-use crate::sets::{of_set, push_one};
-use crate::shown::push_shown;
-use crate::told::told;
-use std::alloc::{AllocError, Global};
-use task_sheet::{Name, SetFault};
+use crate::sets::{tell_syntax, tell_value};
+use crate::texts::is_line_end;
+use crate::told::Told;
+use crate::tree::{Known, head_in, unknown_key};
+use std::alloc::Global;
+use task_sheet::Name;
 use teams::{NodeFault, Quantity};
 use toml::{Table, Value};
 
 // ---- places
 
-// Whether a line heads a team's table.
-fn heads_team(line: &[u8], team: Name) -> bool {
-    let Ok(line) = std::str::from_utf8(line) else {
-        return false;
-    };
-    let Some(inside) = line.trim().strip_prefix("[team.") else {
-        return false;
-    };
-    match inside.split("]").next() {
-        Some(name) => name == team.as_str(),
-        None => false,
-    }
-}
-
 // The number of the line that heads a team's table.
 fn line_of_team(bytes: &[u8], team: Name) -> Option<u64> {
     let mut number = 0u64;
-    for line in bytes.split(|byte| *byte == b'\n') {
+    for line in bytes.split(is_line_end) {
         number = number.saturating_add(1);
-        if heads_team(line, team) {
+        if head_in(line, "[team.", "]") == team.as_str() {
             return Some(number);
         }
     }
@@ -37,213 +24,154 @@ fn line_of_team(bytes: &[u8], team: Name) -> Option<u64> {
 }
 
 // The document, with the line that heads a team's table where one does.
-fn push_place(text: &mut String, bytes: &[u8], team: Name) -> Result<(), AllocError> {
-    text.push_str("node.toml: ")?;
-    match line_of_team(bytes, team) {
-        Some(line) => write!(text, "line {line}: "),
-        None => Ok(()),
+fn tell_place(told: &mut Told, bytes: &[u8], team: Name) {
+    told.words("node.toml: ");
+    if let Some(line) = line_of_team(bytes, team) {
+        told.number("line ", line);
+        told.words(": ");
     }
 }
 
 // ---- the document
 
-// The first key of a table that is none of these words.
-fn other_key<'a>(words: &[&str], table: &'a Table) -> Option<&'a str> {
-    for (key, _) in table.iter() {
-        if !words.iter().any(|word| *word == key.as_str()) {
-            return Some(key.as_str());
-        }
-    }
-    None
-}
-
-// The first key of a table that is no name.
-fn bad_key<'a>(table: &'a Table) -> Option<&'a str> {
-    for (key, _) in table.iter() {
-        if Name::read(key.as_bytes()).is_err() {
-            return Some(key.as_str());
-        }
-    }
-    None
-}
-
 // The table of all budgets.
 fn budgets_in<'a>(root: &'a Table) -> Option<&'a Table> {
-    root.get("team")?.as_table()
+    match root.get("team") {
+        Some(Value::Table(table)) => Some(table),
+        _ => None,
+    }
 }
 
 // What stands at a team's name.
 fn value_of<'a>(root: &'a Table, team: Name) -> Option<&'a Value> {
-    budgets_in(root)?.get(team.as_str())
-}
-
-// A key, or nothing where there is none.
-fn push_key(text: &mut String, key: Option<&str>) -> Result<(), AllocError> {
-    match key {
-        Some(key) => push_shown(text, key),
-        None => Ok(()),
+    match budgets_in(root) {
+        Some(budgets) => budgets.get(team.as_str()),
+        None => None,
     }
 }
 
 // What stands in place of a value of another kind.
-fn push_found(text: &mut String, value: Option<&Value>) -> Result<(), AllocError> {
-    match value {
-        Some(value) => {
-            text.push_str("; it is ")?;
-            push_one(text, value)
-        }
-        None => Ok(()),
+fn tell_found(told: &mut Told, value: Option<&Value>) {
+    if let Some(value) = value {
+        told.words("; it is ");
+        tell_value(told, value);
+    }
+}
+
+// A key of the document that is not known.
+fn tell_unknown_root(told: &mut Told, root: &Table) {
+    let key = unknown_key(Known::Words("team", "team"), root).unwrap_or("");
+    told.words("node.toml: unknown key ");
+    told.shown(key);
+    told.words("; it has budgets of teams alone, each headed by [team.NAME]");
+    if key == "node" {
+        told.words("; [node] stands in a team's document");
     }
 }
 
 // A key of a team's table that is not known.
-fn push_unknown(text: &mut String, root: &Table, team: Name) -> Result<(), AllocError> {
-    write!(text, "{team}: unknown key ")?;
-    if let Some(value) = value_of(root, team) {
-        if let Some(table) = value.as_table() {
-            push_key(text, other_key(&["load", "section"], table))?;
-        }
+fn tell_unknown(told: &mut Told, root: &Table, team: Name) {
+    told.name("", team);
+    told.words(": unknown key ");
+    if let Some(Value::Table(table)) = value_of(root, team) {
+        told.shown(unknown_key(Known::Words("load", "section"), table).unwrap_or(""));
     }
-    text.push_str("; a budget has load, section")
-}
-
-// What a quantity's number is of.
-fn unit(quantity: Quantity) -> &'static str {
-    match quantity {
-        Quantity::Load => "thousandths of the processor",
-        Quantity::Section => "microseconds",
-    }
+    told.words("; a budget has load, section");
 }
 
 // The value at a key of a team's table that is no number.
-fn push_number(
-    text: &mut String,
-    root: &Table,
-    team: Name,
-    quantity: Quantity,
-) -> Result<(), AllocError> {
-    let word = quantity.word();
-    let unit = unit(quantity);
-    write!(
-        text,
-        "{team}: {word} has to be a whole number of {unit} from 0"
-    )?;
-    match value_of(root, team) {
-        Some(value) => push_found(text, value.get(word)),
-        None => Ok(()),
+fn tell_number(told: &mut Told, root: &Table, team: Name, quantity: Quantity) {
+    told.name("", team);
+    told.words(": ");
+    told.words(quantity.word());
+    told.words(match quantity {
+        Quantity::Load => " has to be a whole number of thousandths of the processor from 0",
+        Quantity::Section => " has to be a whole number of microseconds from 0",
+    });
+    if let Some(value) = value_of(root, team) {
+        tell_found(told, value.get(quantity.word()));
     }
 }
 
 // A key that is no name of a team.
-fn push_bad(text: &mut String, root: &Table) -> Result<(), AllocError> {
+fn tell_bad(told: &mut Told, root: &Table) {
+    told.words("node.toml: ");
     if let Some(table) = budgets_in(root) {
-        push_key(text, bad_key(table))?;
+        told.shown(unknown_key(Known::Names, table).unwrap_or(""));
     }
-    text.push_str(" is no name of a team")
+    told.words(" is no name of a team");
+}
+
+// A team at whose name stands no table.
+fn tell_no_budget(told: &mut Told, root: &Table, team: Name) {
+    told.name("team.", team);
+    told.name(" has to be a table, headed by [team.", team);
+    told.words("]");
+    tell_found(told, value_of(root, team));
 }
 
 // What is wrong in a document.
-fn push_fault(
-    text: &mut String,
-    bytes: &[u8],
-    root: &Table,
-    fault: NodeFault,
-) -> Result<(), AllocError> {
+fn tell_fault(told: &mut Told, bytes: &[u8], root: &Table, fault: NodeFault) {
     match fault {
-        NodeFault::UnknownRoot => {
-            text.push_str("node.toml: unknown key ")?;
-            let key = other_key(&["team"], root);
-            push_key(text, key)?;
-            text.push_str("; it has budgets of teams alone, each headed by [team.NAME]")?;
-            if key == Some("node") {
-                return text.push_str("; [node] stands in a team's document");
-            }
-            Ok(())
-        }
+        NodeFault::UnknownRoot => tell_unknown_root(told, root),
         NodeFault::NoTeams => {
-            text.push_str(
-                "node.toml: team has to be a table of budgets, each headed by [team.NAME]",
-            )?;
-            push_found(text, root.get("team"))
+            told.words("node.toml: team has to be a table of budgets, each headed by [team.NAME]");
+            tell_found(told, root.get("team"));
         }
-        NodeFault::BadName => {
-            text.push_str("node.toml: ")?;
-            push_bad(text, root)
-        }
+        NodeFault::BadName => tell_bad(told, root),
         NodeFault::NoBudget { team } => {
-            push_place(text, bytes, team)?;
-            write!(
-                text,
-                "team.{team} has to be a table, headed by [team.{team}]"
-            )?;
-            push_found(text, value_of(root, team))
+            tell_place(told, bytes, team);
+            tell_no_budget(told, root, team);
         }
         NodeFault::UnknownKey { team } => {
-            push_place(text, bytes, team)?;
-            push_unknown(text, root, team)
+            tell_place(told, bytes, team);
+            tell_unknown(told, root, team);
         }
         NodeFault::NoNumber { team, quantity } => {
-            push_place(text, bytes, team)?;
-            push_number(text, root, team, quantity)
+            tell_place(told, bytes, team);
+            tell_number(told, root, team, quantity);
         }
-        NodeFault::Syntax | NodeFault::OutOfMemory => Ok(()),
+        NodeFault::Syntax | NodeFault::OutOfMemory => {}
     }
 }
 
-// What a person is told of bytes that are no TOML.
-fn of_syntax(alloc: Global, bytes: &[u8]) -> Option<String> {
-    let said = of_set(alloc, bytes, SetFault::Syntax)?;
-    format!(in alloc; "node.toml: {said}").ok()
-}
-
-/// What a person is told of the fault of a node's document, from its bytes; none where memory is wanting.
-pub(crate) fn of_node(alloc: Global, bytes: &[u8], fault: NodeFault) -> Option<String> {
+/// The fault of a node's document, from its bytes.
+pub(crate) fn tell_node(told: &mut Told, alloc: Global, bytes: &[u8], fault: NodeFault) {
     match toml::table_from_slice(alloc, bytes) {
-        Ok(root) => told(alloc, |text| push_fault(text, bytes, &root, fault)),
-        Err(error) if error.is_memory() => None,
-        Err(_) => of_syntax(alloc, bytes),
+        Ok(root) => tell_fault(told, bytes, &root, fault),
+        Err(error) => {
+            told.words("node.toml: ");
+            tell_syntax(told, bytes, &error);
+        }
     }
 }
 
-/// What a person is told of a budget whose team has no document.
-pub(crate) fn of_stranger(alloc: Global, bytes: &[u8], team: Name) -> Option<String> {
-    told(alloc, |text| {
-        push_place(text, bytes, team)?;
-        write!(text, "there is no {team}.toml")
-    })
+/// A budget whose team has no document.
+pub(crate) fn tell_stranger(told: &mut Told, bytes: &[u8], team: Name) {
+    tell_place(told, bytes, team);
+    told.name("there is no ", team);
+    told.words(".toml");
 }
 
-// What a team takes, and what it may take.
-fn push_past(
-    text: &mut String,
-    team: Name,
-    quantity: Quantity,
-    number: u64,
-    limit: u64,
-) -> Result<(), AllocError> {
-    match quantity {
-        Quantity::Load => write!(
-            text,
-            "{team} takes {number} thousandths of the processor, and may take {limit}"
-        ),
-        Quantity::Section => write!(
-            text,
-            "{team} holds a lock that another team uses, too, for {number} microseconds, and may hold it for {limit}"
-        ),
-    }
-}
-
-/// What a person is told of a team that takes more than its budget has.
-pub(crate) fn of_budget(
-    alloc: Global,
+/// A team that takes more than its budget has: what it takes, and what it may take.
+pub(crate) fn tell_budget(
+    told: &mut Told,
     bytes: &[u8],
     team: Name,
     quantity: Quantity,
     number: u64,
     limit: u64,
-) -> Option<String> {
-    told(alloc, |text| {
-        push_place(text, bytes, team)?;
-        push_past(text, team, quantity, number, limit)
-    })
+) {
+    tell_place(told, bytes, team);
+    told.name("", team);
+    match quantity {
+        Quantity::Load => {
+            told.number(" takes ", number);
+            told.number(" thousandths of the processor, and may take ", limit);
+        }
+        Quantity::Section => {
+            told.number(" holds a lock that another team uses, too, for ", number);
+            told.number(" microseconds, and may hold it for ", limit);
+        }
+    }
 }

@@ -2,6 +2,7 @@
 ghost use Rattle.std.specs.Prelude.{◌<◌, IfSome};
 ghost use Rattle.sentences.specs.declared.notes.TheConstants.{SLOTS};
 
+use crate::pieces::put_pieces;
 use std::io::Write;
 use streams::{Held, Watched, WriteFailed};
 use task_sheet::{Name, Section, Sheet, TaskSet};
@@ -29,18 +30,21 @@ fn small(index: usize) -> u8 {
 }
 
 impl KnownLock {
-    // The name of its first user, and its own.
-    fn names(self, sheets: &[Sheet]) -> Option<(Name, Name)> {
-        let sheet = sheets.get(usize::from(self.task))?;
-        let section = sheet.sections().get(usize::from(self.section))?;
-        let lock = section.locks.get(usize::from(self.lock))?;
-        Some((sheet.name(), *lock))
+    // Its name, from the sections of its first user.
+    fn name(self, sections: &[Section]) -> Option<Name> {
+        match sections.get(usize::from(self.section)) {
+            Some(section) => section.locks.get(usize::from(self.lock)).copied(),
+            None => None,
+        }
     }
 
     // Whether it is the lock of that name.
     fn is_named(self, sheets: &[Sheet], name: &Name) -> bool {
-        match self.names(sheets) {
-            Some((_, lock)) => lock == *name,
+        match sheets.get(usize::from(self.task)) {
+            Some(user) => match self.name(user.sections()) {
+                Some(own) => own == *name,
+                None => false,
+            },
             None => false,
         }
     }
@@ -158,18 +162,28 @@ fn known_locks(sheets: &[Sheet]) -> KnownLocks {
     known
 }
 
-// The note on a lock that one task alone uses.
+// The note on a lock that its first user alone uses.
 fn put_note<W: Write + Drop>(
-    user: &Name,
-    lock: &Name,
+    sheets: &[Sheet],
+    lock: KnownLock,
     held: &mut Held,
     out: &mut Watched<W>,
 ) -> Result<(), WriteFailed> {
-    held.put(b"note: lock ", out)?;
-    held.put(lock.bytes(), out)?;
-    held.put(b" has one user, ", out)?;
-    held.put(user.bytes(), out)?;
-    held.put(b"\n", out)
+    let Some(user) = sheets.get(usize::from(lock.task)) else {
+        return Ok(());
+    };
+    let Some(name) = lock.name(user.sections()) else {
+        return Ok(());
+    };
+    let user = user.name();
+    let pieces = [
+        "note: lock ",
+        name.as_str(),
+        " has one user, ",
+        user.as_str(),
+        "\n",
+    ];
+    put_pieces(&pieces, held, out)
 }
 
 /// Writes a note for each lock that one task alone uses, in the order of first sight. It takes no memory.
@@ -178,10 +192,8 @@ pub fn put_notes<W: Write + Drop>(set: &TaskSet, out: &mut Watched<W>) -> Result
     let sheets = set.sheets();
     let known = known_locks(sheets);
     for lock in known.locks.iter().take(known.count) {
-        if !lock.is_shared
-            && let Some((user, name)) = lock.names(sheets)
-        {
-            put_note(&user, &name, &mut held, out)?;
+        if !lock.is_shared {
+            put_note(sheets, *lock, &mut held, out)?;
         }
     }
     held.send(out)

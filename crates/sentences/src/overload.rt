@@ -1,7 +1,7 @@
 //! Whether a set asks for more than all of the processor's time.
 
 use std::io::Write;
-use streams::{Held, Watched, WriteFailed};
+use streams::{Watched, WriteFailed};
 use task_sheet::{Sheet, TaskSet};
 
 // How many limbs a number has. The product of 32 periods is below 2^745, and so many costs over them below 2^750.
@@ -76,12 +76,10 @@ pub fn put_overload<W: Write + Drop>(
     set: &TaskSet,
     out: &mut Watched<W>,
 ) -> Result<(), WriteFailed> {
-    let mut held = Held::new();
-    if is_overloaded(set.sheets()) {
-        held.put(
-            b"note: the costs over the periods come to more than 1: no order can pass\n",
-            out,
-        )?;
-    }
-    held.send(out)
+    let note: &[u8] = if is_overloaded(set.sheets()) {
+        b"note: the costs over the periods come to more than 1: no order can pass\n"
+    } else {
+        b""
+    };
+    out.write(note)
 }

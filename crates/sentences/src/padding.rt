@@ -1,27 +1,25 @@
 //! Why a set has no room for what the node takes.
 
-use crate::causes::{push_padded_cost, push_padded_jitter};
-use crate::told::told;
-use crate::tree::{line_of_task, place_of_name, push_place, table_of};
+use crate::causes::{tell_padded_cost, tell_padded_jitter};
+use crate::told::Told;
+use crate::tree::{line_of_task, place_of_name, table_of, tell_place};
 use crate::values::{locks_in, numbers_in};
 use overheads::PadFault;
-use std::alloc::{AllocError, Global};
+use std::alloc::Global;
 use task_sheet::{Name, Node};
 use toml::Table;
 
-/// What a person is told of it, from the bytes of the task's document; none where memory is wanting.
-pub(crate) fn of_padding(
+/// The task's place, and what it has no room for, from the bytes of its document.
+pub(crate) fn tell_padding(
+    told: &mut Told,
     alloc: Global,
     bytes: &[u8],
     node: &Node,
     fault: &PadFault,
-) -> Option<String> {
+) {
     match toml::table_from_slice(alloc, bytes) {
-        Ok(root) => told(
-            alloc,
-            |text| push_padding(text, alloc, bytes, &root, node, fault),
-        ),
-        Err(_) => None,
+        Ok(root) => tell_tree(told, alloc, bytes, &root, node, fault),
+        Err(_) => told.give_up(),
     }
 }
 
@@ -33,23 +31,24 @@ pub(crate) fn task_of(fault: &PadFault) -> Option<Name> {
     }
 }
 
-// The task's place, and what it has no room for.
-fn push_padding(
-    text: &mut String,
+// What the tree of the document shows of it.
+fn tell_tree(
+    told: &mut Told,
     alloc: Global,
     bytes: &[u8],
     root: &Table,
     node: &Node,
     fault: &PadFault,
-) -> Result<(), AllocError> {
+) {
     let Some(place) = place_of(root, fault) else {
-        return Err(AllocError);
+        return told.give_up();
     };
-    let line = line_of_task(alloc, bytes, place)?;
-    push_place(text, root, line, place, 0)?;
-    match table_of(root, place, 0) {
-        Some(table) => push_fault(text, table, node, fault),
-        None => Ok(()),
+    match line_of_task(alloc, bytes, place) {
+        Ok(line) => tell_place(told, root, line, place, 0),
+        Err(_) => told.give_up(),
+    }
+    if let Some(table) = table_of(root, place, 0) {
+        tell_fault(told, table, node, fault);
     }
 }
 
@@ -60,16 +59,11 @@ fn place_of(root: &Table, fault: &PadFault) -> Option<usize> {
 }
 
 // What a task's table has no room for.
-fn push_fault(
-    text: &mut String,
-    table: &Table,
-    node: &Node,
-    fault: &PadFault,
-) -> Result<(), AllocError> {
+fn tell_fault(told: &mut Told, table: &Table, node: &Node, fault: &PadFault) {
     let numbers = numbers_in(table);
     match fault {
-        PadFault::CostPastPeriod { .. } => push_padded_cost(text, &numbers, node, locks_in(table)),
-        PadFault::JitterPastDeadline { .. } => push_padded_jitter(text, &numbers, node.late),
-        PadFault::OutOfMemory => Ok(()),
+        PadFault::CostPastPeriod { .. } => tell_padded_cost(told, &numbers, node, locks_in(table)),
+        PadFault::JitterPastDeadline { .. } => tell_padded_jitter(told, &numbers, node.late),
+        PadFault::OutOfMemory => {}
     }
 }

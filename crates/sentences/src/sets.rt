@@ -1,30 +1,25 @@
 //! Why a document is no task set.
 
-use crate::causes::{push_cause, push_jitter};
-use crate::shown::{push_behind, push_shown};
+use crate::causes::{tell_cause, tell_jitter};
 use crate::texts::line_at;
-use crate::told::told;
+use crate::told::{Told, between};
 use crate::tree::{
-    bad_name_in, items_at, line_of_task, number_at, place_of_name, push_place, repeated_in,
-    table_at, table_of, text_at, unknown_key,
+    Known, bad_name_in, is_name, items_at, line_of_task, number_at, place_of_name, repeated_in,
+    table_at, table_of, tell_place, text_at, unknown_key,
 };
-use crate::values::{no_span, numbers_in, span_at};
-use std::alloc::{AllocError, Global};
+use crate::values::{NO_SPAN, numbers_in, span_at};
+use std::alloc::Global;
 use task_sheet::{
     INTERRUPT_FROM, INTERRUPT_KEYS, INTERRUPT_LIMIT, Key, NAME_LIMIT, NODE_KEYS, OutranksCause,
     PERIOD_FROM, PERIOD_TO, ROOT_KEYS, SECTION_KEYS, SetFault, SheetCause, TASK_KEYS, TASK_LIMIT,
 };
 use toml::{Table, Value};
 
-/// What a person is told of a set's fault, from the document's bytes; none where memory is wanting.
-pub(crate) fn of_set(alloc: Global, bytes: &[u8], fault: SetFault) -> Option<String> {
-    if fault == SetFault::OutOfMemory {
-        return None;
-    }
+/// A set's fault, from the document's bytes.
+pub(crate) fn tell_set(told: &mut Told, alloc: Global, bytes: &[u8], fault: SetFault) {
     match toml::table_from_slice(alloc, bytes) {
-        Ok(root) => told(alloc, |text| push_tree(text, alloc, bytes, &root, fault)),
-        Err(error) if error.is_memory() => None,
-        Err(error) => told(alloc, |text| push_syntax(text, bytes, &error)),
+        Ok(root) => tell_tree(told, alloc, bytes, &root, fault),
+        Err(error) => tell_syntax(told, bytes, &error),
     }
 }
 
@@ -43,29 +38,29 @@ fn position(bytes: &[u8], count: usize) -> (u64, u64) {
     (line, column)
 }
 
-// What the parser says, and where, with the line.
-fn push_syntax(text: &mut String, bytes: &[u8], error: &toml::de::Error) -> Result<(), AllocError> {
-    let Some(span) = error.span() else {
-        return Err(AllocError);
-    };
-    let (line, column) = position(bytes, span.start);
-    write!(text, "line {line}, column {column}: ")?;
-    text.push_str(error.message())?;
-    push_behind(text, ", in ", line_at(bytes, line))
+/// What the parser says, and where, with the line.
+pub(crate) fn tell_syntax(told: &mut Told, bytes: &[u8], error: &toml::de::Error) {
+    match error.span() {
+        Some(span) if !error.is_memory() => {
+            let (line, column) = position(bytes, span.start);
+            told.number("line ", line);
+            told.number(", column ", column);
+            told.words(": ");
+            told.words(error.message());
+            told.quoted(", in ", line_at(bytes, line));
+        }
+        _ => told.give_up(),
+    }
 }
 
 // What the tree of a document shows of a fault.
-fn push_tree(
-    text: &mut String,
-    alloc: Global,
-    bytes: &[u8],
-    root: &Table,
-    fault: SetFault,
-) -> Result<(), AllocError> {
+fn tell_tree(told: &mut Told, alloc: Global, bytes: &[u8], root: &Table, fault: SetFault) {
     let (task, section) = place_of(fault);
-    let line = line_of_task(alloc, bytes, task)?;
-    push_place(text, root, line, task, section)?;
-    push_fault(text, root, fault)
+    match line_of_task(alloc, bytes, task) {
+        Ok(line) => tell_place(told, root, line, task, section),
+        Err(_) => told.give_up(),
+    }
+    tell_fault(told, root, fault);
 }
 
 // The task and the section that a fault names, from 1; a sheet's cause names its section itself.
@@ -91,184 +86,146 @@ fn place_of(fault: SetFault) -> (usize, usize) {
 }
 
 // What is wrong at the fault's place.
-fn push_fault(text: &mut String, root: &Table, fault: SetFault) -> Result<(), AllocError> {
+fn tell_fault(told: &mut Told, root: &Table, fault: SetFault) {
     match fault {
-        SetFault::UnknownKey { task, section } => push_unknown(text, root, task, section),
-        SetFault::MissingKey { section, key, .. } => push_missing(text, section, key),
-        SetFault::WrongKind { task, section, key } => push_kind(text, root, task, section, key),
-        SetFault::BadPreference => push_preference(text, root),
-        SetFault::UnknownOverhead => push_overhead(text, root),
-        SetFault::BadOverhead { key } => push_past_limit(text, root, key),
-        SetFault::BadInterrupt { interrupt } => push_interrupt(text, root, interrupt),
-        SetFault::TooManyInterrupts => push_count(text, root, INTERRUPT_LIMIT, Key::Interrupt),
-        SetFault::BadName { task, section } => push_bad_name(text, root, task, section),
-        SetFault::Sheet { task, cause } => push_sheet(text, root, task, cause),
-        SetFault::BadJitter { task } => match table_of(root, task, 0) {
-            Some(table) => push_jitter(text, &numbers_in(table)),
-            None => Ok(()),
-        },
-        SetFault::Outranks { task, cause } => push_outranks(text, root, task, cause),
-        SetFault::SameName { task } => push_same_name(text, root, task),
-        SetFault::TooManyTasks => push_count(text, root, TASK_LIMIT, Key::Task),
-        SetFault::Syntax | SetFault::OutOfMemory => Ok(()),
+        SetFault::UnknownKey { task, section } => tell_unknown(told, root, task, section),
+        SetFault::MissingKey { section, key, .. } => tell_missing(told, section, key),
+        SetFault::WrongKind { task, section, key } => tell_kind(told, root, task, section, key),
+        SetFault::BadPreference => tell_preference(told, root),
+        SetFault::UnknownOverhead => tell_overhead(told, root),
+        SetFault::BadOverhead { key } => tell_past_limit(told, root, key),
+        SetFault::BadInterrupt { interrupt } => tell_interrupt(told, root, interrupt),
+        SetFault::TooManyInterrupts => tell_count(told, root, INTERRUPT_LIMIT, Key::Interrupt),
+        SetFault::BadName { task, section } => tell_bad_name(told, root, task, section),
+        SetFault::Sheet { task, cause } => tell_sheet(told, root, task, cause),
+        SetFault::BadJitter { task } => tell_bad_jitter(told, root, task),
+        SetFault::Outranks { task, cause } => tell_outranks(told, root, task, cause),
+        SetFault::SameName { task } => tell_same_name(told, root, task),
+        SetFault::TooManyTasks => tell_count(told, root, TASK_LIMIT, Key::Task),
+        SetFault::Syntax => {}
+        SetFault::OutOfMemory => told.give_up(),
     }
 }
 
 // ---- keys
 
 // The words of keys, with commas.
-fn push_keys(text: &mut String, keys: &[Key]) -> Result<(), AllocError> {
+fn tell_keys(told: &mut Told, keys: &[Key]) {
     for (i, key) in keys.iter().enumerate() {
-        text.push_str(if i == 0 { " " } else { ", " })?;
-        text.push_str(key.word())?;
+        told.words(between(i));
+        told.words(key.word());
     }
-    Ok(())
 }
 
-// A key that is not known, and those that are.
-fn push_unknown(
-    text: &mut String,
-    root: &Table,
-    task: usize,
-    section: usize,
-) -> Result<(), AllocError> {
-    let keys: &[Key] = match (task, section) {
-        (0, _) => &ROOT_KEYS,
-        (_, 0) => &TASK_KEYS,
-        _ => &SECTION_KEYS,
-    };
-    text.push_str("unknown key ")?;
-    if let Some(table) = table_of(root, task, section) {
-        if let Some(key) = unknown_key(keys, table) {
-            push_shown(text, key)?;
-        }
+// The first key of a table, where there is one, that is none of these.
+fn tell_unknown_key(told: &mut Told, keys: &[Key], table: Option<&Table>) {
+    told.words("unknown key ");
+    if let Some(table) = table {
+        told.shown(unknown_key(Known::Keys(keys), table).unwrap_or(""));
     }
-    push_known(text, task, section, keys)
 }
 
-// The keys that a table may have.
-fn push_known(
-    text: &mut String,
-    task: usize,
-    section: usize,
-    keys: &[Key],
-) -> Result<(), AllocError> {
-    match (task, section) {
-        (0, _) => text.push_str(
+// A key that is not known, and those that a table may have.
+fn tell_unknown(told: &mut Told, root: &Table, task: usize, section: usize) {
+    let table = table_of(root, task, section);
+    if task == 0 {
+        tell_unknown_key(told, &ROOT_KEYS, table);
+        told.words(
             "; a set has tasks, each headed by [[task]], and may have prefer in front of them, [node] and [[interrupt]]",
-        ),
-        (_, 0) => {
-            text.push_str("; a task has")?;
-            push_keys(text, keys)
-        }
-        _ => {
-            text.push_str("; a section has")?;
-            push_keys(text, keys)
-        }
+        );
+    } else if section == 0 {
+        tell_unknown_key(told, &TASK_KEYS, table);
+        told.words("; a task has");
+        tell_keys(told, &TASK_KEYS);
+    } else {
+        tell_unknown_key(told, &SECTION_KEYS, table);
+        told.words("; a section has");
+        tell_keys(told, &SECTION_KEYS);
     }
 }
 
 // The node's table, where it is one.
 fn node_table<'a>(root: &'a Table) -> Option<&'a Table> {
-    root.get(Key::Node.word())?.as_table()
+    match root.get(Key::Node.word()) {
+        Some(Value::Table(table)) => Some(table),
+        _ => None,
+    }
 }
 
 // A key of the node's table that is not known, and those that are.
-fn push_overhead(text: &mut String, root: &Table) -> Result<(), AllocError> {
-    text.push_str("unknown key ")?;
-    if let Some(table) = node_table(root) {
-        if let Some(key) = unknown_key(&NODE_KEYS, table) {
-            push_shown(text, key)?;
-        }
-    }
-    text.push_str("; [node] has")?;
-    push_keys(text, &NODE_KEYS)
+fn tell_overhead(told: &mut Told, root: &Table) {
+    tell_unknown_key(told, &NODE_KEYS, node_table(root));
+    told.words("; [node] has");
+    tell_keys(told, &NODE_KEYS);
 }
 
 // A number of the node's table that is past its limit.
-fn push_past_limit(text: &mut String, root: &Table, key: Key) -> Result<(), AllocError> {
-    let word = key.word();
-    write!(text, "{word} has to be at most ")?;
-    match key {
-        Key::Release => write!(text, "{PERIOD_FROM} and at most job")?,
-        _ => write!(text, "{PERIOD_TO}")?,
+fn tell_past_limit(told: &mut Told, root: &Table, key: Key) {
+    let is_release = matches!(key, Key::Release);
+    told.words(key.word());
+    if is_release {
+        told.number(" has to be at most ", PERIOD_FROM);
+        told.words(" and at most job");
+    } else {
+        told.number(" has to be at most ", PERIOD_TO);
     }
-    let Some(table) = node_table(root) else {
-        return Ok(());
-    };
-    let number = number_at(key, table).unwrap_or(0);
-    write!(text, "; it is {number}")?;
-    match key {
-        Key::Release => {
-            let job = number_at(Key::Job, table).unwrap_or(0);
-            write!(text, ", job {job}")
+    if let Some(table) = node_table(root) {
+        told.number("; it is ", number_at(key, table).unwrap_or(0));
+        if is_release {
+            told.number(", job ", number_at(Key::Job, table).unwrap_or(0));
         }
-        _ => Ok(()),
+    }
+}
+
+// A key that a table lacks, and those that it needs.
+fn tell_missing(told: &mut Told, section: usize, key: Key) {
+    told.words("no key ");
+    told.words(key.word());
+    if section == 0 {
+        told.words("; a task needs");
+        tell_keys(told, &[Key::Name, Key::Period, Key::Deadline, Key::Cost]);
+    } else {
+        told.words("; a section needs");
+        tell_keys(told, &[Key::Locks, Key::Len]);
     }
 }
 
 // ---- interrupts
 
 // A table that says no interrupt: a key that is not known, or numbers past their limits.
-fn push_interrupt(text: &mut String, root: &Table, place: usize) -> Result<(), AllocError> {
-    write!(text, "interrupt {place}: ")?;
-    let Some(table) = table_at(Key::Interrupt, place, root) else {
-        return Ok(());
-    };
-    match unknown_key(&INTERRUPT_KEYS, table) {
-        Some(key) => {
-            text.push_str("unknown key ")?;
-            push_shown(text, key)?;
-            text.push_str("; an interrupt has")?;
-            push_keys(text, &INTERRUPT_KEYS)
+fn tell_interrupt(told: &mut Told, root: &Table, place: usize) {
+    told.number("interrupt ", place as u64);
+    told.words(": ");
+    if let Some(table) = table_at(Key::Interrupt, place, root) {
+        match unknown_key(Known::Keys(&INTERRUPT_KEYS), table) {
+            Some(key) => {
+                told.words("unknown key ");
+                told.shown(key);
+                told.words("; an interrupt has");
+                tell_keys(told, &INTERRUPT_KEYS);
+            }
+            None => tell_numbers(told, table),
         }
-        None => push_numbers(text, table),
     }
 }
 
 // What the numbers of an interrupt have to be, and what its table has.
-fn push_numbers(text: &mut String, table: &Table) -> Result<(), AllocError> {
-    write!(
-        text,
-        "period has to be from {INTERRUPT_FROM} to {PERIOD_TO}, and cost at most period; "
-    )?;
-    push_number(text, table, Key::Period)?;
-    text.push_str(", ")?;
-    push_number(text, table, Key::Cost)
+fn tell_numbers(told: &mut Told, table: &Table) {
+    told.number("period has to be from ", INTERRUPT_FROM);
+    told.number(" to ", PERIOD_TO);
+    told.words(", and cost at most period; ");
+    tell_number(told, table, Key::Period);
+    told.words(", ");
+    tell_number(told, table, Key::Cost);
 }
 
 // The number at a key, or that there is none.
-fn push_number(text: &mut String, table: &Table, key: Key) -> Result<(), AllocError> {
-    let word = key.word();
+fn tell_number(told: &mut Told, table: &Table, key: Key) {
+    told.words(key.word());
     match number_at(key, table) {
-        Some(number) => write!(text, "{word} is {number}"),
-        None => write!(text, "{word} is no number"),
+        Some(number) => told.number(" is ", number),
+        None => told.words(" is no number"),
     }
-}
-
-// Whether a key is one of the node's table.
-fn is_of_node(key: Key) -> bool {
-    NODE_KEYS.iter().any(|known| *known == key)
-}
-
-// The table that has a key, at the place of a fault.
-fn table_with<'a>(root: &'a Table, task: usize, section: usize, key: Key) -> Option<&'a Table> {
-    if is_of_node(key) {
-        return node_table(root);
-    }
-    table_of(root, task, section)
-}
-
-// A key that a table lacks, and those that it needs.
-fn push_missing(text: &mut String, section: usize, key: Key) -> Result<(), AllocError> {
-    let word = key.word();
-    write!(text, "no key {word}; ")?;
-    if section == 0 {
-        text.push_str("a task needs")?;
-        return push_keys(text, &[Key::Name, Key::Period, Key::Deadline, Key::Cost]);
-    }
-    text.push_str("a section needs")?;
-    push_keys(text, &[Key::Locks, Key::Len])
 }
 
 // ---- kinds
@@ -298,20 +255,36 @@ fn kind_of(key: Key) -> &'static str {
     }
 }
 
-/// A value, or its kind.
-pub(crate) fn push_one(text: &mut String, value: &Value) -> Result<(), AllocError> {
+// The table that has a key, at the place of a fault.
+fn table_with<'a>(root: &'a Table, task: usize, section: usize, key: Key) -> Option<&'a Table> {
+    match key {
+        Key::Job | Key::Lock | Key::Release | Key::Late => node_table(root),
+        _ => table_of(root, task, section),
+    }
+}
+
+// What a value is that isn't shown.
+fn kind_of_value(value: &Value) -> &'static str {
     match value {
-        Value::String(shown) => {
-            text.push_str("the string \"")?;
-            push_shown(text, shown.as_str())?;
-            text.push_str("\"")
+        Value::Float(_) => "a number with a fraction",
+        Value::Boolean(true) => "true",
+        Value::Boolean(false) => "false",
+        Value::Datetime(_) => "a date or time",
+        Value::Array(_) => "an array",
+        _ => "a single table",
+    }
+}
+
+/// A value, or its kind.
+pub(crate) fn tell_value(told: &mut Told, value: &Value) {
+    match value {
+        Value::String(text) => {
+            told.words("the string \"");
+            told.shown(text.as_str());
+            told.words("\"");
         }
-        Value::Integer(number) => write!(text, "{number}"),
-        Value::Float(_) => text.push_str("a number with a fraction"),
-        Value::Boolean(truth) => write!(text, "{truth}"),
-        Value::Datetime(_) => text.push_str("a date or time"),
-        Value::Array(_) => text.push_str("an array"),
-        Value::Table(_) => text.push_str("a single table"),
+        Value::Integer(number) => told.integer(*number),
+        _ => told.words(kind_of_value(value)),
     }
 }
 
@@ -334,127 +307,121 @@ fn stranger<'a>(key: Key, items: &'a [Value]) -> Option<&'a Value> {
 }
 
 // What stands at a key in place of what has to.
-fn push_found(text: &mut String, key: Key, value: &Value) -> Result<(), AllocError> {
-    push_one(text, value)?;
-    let Some(items) = value.as_array() else {
-        return Ok(());
-    };
-    match stranger(key, items) {
-        Some(item) => {
-            text.push_str(" with ")?;
-            push_one(text, item)
+fn tell_found(told: &mut Told, key: Key, value: &Value) {
+    tell_value(told, value);
+    if let Some(items) = value.as_array() {
+        if let Some(item) = stranger(key, items) {
+            told.words(" with ");
+            tell_value(told, item);
         }
-        None => Ok(()),
     }
 }
 
 // A value of another kind.
-fn push_kind(
-    text: &mut String,
-    root: &Table,
-    task: usize,
-    section: usize,
-    key: Key,
-) -> Result<(), AllocError> {
-    let word = key.word();
-    let kind = kind_of(key);
-    write!(text, "{word} has to be {kind}")?;
-    let Some(table) = table_with(root, task, section, key) else {
-        return Ok(());
-    };
-    match table.get(word) {
-        Some(value) => {
-            text.push_str("; it is ")?;
-            push_found(text, key, value)
+fn tell_kind(told: &mut Told, root: &Table, task: usize, section: usize, key: Key) {
+    told.words(key.word());
+    told.words(" has to be ");
+    told.words(kind_of(key));
+    if let Some(table) = table_with(root, task, section, key) {
+        if let Some(value) = table.get(key.word()) {
+            told.words("; it is ");
+            tell_found(told, key, value);
         }
-        None => Ok(()),
     }
 }
 
 // A word that says no preference, and those that do.
-fn push_preference(text: &mut String, root: &Table) -> Result<(), AllocError> {
-    let kind = kind_of(Key::Prefer);
-    write!(text, "prefer has to be {kind}; it is ")?;
-    match root.get(Key::Prefer.word()) {
-        Some(value) => push_one(text, value),
-        None => Ok(()),
+fn tell_preference(told: &mut Told, root: &Table) {
+    told.words("prefer has to be ");
+    told.words(kind_of(Key::Prefer));
+    told.words("; it is ");
+    if let Some(value) = root.get(Key::Prefer.word()) {
+        tell_value(told, value);
     }
 }
 
 // ---- names
 
-// The bad name of a task's own table, and its key.
-fn own_bad_name<'a>(table: &'a Table) -> Option<(Key, &'a str)> {
-    if let Some(name) = text_at(Key::Name, table) {
-        if task_sheet::Name::read(name.as_bytes()).is_err() {
-            return Some((Key::Name, name));
-        }
+// The first string at a key that is no name.
+fn bad_name_at<'a>(key: Key, table: &'a Table) -> Option<&'a str> {
+    match table.get(key.word()) {
+        Some(Value::String(text)) if !is_name(text.as_str()) => Some(text.as_str()),
+        Some(Value::Array(items)) => bad_name_in(items.as_slice()),
+        _ => None,
     }
-    let name = bad_name_in(items_at(Key::Outranks, table)?)?;
-    Some((Key::Outranks, name))
 }
 
-// The bad name that a fault names, and its key.
-fn bad_name<'a>(root: &'a Table, task: usize, section: usize) -> Option<(Key, &'a str)> {
-    let table = table_of(root, task, section)?;
-    if section == 0 {
-        return own_bad_name(table);
-    }
-    let name = bad_name_in(items_at(Key::Locks, table)?)?;
-    Some((Key::Locks, name))
+// The first string at a key that is no name, with the key; whether there is one.
+fn tell_no_name(told: &mut Told, key: Key, table: &Table) -> bool {
+    let Some(name) = bad_name_at(key, table) else {
+        return false;
+    };
+    told.words(key.word());
+    told.words(": \"");
+    told.shown(name);
+    told.words("\" is no name; ");
+    true
 }
 
 // A string that is no name.
-fn push_bad_name(
-    text: &mut String,
-    root: &Table,
-    task: usize,
-    section: usize,
-) -> Result<(), AllocError> {
-    if let Some((key, name)) = bad_name(root, task, section) {
-        let word = key.word();
-        write!(text, "{word}: \"")?;
-        push_shown(text, name)?;
-        text.push_str("\" is no name; ")?;
+fn tell_bad_name(told: &mut Told, root: &Table, task: usize, section: usize) {
+    if let Some(table) = table_of(root, task, section) {
+        if section > 0 {
+            tell_no_name(told, Key::Locks, table);
+        } else if !tell_no_name(told, Key::Name, table) {
+            tell_no_name(told, Key::Outranks, table);
+        }
     }
-    write!(
-        text,
-        "a name is 1 to {NAME_LIMIT} of the letters a to z and A to Z, digits, _ and -, a letter first"
-    )
+    told.number("a name is 1 to ", NAME_LIMIT as u64);
+    told.words(" of the letters a to z and A to Z, digits, _ and -, a letter first");
 }
 
 // The name of a task before it.
-fn push_same_name(text: &mut String, root: &Table, task: usize) -> Result<(), AllocError> {
-    text.push_str("a task before it has its name")?;
-    let Some(table) = table_of(root, task, 0) else {
-        return Ok(());
-    };
-    let Some(name) = text_at(Key::Name, table) else {
-        return Ok(());
-    };
-    match place_of_name(root, name) {
-        Some(place) => write!(text, ": task {place}"),
-        None => Ok(()),
+fn tell_same_name(told: &mut Told, root: &Table, task: usize) {
+    told.words("a task before it has its name");
+    if let Some(table) = table_of(root, task, 0) {
+        if let Some(name) = text_at(Key::Name, table) {
+            if let Some(place) = place_of_name(root, name) {
+                told.number(": task ", place as u64);
+            }
+        }
     }
 }
 
 // ---- values
 
 // A sheet's cause, with the values of its table.
-fn push_sheet(
-    text: &mut String,
-    root: &Table,
-    task: usize,
-    cause: SheetCause,
-) -> Result<(), AllocError> {
+fn tell_sheet(told: &mut Told, root: &Table, task: usize, cause: SheetCause) {
     let Some(table) = table_of(root, task, 0) else {
-        return write!(text, "{cause}");
+        return told.cause(cause);
     };
     let span = match section_of(cause) {
         Some(place) => span_at(place, table),
-        None => no_span(),
+        None => NO_SPAN,
     };
-    push_cause(text, cause, &numbers_in(table), &span)
+    tell_cause(told, cause, &numbers_in(table), &span);
+    if let SheetCause::LockTwice { section } = cause {
+        tell_twice(told, section, table);
+    }
+}
+
+// The lock that stands twice in the section at a place of a task's table.
+fn tell_twice(told: &mut Told, place: usize, table: &Table) {
+    if let Some(section) = table_at(Key::Section, place, table) {
+        if let Some(locks) = items_at(Key::Locks, section) {
+            if let Some(lock) = repeated_in(locks) {
+                told.words(": ");
+                told.shown(lock);
+            }
+        }
+    }
+}
+
+// A task's jitter that isn't below its deadline.
+fn tell_bad_jitter(told: &mut Told, root: &Table, task: usize) {
+    if let Some(table) = table_of(root, task, 0) {
+        tell_jitter(told, &numbers_in(table));
+    }
 }
 
 /// The section that a cause names, from 1.
@@ -471,41 +438,37 @@ pub(crate) fn section_of(cause: SheetCause) -> Option<usize> {
 }
 
 // The names that a task outranks break a limit.
-fn push_outranks(
-    text: &mut String,
-    root: &Table,
-    task: usize,
-    cause: OutranksCause,
-) -> Result<(), AllocError> {
-    write!(text, "outranks: {cause}")?;
-    let Some(table) = table_of(root, task, 0) else {
-        return Ok(());
-    };
-    let Some(items) = items_at(Key::Outranks, table) else {
-        return Ok(());
-    };
-    match (cause, repeated_in(items)) {
-        (OutranksCause::TooManyOutranks, _) => {
-            let count = items.len();
-            write!(text, ": there are {count}")
+fn tell_outranks(told: &mut Told, root: &Table, task: usize, cause: OutranksCause) {
+    told.words("outranks: ");
+    told.outranks(cause);
+    if let Some(table) = table_of(root, task, 0) {
+        if let Some(items) = items_at(Key::Outranks, table) {
+            tell_outranked(told, items, cause);
         }
-        (OutranksCause::OutranksTwice, Some(name)) => {
-            text.push_str(": ")?;
-            push_shown(text, name)
+    }
+}
+
+// How many names there are, where they are too many, or the one that stands twice.
+fn tell_outranked(told: &mut Told, items: &[Value], cause: OutranksCause) {
+    match cause {
+        OutranksCause::TooManyOutranks => told.number(": there are ", items.len() as u64),
+        OutranksCause::OutranksTwice => {
+            if let Some(name) = repeated_in(items) {
+                told.words(": ");
+                told.shown(name);
+            }
         }
-        _ => Ok(()),
+        OutranksCause::OutranksSelf => {}
     }
 }
 
 // How many tables stand at a key, which are more than its limit.
-fn push_count(text: &mut String, root: &Table, limit: usize, key: Key) -> Result<(), AllocError> {
-    let word = key.word();
-    write!(text, "more than {limit} {word}s")?;
-    match items_at(key, root) {
-        Some(items) => {
-            let count = items.len();
-            write!(text, ": there are {count}")
-        }
-        None => Ok(()),
+fn tell_count(told: &mut Told, root: &Table, limit: usize, key: Key) {
+    told.number("more than ", limit as u64);
+    told.words(" ");
+    told.words(key.word());
+    told.words("s");
+    if let Some(items) = items_at(key, root) {
+        told.number(": there are ", items.len() as u64);
     }
 }

@@ -1,5 +1,6 @@
 //! Tasks that a set speaks of, or should have, and doesn't have.
 
+use crate::pieces::put_pieces;
 use std::io::Write;
 use streams::{Held, Watched, WriteFailed};
 use task_sheet::{Name, Outranks, TaskSet};
@@ -11,11 +12,14 @@ fn put_stranger<W: Write + Drop>(
     held: &mut Held,
     out: &mut Watched<W>,
 ) -> Result<(), WriteFailed> {
-    held.put(b"note: ", out)?;
-    held.put(task.bytes(), out)?;
-    held.put(b" outranks ", out)?;
-    held.put(stranger.bytes(), out)?;
-    held.put(b", which is no task of the set: that binds nothing\n", out)
+    let pieces = [
+        "note: ",
+        task.as_str(),
+        " outranks ",
+        stranger.as_str(),
+        ", which is no task of the set: that binds nothing\n",
+    ];
+    put_pieces(&pieces, held, out)
 }
 
 // The notes on those of the names that a task outranks that no task of the set has.
@@ -51,9 +55,10 @@ pub fn put_strangers<W: Write + Drop>(
 
 /// Writes a note where a set has no task. It takes no memory.
 pub fn put_empty<W: Write + Drop>(set: &TaskSet, out: &mut Watched<W>) -> Result<(), WriteFailed> {
-    let mut held = Held::new();
-    if set.is_empty() {
-        held.put(b"note: the set has no task\n", out)?;
-    }
-    held.send(out)
+    let note: &[u8] = if set.is_empty() {
+        b"note: the set has no task\n"
+    } else {
+        b""
+    };
+    out.write(note)
 }

@@ -1,22 +1,28 @@
 //! Finding in a document what a fault names by its place.
 
-use crate::shown::push_shown;
+use crate::texts::{MARK, is_line_end};
+use crate::told::Told;
 use std::alloc::{AllocError, Global};
 use task_sheet::{Key, Name};
 use toml::{Table, Value};
 
 /// The items of the array at a key.
 pub(crate) fn items_at<'a>(key: Key, table: &'a Table) -> Option<&'a [Value]> {
-    match table.get(key.word())?.as_array() {
-        Some(items) => Some(items),
-        None => None,
+    match table.get(key.word()) {
+        Some(Value::Array(items)) => Some(items.as_slice()),
+        _ => None,
     }
 }
 
 /// The table at a place of the array at a key, from 1.
 pub(crate) fn table_at<'a>(key: Key, place: usize, table: &'a Table) -> Option<&'a Table> {
-    let items = items_at(key, table)?;
-    items.get(place.checked_sub(1)?)?.as_table()
+    match items_at(key, table)
+        .unwrap_or(&[])
+        .get(place.wrapping_sub(1))
+    {
+        Some(Value::Table(item)) => Some(item),
+        _ => None,
+    }
 }
 
 /// The table that a fault names: the root where the task is 0, the task's own where the section is 0.
@@ -24,61 +30,82 @@ pub(crate) fn table_of<'a>(root: &'a Table, task: usize, section: usize) -> Opti
     if task == 0 {
         return Some(root);
     }
-    let own = table_at(Key::Task, task, root)?;
-    if section == 0 {
-        return Some(own);
+    let own = table_at(Key::Task, task, root);
+    match own {
+        Some(own) if section > 0 => table_at(Key::Section, section, own),
+        _ => own,
     }
-    table_at(Key::Section, section, own)
 }
 
 /// The number at a key.
 pub(crate) fn number_at(key: Key, table: &Table) -> Option<u64> {
-    match table.get(key.word())?.as_integer() {
-        Some(n) if n >= 0 => Some(n as u64),
+    match table.get(key.word()) {
+        Some(Value::Integer(number)) => u64::try_from(*number).ok(),
         _ => None,
     }
 }
 
 /// The text at a key.
 pub(crate) fn text_at<'a>(key: Key, table: &'a Table) -> Option<&'a str> {
-    table.get(key.word())?.as_str()
+    match table.get(key.word()) {
+        Some(Value::String(text)) => Some(text.as_str()),
+        _ => None,
+    }
 }
 
 /// The place of a task, with the line that heads it and its name where it has them, and of a section.
-pub(crate) fn push_place(
-    text: &mut String,
+pub(crate) fn tell_place(
+    told: &mut Told,
     root: &Table,
     line: Option<u64>,
     task: usize,
     section: usize,
-) -> Result<(), AllocError> {
+) {
     if task == 0 {
-        return Ok(());
+        return;
     }
     if let Some(line) = line {
-        write!(text, "line {line}, ")?;
+        told.number("line ", line);
+        told.words(", ");
     }
-    write!(text, "task {task}")?;
-    push_task_name(text, root, task)?;
+    told.number("task ", task as u64);
+    tell_task_name(told, root, task);
     if section > 0 {
-        write!(text, ", section {section}")?;
+        told.number(", section ", section as u64);
     }
-    text.push_str(": ")
+    told.words(": ");
+}
+
+// The name of a task in brackets.
+fn tell_task_name(told: &mut Told, root: &Table, task: usize) {
+    if let Some(own) = table_at(Key::Task, task, root) {
+        if let Some(name) = text_at(Key::Name, own) {
+            told.words(" (");
+            told.shown(name);
+            told.words(")");
+        }
+    }
+}
+
+/// What a line has between what opens and what closes a table's head; nothing where it is none.
+pub(crate) fn head_in<'a>(line: &'a [u8], opens: &str, closes: &str) -> &'a str {
+    let Ok(line) = std::str::from_utf8(line) else {
+        return "";
+    };
+    match line.trim().strip_prefix(opens) {
+        Some(inside) => inside.split(closes).next().unwrap_or(""),
+        None => "",
+    }
 }
 
 // Whether a line heads a task.
 fn heads_task(line: &[u8]) -> bool {
-    let Ok(line) = std::str::from_utf8(line) else {
-        return false;
+    let bare = if line.starts_with(MARK) {
+        line.get(MARK.len()..).unwrap_or(line)
+    } else {
+        line
     };
-    let bare = line.strip_prefix("\u{feff}").unwrap_or(line);
-    let Some(inside) = bare.trim().strip_prefix("[[") else {
-        return false;
-    };
-    match inside.split("]]").next() {
-        Some(key) => key.trim() == Key::Task.word(),
-        None => false,
-    }
+    head_in(bare, "[[", "]]").trim() == Key::Task.word()
 }
 
 // Where the line ends that heads a task of a place, from 1, and its number, where no such line stands elsewhere.
@@ -86,7 +113,7 @@ fn header_of(bytes: &[u8], task: usize) -> Option<(u64, usize)> {
     let mut left = task;
     let mut number = 0u64;
     let mut end = 0usize;
-    for line in bytes.split(|byte| *byte == b'\n') {
+    for line in bytes.split(is_line_end) {
         number = number.saturating_add(1);
         end = end.saturating_add(line.len());
         if heads_task(line) {
@@ -120,48 +147,80 @@ pub(crate) fn line_of_task(
     };
     // With the line's LF, which a CR needs behind it.
     let head = bytes.get(..end.saturating_add(1)).unwrap_or(bytes);
-    match toml::table_from_slice(alloc, head) {
-        Ok(root) if has_begun(&root, task) => Ok(Some(number)),
-        Ok(_) => Ok(None),
-        Err(error) if error.is_memory() => Err(AllocError),
-        Err(_) => Ok(None),
+    match begins_in(alloc, head, task)? {
+        true => Ok(Some(number)),
+        false => Ok(None),
     }
 }
 
-// The name of a task in brackets.
-fn push_task_name(text: &mut String, root: &Table, task: usize) -> Result<(), AllocError> {
-    let Some(own) = table_at(Key::Task, task, root) else {
-        return Ok(());
-    };
-    let Some(name) = text_at(Key::Name, own) else {
-        return Ok(());
-    };
-    text.push_str(" (")?;
-    push_shown(text, name)?;
-    text.push_str(")")
+// Whether a document has so many tasks, the last of them without a key.
+fn begins_in(alloc: Global, head: &[u8], task: usize) -> Result<bool, AllocError> {
+    match toml::table_from_slice(alloc, head) {
+        Ok(root) => Ok(has_begun(&root, task)),
+        Err(error) => none_begun(&error),
+    }
+}
+
+// No task has begun in what is no document, if memory isn't wanting.
+fn none_begun(error: &toml::de::Error) -> Result<bool, AllocError> {
+    if error.is_memory() {
+        Err(AllocError)
+    } else {
+        Ok(false)
+    }
 }
 
 // The text is the word of one of the keys.
 fn is_word_of(keys: &[Key], text: &str) -> bool {
-    keys.iter().any(|key| key.word() == text)
+    for key in keys {
+        if key.word() == text {
+            return true;
+        }
+    }
+    false
 }
 
-/// The first key of a table that is none of these.
-pub(crate) fn unknown_key<'a>(keys: &[Key], table: &'a Table) -> Option<&'a str> {
+/// The keys that a table may have.
+#[derive(Clone, Copy)]
+pub(crate) enum Known<'a> {
+    /// These.
+    Keys(&'a [Key]),
+    /// These two words.
+    Words(&'a str, &'a str),
+    /// Each name.
+    Names,
+}
+
+// Whether a text is one of the keys.
+fn is_known(known: Known<'_>, text: &str) -> bool {
+    match known {
+        Known::Keys(keys) => is_word_of(keys, text),
+        Known::Words(one, other) => text == one || text == other,
+        Known::Names => is_name(text),
+    }
+}
+
+/// The first key of a table that it may not have.
+pub(crate) fn unknown_key<'a>(known: Known<'_>, table: &'a Table) -> Option<&'a str> {
     for (key, _) in table.iter() {
-        if !is_word_of(keys, key.as_str()) {
+        if !is_known(known, key.as_str()) {
             return Some(key.as_str());
         }
     }
     None
 }
 
+/// Whether a text is a name.
+pub(crate) fn is_name(text: &str) -> bool {
+    Name::read(text.as_bytes()).is_ok()
+}
+
 /// The first string of some values that is no name.
 pub(crate) fn bad_name_in<'a>(items: &'a [Value]) -> Option<&'a str> {
     for item in items {
-        if let Some(text) = item.as_str() {
-            if Name::read(text.as_bytes()).is_err() {
-                return Some(text);
+        if let Value::String(text) = item {
+            if !is_name(text.as_str()) {
+                return Some(text.as_str());
             }
         }
     }
@@ -171,34 +230,47 @@ pub(crate) fn bad_name_in<'a>(items: &'a [Value]) -> Option<&'a str> {
 /// The first string of some values that stands before, too.
 pub(crate) fn repeated_in<'a>(items: &'a [Value]) -> Option<&'a str> {
     for (i, item) in items.iter().enumerate() {
-        if let Some(text) = item.as_str() {
-            if has_text(items, i, text) {
-                return Some(text);
+        if let Value::String(text) = item {
+            if has_text(items.get(..i).unwrap_or(items), text.as_str()) {
+                return Some(text.as_str());
             }
         }
     }
     None
 }
 
-// Whether one of the first values is this string.
-fn has_text(items: &[Value], count: usize, text: &str) -> bool {
-    for item in items.iter().take(count) {
-        if item.as_str() == Some(text) {
+// Whether one of the values is this string.
+fn has_text(items: &[Value], text: &str) -> bool {
+    for item in items {
+        if is_text(item, text) {
             return true;
         }
     }
     false
 }
 
+// Whether a value is this string.
+fn is_text(item: &Value, text: &str) -> bool {
+    match item {
+        Value::String(found) => found.as_str() == text,
+        _ => false,
+    }
+}
+
 /// The place, from 1, of the first task of a name.
 pub(crate) fn place_of_name(root: &Table, name: &str) -> Option<usize> {
-    let items = items_at(Key::Task, root)?;
-    for (i, item) in items.iter().enumerate() {
-        if let Some(table) = item.as_table() {
-            if text_at(Key::Name, table) == Some(name) {
-                return Some(i.saturating_add(1));
-            }
+    for (i, item) in items_at(Key::Task, root).unwrap_or(&[]).iter().enumerate() {
+        if is_called(item, name) {
+            return Some(i.saturating_add(1));
         }
     }
     None
+}
+
+// Whether a value is the table of a task of a name.
+fn is_called(item: &Value, name: &str) -> bool {
+    match item {
+        Value::Table(table) => text_at(Key::Name, table).unwrap_or("") == name,
+        _ => false,
+    }
 }

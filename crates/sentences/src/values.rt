@@ -1,6 +1,6 @@
 //! The values of a task as a document or a line of a script gives them.
 
-use crate::tree::{items_at, number_at, repeated_in, table_at};
+use crate::tree::{items_at, number_at, table_at};
 use task_sheet::Key;
 use toml::Table;
 
@@ -17,26 +17,21 @@ pub(crate) struct Numbers {
 
 /// The values of a section; none where they are not at hand.
 #[derive(Clone, Copy)]
-pub(crate) struct Span<'a> {
+pub(crate) struct Span {
     pub(crate) at: Option<u64>,
     pub(crate) len: Option<u64>,
     pub(crate) locks: Option<u64>,
-    /// A lock that stands twice.
-    pub(crate) twice: Option<&'a str>,
     /// The end of the section before it.
     pub(crate) from: Option<u64>,
 }
 
 /// Of a section of which nothing is at hand.
-pub(crate) fn no_span<'a>() -> Span<'a> {
-    Span {
-        at: None,
-        len: None,
-        locks: None,
-        twice: None,
-        from: None,
-    }
-}
+pub(crate) const NO_SPAN: Span = Span {
+    at: None,
+    len: None,
+    locks: None,
+    from: None,
+};
 
 // How many items the array at a key has.
 fn count_at(key: Key, table: &Table) -> Option<u64> {
@@ -92,22 +87,16 @@ fn end_at(place: usize, table: &Table) -> Option<u64> {
     end
 }
 
-// The lock that stands twice in a section's table.
-fn twice_in<'a>(section: &'a Table) -> Option<&'a str> {
-    repeated_in(items_at(Key::Locks, section)?)
-}
-
 /// Those of the section at a place of a task's table, from 1.
-pub(crate) fn span_at<'a>(place: usize, table: &'a Table) -> Span<'a> {
+pub(crate) fn span_at(place: usize, table: &Table) -> Span {
     let from = end_at(place.saturating_sub(1), table);
     match table_at(Key::Section, place, table) {
         Some(section) => Span {
             at: begin_of(from, section),
             len: number_at(Key::Len, section),
             locks: count_at(Key::Locks, section),
-            twice: twice_in(section),
             from,
         },
-        None => no_span(),
+        None => NO_SPAN,
     }
 }
