@@ -1,5 +1,207 @@
 //! How the elements look, in a light and in a dark surrounding.
 
-// The style, the pattern of what is missed, and the ground.
-pub(crate) const STYLE: &str =
-    "<style type=\"text/css\">text{font:105px sans-serif;fill:#4a4a4a}.t{font:bold 150px sans-serif;fill:#111}.n{font:bold 130px monospace;fill:#111}.v{font-size:110px;text-anchor:end}.s{text-anchor:middle}.u{font:110px monospace;fill:#111;text-anchor:middle;pointer-events:none}.k{font:110px monospace;fill:#fff;text-anchor:middle;pointer-events:none}.p{fill:#fff}.g{stroke:#e3e3e3;stroke-width:8;fill:none}.l{stroke:#9a9a9a;stroke-width:8;fill:none}.w{fill:#eef1f5}.a{stroke:#333;stroke-width:12;fill:none}.r{stroke:#777;stroke-width:12;fill:none;stroke-dasharray:30 20}.d{stroke:#111;stroke-width:12;fill:#111}.b{stroke:#a34700;stroke-width:14;fill:none}.o{stroke:#fff;stroke-width:6}.h{fill:#173766}.x{stroke:#c40000;stroke-width:160;stroke-linecap:round}.y{stroke:#fff;stroke-width:26;fill:none}.z{fill:url(#m);stroke:#c40000;stroke-width:14}.i{stroke:#c40000;stroke-width:22;fill:none}.q{fill:#c40000;font-weight:bold}.f0{fill:#7fb2e5}.f1{fill:#f3dd7c}.f2{fill:#e98b6b}.f3{fill:#a5e0f2}.f4{fill:#57b894}.f5{fill:#f7b3c4}.f6{fill:#b3b04a}.f7{fill:#c9c2ea}.f8{fill:#b98fd0}.f9{fill:#d3dd8c}.c0{fill:#173766}.c1{fill:#8a2d05}.c2{fill:#00564b}.c3{fill:#651a66}.c4{fill:#4f4200}.c5{fill:#363636}.k0{fill:#173766}.k1{fill:url(#p1)}.k2{fill:url(#p2)}.k3{fill:url(#p3)}.k4{fill:url(#p4)}.k5{fill:url(#p5)}.k0,.k1,.k2,.k3,.k4,.k5{pointer-events:none}.c{font:110px monospace}.j{stroke:#fff;stroke-opacity:.55;stroke-width:14;fill:none}.wa{stroke-width:24;fill:none}.wb{stroke-width:32;stroke-linecap:round;stroke-dasharray:0 55;fill:none}.wj{stroke-width:10;stroke-dasharray:10 22;fill:none;pointer-events:none}.wl{font:110px monospace;fill:#111;text-anchor:middle;pointer-events:none;paint-order:stroke;stroke:#fff;stroke-width:30px;stroke-linejoin:round}.i0{stroke:#2f6fae}.i1{stroke:#96780a}.i2{stroke:#b04f2c}.i3{stroke:#1f7f9c}.i4{stroke:#1e7a58}.i5{stroke:#b34a68}.i6{stroke:#6d6b13}.i7{stroke:#6a5cae}.i8{stroke:#7d4a9b}.i9{stroke:#6f7d1f}.in{stroke:#6b6b6b}.d0{stroke:#173766}.d1{stroke:#8a2d05}.d2{stroke:#00564b}.d3{stroke:#651a66}.d4{stroke:#4f4200}.d5{stroke:#363636}@media(prefers-color-scheme:dark){text{fill:#b9bec6}.t,.n{fill:#f2f4f7}.u{fill:#fff}.k{fill:#101418}.p{fill:#14181d}.g{stroke:#2c333c}.l{stroke:#6d7682}.w{fill:#20272f}.a{stroke:#d5dae0}.r{stroke:#98a1ac}.d{stroke:#f2f4f7;fill:#f2f4f7}.b{stroke:#ffb066}.o{stroke:#14181d}.h{fill:#dbe9ff}.x{stroke:#ff5c5c}.y{stroke:#14181d}.z{stroke:#ff5c5c}.i{stroke:#ff5c5c}.q{fill:#ff7b7b}.f0{fill:#3b6ea3}.f1{fill:#8f7a1e}.f2{fill:#a3512f}.f3{fill:#2f7f98}.f4{fill:#2a7a5a}.f5{fill:#a3546c}.f6{fill:#6f6d1d}.f7{fill:#6f63a8}.f8{fill:#7b4f94}.f9{fill:#6d7a2c}.c0{fill:#dbe9ff}.c1{fill:#ffc9a8}.c2{fill:#a8f0e2}.c3{fill:#f2c4f5}.c4{fill:#efe3a0}.c5{fill:#e6e6e6}.k0{fill:#dbe9ff}.j{stroke:#14181d}.wl{fill:#fff;stroke:#14181d}.i0{stroke:#8fbff0}.i1{stroke:#e6cf6a}.i2{stroke:#f2a083}.i3{stroke:#9bdcf0}.i4{stroke:#7bd3b1}.i5{stroke:#f5a8bd}.i6{stroke:#cfcc62}.i7{stroke:#c3bbef}.i8{stroke:#d7aeee}.i9{stroke:#dbe68f}.in{stroke:#a3abb5}.d0{stroke:#dbe9ff}.d1{stroke:#ffc9a8}.d2{stroke:#a8f0e2}.d3{stroke:#f2c4f5}.d4{stroke:#efe3a0}.d5{stroke:#e6e6e6}}</style>\n<defs><pattern id=\"p1\" width=\"60\" height=\"60\" patternUnits=\"userSpaceOnUse\"><rect class=\"c1\" width=\"60\" height=\"60\"/><path class=\"j\" d=\"M-15 15L15-15M0 60L60 0M45 75L75 45\"/></pattern><pattern id=\"p2\" width=\"60\" height=\"60\" patternUnits=\"userSpaceOnUse\"><rect class=\"c2\" width=\"60\" height=\"60\"/><path class=\"j\" d=\"M25 0V60M55 0V60\"/></pattern><pattern id=\"p3\" width=\"60\" height=\"60\" patternUnits=\"userSpaceOnUse\"><rect class=\"c3\" width=\"60\" height=\"60\"/><path class=\"j\" d=\"M-15 45L15 75M0 0L60 60M45-15L75 15\"/></pattern><pattern id=\"p4\" width=\"60\" height=\"60\" patternUnits=\"userSpaceOnUse\"><rect class=\"c4\" width=\"60\" height=\"60\"/><path class=\"j\" d=\"M0 30H60\"/></pattern><pattern id=\"p5\" width=\"60\" height=\"60\" patternUnits=\"userSpaceOnUse\"><rect class=\"c5\" width=\"60\" height=\"60\"/><path class=\"j\" d=\"M30 0V60M0 30H60\"/></pattern><pattern id=\"m\" width=\"70\" height=\"70\" patternUnits=\"userSpaceOnUse\"><path class=\"i\" d=\"M-15 15L15-15M0 70L70 0M55 85L85 55\"/></pattern></defs>\n<rect class=\"p\" width=\"100%\" height=\"100%\"/>\n";
+// The style, the patterns, and the ground.
+pub(crate) const STYLE: &str = concat!(
+    "<style type=\"text/css\">",
+    // words
+    "text{font:105px sans-serif;fill:#4a4a4a}",
+    // the verdict
+    ".t{font:bold 150px sans-serif;fill:#111}",
+    // names of rows
+    ".n{font:bold 130px monospace;fill:#111}",
+    // levels
+    ".v{font-size:110px;text-anchor:end}",
+    // the scale's numbers
+    ".s{text-anchor:middle}",
+    // names in the lane of the processor
+    ".u{font:110px monospace;fill:#111;text-anchor:middle;pointer-events:none}",
+    // names of locks, in a section
+    ".k{font:110px monospace;fill:#fff;text-anchor:middle;pointer-events:none}",
+    // the ground
+    ".p{fill:#fff}",
+    // lines of the scale, and between rows
+    ".g{stroke:#e3e3e3;stroke-width:8;fill:none}",
+    // the line of a row, and the edge of a band
+    ".l{stroke:#9a9a9a;stroke-width:8;fill:none}",
+    // the box of a job or a band
+    ".w{fill:#eef1f5}",
+    // arrivals, and what goes on
+    ".a{stroke:#333;stroke-width:12;fill:none}",
+    // not ready yet
+    ".r{stroke:#777;stroke-width:12;fill:none;stroke-dasharray:30 20}",
+    // deadlines
+    ".d{stroke:#111;stroke-width:12;fill:#111}",
+    // bounds
+    ".b{stroke:#a34700;stroke-width:14;fill:none}",
+    // the edge of a bar in the lane
+    ".o{stroke:#fff;stroke-width:6}",
+    // a section, below its stripes
+    ".h{fill:#173766}",
+    // what is missed: its disc, cross and hatch, and words
+    ".x{stroke:#c40000;stroke-width:160;stroke-linecap:round}",
+    ".y{stroke:#fff;stroke-width:26;fill:none}",
+    ".z{fill:url(#m);stroke:#c40000;stroke-width:14}",
+    ".i{stroke:#c40000;stroke-width:22;fill:none}",
+    ".q{fill:#c40000;font-weight:bold}",
+    // tasks, by tone
+    ".f0{fill:#7fb2e5}",
+    ".f1{fill:#f3dd7c}",
+    ".f2{fill:#e98b6b}",
+    ".f3{fill:#a5e0f2}",
+    ".f4{fill:#57b894}",
+    ".f5{fill:#f7b3c4}",
+    ".f6{fill:#b3b04a}",
+    ".f7{fill:#c9c2ea}",
+    ".f8{fill:#b98fd0}",
+    ".f9{fill:#d3dd8c}",
+    // locks, by tone: the ground of a pattern
+    ".c0{fill:#173766}",
+    ".c1{fill:#8a2d05}",
+    ".c2{fill:#00564b}",
+    ".c3{fill:#651a66}",
+    ".c4{fill:#4f4200}",
+    ".c5{fill:#363636}",
+    // locks, by tone: the stripes of a section
+    ".k0{fill:#173766}",
+    ".k1{fill:url(#p1)}",
+    ".k2{fill:url(#p2)}",
+    ".k3{fill:url(#p3)}",
+    ".k4{fill:url(#p4)}",
+    ".k5{fill:url(#p5)}",
+    ".k0,.k1,.k2,.k3,.k4,.k5{pointer-events:none}",
+    // names of locks, below
+    ".c{font:110px monospace}",
+    // lines in the patterns of locks
+    ".j{stroke:#fff;stroke-opacity:.55;stroke-width:14;fill:none}",
+    // waits: for a task above
+    ".wa{stroke-width:24;fill:none}",
+    // waits: blocked by a task below
+    ".wb{stroke-width:32;stroke-linecap:round;stroke-dasharray:0 55;fill:none}",
+    // waits: the link to the one below
+    ".wj{stroke-width:10;stroke-dasharray:10 22;fill:none;pointer-events:none}",
+    // waits: who executes
+    ".wl{font:110px monospace;fill:#111;text-anchor:middle;pointer-events:none;",
+    "paint-order:stroke;stroke:#fff;stroke-width:30px;stroke-linejoin:round}",
+    // waits for a task above, by its tone
+    ".i0{stroke:#2f6fae}",
+    ".i1{stroke:#96780a}",
+    ".i2{stroke:#b04f2c}",
+    ".i3{stroke:#1f7f9c}",
+    ".i4{stroke:#1e7a58}",
+    ".i5{stroke:#b34a68}",
+    ".i6{stroke:#6d6b13}",
+    ".i7{stroke:#6a5cae}",
+    ".i8{stroke:#7d4a9b}",
+    ".i9{stroke:#6f7d1f}",
+    // waits for several above
+    ".in{stroke:#6b6b6b}",
+    // waits for one below, by the lock's tone
+    ".d0{stroke:#173766}",
+    ".d1{stroke:#8a2d05}",
+    ".d2{stroke:#00564b}",
+    ".d3{stroke:#651a66}",
+    ".d4{stroke:#4f4200}",
+    ".d5{stroke:#363636}",
+    // ---- in a dark surrounding
+    "@media(prefers-color-scheme:dark){",
+    // words
+    "text{fill:#b9bec6}",
+    // the verdict
+    ".t,.n{fill:#f2f4f7}",
+    // names in the lane of the processor
+    ".u{fill:#fff}",
+    // names of locks, in a section
+    ".k{fill:#101418}",
+    // the ground
+    ".p{fill:#14181d}",
+    // lines of the scale, and between rows
+    ".g{stroke:#2c333c}",
+    // the line of a row, and the edge of a band
+    ".l{stroke:#6d7682}",
+    // the box of a job or a band
+    ".w{fill:#20272f}",
+    // arrivals, and what goes on
+    ".a{stroke:#d5dae0}",
+    // not ready yet
+    ".r{stroke:#98a1ac}",
+    // deadlines
+    ".d{stroke:#f2f4f7;fill:#f2f4f7}",
+    // bounds
+    ".b{stroke:#ffb066}",
+    // the edge of a bar in the lane
+    ".o{stroke:#14181d}",
+    // a section, below its stripes
+    ".h{fill:#dbe9ff}",
+    // what is missed: its disc, cross and hatch, and words
+    ".x{stroke:#ff5c5c}",
+    ".y{stroke:#14181d}",
+    ".z{stroke:#ff5c5c}",
+    ".i{stroke:#ff5c5c}",
+    ".q{fill:#ff7b7b}",
+    // tasks, by tone
+    ".f0{fill:#3b6ea3}",
+    ".f1{fill:#8f7a1e}",
+    ".f2{fill:#a3512f}",
+    ".f3{fill:#2f7f98}",
+    ".f4{fill:#2a7a5a}",
+    ".f5{fill:#a3546c}",
+    ".f6{fill:#6f6d1d}",
+    ".f7{fill:#6f63a8}",
+    ".f8{fill:#7b4f94}",
+    ".f9{fill:#6d7a2c}",
+    // locks, by tone: the ground of a pattern
+    ".c0{fill:#dbe9ff}",
+    ".c1{fill:#ffc9a8}",
+    ".c2{fill:#a8f0e2}",
+    ".c3{fill:#f2c4f5}",
+    ".c4{fill:#efe3a0}",
+    ".c5{fill:#e6e6e6}",
+    // locks, by tone: the stripes of a section
+    ".k0{fill:#dbe9ff}",
+    // lines in the patterns of locks
+    ".j{stroke:#14181d}",
+    // waits: who executes
+    ".wl{fill:#fff;stroke:#14181d}",
+    // waits for a task above, by its tone
+    ".i0{stroke:#8fbff0}",
+    ".i1{stroke:#e6cf6a}",
+    ".i2{stroke:#f2a083}",
+    ".i3{stroke:#9bdcf0}",
+    ".i4{stroke:#7bd3b1}",
+    ".i5{stroke:#f5a8bd}",
+    ".i6{stroke:#cfcc62}",
+    ".i7{stroke:#c3bbef}",
+    ".i8{stroke:#d7aeee}",
+    ".i9{stroke:#dbe68f}",
+    // waits for several above
+    ".in{stroke:#a3abb5}",
+    // waits for one below, by the lock's tone
+    ".d0{stroke:#dbe9ff}",
+    ".d1{stroke:#ffc9a8}",
+    ".d2{stroke:#a8f0e2}",
+    ".d3{stroke:#f2c4f5}",
+    ".d4{stroke:#efe3a0}",
+    ".d5{stroke:#e6e6e6}",
+    "}",
+    "</style>\n",
+    // the patterns of locks, by tone, and of what is missed
+    "<defs>",
+    "<pattern id=\"p1\" width=\"60\" height=\"60\" patternUnits=\"userSpaceOnUse\">",
+    "<rect class=\"c1\" width=\"60\" height=\"60\"/>",
+    "<path class=\"j\" d=\"M-15 15L15-15M0 60L60 0M45 75L75 45\"/></pattern>",
+    "<pattern id=\"p2\" width=\"60\" height=\"60\" patternUnits=\"userSpaceOnUse\">",
+    "<rect class=\"c2\" width=\"60\" height=\"60\"/><path class=\"j\" d=\"M25 0V60M55 0V60\"/>",
+    "</pattern>",
+    "<pattern id=\"p3\" width=\"60\" height=\"60\" patternUnits=\"userSpaceOnUse\">",
+    "<rect class=\"c3\" width=\"60\" height=\"60\"/>",
+    "<path class=\"j\" d=\"M-15 45L15 75M0 0L60 60M45-15L75 15\"/></pattern>",
+    "<pattern id=\"p4\" width=\"60\" height=\"60\" patternUnits=\"userSpaceOnUse\">",
+    "<rect class=\"c4\" width=\"60\" height=\"60\"/><path class=\"j\" d=\"M0 30H60\"/></pattern>",
+    "<pattern id=\"p5\" width=\"60\" height=\"60\" patternUnits=\"userSpaceOnUse\">",
+    "<rect class=\"c5\" width=\"60\" height=\"60\"/><path class=\"j\" d=\"M30 0V60M0 30H60\"/>",
+    "</pattern>",
+    "<pattern id=\"m\" width=\"70\" height=\"70\" patternUnits=\"userSpaceOnUse\">",
+    "<path class=\"i\" d=\"M-15 15L15-15M0 70L70 0M55 85L85 55\"/></pattern>",
+    "</defs>\n",
+    "<rect class=\"p\" width=\"100%\" height=\"100%\"/>\n",
+);
